@@ -1,0 +1,128 @@
+//! A record as the text `epoch:payload`, two plain decimals.
+ghost use Rattle.txn_world.specs.declared.record.Record.{Record};
+ghost use Rattle.std.specs.Prelude.{◌≡◌, ◌<◌, ◌^◌, ◌↔◌, Some, Ok, IfSome, IfOk, IfErr};
+
+use anyhow::anyhow;
+use bytes::Bytes;
+use crate::codec::{CodecFault, ObjectCodec};
+use crate::numerals::read_decimal;
+use std::alloc::{AllocError, Global};
+use std::fmt;
+use std::str;
+
+/// The value that the program keeps: an epoch, and a payload that means nothing to the world.
+#[derive(Clone, Copy, Debug, PartialEq, Eq)]
+pub struct Record {
+    pub epoch: u64,
+    pub payload: u64,
+}
+
+/// It is shown as `epoch:payload`, two plain decimals.
+impl fmt::Display for Record {
+    ghost use Rattle.std.specs.Prelude.{Some};
+    ghost use Rattle.txn_world.specs.Record.{record_text};
+
+    ghost output = { λ value. Some (record_text value) };
+
+    fn fmt<W: fmt::Write>(&self, f: &mut fmt::Formatter<W>) -> fmt::Result {
+        let Record { epoch, payload } = *self;
+        write!(f, "{epoch}:{payload}")
+    }
+}
+
+/// Its bytes are the text `epoch:payload`: two plain decimals below 2^64, with no sign and no
+/// leading zero but in `0` itself. It reads these and nothing else.
+#[derive(Clone, Copy, Debug)]
+pub struct RecordCodec;
+
+ghost use Rattle.txn_world.specs.Record.{record_text, record_read, IsNumbers};
+ghost use Rattle.std.specs.Result.{result_ok};
+ghost use Rattle.txn_world.specs.Refusal.{OnRefused, IsBadRecord};
+
+/// The record that bytes are the text of, where they are one.
+pub fn read_record(bytes: &[u8]) -> Option<Record>
+    ensures numbers { IfSome result IsNumbers }
+    ensures exact { (v : Record) → IsNumbers v → (result ≡ Some v) ↔ (bytes.now ≡ record_text v) }
+{
+    let (epoch, payload) = str::from_utf8(bytes).ok()?.split_once(':')?;
+    let epoch = read_decimal(epoch)?;
+    let payload = read_decimal(payload)?;
+    Some(Record { epoch, payload })
+}
+
+impl ObjectCodec<Record> for RecordCodec {
+    ghost encoded = { λ _ value. record_text value };
+
+    ghost decoded = { λ _ bytes. record_read bytes };
+
+    fn encode(&self, alloc: Global, value: &Record) -> Result<Bytes, AllocError> {
+        let Record { epoch, payload } = *value;
+        Bytes::from_string(format!(in alloc; "{epoch}:{payload}")?)
+    }
+
+    fn decode(&self, _alloc: Global, bytes: &Bytes) -> Result<Record, CodecFault>
+        ensures value { IfOk result (λ value. record_read bytes.now ≡ Some value) }
+        ensures refused { IfErr result (OnRefused (record_read bytes.now ≡ None)) }
+        // It reads the text of each record, and nothing else.
+        ensures exact { (v : Record) → IsNumbers v → (result ≡ Ok v) ↔ (bytes.now ≡ record_text v) }
+        ensures bad_record { IfErr result IsBadRecord }
+    {
+        match read_record(bytes.as_slice()) {
+            Some(record) => Ok(record),
+            None => Err(CodecFault::Refused(anyhow!("bad record"))),
+        }
+    }
+}
+
+#[cfg(test)]
+mod tests {
+    use super::*;
+    use std::test::Fail;
+
+    fn text_of(rt: &HostRuntime, epoch: u64, payload: u64) -> Result<Bytes, Fail> {
+        Ok(RecordCodec.encode(rt.alloc(), &Record { epoch, payload })?)
+    }
+
+    fn decoded(rt: &HostRuntime, text: &'static str) -> Option<Record> {
+        RecordCodec
+            .decode(&Bytes::from_static(text.as_bytes()))
+            .ok()
+    }
+
+    #[test]
+    fn a_record_is_two_decimals(rt: HostRuntime) -> Result<(), Fail> {
+        assert_eq!(rt; text_of(&rt, 0, 1)?.as_slice(), b"0:1".as_slice());
+        assert_eq!(rt;
+            text_of(&rt, 70, u64::MAX)?.as_slice(),
+            b"70:18446744073709551615".as_slice()
+        );
+        assert!(rt;
+            decoded(&rt, "70:18446744073709551615")
+                == Some(Record {
+                    epoch: 70,
+                    payload: u64::MAX
+                })
+        );
+        Ok(())
+    }
+
+    #[test]
+    fn other_texts_are_refused(rt: HostRuntime) -> Result<(), Fail> {
+        assert!(rt; decoded(&rt, "abc").is_none());
+        assert!(rt; decoded(&rt, "").is_none());
+        assert!(rt; decoded(&rt, "1").is_none());
+        assert!(rt; decoded(&rt, "01:2").is_none());
+        assert!(rt; decoded(&rt, "+1:2").is_none());
+        assert!(rt; decoded(&rt, "1:2:3").is_none());
+        assert!(rt; decoded(&rt, "1:2 ").is_none());
+        assert!(rt; decoded(&rt, "1:18446744073709551616").is_none());
+        match RecordCodec.decode(&Bytes::from_static(b"abc")) {
+            Err(CodecFault::Refused(error)) => {
+                let text = format!(in rt.alloc(); "{error}")?;
+                assert_eq!(rt; text.as_str(), "bad record");
+            }
+            _ => panic!(rt; "not refused"),
+        }
+        Ok(())
+    }
+}
