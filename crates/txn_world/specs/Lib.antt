@@ -2,9 +2,3 @@ pub mod Numerals
 pub mod Refusal
 pub mod Record
 pub mod Store
-pub mod Operation
-pub mod Trace
-pub mod Machine
-pub mod Shown
-pub mod Kept
-pub mod KeptLends

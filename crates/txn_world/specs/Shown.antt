@@ -1,9 +1,0 @@
-use Rattle.txn_world.specs.declared.tables.Tables.{Tables}
-use Rattle.txn_world.specs.Machine.{State, WorldState}
-
--- what tables stand for
-abbrev pub shown : {T C : Type 0} → Tables T C → State T
-shown t = record { clients = t.clients; store = t.store.items; operations = t.operations.items; trace = t.trace.items }
-
-abbrev pub shown_world : {T C : Type 0} → Tables T C → WorldState T C
-shown_world t = record { codec = t.codec; state = shown t }
