@@ -2,3 +2,8 @@ pub mod Numerals
 pub mod Refusal
 pub mod Record
 pub mod Store
+pub mod Lists
+pub mod History
+pub mod Calls
+pub mod OneHistory
+pub mod Allowed

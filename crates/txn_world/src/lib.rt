@@ -2,6 +2,8 @@
 #![tactic(auto)]
 
 pub mod codec;
+pub mod event;
 pub mod numerals;
 pub mod record;
 pub mod store;
+pub mod trace;

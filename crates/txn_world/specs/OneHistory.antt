@@ -1,0 +1,110 @@
+-- One history: when a row fits the rows before it.
+use Rattle.std.specs.Prelude.{◌≡◌, ℕ, zero, suc, List, ◌+◌, ◌<◌, ◌≤◌, ◌⊎◌, Bool, true, false, Option, Some, None, unwrap_or, take, slice_get}
+use Rattle.txn_world.specs.declared.event.Call.{Call}
+use Rattle.txn_world.specs.declared.event.Call.TheVariants as calls
+use Rattle.txn_world.specs.declared.event.Answer.{Answer}
+use Rattle.txn_world.specs.declared.event.Answer.TheVariants as answers
+use Rattle.txn_world.specs.declared.store.Request.{Request}
+use Rattle.txn_world.specs.declared.store.Request.TheVariants as requests
+use Rattle.txn_world.specs.declared.trace.Row.{Row}
+use Rattle.txn_world.specs.declared.trace.Row.TheVariants.{Effect, Begun, Answered}
+use Rattle.txn_world.specs.History.{has_id, versions_of, newest, boundary, IsEntry}
+use Rattle.txn_world.specs.Calls.{was_begun, was_answered, IsCall, begun_count, was_told, AtRow}
+
+-- the base of a write directly on entry n: none on 0
+abbrev pub base_on : ℕ → Option ℕ
+base_on zero = None
+base_on (suc n) = Some (suc n)
+
+-- the number of a base, 0 for none
+abbrev pub number_of : Option ℕ → ℕ
+number_of base = unwrap_or base 0
+
+module _ {T : Type 0} where
+  -- the call writes this entry directly on entry n
+  abbrev pub WritesOn : List (Row T) → ℕ → Call T → ℕ → T → Type 0
+  WritesOn before op (calls.Write base value) n entry = (base ≡ base_on n) × (entry ≡ value)
+  WritesOn before op calls.Read n entry = ⊥
+
+  -- a base is none, or an id that some call answered
+  abbrev pub is_known_base : List (Row T) → Option ℕ → Bool
+  is_known_base rows None = true
+  is_known_base rows (Some n) = was_told rows n
+
+  abbrev pub has_known_base : List (Row T) → Call T → Bool
+  has_known_base rows (calls.Write base value) = is_known_base rows base
+  has_known_base rows calls.Read = true
+
+  -- An operation has the next number, and a base that is known.
+  pub record Opens (before : List (Row T)) (op : ℕ) (call : Call T) : Type 0 where
+    pub next : op ≡ begun_count before + 1
+    pub known : has_known_base before call ≡ true
+
+module _ {T : Type 0} (decode : List ℕ → Option T) where
+  -- An append: the name is the next, and the value is its operation's, written directly on the newest entry.
+  pub record Appends (before : List (Row T)) (op id : ℕ) (bytes : List ℕ) : Type 0 where
+    pub call : Call T
+    pub called : IsCall before op call
+    pub value : T
+    pub reads : decode bytes ≡ Some value
+    pub next : id ≡ newest before + 1
+    pub written : WritesOn before op call (newest before) value
+
+  -- an effect is a legal move
+  abbrev pub IsLegal : List (Row T) → ℕ → Request → Type 0
+  IsLegal before op (requests.Create id bytes) = Appends before op id bytes
+  IsLegal before op requests.List = ⊥
+  IsLegal before op (requests.Get id) = ⊥
+
+  -- Version n was first created by the operation, at a row of its call, with this value.
+  pub record Entered (before : List (Row T)) (op n : ℕ) (value : T) : Type 0 where
+    pub place : ℕ
+    pub bytes : List ℕ
+    pub effect : slice_get before place ≡ Some (Effect op (requests.Create n bytes))
+    pub begun : was_begun (take place before) op ≡ true
+    pub first : has_id (versions_of (take place before)) n ≡ false
+    pub reads : decode bytes ≡ Some value
+
+  -- A base was overtaken: there is a newer entry now. What the operation entered itself, the boundary has reached.
+  pub record Overtaken (before : List (Row T)) (op : ℕ) (base : Option ℕ) : Type 0 where
+    pub longer : number_of base < newest before
+    pub fenced : (n : ℕ) (value : T) → Entered before op n value → n ≤ boundary before
+
+  -- a write is refused because its base was overtaken, for want of memory, or because no id is left
+  abbrev pub WriteRefused : List (Row T) → ℕ → Option ℕ → ℕ → Type 0
+  WriteRefused before op base number =
+      ((number ≡ 5) × Overtaken before op base) ⊎ (number ≡ 9) ⊎ ((number ≡ 10) × (base ≡ Some 18446744073709551615))
+
+  -- success: the version is its own, with its value
+  abbrev pub WriteFits : List (Row T) → ℕ → Option ℕ → T → Answer T → Type 0
+  WriteFits before op base value (answers.Wrote n) = Entered before op n value
+  WriteFits before op base value (answers.Refused number) = WriteRefused before op base number
+  WriteFits before op base value (answers.Read found) = ⊥
+
+  -- what a read answers was the newest entry at a row of its call
+  abbrev pub ReadFits : List (Row T) → ℕ → Answer T → Type 0
+  ReadFits before op (answers.Read None) = AtRow before op (λ rows. newest rows ≡ 0)
+  ReadFits before op (answers.Read (Some found)) = AtRow before op (λ rows. (newest rows ≡ found.0) × IsEntry decode rows found.0 found.1)
+  ReadFits before op (answers.Refused number) = number ≡ 9
+  ReadFits before op (answers.Wrote n) = ⊥
+
+  abbrev pub AnswerFits : List (Row T) → ℕ → Call T → Answer T → Type 0
+  AnswerFits before op (calls.Write base value) answer = WriteFits before op base value answer
+  AnswerFits before op calls.Read answer = ReadFits before op answer
+
+  -- The one answer of a call that began, and it fits.
+  pub record Answers (before : List (Row T)) (op : ℕ) (answer : Answer T) : Type 0 where
+    pub call : Call T
+    pub called : IsCall before op call
+    pub once : was_answered before op ≡ false
+    pub fits : AnswerFits before op call answer
+
+  -- a row fits the rows before it
+  abbrev pub Fits : List (Row T) → Row T → Type 0
+  Fits before (Effect op request) = IsLegal before op request
+  Fits before (Begun op call) = Opens before op call
+  Fits before (Answered op answer) = Answers before op answer
+
+  -- each row fits the rows before it
+  abbrev pub IsOneHistory : List (Row T) → Type 0
+  IsOneHistory rows = (k : ℕ) (row : Row T) → slice_get rows k ≡ Some row → Fits (take k rows) row
