@@ -7,3 +7,5 @@ pub mod History
 pub mod Calls
 pub mod OneHistory
 pub mod Allowed
+pub mod Operation
+pub mod Machine

@@ -4,6 +4,7 @@
 pub mod codec;
 pub mod event;
 pub mod numerals;
+pub mod operation;
 pub mod record;
 pub mod store;
 pub mod trace;
