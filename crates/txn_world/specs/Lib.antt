@@ -9,3 +9,4 @@ pub mod OneHistory
 pub mod Allowed
 pub mod Operation
 pub mod Machine
+pub mod Shown

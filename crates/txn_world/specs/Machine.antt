@@ -13,6 +13,7 @@ use Rattle.txn_world.specs.declared.event.Event.TheVariants as events
 use Rattle.txn_world.specs.declared.event.EventFault.{EventFault}
 use Rattle.txn_world.specs.declared.event.EventFault.TheVariants as faults
 use Rattle.txn_world.specs.declared.store.Request.{Request}
+use Rattle.txn_world.specs.declared.store.Reply.{Reply}
 use Rattle.txn_world.specs.declared.trace.Row.{Row}
 use Rattle.txn_world.specs.declared.trace.Row.TheVariants.{Effect, Begun, Answered}
 use Rattle.txn_world.specs.Lists.{numbered}
@@ -104,6 +105,15 @@ fault_met (Err faults.UnknownBase) = Some faults.UnknownBase
 fault_met (Err faults.NoMemory) = None
 
 module _ {T : Type 0} (decode : List ℕ → Option T) where
+  -- the operation that asked takes the reply: where it wants memory, it ends with refusal 9
+  abbrev pub AdvancesAt : List Operation → List Operation → ℕ → Option Operation → Reply → Option (Answer T) → Type 0
+  AdvancesAt old new op None reply answer = ⊥
+  AdvancesAt old new op (Some operation) reply answer =
+      (next : Turned T) × (next ≡ turned_or (lacks_answer answer) (turned decode operation.doing reply)) × (new ≡ with_doing old op operation next.0) × (answer ≡ next.1)
+
+  abbrev pub Advances : List Operation → List Operation → ℕ → Reply → Option (Answer T) → Type 0
+  Advances old new op reply answer = AdvancesAt old new op (numbered old op) reply answer
+
   abbrev pub served_by : Bool → State T → ℕ → Operation → Option Request → Told T × State T
   served_by refused s op operation None = (told.Went op, s)
   served_by refused s op operation (Some request) =

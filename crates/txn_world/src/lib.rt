@@ -7,4 +7,5 @@ pub mod numerals;
 pub mod operation;
 pub mod record;
 pub mod store;
+mod tables;
 pub mod trace;
