@@ -1,3 +1,4 @@
 pub mod NumeralLemmas
 pub mod RecordLemmas
 pub mod StoreLemmas
+pub mod Serving
