@@ -2,3 +2,5 @@ pub mod NumeralLemmas
 pub mod RecordLemmas
 pub mod StoreLemmas
 pub mod Serving
+pub mod Lists
+pub mod Rows
