@@ -4,3 +4,5 @@ pub mod StoreLemmas
 pub mod Serving
 pub mod Lists
 pub mod Rows
+pub mod Stands
+pub mod Effects
