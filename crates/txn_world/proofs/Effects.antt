@@ -75,6 +75,11 @@ module _ {T : Type 0} (decode : List ℕ → Option T) where
   missing_above rows store n k above =
       elim (cases_Bool (contains_key store n)) [ inl h ↦ absurd (omega (arith, above, (stored_within rows store n k h).1)) | inr h ↦ h ]
 
+  -- nothing is stored before the first entry
+  pub missing_all : (rows : List (Row T)) (store : Store) (n : ℕ) → KnowStands decode rows store → newest rows ≤ 0 → contains_key store n ≡ false
+  missing_all rows store n k empty =
+      elim (cases_Bool (contains_key store n)) [ inl h ↦ (let bound = stored_within rows store n k h in absurd (omega (arith, empty, bound.0, bound.1))) | inr h ↦ h ]
+
   -- a row that is no effect, and tells no new id
   quiet_more : (rows : List (Row T)) (store : Store) (row : Row T) → KnowStands decode rows store → Fits decode rows row →
       versions_of (rows ++ row ∷ []) ≡ versions_of rows → stored (rows ++ row ∷ []) ≡ stored rows → ((n : ℕ) → tells n row ≡ true → (0 < n) × (n ≤ newest rows)) → KnowStands decode (rows ++ row ∷ []) store

@@ -6,3 +6,4 @@ pub mod Lists
 pub mod Rows
 pub mod Stands
 pub mod Effects
+pub mod Serves
