@@ -7,3 +7,5 @@ pub mod Rows
 pub mod Stands
 pub mod Effects
 pub mod Serves
+pub mod World
+pub mod Runs

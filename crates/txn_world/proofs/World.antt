@@ -1,0 +1,357 @@
+-- Each event keeps what stands of a world's state.
+use Rattle.std.proofs.Common.{◌≡◌, ◌≢◌, ℕ, zero, suc, ◌+◌, ◌-◌, ◌<◌, ◌≤◌, List, [], ◌∷◌, ◌++◌, length, set, slice_get, Bool, true, false, ◌==◌, ◌&&◌, not, cond, is_some, Option, Some, None, inl, inr, refl, sym, ◌∙◌, ap, subst, arith}
+use Rattle.std.specs.Option.{option_map}
+use Rattle.std.specs.FinMap.{empty, get, get-empty}
+use Rattle.std.specs.Ordering.{nat_cmp}
+use Rattle.std.proofs.lemmas.List.{length-append, length-set, append-nil}
+use Rattle.std.proofs.lemmas.Bool.{cases_Bool, cases_eq, ne_eqb, eqb-true, eq-eqb}
+use Rattle.std.proofs.lemmas.Option.{slice_get_within}
+use Rattle.txn_world.specs.declared.operation.Doing.{Doing}
+use Rattle.txn_world.specs.declared.operation.Doing.TheVariants.{Writing, Listing, Getting, Ended}
+use Rattle.txn_world.specs.declared.operation.Operation.{Operation}
+use Rattle.txn_world.specs.declared.event.Call.{Call}
+use Rattle.txn_world.specs.declared.event.Call.TheVariants as calls
+use Rattle.txn_world.specs.declared.event.Answer.{Answer}
+use Rattle.txn_world.specs.declared.event.Answer.TheVariants as answers
+use Rattle.txn_world.specs.declared.event.Told.{Told}
+use Rattle.txn_world.specs.declared.event.Event.{Event}
+use Rattle.txn_world.specs.declared.event.Event.TheVariants as events
+use Rattle.txn_world.specs.declared.event.EventFault.{EventFault}
+use Rattle.txn_world.specs.declared.event.EventFault.TheVariants as faults
+use Rattle.txn_world.specs.declared.store.Request.{Request}
+use Rattle.txn_world.specs.declared.trace.Row.{Row}
+use Rattle.txn_world.specs.declared.trace.Row.TheVariants.{Effect, Begun, Answered}
+use Rattle.txn_world.specs.Lists.{numbered}
+use Rattle.txn_world.specs.Store.{Store, store_after, changes, reply_of}
+use Rattle.txn_world.specs.History.{Version, versions_of, newest, stored}
+use Rattle.txn_world.specs.Calls.{begins, ends, was_begun, was_answered, is_running, IsCall, begun_count, AtRow}
+use Rattle.txn_world.specs.OneHistory.{number_of, base_on, is_known_base, has_known_base, AnswerFits, IsOneHistory}
+use Rattle.txn_world.specs.Allowed.{is_client, begin_fault, fault_of}
+use Rattle.txn_world.specs.Operation.{Turned, started, asked, turned, turned_or, ReadsBack}
+use Rattle.txn_world.specs.Machine.{State, opening, asked_of, with_doing, answer_rows, effect_rows, next_op, begun_as, served_as, lacks_memory, refusal_of, served_by, served, stepped, EventReadsBack, Takes, Runs, IsReached}
+use Rattle.txn_world.proofs.Lists.{get_last, numbered_more, numbered_set, any_false, any_true, any_last}
+use Rattle.txn_world.proofs.Rows.{row_op, affects, has_effect, is_begun, no_begin, begins_other, ends_other, affects_other, begun_count-more, begun_count-begun, AtRow-more, IsCall-more, newest_grows, version_kept}
+use Rattle.txn_world.proofs.Stands.{KnowStands, WritingStands, GettingStands, DoingStands, RunStands, EndStands, OpStands, Ends, TurnOf, TurnStands, Fresh, StandsBut, Stands}
+use Rattle.txn_world.proofs.Effects.{begun_more, answered_more}
+use Rattle.txn_world.proofs.Serves.{Served, AfterServe, after_serve}
+
+module _ {T : Type 0} (encode : T → List ℕ) (decode : List ℕ → Option T) where
+  -- another operation's row keeps what stands of one
+
+  writing_more : (rows : List (Row T)) (row : Row T) (op : ℕ) (call : Call T) (id : ℕ) (bytes : List ℕ) → row_op row ≢ op → WritingStands decode rows op call id bytes → WritingStands decode (rows ++ row ∷ []) op call id bytes
+  writing_more rows row op call id bytes other w =
+      record {
+        base = w.base;
+        value = w.value;
+        call_is = w.call_is;
+        next = w.next;
+        base_is = w.base_is;
+        known = omega (arith, w.known, newest_grows rows row);
+        reads = w.reads;
+        none = any_false (affects op) rows row w.none (affects_other op row other);
+      }
+
+  getting_more : (rows : List (Row T)) (row : Row T) (op : ℕ) (call : Call T) (id : ℕ) → GettingStands decode rows op call id → GettingStands decode (rows ++ row ∷ []) op call id
+  getting_more rows row op call id g =
+      record {
+        call_is = g.call_is;
+        version = g.version;
+        moment = AtRow-more rows row op (λ front. (newest front ≡ id) × (numbered (versions_of front) id ≡ Some g.version)) g.moment;
+        kept = version_kept rows row id g.version g.kept;
+      }
+
+  doing_more : (rows : List (Row T)) (row : Row T) (op : ℕ) (call : Call T) (doing : Doing) → row_op row ≢ op → DoingStands decode rows op call doing → DoingStands decode (rows ++ row ∷ []) op call doing
+  doing_more rows row op call (Writing id bytes) other h = writing_more rows row op call id bytes other h
+  doing_more rows row op call Listing other h = h
+  doing_more rows row op call (Getting id) other h = getting_more rows row op call id h
+  doing_more rows row op call Ended other h = h
+
+  run_more : (rows : List (Row T)) (row : Row T) (op : ℕ) (call : Call T) (doing : Doing) → row_op row ≢ op → RunStands decode rows op call doing → RunStands decode (rows ++ row ∷ []) op call doing
+  run_more rows row op call doing other r =
+      record {
+        called = IsCall-more rows row op call r.called;
+        begun = any_true (begins op) rows row r.begun;
+        running = any_false (ends op) rows row r.running (ends_other op row other);
+        stands = doing_more rows row op call doing other r.stands;
+      }
+
+  op_more : (rows : List (Row T)) (row : Row T) (op : ℕ) (doing : Doing) → row_op row ≢ op → OpStands decode rows op doing → OpStands decode (rows ++ row ∷ []) op doing
+  op_more rows row op (Writing id bytes) other h = (h.0, run_more rows row op h.0 (Writing id bytes) other h.1)
+  op_more rows row op Listing other h = (h.0, run_more rows row op h.0 Listing other h.1)
+  op_more rows row op (Getting id) other h = (h.0, run_more rows row op h.0 (Getting id) other h.1)
+  op_more rows row op Ended other h = record { begun = any_true (begins op) rows row h.begun; answered = any_true (ends op) rows row h.answered }
+
+  fresh_more : (rows : List (Row T)) (row : Row T) (op : ℕ) → row_op row ≢ op → Fresh decode rows op → Fresh decode (rows ++ row ∷ []) op
+  fresh_more rows row op other f =
+      record {
+        begun = any_false (begins op) rows row f.begun (begins_other op row other);
+        answered = any_false (ends op) rows row f.answered (ends_other op row other);
+        none = any_false (affects op) rows row f.none (affects_other op row other);
+      }
+
+  -- the operations of a state
+
+  pub within : {A : Type 0} (xs : List A) (n : ℕ) (x : A) → numbered xs n ≡ Some x → (0 < n) × (n ≤ length xs)
+  within xs zero x e = cc
+  within xs (suc n) x e = (omega arith, omega (arith, slice_get_within xs n x e))
+
+  -- opens one operation
+  but : (s : State T) (op : ℕ) → Stands decode s → StandsBut decode s op
+  but s op st =
+      record {
+        know = st.know;
+        count = st.count;
+        zero = st.zero;
+        fresh = st.fresh;
+        each = λ n o _ e. st.each n o (λ z. omega (arith, z, (within s.operations n o e).0)) e;
+      }
+
+  -- closes it again
+  close : (s : State T) (op : ℕ) → StandsBut decode s op → ((o : Operation) → numbered s.operations op ≡ Some o → OpStands decode s.trace op o.doing) → Stands decode s
+  close s op st at =
+      record {
+        know = st.know;
+        count = st.count;
+        zero = st.zero;
+        fresh = st.fresh;
+        each = λ n o _ e. elim (cases_eq n op) [
+          | inl h ↦ subst (λ (m : ℕ). OpStands decode s.trace m o.doing) (sym h) (at o (subst (λ (m : ℕ). numbered s.operations m ≡ Some o) h e))
+          | inr h ↦ st.each n o h e
+        ];
+      }
+
+  -- one more row of the open operation
+  but_more : (s : State T) (row : Row T) (store : Store) → is_begun row ≡ false → row_op row ≤ length s.operations → KnowStands decode (s.trace ++ row ∷ []) store →
+      StandsBut decode s (row_op row) → StandsBut decode (record s { store = store; trace = s.trace ++ row ∷ [] }) (row_op row)
+  but_more s row store quiet within' k st =
+      record {
+        know = k;
+        count = st.count ∙ sym (begun_count-more s.trace row quiet);
+        zero = any_false (begins 0) s.trace row st.zero (no_begin 0 row quiet);
+        fresh = λ n h. fresh_more s.trace row n (λ e. omega (arith, h, within', e)) (st.fresh n h);
+        each = λ n o ne e. op_more s.trace row n o.doing (λ h. ne (sym h)) (st.each n o ne e);
+      }
+
+  -- the open operation does something else
+  but_doing : (s : State T) (op : ℕ) (o : Operation) (doing : Doing) → 0 < op → StandsBut decode s op → StandsBut decode (record s { operations = with_doing s.operations op o doing }) op
+  but_doing s op o doing some st =
+      let new : Operation = record { client = o.client; doing = doing } in
+      record {
+        know = st.know;
+        count = length-set s.operations (op - 1) new ∙ st.count;
+        zero = st.zero;
+        fresh = λ n h. st.fresh n (omega (arith, h, length-set s.operations (op - 1) new));
+        each = λ n o' ne e. elim (numbered_set s.operations op new n o' some e) [ inl h ↦ absurd (ne h.0) | inr h ↦ st.each n o' ne h.1 ];
+      }
+
+  one_doing : (s : State T) (op : ℕ) (o : Operation) (doing : Doing) (rows : List (Row T)) → 0 < op → OpStands decode rows op doing → (o' : Operation) → numbered (with_doing s.operations op o doing) op ≡ Some o' → OpStands decode rows op o'.doing
+  one_doing s op o doing rows some h o' e =
+      let new : Operation = record { client = o.client; doing = doing } in
+      elim (numbered_set s.operations op new op o' some e) [ inl is ↦ subst (λ (x : Operation). OpStands decode rows op x.doing) is.1 h | inr isnt ↦ absurd (isnt.0 refl) ]
+
+  running : (rows : List (Row T)) (op : ℕ) (call : Call T) (doing : Doing) → RunStands decode rows op call doing → OpStands decode rows op doing
+  running rows op call (Writing id bytes) r = (call, r)
+  running rows op call Listing r = (call, r)
+  running rows op call (Getting id) r = (call, r)
+  running rows op call Ended r = absurd r.stands
+
+  ended_at : (rows : List (Row T)) (op : ℕ) (doing : Doing) → doing ≡ Ended → EndStands decode rows op → OpStands decode rows op doing
+  ended_at rows op doing e h = subst (λ (d : Doing). OpStands decode rows op d) (sym e) h
+
+  -- the open operation takes its turn
+  turn_keeps : (s : State T) (op : ℕ) (o : Operation) (call : Call T) (doing : Doing) (answer : Option (Answer T)) → 0 < op → op ≤ length s.operations → StandsBut decode s op → TurnOf decode s.trace op call doing answer →
+      Stands decode (record s { operations = with_doing s.operations op o doing; trace = s.trace ++ answer_rows op answer })
+  turn_keeps s op o call doing None some most st turn =
+      subst (λ (t : List (Row T)). Stands decode (record s { operations = with_doing s.operations op o doing; trace = t })) (sym (append-nil s.trace))
+      (close (record s { operations = with_doing s.operations op o doing }) op (but_doing s op o doing some st) (one_doing s op o doing s.trace some (running s.trace op call doing turn)))
+  turn_keeps s op o call doing (Some answer) some most st turn =
+      let row : Row T = Answered op answer in
+      let k = answered_more decode s.trace s.store op answer st.know (record { call = call; called = turn.called; once = turn.once; fits = turn.fits }) turn.tells_known in
+      let s' : State T = record s { trace = s.trace ++ row ∷ [] } in
+      let ended : EndStands decode s'.trace op = record { begun = any_true (begins op) s.trace row turn.begun; answered = any_last (ends op) s.trace row (eq-eqb op op refl) } in
+      close (record s' { operations = with_doing s.operations op o doing }) op (but_doing s' op o doing some (but_more s row s.store refl most k st)) (one_doing s' op o doing s'.trace some (ended_at s'.trace op doing turn.is_end ended))
+
+  -- serves
+
+  effect_but : (s : State T) (op : ℕ) (request : Request) (changed : Bool) (store : Store) → op ≤ length s.operations → KnowStands decode (s.trace ++ effect_rows op request changed) store → StandsBut decode s op →
+      StandsBut decode (record s { store = store; trace = s.trace ++ effect_rows op request changed }) op
+  effect_but s op request true store most k st = but_more s (Effect op request) store refl most k st
+  effect_but s op request false store most k st =
+      let same = append-nil s.trace in
+      record {
+        know = k;
+        count = st.count ∙ sym (ap begun_count same);
+        zero = rw same st.zero;
+        fresh = λ n h. subst (λ (t : List (Row T)). Fresh decode t n) (sym same) (st.fresh n h);
+        each = λ n o ne e. subst (λ (t : List (Row T)). OpStands decode t n o.doing) (sym same) (st.each n o ne e);
+      }
+
+  serve_keeps : (refused : Bool) (s : State T) (op : ℕ) (o : Operation) (call : Call T) (request : Request) → numbered s.operations op ≡ Some o → asked o.doing ≡ Some request → RunStands decode s.trace op call o.doing → Stands decode s →
+      Stands decode (served_as refused s op o request (turned_or refused (turned decode o.doing (reply_of s.store request)))).1
+  serve_keeps refused s op o call request e asks r st =
+      let bound = within s.operations op o e in
+      let after = after_serve decode refused s.trace s.store op call o.doing request asks st.know r in
+      let next = turned_or refused (turned decode o.doing (reply_of s.store request)) in
+      let changed = not refused && changes s.store request in
+      let s' : State T = record s { store = cond refused s.store (store_after s.store request); trace = s.trace ++ effect_rows op request changed } in
+      turn_keeps s' op o call next.0 next.1 bound.0 bound.1 (effect_but s op request changed (cond refused s.store (store_after s.store request)) bound.1 after.know (but s op st)) after.turn
+
+  run_of : (rows : List (Row T)) (op : ℕ) (doing : Doing) (request : Request) → asked doing ≡ Some request → OpStands decode rows op doing → (call : Call T) × RunStands decode rows op call doing
+  run_of rows op (Writing id bytes) request e h = h
+  run_of rows op Listing request e h = h
+  run_of rows op (Getting id) request e h = h
+  run_of rows op Ended request e h = cc
+
+  served_keeps : (refused : Bool) (s : State T) (op : ℕ) (o : Operation) (asks : Option Request) → numbered s.operations op ≡ Some o → asked o.doing ≡ asks → Stands decode s → Stands decode (served_by decode refused s op o asks).1
+  served_keeps refused s op o None e a st = st
+  served_keeps refused s op o (Some request) e a st =
+      let h = st.each op o (λ z. omega (arith, z, (within s.operations op o e).0)) e in
+      let r = run_of s.trace op o.doing request a h in
+      serve_keeps refused s op o r.0 request e a r.1 st
+
+  serve_at : (refused : Bool) (s : State T) (op : ℕ) (found : Option Operation) → numbered s.operations op ≡ found → Stands decode s → Stands decode (served decode refused s op found).1
+  serve_at refused s op None e st = st
+  serve_at refused s op (Some o) e st = served_keeps refused s op o (asked o.doing) e refl st
+
+  -- begins
+
+  -- the state with a new operation, which is open
+  begun_but : (s : State T) (client : ℕ) (call : Call T) (doing : Doing) → Stands decode s → has_known_base s.trace call ≡ true →
+      StandsBut decode (record s { operations = s.operations ++ record { client = client; doing = doing } ∷ []; trace = s.trace ++ Begun (next_op s) call ∷ [] }) (next_op s)
+  begun_but s client call doing st known =
+      let row : Row T = Begun (next_op s) call in
+      let o : Operation = record { client = client; doing = doing } in
+      let more : length (s.operations ++ o ∷ []) ≡ length s.operations + 1 = length-append s.operations (o ∷ []) in
+      record {
+        know = begun_more decode s.trace s.store (next_op s) call st.know (record { next = ap (λ n. n + 1) st.count; known = known });
+        count = more ∙ (ap (λ n. n + 1) st.count ∙ sym (begun_count-begun s.trace (next_op s) call));
+        zero = any_false (begins 0) s.trace row st.zero (ne_eqb (next_op s) 0 (λ h. omega (arith, h)));
+        fresh = λ n h. fresh_more s.trace row n (λ e. omega (arith, h, more, e)) (st.fresh n (omega (arith, h, more)));
+        each = λ n o' ne e. elim (numbered_more s.operations o n o' e) [
+          | inl h ↦ op_more s.trace row n o'.doing (λ h'. ne (sym h')) (st.each n o' (λ z. omega (arith, z, (within s.operations n o' h).0)) h)
+          | inr h ↦ absurd (ne h.0)
+        ];
+      }
+
+  -- a call has begun, and nothing more is of its operation
+  record Began (rows : List (Row T)) (op : ℕ) (call : Call T) : Type 0 where
+    called : IsCall rows op call
+    begun : was_begun rows op ≡ true
+    running : was_answered rows op ≡ false
+    none : has_effect rows op ≡ false
+
+  began : (rows : List (Row T)) (op : ℕ) (call : Call T) → Fresh decode rows op → Began (rows ++ Begun op call ∷ []) op call
+  began rows op call f =
+      let row : Row T = Begun op call in
+      record {
+        called = (length rows, get_last rows row);
+        begun = any_last (begins op) rows row (eq-eqb op op refl);
+        running = any_false (ends op) rows row f.answered refl;
+        none = any_false (affects op) rows row f.none refl;
+      }
+
+  base_known : (rows : List (Row T)) (store : Store) (base : Option ℕ) → KnowStands decode rows store → is_known_base rows base ≡ true → (base ≡ base_on (number_of base)) × (number_of base ≤ newest rows)
+  base_known rows store None k e = (refl, omega arith)
+  base_known rows store (Some zero) k e = absurd (omega (arith, (k.told 0 e).0))
+  base_known rows store (Some (suc n)) k e = (refl, (k.told (suc n) e).1)
+
+  last_base : (base : Option ℕ) → (number_of base == 18446744073709551615) ≡ true → base ≡ Some 18446744073709551615
+  last_base None e = cc
+  last_base (Some n) e = ap Some (eqb-true n 18446744073709551615 e)
+
+  -- how a call starts fits
+  start_turn : (rows : List (Row T)) (store : Store) (op : ℕ) (call : Call T) → KnowStands decode rows store → Fresh decode rows op → has_known_base rows call ≡ true → ReadsBack encode decode call →
+      TurnStands decode (rows ++ Begun op call ∷ []) op call (started encode call)
+  start_turn rows store op calls.Read k f known back =
+      let b = began rows op calls.Read f in
+      record { called = b.called; begun = b.begun; running = b.running; stands = refl }
+  start_turn rows store op (calls.Write base value) k f known back =
+      let call : Call T = calls.Write base value in
+      let row : Row T = Begun op call in
+      let b = began rows op call f in
+      let is = base_known rows store base k known in
+      let Goal : Bool → Type 0 = λ last. TurnStands decode (rows ++ row ∷ []) op call (cond last (Ended, Some (answers.Refused 10)) (Writing (number_of base + 1) (encode value), None)) in
+      elim (cases_Bool (number_of base == 18446744073709551615)) [
+        | inl last ↦ subst Goal (sym last)
+            (record { is_end = refl; called = b.called; begun = b.begun; once = b.running; fits = inr (inr (refl, last_base base last)); tells_known = λ n e. cc })
+        | inr next ↦ subst Goal (sym next)
+            (record {
+              called = b.called;
+              begun = b.begun;
+              running = b.running;
+              stands = record {
+                base = base;
+                value = value;
+                call_is = refl;
+                next = refl;
+                base_is = is.0;
+                known = omega (arith, is.1, newest_grows rows row);
+                reads = back;
+                none = b.none;
+              };
+            })
+      ]
+
+  set_last : {A : Type 0} (xs : List A) (x y : A) → set (xs ++ x ∷ []) (length xs) y ≡ xs ++ y ∷ []
+  set_last [] x y = refl
+  set_last (z ∷ zs) x y = ap (λ r. z ∷ r) (set_last zs x y)
+
+  begin_keeps : (s : State T) (client : ℕ) (call : Call T) → Stands decode s → has_known_base s.trace call ≡ true → ReadsBack encode decode call → Stands decode (begun_as s client call (started encode call)).1
+  begin_keeps s client call st known back =
+      let start = started encode call in
+      let o : Operation = record { client = client; doing = start.0 } in
+      let s' : State T = record s { operations = s.operations ++ o ∷ []; trace = s.trace ++ Begun (next_op s) call ∷ [] } in
+      let turn = start_turn s.trace s.store (next_op s) call st.know (st.fresh (next_op s) (omega arith)) known back in
+      let kept = turn_keeps s' (next_op s) o call start.0 start.1 (omega arith) (omega (arith, length-append s.operations (o ∷ []))) (begun_but s client call start.0 st known) turn in
+      let place : next_op s - 1 ≡ length s.operations = omega arith in
+      let same : with_doing s'.operations (next_op s) o start.0 ≡ s.operations ++ o ∷ [] = ap (λ n. set (s.operations ++ o ∷ []) n o) place ∙ set_last s.operations o o in
+      subst (λ (operations : List Operation). Stands decode (record s { operations = operations; trace = s'.trace ++ answer_rows (next_op s) start.1 })) same kept
+
+  -- runs
+
+  none_there : {P : Type 0} (op : ℕ) (o : Operation) → numbered [] op ≡ Some o → P
+  none_there zero o e = cc
+  none_there (suc op) o e = cc
+
+  nothing_at : (n : ℕ) → get (empty {X = List ℕ} {R = nat_cmp}) n ≡ None
+  nothing_at n = get-empty nat_cmp n
+
+  none_numbered : (n : ℕ) → None ≡ numbered {A = Version} [] n
+  none_numbered zero = refl
+  none_numbered (suc n) = refl
+
+  pub opening_stands : (clients : ℕ) → Stands decode (opening clients)
+  opening_stands clients =
+      record {
+        know = record {
+          good = λ k row e. cc;
+          ids = λ k version e. cc;
+          reads = λ k version e. cc;
+          files = λ n. nothing_at n ∙ ap (option_map (λ (v : Version). v.1)) (none_numbered n);
+          kept = refl;
+          told = λ n e. cc;
+        };
+        count = refl;
+        zero = refl;
+        fresh = λ op h. record { begun = refl; answered = refl; none = refl };
+        each = λ op o ne e. none_there op o e;
+      }
+
+  begin_allowed : (known_client known_base : Bool) → begin_fault known_client known_base ≡ None → known_base ≡ true
+  begin_allowed true true e = refl
+  begin_allowed true false e = cc
+  begin_allowed false known_base e = cc
+
+  stepped_keeps : (refused : Bool) (s : State T) (event : Event T) → Stands decode s → refusal_of s event ≡ None → EventReadsBack encode decode event → Stands decode (stepped encode decode refused s event).1
+  stepped_keeps refused s (events.Begin client call) st e back = begin_keeps s client call st (begin_allowed (is_client s.clients client) (has_known_base s.trace call) e) back
+  stepped_keeps refused s (events.Serve op) st e back = serve_at refused s op (numbered s.operations op) refl st
+
+  pub takes_keeps : (old : State T) (event : Event T) (told : Told T) (new : State T) → Takes encode decode old event told new → Stands decode old → Stands decode new
+  takes_keeps old event told new t st = subst (λ (p : Told T × State T). Stands decode p.1) t.step (stepped_keeps (lacks_memory told) old event st t.allowed t.reads_back)
+
+  pub runs_keep : (old : State T) (taken : List (Event T × Told T)) (new : State T) → Runs encode decode old taken new → Stands decode old → Stands decode new
+  runs_keep old [] new r st = subst (λ (s : State T). Stands decode s) (sym r) st
+  runs_keep old (t ∷ taken) new r st = runs_keep r.0 taken new r.2 (takes_keeps old t.0 t.1 r.0 r.1 st)
+
+  pub reached_stands : (s : State T) → IsReached encode decode s → Stands decode s
+  reached_stands s r = runs_keep (opening s.clients) r.0 s r.1 (opening_stands s.clients)
