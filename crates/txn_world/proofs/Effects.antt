@@ -23,10 +23,10 @@ use Rattle.txn_world.proofs.Stands.{KnowStands, bytes_at}
 
 -- versions whose ids count up from 1
 
-abbrev AreCounted : ℕ → List Version → Type 0
+abbrev pub AreCounted : ℕ → List Version → Type 0
 AreCounted m versions = (k : ℕ) (version : Version) → slice_get versions k ≡ Some version → version.0 ≡ m + k + 1
 
-lacks_counted : (m : ℕ) (versions : List Version) (id : ℕ) → AreCounted m versions → m + length versions < id → has_id versions id ≡ false
+pub lacks_counted : (m : ℕ) (versions : List Version) (id : ℕ) → AreCounted m versions → m + length versions < id → has_id versions id ≡ false
 lacks_counted m [] id c above = refl
 lacks_counted m (v ∷ versions) id c above =
     let first = c 0 v refl in

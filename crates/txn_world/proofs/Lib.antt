@@ -7,5 +7,6 @@ pub mod Rows
 pub mod Stands
 pub mod Effects
 pub mod Serves
-pub mod World
+pub mod Events
 pub mod Runs
+pub mod Entries

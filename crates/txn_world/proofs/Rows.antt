@@ -11,8 +11,8 @@ use Rattle.txn_world.specs.declared.store.Request.TheVariants as requests
 use Rattle.txn_world.specs.declared.trace.Row.{Row}
 use Rattle.txn_world.specs.declared.trace.Row.TheVariants.{Effect, Begun, Answered}
 use Rattle.txn_world.specs.Lists.{numbered}
-use Rattle.txn_world.specs.Store.{Store, store_after}
-use Rattle.txn_world.specs.History.{Version, created, has_id, with_version, versions_from, versions_of, newest, stored_from, stored, IsEntry}
+use Rattle.txn_world.specs.Store.{Store}
+use Rattle.txn_world.specs.History.{Version, created_by, has_id, with_version, versions_from, versions_of, newest, stored_with, stored_from, stored, IsEntry}
 use Rattle.txn_world.specs.Calls.{begins, ends, was_begun, was_answered, IsCall, AtRow, begun_count}
 use Rattle.txn_world.specs.OneHistory.{Fits, IsOneHistory}
 use Rattle.txn_world.proofs.Lists.{get_more, get_kept, numbered_kept}
@@ -30,18 +30,6 @@ module _ {T : Type 0} where
   row_op (Begun op call) = op
   row_op (Answered op answer) = op
 
-  -- the version that a row's request creates
-  abbrev pub created_by : Row T → Option Version
-  created_by (Effect op request) = created request
-  created_by (Begun op call) = None
-  created_by (Answered op answer) = None
-
-  -- the store after a row
-  abbrev pub stored_with : Store → Row T → Store
-  stored_with store (Effect op request) = store_after store request
-  stored_with store (Begun op call) = store
-  stored_with store (Answered op answer) = store
-
   -- it is an effect of the operation
   abbrev pub affects : ℕ → Row T → Bool
   affects op (Effect o request) = o == op
@@ -52,23 +40,15 @@ module _ {T : Type 0} where
   has_effect rows op = list_any (affects op) rows
 
   versions_from-more : (versions : List Version) (rows : List (Row T)) (row : Row T) → versions_from versions (rows ++ row ∷ []) ≡ with_version (versions_from versions rows) (created_by row)
-  versions_from-more versions [] (Effect op request) = refl
-  versions_from-more versions [] (Begun op call) = refl
-  versions_from-more versions [] (Answered op answer) = refl
-  versions_from-more versions (Effect op request ∷ rows) row = versions_from-more (with_version versions (created request)) rows row
-  versions_from-more versions (Begun op call ∷ rows) row = versions_from-more versions rows row
-  versions_from-more versions (Answered op answer ∷ rows) row = versions_from-more versions rows row
+  versions_from-more versions [] row = refl
+  versions_from-more versions (r ∷ rows) row = versions_from-more (with_version versions (created_by r)) rows row
 
   pub versions_of-more : (rows : List (Row T)) (row : Row T) → versions_of (rows ++ row ∷ []) ≡ with_version (versions_of rows) (created_by row)
   versions_of-more rows row = versions_from-more [] rows row
 
   stored_from-more : (store : Store) (rows : List (Row T)) (row : Row T) → stored_from store (rows ++ row ∷ []) ≡ stored_with (stored_from store rows) row
-  stored_from-more store [] (Effect op request) = refl
-  stored_from-more store [] (Begun op call) = refl
-  stored_from-more store [] (Answered op answer) = refl
-  stored_from-more store (Effect op request ∷ rows) row = stored_from-more (store_after store request) rows row
-  stored_from-more store (Begun op call ∷ rows) row = stored_from-more store rows row
-  stored_from-more store (Answered op answer ∷ rows) row = stored_from-more store rows row
+  stored_from-more store [] row = refl
+  stored_from-more store (r ∷ rows) row = stored_from-more (stored_with store r) rows row
 
   pub stored-more : (rows : List (Row T)) (row : Row T) → stored (rows ++ row ∷ []) ≡ stored_with (stored rows) row
   stored-more rows row = stored_from-more empty rows row

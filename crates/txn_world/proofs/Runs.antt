@@ -1,6 +1,7 @@
 -- What holds of each state that a world reaches, as its public calls say it.
-use Rattle.std.proofs.Common.{◌≡◌, ℕ, zero, suc, ◌+◌, ◌<◌, List, [], ◌∷◌, ◌++◌, length, Bool, true, false, ◌&&◌, not, cond, is_some, Option, Some, None, Result, Ok, Err, OnErr, IfOk, inl, inr, refl, sym, ◌∙◌, ap, subst, arith}
+use Rattle.std.proofs.Common.{◌≡◌, ℕ, zero, suc, ◌+◌, ◌<◌, List, [], ◌∷◌, ◌++◌, length, Bool, true, false, ◌&&◌, not, cond, is_some, is_ok, map, Option, Some, None, Result, Ok, Err, OnErr, IfOk, inl, inr, refl, sym, ◌∙◌, ap, subst, arith}
 use Rattle.std.specs.FinMap.{contains_key, insert}
+use Rattle.std.proofs.lemmas.List.{map-append}
 use Rattle.txn_world.specs.declared.operation.Doing.{Doing}
 use Rattle.txn_world.specs.declared.operation.Doing.TheVariants.{Writing, Listing, Getting, Ended}
 use Rattle.txn_world.specs.declared.operation.Operation.{Operation}
@@ -23,9 +24,9 @@ use Rattle.txn_world.specs.Calls.{was_begun, was_answered, is_running}
 use Rattle.txn_world.specs.OneHistory.{IsOneHistory}
 use Rattle.txn_world.specs.Allowed.{fault_of, op_told, answer_row, IsEffectRow, AddsRows}
 use Rattle.txn_world.specs.Operation.{Turned, started, asked, turned, turned_or}
-use Rattle.txn_world.specs.Machine.{State, opening, asked_of, asked_by, told_of, answer_rows, effect_rows, next_op, begun_as, served_as, lacks_memory, fault_met, refusal_of, served_by, served, stepped, Takes, Runs, IsReached}
+use Rattle.txn_world.specs.Machine.{State, WorldState, opening, asked_of, asked_by, told_of, answer_rows, effect_rows, next_op, begun_as, served_as, lacks_memory, fault_met, refusal_of, served_by, served, stepped, Takes, Meets, Outcomes, taken_count, RunsPast, Runs, IsReached}
 use Rattle.txn_world.proofs.Stands.{RunStands, OpStands, Stands}
-use Rattle.txn_world.proofs.World.{within, reached_stands}
+use Rattle.txn_world.proofs.Events.{within, reached_stands}
 
 module _ {T : Type 0} (encode : T → List ℕ) (decode : List ℕ → Option T) where
   -- one more step of a run
@@ -152,3 +153,40 @@ module _ {T : Type 0} (encode : T → List ℕ) (decode : List ℕ → Option T)
   -- which rows an event adds
   pub adds_rows : (old : State T) (event : Event T) (told : Told T) (new : State T) → Takes encode decode old event told new → AddsRows old.trace old.store event told new.trace new.store
   adds_rows old event told new t = subst (Adds old event) t.step (stepped_adds (lacks_memory told) old event t.allowed)
+
+  pub added_rows : (r : Result (Told T) EventFault) (old : State T) (event : Event T) (new : State T) → IfOk r (λ told. Takes encode decode old event told new) → IfOk r (λ told. AddsRows old.trace old.store event told new.trace new.store)
+  added_rows (Ok told) old event new ok = adds_rows old event told new ok
+  added_rows (Err fault) old event new ok = tt
+
+  -- a run past refused events, with one more
+
+  meets : (r : Result (Told T) EventFault) (old : State T) (event : Event T) (new : State T) → fault_met r ≡ fault_of old.clients old.trace event → OnErr r (new ≡ old) → IfOk r (λ told. Takes encode decode old event told new) → Meets encode decode old event r new
+  meets (Ok told) old event new fault err ok = ok
+  meets (Err fault') old event new fault err ok = (fault, err)
+
+  outcomes_more : (old : State T) (met : List (Event T × Result (Told T) EventFault)) (middle : State T) (event : Event T) (r : Result (Told T) EventFault) (new : State T) → Outcomes encode decode old met middle → Meets encode decode middle event r new → Outcomes encode decode old (met ++ (event, r) ∷ []) new
+  outcomes_more old [] middle event r new run m = (new, subst (λ (s : State T). Meets encode decode s event r new) run m, refl)
+  outcomes_more old (first ∷ met) middle event r new run m = (run.0, run.1, outcomes_more run.0 met middle event r new run.2 m)
+
+  taken_more : (met : List (Event T × Result (Told T) EventFault)) (event : Event T) (r : Result (Told T) EventFault) → taken_count (met ++ (event, r) ∷ []) ≡ cond (is_ok r) (taken_count met + 1) (taken_count met)
+  taken_more [] event r = refl
+  taken_more ((e, Ok told) ∷ met) event r = ap (λ n. 1 + n) (taken_more met event r) ∙ one_later (is_ok r) (taken_count met)
+    where
+      one_later : (b : Bool) (n : ℕ) → 1 + cond b (n + 1) n ≡ cond b ((1 + n) + 1) (1 + n)
+      one_later true n = omega arith
+      one_later false n = omega arith
+  taken_more ((e, Err fault) ∷ met) event r = taken_more met event r
+
+  pub runs_past_more : (old : State T) (events : List (Event T)) (count : ℕ) (middle : State T) (event : Event T) (r : Result (Told T) EventFault) (new : State T) (count' : ℕ) → RunsPast encode decode old events count middle →
+      fault_met r ≡ fault_of middle.clients middle.trace event → OnErr r (new ≡ middle) → IfOk r (λ told. Takes encode decode middle event told new) → count' ≡ cond (is_ok r) (count + 1) count → RunsPast encode decode old (events ++ event ∷ []) count' new
+  runs_past_more old events count middle event r new count' run fault err ok next =
+      record {
+        met = run.met ++ (event, r) ∷ [];
+        all = map-append _ run.met ((event, r) ∷ []) ∙ ap (λ (es : List (Event T)). es ++ event ∷ []) run.all;
+        run = outcomes_more old run.met middle event r new run.run (meets r middle event new fault err ok);
+        taken = next ∙ (ap (λ n. cond (is_ok r) (n + 1) n) run.taken ∙ sym (taken_more run.met event r));
+      }
+
+  pub err_state : {C : Type 0} (r : Result (Told T) EventFault) (old new : WorldState T C) → OnErr r (new ≡ old) → OnErr r (new.state ≡ old.state)
+  err_state (Ok told) old new err = tt
+  err_state (Err fault) old new err = ap (λ w. w.state) err

@@ -43,11 +43,15 @@ with_version versions None = versions
 with_version versions (Some version) = if has_id versions version.0 then versions else versions ++ version ∷ []
 
 module _ {T : Type 0} where
+  -- the version that a row creates
+  abbrev pub created_by : Row T → Option Version
+  created_by (Effect op request) = created request
+  created_by (Begun op call) = None
+  created_by (Answered op answer) = None
+
   abbrev pub versions_from : List Version → List (Row T) → List Version
   versions_from versions [] = versions
-  versions_from versions (Effect op request ∷ rows) = versions_from (with_version versions (created request)) rows
-  versions_from versions (Begun op call ∷ rows) = versions_from versions rows
-  versions_from versions (Answered op answer ∷ rows) = versions_from versions rows
+  versions_from versions (row ∷ rows) = versions_from (with_version versions (created_by row)) rows
 
   -- the first create of each version, in the order of creation
   abbrev pub versions_of : List (Row T) → List Version
@@ -57,30 +61,39 @@ module _ {T : Type 0} where
   abbrev pub newest : List (Row T) → ℕ
   newest rows = length (versions_of rows)
 
+  -- the boundary after a row
+  abbrev pub raised_by : ℕ → Row T → ℕ
+  raised_by at (Effect op request) = raised at request
+  raised_by at (Begun op call) = at
+  raised_by at (Answered op answer) = at
+
   abbrev pub boundary_from : ℕ → List (Row T) → ℕ
   boundary_from at [] = at
-  boundary_from at (Effect op request ∷ rows) = boundary_from (raised at request) rows
-  boundary_from at (Begun op call ∷ rows) = boundary_from at rows
-  boundary_from at (Answered op answer ∷ rows) = boundary_from at rows
+  boundary_from at (row ∷ rows) = boundary_from (raised_by at row) rows
 
   -- the boundary, 0 at first
   abbrev pub boundary : List (Row T) → ℕ
   boundary rows = boundary_from 0 rows
 
+  -- a row removes the name of this id
   abbrev pub erases : ℕ → Row T → Bool
   erases n (Effect op request) = removes n request
   erases n (Begun op call) = false
   erases n (Answered op answer) = false
 
-  -- the version of this id was removed
+  -- the version of this id was erased
   abbrev pub was_erased : List (Row T) → ℕ → Bool
   was_erased rows n = list_any (erases n) rows
 
+  -- the store after a row
+  abbrev pub stored_with : Store → Row T → Store
+  stored_with store (Effect op request) = store_after store request
+  stored_with store (Begun op call) = store
+  stored_with store (Answered op answer) = store
+
   abbrev pub stored_from : Store → List (Row T) → Store
   stored_from store [] = store
-  stored_from store (Effect op request ∷ rows) = stored_from (store_after store request) rows
-  stored_from store (Begun op call ∷ rows) = stored_from store rows
-  stored_from store (Answered op answer ∷ rows) = stored_from store rows
+  stored_from store (row ∷ rows) = stored_from (stored_with store row) rows
 
   -- the store: the empty store after the requests of the effects
   abbrev pub stored : List (Row T) → Store

@@ -1,5 +1,5 @@
 -- The world's step, as a function of plain data.
-use Rattle.std.specs.Prelude.{◌≡◌, ℕ, List, [], ◌∷◌, ◌++◌, ◌+◌, ◌-◌, ◌&&◌, Bool, true, false, not, if◌then◌else◌, Option, Some, None, Result, Ok, Err, length, slice_set, is_some}
+use Rattle.std.specs.Prelude.{◌≡◌, ℕ, List, [], ◌∷◌, ◌++◌, ◌+◌, ◌-◌, ◌&&◌, Bool, true, false, not, if◌then◌else◌, Option, Some, None, Result, Ok, Err, length, slice_set, is_some, is_ok, map}
 use Rattle.std.specs.FinMap.{empty}
 use Rattle.txn_world.specs.declared.operation.Doing.{Doing}
 use Rattle.txn_world.specs.declared.operation.Operation.{Operation}
@@ -19,7 +19,7 @@ use Rattle.txn_world.specs.declared.trace.Row.TheVariants.{Effect, Begun, Answer
 use Rattle.txn_world.specs.Lists.{numbered}
 use Rattle.txn_world.specs.Store.{Store, reply_of, store_after, changes}
 use Rattle.txn_world.specs.Operation.{Turned, started, asked, turned, turned_or, lacks_answer, ReadsBack}
-use Rattle.txn_world.specs.Allowed.{begin_fault, is_client}
+use Rattle.txn_world.specs.Allowed.{begin_fault, is_client, fault_of}
 use Rattle.txn_world.specs.OneHistory.{has_known_base}
 
 -- all of a world but its codec and its allocator
@@ -97,6 +97,12 @@ module _ {T : Type 0} where
   refusal_of s (events.Begin client call) = begin_fault (is_client s.clients client) (has_known_base s.trace call)
   refusal_of s (events.Serve op) = if is_some (asked_by s.operations op) then None else Some faults.UnknownNumber
 
+module _ {T : Type 0} where
+  -- how many of them were taken
+  abbrev pub taken_count : List (Event T × Result (Told T) EventFault) → ℕ
+  taken_count [] = 0
+  taken_count (met ∷ rest) = if is_ok met.1 then 1 + taken_count rest else taken_count rest
+
 -- the fault that an event met, want of memory aside
 abbrev pub fault_met : {A : Type 0} → Result A EventFault → Option EventFault
 fault_met (Ok told) = None
@@ -140,10 +146,22 @@ module _ {T : Type 0} (encode : T → List ℕ) (decode : List ℕ → Option T)
     pub reads_back : EventReadsBack event
     pub step : stepped (lacks_memory told) old event ≡ (told, new)
 
-  -- An event's outcome: it is taken, or it is refused as is due and changes nothing.
+  -- An event's outcome: it is taken, or it is refused as the trace says, or for want of memory, and changes nothing.
   abbrev pub Meets : State T → Event T → Result (Told T) EventFault → State T → Type 0
   Meets old event (Ok told) new = Takes old event told new
-  Meets old event (Err fault) new = (fault_met {A = Told T} (Err fault) ≡ refusal_of old event) × (new ≡ old)
+  Meets old event (Err fault) new = (fault_met {A = Told T} (Err fault) ≡ fault_of old.clients old.trace event) × (new ≡ old)
+
+  -- Events in order, each with its outcome.
+  abbrev pub Outcomes : State T → List (Event T × Result (Told T) EventFault) → State T → Type 0
+  Outcomes old [] new = new ≡ old
+  Outcomes old (met ∷ rest) new = (middle : State T) × Meets old met.0 met.1 middle × Outcomes middle rest new
+
+  -- These events in order, past those that are refused; so many were taken.
+  pub record RunsPast (old : State T) (events : List (Event T)) (count : ℕ) (new : State T) : Type 0 where
+    pub met : List (Event T × Result (Told T) EventFault)
+    pub all : map (λ m. m.0) met ≡ events
+    pub run : Outcomes old met new
+    pub taken : count ≡ taken_count met
 
   -- a run: events in order, each with what it told
   abbrev pub Runs : State T → List (Event T × Told T) → State T → Type 0

@@ -9,3 +9,4 @@ pub mod record;
 pub mod store;
 mod tables;
 pub mod trace;
+pub mod world;
