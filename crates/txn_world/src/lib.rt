@@ -8,5 +8,7 @@ pub mod operation;
 pub mod record;
 pub mod store;
 mod tables;
+#[cfg(test)]
+mod tests;
 pub mod trace;
 pub mod world;

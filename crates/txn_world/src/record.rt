@@ -85,7 +85,7 @@ mod tests {
 
     fn decoded(rt: &HostRuntime, text: &'static str) -> Option<Record> {
         RecordCodec
-            .decode(&Bytes::from_static(text.as_bytes()))
+            .decode(rt.alloc(), &Bytes::from_static(text.as_bytes()))
             .ok()
     }
 
@@ -116,7 +116,7 @@ mod tests {
         assert!(rt; decoded(&rt, "1:2:3").is_none());
         assert!(rt; decoded(&rt, "1:2 ").is_none());
         assert!(rt; decoded(&rt, "1:18446744073709551616").is_none());
-        match RecordCodec.decode(&Bytes::from_static(b"abc")) {
+        match RecordCodec.decode(rt.alloc(), &Bytes::from_static(b"abc")) {
             Err(CodecFault::Refused(error)) => {
                 let text = format!(in rt.alloc(); "{error}")?;
                 assert_eq!(rt; text.as_str(), "bad record");
