@@ -1,23 +1,20 @@
 -- What each kind of row leaves of the store and the history: a begin, a create, an answer.
-use Rattle.std.proofs.Common.{◌≡◌, ◌≢◌, ℕ, zero, suc, ◌+◌, ◌-◌, ◌<◌, ◌≤◌, List, [], ◌∷◌, ◌++◌, length, take, slice_get, Bool, true, false, ◌==◌, cond, is_some, Option, Some, None, ◌⊎◌, inl, inr, refl, sym, ◌∙◌, ap, subst, arith}
+use Rattle.std.proofs.Common.{◌≡◌, ◌≢◌, ℕ, zero, suc, ◌+◌, ◌<◌, ◌≤◌, List, [], ◌∷◌, ◌++◌, length, slice_get, true, false, ◌==◌, cond, is_some, Option, Some, ◌⊎◌, inl, inr, refl, sym, ◌∙◌, ap, subst, arith}
 use Rattle.std.specs.Option.{option_map}
 use Rattle.std.specs.FinMap.{get, insert, contains_key}
-use Rattle.std.proofs.lemmas.List.{length-append, append-nil}
-use Rattle.std.proofs.lemmas.Bool.{cases_Bool, cases_lt, cases_eq, ne_eqb, eqb-true, eq-eqb, both_ways}
-use Rattle.std.proofs.lemmas.Option.{slice_get_within, same_Some}
+use Rattle.std.proofs.lemmas.Bool.{cases_Bool, cases_eq, ne_eqb, eq-eqb}
 use Rattle.txn_world.specs.declared.event.Call.{Call}
-use Rattle.txn_world.specs.declared.event.Call.TheVariants as calls
 use Rattle.txn_world.specs.declared.event.Answer.{Answer}
 use Rattle.txn_world.specs.declared.store.Request.TheVariants as requests
 use Rattle.txn_world.specs.declared.trace.Row.{Row}
 use Rattle.txn_world.specs.declared.trace.Row.TheVariants.{Effect, Begun, Answered}
 use Rattle.txn_world.specs.Lists.{numbered}
 use Rattle.txn_world.specs.Store.{Store, store_after}
-use Rattle.txn_world.specs.History.{Version, has_id, with_version, versions_of, newest, stored}
-use Rattle.txn_world.specs.Calls.{was_answered, IsCall, id_told, is_id, tells, was_told}
-use Rattle.txn_world.specs.OneHistory.{Opens, Answers, Appends, Fits, AnswerFits}
+use Rattle.txn_world.specs.History.{Version, has_id, versions_of, newest, stored}
+use Rattle.txn_world.specs.Calls.{id_told, is_id, tells}
+use Rattle.txn_world.specs.OneHistory.{Opens, Answers, Appends, Fits}
 use Rattle.txn_world.proofs.StoreLemmas.{get_stored}
-use Rattle.txn_world.proofs.Lists.{get_more, get_last, any_more, numbered_more}
+use Rattle.txn_world.proofs.Lists.{get_more, get_last, any_more}
 use Rattle.txn_world.proofs.Rows.{versions_of-more, stored-more, newest_grows, one_history-more}
 use Rattle.txn_world.proofs.Stands.{KnowStands, bytes_at}
 

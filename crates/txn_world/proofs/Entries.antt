@@ -1,5 +1,5 @@
 -- The entries that the rows so far make.
-use Rattle.std.proofs.Common.{◌≡◌, ℕ, zero, suc, ◌+◌, ◌<◌, ◌≤◌, List, [], ◌∷◌, ◌++◌, length, take, map, slice_get, get_or, Bool, true, false, cond, Option, Some, None, ◌⊎◌, inl, inr, refl, sym, ◌∙◌, ap, subst, arith, add-one}
+use Rattle.std.proofs.Common.{◌≡◌, ℕ, zero, suc, ◌+◌, ◌<◌, List, [], ◌∷◌, ◌++◌, length, take, map, slice_get, get_or, cond, Option, Some, None, inl, inr, refl, sym, ◌∙◌, ap, subst, arith, add-one}
 use Rattle.std.proofs.lemmas.List.{take_more, take_all, map-append, append-nil}
 use Rattle.std.specs.Option.{option_map}
 use Rattle.std.proofs.lemmas.Option.{slice_get_cases, slice_get_read, same_Some}
@@ -7,11 +7,10 @@ use Rattle.anyhow.specs.declared.error.Error.{Error}
 use Rattle.txn_world.specs.declared.codec.CodecFault.{CodecFault}
 use Rattle.txn_world.specs.declared.codec.CodecFault.TheVariants.{Refused}
 use Rattle.txn_world.specs.Refusal.{OnRefused}
-use Rattle.txn_world.specs.declared.store.Request.{Request}
 use Rattle.txn_world.specs.declared.store.Request.TheVariants as requests
 use Rattle.txn_world.specs.declared.trace.Row.{Row}
 use Rattle.txn_world.specs.declared.trace.Row.TheVariants.{Effect, Begun, Answered}
-use Rattle.txn_world.specs.History.{Version, created_by, versions_of, newest, history}
+use Rattle.txn_world.specs.History.{Version, created_by, versions_of, history}
 use Rattle.txn_world.specs.OneHistory.{Appends, Fits, IsOneHistory}
 use Rattle.txn_world.proofs.Lists.{get_more}
 use Rattle.txn_world.proofs.Rows.{versions_of-more}

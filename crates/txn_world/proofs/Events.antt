@@ -1,5 +1,5 @@
 -- Each event keeps what stands of a world's state.
-use Rattle.std.proofs.Common.{◌≡◌, ◌≢◌, ℕ, zero, suc, ◌+◌, ◌-◌, ◌<◌, ◌≤◌, List, [], ◌∷◌, ◌++◌, length, set, slice_get, Bool, true, false, ◌==◌, ◌&&◌, not, cond, is_some, Option, Some, None, inl, inr, refl, sym, ◌∙◌, ap, subst, arith}
+use Rattle.std.proofs.Common.{◌≡◌, ◌≢◌, ℕ, zero, suc, ◌+◌, ◌-◌, ◌<◌, ◌≤◌, List, [], ◌∷◌, ◌++◌, length, set, Bool, true, false, ◌==◌, ◌&&◌, not, cond, Option, Some, None, inl, inr, refl, sym, ◌∙◌, ap, subst, arith}
 use Rattle.std.specs.Option.{option_map}
 use Rattle.std.specs.FinMap.{empty, get, get-empty}
 use Rattle.std.specs.Ordering.{nat_cmp}
@@ -16,24 +16,22 @@ use Rattle.txn_world.specs.declared.event.Answer.TheVariants as answers
 use Rattle.txn_world.specs.declared.event.Told.{Told}
 use Rattle.txn_world.specs.declared.event.Event.{Event}
 use Rattle.txn_world.specs.declared.event.Event.TheVariants as events
-use Rattle.txn_world.specs.declared.event.EventFault.{EventFault}
-use Rattle.txn_world.specs.declared.event.EventFault.TheVariants as faults
 use Rattle.txn_world.specs.declared.store.Request.{Request}
 use Rattle.txn_world.specs.declared.trace.Row.{Row}
 use Rattle.txn_world.specs.declared.trace.Row.TheVariants.{Effect, Begun, Answered}
 use Rattle.txn_world.specs.Lists.{numbered}
 use Rattle.txn_world.specs.Store.{Store, store_after, changes, reply_of}
-use Rattle.txn_world.specs.History.{Version, versions_of, newest, stored}
-use Rattle.txn_world.specs.Calls.{begins, ends, was_begun, was_answered, is_running, IsCall, begun_count, AtRow}
-use Rattle.txn_world.specs.OneHistory.{number_of, base_on, is_known_base, has_known_base, AnswerFits, IsOneHistory}
-use Rattle.txn_world.specs.Allowed.{is_client, begin_fault, fault_of}
-use Rattle.txn_world.specs.Operation.{Turned, started, asked, turned, turned_or, ReadsBack}
-use Rattle.txn_world.specs.Machine.{State, opening, asked_of, with_doing, answer_rows, effect_rows, next_op, begun_as, served_as, lacks_memory, refusal_of, served_by, served, stepped, EventReadsBack, Takes, Runs, IsReached}
+use Rattle.txn_world.specs.History.{Version, versions_of, newest}
+use Rattle.txn_world.specs.Calls.{begins, ends, was_begun, was_answered, IsCall, begun_count}
+use Rattle.txn_world.specs.OneHistory.{number_of, base_on, is_known_base, has_known_base}
+use Rattle.txn_world.specs.Allowed.{is_client, begin_fault}
+use Rattle.txn_world.specs.Operation.{started, asked, turned, turned_or, ReadsBack}
+use Rattle.txn_world.specs.Machine.{State, opening, with_doing, answer_rows, effect_rows, next_op, begun_as, served_as, lacks_memory, refusal_of, served_by, served, stepped, EventReadsBack, Takes, Runs, IsReached}
 use Rattle.txn_world.proofs.Lists.{get_last, numbered_more, numbered_set, any_false, any_true, any_last}
 use Rattle.txn_world.proofs.Rows.{row_op, affects, has_effect, is_begun, no_begin, begins_other, ends_other, affects_other, begun_count-more, begun_count-begun, AtRow-more, IsCall-more, newest_grows, version_kept}
-use Rattle.txn_world.proofs.Stands.{KnowStands, WritingStands, GettingStands, DoingStands, RunStands, EndStands, OpStands, Ends, TurnOf, TurnStands, Fresh, StandsBut, Stands}
+use Rattle.txn_world.proofs.Stands.{KnowStands, WritingStands, GettingStands, DoingStands, RunStands, EndStands, OpStands, TurnOf, TurnStands, Fresh, StandsBut, Stands}
 use Rattle.txn_world.proofs.Effects.{begun_more, answered_more}
-use Rattle.txn_world.proofs.Serves.{Served, AfterServe, after_serve}
+use Rattle.txn_world.proofs.Serves.{after_serve}
 
 module _ {T : Type 0} (encode : T → List ℕ) (decode : List ℕ → Option T) where
   -- another operation's row keeps what stands of one

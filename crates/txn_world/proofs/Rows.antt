@@ -1,5 +1,5 @@
 -- What one more row does to what a trace says.
-use Rattle.std.proofs.Common.{◌≡◌, ◌≢◌, ℕ, zero, suc, ◌+◌, ◌<◌, ◌≤◌, List, [], ◌∷◌, ◌++◌, length, take, map, slice_get, Bool, true, false, ◌==◌, ◌||◌, cond, Option, Some, None, inl, inr, refl, sym, ◌∙◌, ap, subst, arith}
+use Rattle.std.proofs.Common.{◌≡◌, ◌≢◌, ℕ, zero, suc, ◌+◌, ◌≤◌, List, [], ◌∷◌, ◌++◌, length, take, map, slice_get, Bool, true, false, ◌==◌, ◌||◌, cond, Option, Some, None, inl, inr, refl, sym, ◌∙◌, ap, subst, arith}
 use Rattle.std.specs.List.{list_any}
 use Rattle.std.specs.FinMap.{empty}
 use Rattle.std.proofs.lemmas.List.{length-append, take-append-le, take_all, append-nil}
@@ -7,13 +7,12 @@ use Rattle.std.proofs.lemmas.Bool.{ne_eqb, eq-eqb}
 use Rattle.std.proofs.lemmas.Option.{slice_get_within}
 use Rattle.txn_world.specs.declared.event.Call.{Call}
 use Rattle.txn_world.specs.declared.store.Request.{Request}
-use Rattle.txn_world.specs.declared.store.Request.TheVariants as requests
 use Rattle.txn_world.specs.declared.trace.Row.{Row}
 use Rattle.txn_world.specs.declared.trace.Row.TheVariants.{Effect, Begun, Answered}
 use Rattle.txn_world.specs.Lists.{numbered}
 use Rattle.txn_world.specs.Store.{Store}
 use Rattle.txn_world.specs.History.{Version, created_by, has_id, with_version, versions_from, versions_of, newest, stored_with, stored_from, stored, IsEntry}
-use Rattle.txn_world.specs.Calls.{begins, ends, was_begun, was_answered, IsCall, AtRow, begun_count}
+use Rattle.txn_world.specs.Calls.{begins, ends, was_begun, IsCall, AtRow, begun_count}
 use Rattle.txn_world.specs.OneHistory.{Fits, IsOneHistory}
 use Rattle.txn_world.proofs.Lists.{get_more, get_kept, numbered_kept}
 

@@ -1,11 +1,10 @@
 -- What holds of each state that a world reaches, as its public calls say it.
-use Rattle.std.proofs.Common.{◌≡◌, ℕ, zero, suc, ◌+◌, ◌<◌, List, [], ◌∷◌, ◌++◌, length, Bool, true, false, ◌&&◌, not, cond, is_some, is_ok, map, Option, Some, None, Result, Ok, Err, OnErr, IfOk, inl, inr, refl, sym, ◌∙◌, ap, subst, arith}
+use Rattle.std.proofs.Common.{◌≡◌, ℕ, zero, suc, ◌+◌, ◌<◌, List, [], ◌∷◌, ◌++◌, length, Bool, true, false, ◌&&◌, not, cond, is_some, is_ok, Option, Some, None, Result, Ok, Err, OnErr, IfOk, inl, inr, refl, sym, ◌∙◌, ap, subst, arith}
 use Rattle.std.specs.FinMap.{contains_key, insert}
 use Rattle.std.proofs.lemmas.List.{map-append}
 use Rattle.txn_world.specs.declared.operation.Doing.{Doing}
 use Rattle.txn_world.specs.declared.operation.Doing.TheVariants.{Writing, Listing, Getting, Ended}
 use Rattle.txn_world.specs.declared.operation.Operation.{Operation}
-use Rattle.txn_world.specs.declared.event.Call.{Call}
 use Rattle.txn_world.specs.declared.event.Answer.{Answer}
 use Rattle.txn_world.specs.declared.event.Told.{Told}
 use Rattle.txn_world.specs.declared.event.Told.TheVariants as told
@@ -20,12 +19,12 @@ use Rattle.txn_world.specs.declared.trace.Row.TheVariants.{Begun}
 use Rattle.txn_world.specs.Lists.{numbered}
 use Rattle.txn_world.specs.Store.{Store, store_after, changes, reply_of}
 use Rattle.txn_world.specs.History.{stored}
-use Rattle.txn_world.specs.Calls.{was_begun, was_answered, is_running}
+use Rattle.txn_world.specs.Calls.{is_running}
 use Rattle.txn_world.specs.OneHistory.{IsOneHistory}
 use Rattle.txn_world.specs.Allowed.{fault_of, op_told, answer_row, IsEffectRow, AddsRows}
 use Rattle.txn_world.specs.Operation.{Turned, started, asked, turned, turned_or}
 use Rattle.txn_world.specs.Machine.{State, WorldState, opening, asked_of, asked_by, told_of, answer_rows, effect_rows, next_op, begun_as, served_as, lacks_memory, fault_met, refusal_of, served_by, served, stepped, Takes, Meets, Outcomes, taken_count, RunsPast, Runs, IsReached}
-use Rattle.txn_world.proofs.Stands.{RunStands, OpStands, Stands}
+use Rattle.txn_world.proofs.Stands.{OpStands, Stands}
 use Rattle.txn_world.proofs.Events.{within, reached_stands}
 
 module _ {T : Type 0} (encode : T → List ℕ) (decode : List ℕ → Option T) where

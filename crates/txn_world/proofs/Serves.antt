@@ -1,10 +1,10 @@
 -- What a serve leaves its own operation with, by what it asks.
-use Rattle.std.proofs.Common.{◌≡◌, ℕ, zero, suc, ◌+◌, ◌<◌, ◌≤◌, List, [], ◌∷◌, ◌++◌, length, take, Bool, true, false, ◌==◌, ◌&&◌, not, cond, is_some, MatchOption, Option, Some, None, Result, Ok, Err, inl, inr, refl, sym, ◌∙◌, ap, subst, arith}
+use Rattle.std.proofs.Common.{◌≡◌, ℕ, zero, suc, ◌+◌, ◌<◌, ◌≤◌, List, [], ◌∷◌, ◌++◌, length, take, Bool, true, false, ◌&&◌, not, cond, is_some, MatchOption, Option, Some, None, Ok, Err, inl, inr, refl, sym, ◌∙◌, ap, subst, arith}
 use Rattle.std.specs.Option.{option_map}
 use Rattle.std.specs.FinMap.{get, insert, contains_key}
 use Rattle.std.proofs.lemmas.List.{length-append, append-nil, take-append-le, take_all}
-use Rattle.std.proofs.lemmas.Bool.{cases_Bool, cases_lt, eqb-true, both_ways}
-use Rattle.std.proofs.lemmas.Option.{slice_get_within, MatchOption-at_some}
+use Rattle.std.proofs.lemmas.Bool.{cases_lt, eqb-true, both_ways}
+use Rattle.std.proofs.lemmas.Option.{MatchOption-at_some}
 use Rattle.txn_world.specs.declared.operation.Doing.{Doing}
 use Rattle.txn_world.specs.declared.operation.Doing.TheVariants.{Writing, Listing, Getting, Ended}
 use Rattle.txn_world.specs.declared.event.Call.{Call}
@@ -15,18 +15,18 @@ use Rattle.txn_world.specs.declared.store.Request.{Request}
 use Rattle.txn_world.specs.declared.store.Request.TheVariants as requests
 use Rattle.txn_world.specs.declared.store.StoreError.TheVariants as errors
 use Rattle.txn_world.specs.declared.trace.Row.{Row}
-use Rattle.txn_world.specs.declared.trace.Row.TheVariants.{Effect, Begun, Answered}
+use Rattle.txn_world.specs.declared.trace.Row.TheVariants.{Effect}
 use Rattle.txn_world.specs.Lists.{numbered}
 use Rattle.txn_world.specs.Store.{Store, changes, store_after, reply_of, greatest_id, found}
 use Rattle.txn_world.specs.History.{Version, has_id, versions_of, newest}
-use Rattle.txn_world.specs.Calls.{begins, ends as ends_row, was_begun, was_answered, IsCall, id_told, is_id, AtRow}
-use Rattle.txn_world.specs.OneHistory.{number_of, base_on, Appends, Entered, Overtaken, AnswerFits}
+use Rattle.txn_world.specs.Calls.{begins, ends as ends_row, was_begun, IsCall, id_told, is_id}
+use Rattle.txn_world.specs.OneHistory.{number_of, base_on, Appends, Entered, AnswerFits}
 use Rattle.txn_world.specs.Operation.{Turned, asked, ends, created_turned, listed_turned, got_turned, read_as, turned, turned_or}
 use Rattle.txn_world.specs.Machine.{effect_rows}
 use Rattle.txn_world.proofs.StoreLemmas.{greatest_is, greatest_none}
 use Rattle.txn_world.proofs.Lists.{get_last, any_false, any_true}
 use Rattle.txn_world.proofs.Rows.{AtRow-now, IsCall-more, entry_at, effect_found}
-use Rattle.txn_world.proofs.Stands.{KnowStands, WritingStands, GettingStands, RunStands, Ends, TurnStands, bytes_at}
+use Rattle.txn_world.proofs.Stands.{KnowStands, WritingStands, RunStands, TurnStands}
 use Rattle.txn_world.proofs.Effects.{stored_within, within_stored, missing_all, bytes_within, within_bytes, appended, created_more}
 
 module _ {T : Type 0} (decode : List ℕ → Option T) where

@@ -1,6 +1,6 @@
 -- What a serve changes, from what each of its calls does.
-use Rattle.std.proofs.Common.{◌≡◌, ℕ, List, [], ◌∷◌, ◌++◌, Bool, true, false, ◌&&◌, ◌||◌, not, cond, IsTrue, Option, Some, None, Result, Ok, Err, inl, inr, refl, sym, ◌∙◌, ap, subst}
-use Rattle.std.specs.FinMap.{contains_key, get}
+use Rattle.std.proofs.Common.{◌≡◌, ℕ, List, ◌++◌, Bool, true, false, ◌&&◌, ◌||◌, not, cond, IsTrue, Option, Some, None, Ok, Err, inl, inr, refl, sym, ◌∙◌, ap}
+use Rattle.std.specs.FinMap.{contains_key}
 use Rattle.std.proofs.lemmas.Bool.{cases_Bool}
 use Rattle.txn_world.specs.declared.operation.Doing.{Doing}
 use Rattle.txn_world.specs.declared.operation.Doing.TheVariants.{Writing, Listing, Getting, Ended}
@@ -10,16 +10,15 @@ use Rattle.txn_world.specs.declared.store.Request.TheVariants as requests
 use Rattle.txn_world.specs.declared.store.Reply.{Reply}
 use Rattle.txn_world.specs.declared.store.Reply.TheVariants as replies
 use Rattle.txn_world.specs.declared.store.StoreError.TheVariants as errors
-use Rattle.txn_world.specs.declared.event.Event.TheVariants as events
 use Rattle.txn_world.specs.declared.event.Told.{Told}
 use Rattle.txn_world.specs.declared.event.Told.TheVariants as told
 use Rattle.txn_world.specs.declared.event.Answer.{Answer}
 use Rattle.txn_world.specs.declared.event.Answer.TheVariants as answers
 use Rattle.txn_world.specs.declared.trace.Row.{Row}
 use Rattle.txn_world.specs.Lists.{numbered}
-use Rattle.txn_world.specs.Store.{Store, changes, store_after, reply_of, lacking, reply_lacks_memory, is_created, is_get, found}
+use Rattle.txn_world.specs.Store.{Store, changes, store_after, reply_of, lacking, reply_lacks_memory, is_created, is_get}
 use Rattle.txn_world.specs.Operation.{Turned, asked, ends, turned, turned_or, lacks_answer, may_lack}
-use Rattle.txn_world.specs.Machine.{State, told_of, lacks_memory, effect_rows, answer_rows, asked_of, asked_by, with_doing, AdvancesAt, Advances, served_as, served_by, served, stepped}
+use Rattle.txn_world.specs.Machine.{State, told_of, lacks_memory, effect_rows, answer_rows, asked_of, asked_by, with_doing, AdvancesAt, Advances, served}
 
 created_by_reply : (store : Store) (request : Request) → is_created (reply_of store request) ≡ changes store request
 created_by_reply store (requests.Create id bytes) = elim (contains_key store id) as (λ b. is_created (replies.Create (cond b (Err errors.AlreadyExists) (Ok tt))) ≡ not b) [ true ↦ refl | false ↦ refl ]

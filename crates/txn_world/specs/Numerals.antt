@@ -1,8 +1,7 @@
 -- Numbers below 2 ^ 64 as digits write them.
-use Rattle.std.specs.Prelude.{ℕ, ◌-◌, ◌^◌, Bool, ◌&&◌, List, ◌++◌, Option, Some, None, if◌then◌else◌, length, nat_lt, ◌==◌, slice_index, replicate}
+use Rattle.std.specs.Prelude.{ℕ, ◌^◌, Bool, ◌&&◌, List, Option, Some, None, if◌then◌else◌, length, nat_lt, ◌==◌, slice_index}
 use Rattle.std.specs.Char.{is_ascii_digit}
 use Rattle.std.specs.List.{list_all}
-use Rattle.std.specs.Fmt.{decimal}
 use Rattle.std.specs.Str.Parse.{digits_value}
 
 -- at least one digit, only digits, and a number below 2 ^ 64

@@ -69,10 +69,7 @@ fn after_create<T>(id: u64, reply: Result<(), StoreError>) -> Turn<T>
     ensures twice { IfSome result.1 (λ pair. pair.1 ≡ pair.0) }
 {
     match reply {
-        Ok(()) => (
-            Doing::Ended,
-            Some((Answer::Wrote(id), Answer::Wrote(id))),
-        ),
+        Ok(()) => (Doing::Ended, Some((Answer::Wrote(id), Answer::Wrote(id)))),
         Err(StoreError::AlreadyExists) => refused(5),
         Err(StoreError::NotFound) => refused(2),
         Err(StoreError::NoMemory) => refused(9),
@@ -84,10 +81,7 @@ fn after_list<T>(reply: Result<Option<u64>, StoreError>) -> Turn<T>
     ensures twice { IfSome result.1 (λ pair. pair.1 ≡ pair.0) }
 {
     match reply {
-        Ok(None) => (
-            Doing::Ended,
-            Some((Answer::Read(None), Answer::Read(None))),
-        ),
+        Ok(None) => (Doing::Ended, Some((Answer::Read(None), Answer::Read(None)))),
         Ok(Some(id)) => (Doing::Getting(id), None),
         Err(StoreError::NoMemory) => refused(9),
         Err(_) => refused(2),

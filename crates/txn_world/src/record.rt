@@ -1,14 +1,15 @@
 //! A record as the text `epoch:payload`, two plain decimals.
+ghost use Rattle.std.specs.Prelude.{◌≡◌, ◌↔◌, Some, Ok, IfSome, IfOk, IfErr};
 ghost use Rattle.txn_world.specs.declared.record.Record.{Record};
-ghost use Rattle.std.specs.Prelude.{◌≡◌, ◌<◌, ◌^◌, ◌↔◌, Some, Ok, IfSome, IfOk, IfErr};
+ghost use Rattle.txn_world.specs.Record.{record_text, record_read, IsNumbers};
+ghost use Rattle.txn_world.specs.Refusal.{OnRefused, IsBadRecord};
 
-use anyhow::anyhow;
-use bytes::Bytes;
 use crate::codec::{CodecFault, ObjectCodec};
 use crate::numerals::read_decimal;
+use anyhow::anyhow;
+use bytes::Bytes;
 use std::alloc::{AllocError, Global};
-use std::fmt;
-use std::str;
+use std::{fmt, str};
 
 /// The value that the program keeps: an epoch, and a payload that means nothing to the world.
 #[derive(Clone, Copy, Debug, PartialEq, Eq)]
@@ -34,10 +35,6 @@ impl fmt::Display for Record {
 /// leading zero but in `0` itself. It reads these and nothing else.
 #[derive(Clone, Copy, Debug)]
 pub struct RecordCodec;
-
-ghost use Rattle.txn_world.specs.Record.{record_text, record_read, IsNumbers};
-ghost use Rattle.std.specs.Result.{result_ok};
-ghost use Rattle.txn_world.specs.Refusal.{OnRefused, IsBadRecord};
 
 /// The record that bytes are the text of, where they are one.
 pub fn read_record(bytes: &[u8]) -> Option<Record>

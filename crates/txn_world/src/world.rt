@@ -137,5 +137,4 @@ impl<T: Clone, C: ObjectCodec<T> + Drop> World<T, C> {
 /// The law of the world: whatever events are taken, in whatever order, the trace is one history.
 pub fn one_history<T: Drop, C: ObjectCodec<T>>(_codec: &C)
     ensures { (clients : _) (taken : List (Event T × Told T)) (state : State T) → Runs (C.encoded _codec.now) (C.decoded _codec.now) (opening clients) taken state → IsOneHistory (C.decoded _codec.now) state.trace }
-{
-}
+{}

@@ -1,5 +1,4 @@
-use Rattle.std.proofs.Common.{◌≡◌, ◌∙◌, List, map, take, Some, ap, subst, sym}
-use Rattle.txn_world.specs.History.{history}
+use Rattle.std.proofs.Common.{◌∙◌, ap}
 use Rattle.txn_world.proofs.Entries.{on_refused, never_refused, one_entry, no_entry}
 use Rattle.txn_world.proofs.world.entries_of.Goals as goal
 use Rattle.txn_world.proofs.world.entries_of.Goals.{in-Some+in-Ok+in_ok-push-in-Ok, in_default}

@@ -1,4 +1,4 @@
-use Rattle.std.proofs.Common.{sym, ◌∙◌, ap, Some}
+use Rattle.std.proofs.Common.{sym, ◌∙◌, ap}
 use Rattle.txn_world.specs.Store.{found}
 use Rattle.txn_world.proofs.StoreLemmas.{get_key}
 use Rattle.txn_world.proofs.store.Versions.get.Goals as goal
