@@ -1,0 +1,10 @@
+pub mod PathLemmas
+pub mod DigitLemmas
+pub mod TextLemmas
+pub mod LastLine
+pub mod Shown
+pub mod NameLemmas
+pub mod Walks
+pub mod ListingLemmas
+pub mod MemoryLemmas
+pub mod FileLemmas

@@ -1,0 +1,12 @@
+pub mod Paths
+pub mod PathText
+pub mod Digits
+pub mod VersionName
+pub mod Store
+pub mod Memory
+pub mod MemoryFields
+pub mod Metas
+pub mod Requests
+pub mod CallCounts
+pub mod Failing
+pub mod MemoryServes

@@ -1,0 +1,14 @@
+//! A store of files under paths: the paths, the names of versions, the store's trait and its meaning, a store
+//! in memory, requests as values, and a store that fails on command.
+#![tactic(auto)]
+
+mod count;
+mod digits;
+pub mod failing;
+pub mod in_memory;
+pub mod path;
+pub mod request;
+pub mod store;
+#[cfg(test)]
+mod tests;
+pub mod version_names;

@@ -1,0 +1,6 @@
+pub mod Lines
+pub mod Grammar
+pub mod Printed
+pub mod Script
+pub mod Reading
+pub mod Printing
