@@ -8,3 +8,4 @@ pub mod Walks
 pub mod ListingLemmas
 pub mod MemoryLemmas
 pub mod FileLemmas
+pub mod VersionOfLemmas

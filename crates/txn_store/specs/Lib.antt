@@ -10,3 +10,4 @@ pub mod Requests
 pub mod CallCounts
 pub mod Failing
 pub mod MemoryServes
+pub mod VersionOf

@@ -125,6 +125,7 @@ fn a_name_has_twenty_digits(rt: HostRuntime) -> Result<(), Fail> {
         assert_eq!(rt; names.parse_id(&path), Some(number));
         path.is_of_plain_segments();
     }
+    shows(&rt, names.dir(), "root/test")?;
     names.one_to_one(1, 2);
     twenty_digits(7);
     Ok(())

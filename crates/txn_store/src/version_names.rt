@@ -56,6 +56,13 @@ impl VersionNames {
         Ok(VersionNames { dir, suffix })
     }
 
+    /// The directory of the versions. It takes no memory.
+    pub fn dir(&self) -> &Path
+        ensures { result.now ≡ self.now.dir }
+    {
+        &self.dir
+    }
+
     /// The path of a version. It makes one allocation.
     pub fn path_for(&self, alloc: Global, number: u64) -> Result<Path, AllocError>
         ensures { IfOk result (λ path. path ≡ version_path self.now number) }

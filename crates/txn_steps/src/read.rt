@@ -1,0 +1,180 @@
+//! A read as a state.
+ghost use Rattle.std.specs.Prelude.{◌≡◌, IfOk, None, Err, unwrap_or};
+ghost use Rattle.txn_store.specs.VersionName.{version_path};
+ghost use Rattle.txn_store.specs.VersionOf.{version_of};
+ghost use Rattle.txn_steps.specs.Steps.{turned_by_number, lacks_memory};
+ghost use Rattle.txn_steps.specs.ReadSteps.{greater_of, greatest_listed, listed_turned, got_turned, read_or_lacks};
+
+use crate::codec::ObjectCodec;
+use crate::error::TransactionalObjectError;
+use crate::id::MonotonicId;
+use crate::layout::Layout;
+use crate::turned::Turned;
+use std::alloc::{AllocError, Global};
+use txn_store::request::{Listing, Reply, Request};
+use txn_store::store::{Got, ObjectMeta, StoreError};
+use txn_store::version_names::VersionNames;
+
+/// A read of the newest version: a listing, and the get of the greatest listed id.
+#[derive(Drop)]
+pub enum ReadOp {
+    /// It asks for a listing of the versions.
+    Lists(Request),
+    /// It asks for the version of this id.
+    Gets(MonotonicId, Request),
+}
+
+/// What a read answers: the id and the value of the newest version, or that there is none.
+pub type ReadAnswer<T> = Result<Option<(MonotonicId, T)>, TransactionalObjectError>;
+
+/// The greatest id of the versions among listed files. Other files are skipped.
+fn greatest(names: &VersionNames, metas: &[ObjectMeta]) -> Option<u64>
+    ensures { result ≡ greatest_listed names.now metas.now }
+{
+    let mut greatest = None;
+    for meta in metas {
+        greatest = greater(greatest, parsed(names, meta));
+    }
+    greatest
+}
+
+fn greater(first: Option<u64>, second: Option<u64>) -> Option<u64>
+    ensures { result ≡ greater_of first second }
+{
+    match (first, second) {
+        (None, found) => found,
+        (found, None) => found,
+        (Some(n), Some(m)) => Some(n.max(m)),
+    }
+}
+
+/// The id of the version that a listed file is.
+fn parsed(names: &VersionNames, meta: &ObjectMeta) -> Option<u64>
+    ensures { result ≡ version_of names.now meta.now.location }
+{
+    names.parse_id(&meta.location)
+}
+
+fn list_request(names: &VersionNames) -> Result<Request, AllocError>
+    ensures { IfOk result (λ request. request ≡ Request.List names.now.dir) }
+{
+    let prefix = names.dir().try_clone()?;
+    Ok(Request::List { prefix })
+}
+
+fn get_request(alloc: Global, names: &VersionNames, id: u64) -> Result<Request, AllocError>
+    ensures { IfOk result (λ request. request ≡ Request.Get (version_path names.now id) None) }
+{
+    let path = names.path_for(alloc, id)?;
+    Ok(Request::Get {
+        path,
+        if_none_match: None,
+    })
+}
+
+fn no_memory<T>() -> Turned<ReadAnswer<T>>
+    ensures { turned_by_number result ≡ Turned.Done (Err 9) }
+{
+    Turned::Done(Err(TransactionalObjectError::NoMemory))
+}
+
+/// What a read does next where it goes on, and what it says.
+type Step<T> = (Option<ReadOp>, Turned<ReadAnswer<T>>);
+
+/// After the listing.
+fn after_list<T>(
+    alloc: Global,
+    names: &VersionNames,
+    answer: Result<Listing, StoreError>,
+    op: &ReadOp,
+) -> Step<T>
+    ensures { (unwrap_or result.0 op.now, turned_by_number result.1) ≡ read_or_lacks (lacks_memory (turned_by_number result.1)) op.now (listed_turned names.now op.now answer) }
+{
+    let listing = match answer {
+        Ok(listing) => listing,
+        Err(error) => return (None, Turned::Done(Err(error.into()))),
+    };
+    match greatest(names, listing.as_slice()) {
+        None => (None, Turned::Done(Ok(None))),
+        Some(id) => match get_request(alloc, names, id) {
+            Ok(request) => (
+                Some(ReadOp::Gets(MonotonicId::new(id), request)),
+                Turned::Goes,
+            ),
+            Err(_) => (None, no_memory()),
+        },
+    }
+}
+
+/// After the get.
+fn after_get<T, C: ObjectCodec<T>>(
+    alloc: Global,
+    layout: &Layout<C>,
+    answer: Result<Got, StoreError>,
+    id: MonotonicId,
+    op: &ReadOp,
+) -> Step<T>
+    ensures { (unwrap_or result.0 op.now, turned_by_number result.1) ≡ read_or_lacks (lacks_memory (turned_by_number result.1)) op.now (got_turned layout.now.names (C.decoded layout.now.codec) op.now id answer) }
+{
+    match answer {
+        Ok(got) => match layout.codec.decode(alloc, &got.bytes) {
+            Ok(value) => (None, Turned::Done(Ok(Some((id, value))))),
+            Err(fault) => (None, Turned::Done(Err(fault.into()))),
+        },
+        // It was removed since it was listed: the read starts again.
+        Err(StoreError::NotFound) => match list_request(&layout.names) {
+            Ok(request) => (Some(ReadOp::Lists(request)), Turned::Goes),
+            Err(_) => (None, no_memory()),
+        },
+        Err(error) => (None, Turned::Done(Err(error.into()))),
+    }
+}
+
+impl ReadOp {
+    ghost use Rattle.txn_steps.specs.ReadSteps.{read_started, read_asked, read_turned, read_or_lacks, IsReadReply};
+
+    /// A read, which begins with its listing. The only error is want of memory.
+    pub fn start<C>(layout: &Layout<C>) -> Result<ReadOp, AllocError>
+        ensures { IfOk result (λ op. op ≡ read_started layout.now.names) }
+    {
+        Ok(ReadOp::Lists(list_request(&layout.names)?))
+    }
+
+    /// What it asks of the store. It takes no memory.
+    pub fn ask(&self) -> &Request
+        ensures { result.now ≡ read_asked self.now }
+    {
+        match self {
+            ReadOp::Lists(request) => request,
+            ReadOp::Gets(_, request) => request,
+        }
+    }
+
+    /// Takes the store's reply to what it asks. With no version listed it answers `None`; else it
+    /// goes on to the greatest listed one, and answers its id and value. Where that one is missing
+    /// it lists again. Bytes that the codec refuses are `CallbackError`, a growth that is refused is
+    /// `NoMemory`, and an error of the store is as it becomes.
+    pub fn take<T, C: ObjectCodec<T>>(
+        &mut self,
+        alloc: Global,
+        layout: &Layout<C>,
+        reply: Reply,
+    ) -> Turned<ReadAnswer<T>>
+        requires { IsReadReply self.old reply }
+        ensures { (self.new, turned_by_number result) ≡ read_or_lacks (lacks_memory (turned_by_number result)) self.old (read_turned layout.now.names (C.decoded layout.now.codec) self.old reply) }
+    {
+        let (next, turned) = match (&*self, reply) {
+            (ReadOp::Lists(_), Reply::List(answer)) => {
+                after_list(alloc, &layout.names, answer, self)
+            }
+            (ReadOp::Gets(id, _), Reply::Get(answer)) => {
+                after_get(alloc, layout, answer, *id, self)
+            }
+            _ => unreachable!(),
+        };
+        if let Some(next) = next {
+            *self = next;
+        }
+        turned
+    }
+}
