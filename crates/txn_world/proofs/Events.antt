@@ -1,14 +1,22 @@
 -- Each event keeps what stands of a world's state.
-use Rattle.std.proofs.Common.{◌≡◌, ◌≢◌, ℕ, zero, suc, ◌+◌, ◌-◌, ◌<◌, ◌≤◌, List, [], ◌∷◌, ◌++◌, length, set, Bool, true, false, ◌==◌, ◌&&◌, not, cond, Option, Some, None, inl, inr, refl, sym, ◌∙◌, ap, subst, arith}
+use Rattle.std.proofs.Common.{◌≡◌, ◌≢◌, ℕ, zero, suc, ◌+◌, ◌-◌, ◌<◌, ◌≤◌, ◌^◌, List, [], ◌∷◌, ◌++◌, length, set, Bool, true, false, ◌==◌, cond, Option, Some, None, inl, inr, refl, sym, ◌∙◌, ap, subst, arith}
 use Rattle.std.specs.Option.{option_map}
 use Rattle.std.specs.FinMap.{empty, get, get-empty}
-use Rattle.std.specs.Ordering.{nat_cmp}
 use Rattle.std.proofs.lemmas.List.{length-append, length-set, append-nil}
-use Rattle.std.proofs.lemmas.Bool.{cases_Bool, cases_eq, ne_eqb, eqb-true, eq-eqb}
+use Rattle.std.proofs.lemmas.Bool.{cases_Bool, cases_eq, cases_lt, both_ways, ne_eqb, eqb-true, eq-eqb}
 use Rattle.std.proofs.lemmas.Option.{slice_get_within}
-use Rattle.txn_world.specs.declared.operation.Doing.{Doing}
-use Rattle.txn_world.specs.declared.operation.Doing.TheVariants.{Writing, Listing, Getting, Ended}
-use Rattle.txn_world.specs.declared.operation.Operation.{Operation}
+use Rattle.txn_store.specs.Paths.{Segments, path_cmp}
+use Rattle.txn_store.specs.VersionName.{version_path}
+use Rattle.txn_store.specs.Store.{State as StoreState}
+use Rattle.txn_store.specs.declared.store.Got.{Got}
+use Rattle.txn_store.specs.declared.request.Request.{Request}
+use Rattle.txn_steps.specs.declared.write.WriteOp.{WriteOp}
+use Rattle.txn_steps.specs.declared.read.ReadOp.TheVariants.{Lists, Gets}
+use Rattle.txn_steps.specs.Steps.{number_of}
+use Rattle.txn_steps.specs.WriteSteps.{write_started}
+use Rattle.txn_world.specs.declared.doing.Doing.{Doing}
+use Rattle.txn_world.specs.declared.doing.Doing.TheVariants.{Write, Read, Ended}
+use Rattle.txn_world.specs.declared.doing.Operation.{Operation}
 use Rattle.txn_world.specs.declared.event.Call.{Call}
 use Rattle.txn_world.specs.declared.event.Call.TheVariants as calls
 use Rattle.txn_world.specs.declared.event.Answer.{Answer}
@@ -16,17 +24,16 @@ use Rattle.txn_world.specs.declared.event.Answer.TheVariants as answers
 use Rattle.txn_world.specs.declared.event.Told.{Told}
 use Rattle.txn_world.specs.declared.event.Event.{Event}
 use Rattle.txn_world.specs.declared.event.Event.TheVariants as events
-use Rattle.txn_world.specs.declared.store.Request.{Request}
 use Rattle.txn_world.specs.declared.trace.Row.{Row}
 use Rattle.txn_world.specs.declared.trace.Row.TheVariants.{Effect, Begun, Answered}
 use Rattle.txn_world.specs.Lists.{numbered}
-use Rattle.txn_world.specs.Store.{Store, store_after, changes, reply_of}
+use Rattle.txn_world.specs.Names.{world_names}
 use Rattle.txn_world.specs.History.{Version, versions_of, newest}
 use Rattle.txn_world.specs.Calls.{begins, ends, was_begun, was_answered, IsCall, begun_count}
-use Rattle.txn_world.specs.OneHistory.{number_of, base_on, is_known_base, has_known_base}
+use Rattle.txn_world.specs.OneHistory.{base_on, is_known_base, has_known_base}
 use Rattle.txn_world.specs.Allowed.{is_client, begin_fault}
-use Rattle.txn_world.specs.Operation.{started, asked, turned, turned_or, ReadsBack}
-use Rattle.txn_world.specs.Machine.{State, opening, with_doing, answer_rows, effect_rows, next_op, begun_as, served_as, lacks_memory, refusal_of, served_by, served, stepped, EventReadsBack, Takes, Runs, IsReached}
+use Rattle.txn_world.specs.Doing.{started, asked, ReadsBack}
+use Rattle.txn_world.specs.Machine.{State, opening, with_doing, answer_rows, effect_of, effect_rows, next_op, begun_as, Served, Takes, Runs, IsReached}
 use Rattle.txn_world.proofs.Lists.{get_last, numbered_more, numbered_set, any_false, any_true, any_last}
 use Rattle.txn_world.proofs.Rows.{row_op, affects, has_effect, is_begun, no_begin, begins_other, ends_other, affects_other, begun_count-more, begun_count-begun, AtRow-more, IsCall-more, newest_grows, version_kept}
 use Rattle.txn_world.proofs.Stands.{KnowStands, WritingStands, GettingStands, DoingStands, RunStands, EndStands, OpStands, TurnOf, TurnStands, Fresh, StandsBut, Stands}
@@ -36,9 +43,12 @@ use Rattle.txn_world.proofs.Serves.{after_serve}
 module _ {T : Type 0} (encode : T → List ℕ) (decode : List ℕ → Option T) where
   -- another operation's row keeps what stands of one
 
-  writing_more : (rows : List (Row T)) (row : Row T) (op : ℕ) (call : Call T) (id : ℕ) (bytes : List ℕ) → row_op row ≢ op → WritingStands decode rows op call id bytes → WritingStands decode (rows ++ row ∷ []) op call id bytes
-  writing_more rows row op call id bytes other w =
+  writing_more : (rows : List (Row T)) (row : Row T) (op : ℕ) (call : Call T) (write : WriteOp) → row_op row ≢ op → WritingStands decode rows op call write → WritingStands decode (rows ++ row ∷ []) op call write
+  writing_more rows row op call write other w =
       record {
+        bytes = w.bytes;
+        asks = w.asks;
+        fits = w.fits;
         base = w.base;
         value = w.value;
         call_is = w.call_is;
@@ -59,9 +69,9 @@ module _ {T : Type 0} (encode : T → List ℕ) (decode : List ℕ → Option T)
       }
 
   doing_more : (rows : List (Row T)) (row : Row T) (op : ℕ) (call : Call T) (doing : Doing) → row_op row ≢ op → DoingStands decode rows op call doing → DoingStands decode (rows ++ row ∷ []) op call doing
-  doing_more rows row op call (Writing id bytes) other h = writing_more rows row op call id bytes other h
-  doing_more rows row op call Listing other h = h
-  doing_more rows row op call (Getting id) other h = getting_more rows row op call id h
+  doing_more rows row op call (Write write) other h = writing_more rows row op call write other h
+  doing_more rows row op call (Read (Lists request)) other h = h
+  doing_more rows row op call (Read (Gets id request)) other h = (getting_more rows row op call id h.0, h.1)
   doing_more rows row op call Ended other h = h
 
   run_more : (rows : List (Row T)) (row : Row T) (op : ℕ) (call : Call T) (doing : Doing) → row_op row ≢ op → RunStands decode rows op call doing → RunStands decode (rows ++ row ∷ []) op call doing
@@ -74,9 +84,8 @@ module _ {T : Type 0} (encode : T → List ℕ) (decode : List ℕ → Option T)
       }
 
   op_more : (rows : List (Row T)) (row : Row T) (op : ℕ) (doing : Doing) → row_op row ≢ op → OpStands decode rows op doing → OpStands decode (rows ++ row ∷ []) op doing
-  op_more rows row op (Writing id bytes) other h = (h.0, run_more rows row op h.0 (Writing id bytes) other h.1)
-  op_more rows row op Listing other h = (h.0, run_more rows row op h.0 Listing other h.1)
-  op_more rows row op (Getting id) other h = (h.0, run_more rows row op h.0 (Getting id) other h.1)
+  op_more rows row op (Write write) other h = (h.0, run_more rows row op h.0 (Write write) other h.1)
+  op_more rows row op (Read read) other h = (h.0, run_more rows row op h.0 (Read read) other h.1)
   op_more rows row op Ended other h = record { begun = any_true (begins op) rows row h.begun; answered = any_true (ends op) rows row h.answered }
 
   fresh_more : (rows : List (Row T)) (row : Row T) (op : ℕ) → row_op row ≢ op → Fresh decode rows op → Fresh decode (rows ++ row ∷ []) op
@@ -119,7 +128,7 @@ module _ {T : Type 0} (encode : T → List ℕ) (decode : List ℕ → Option T)
       }
 
   -- one more row of the open operation
-  but_more : (s : State T) (row : Row T) (store : Store) → is_begun row ≡ false → row_op row ≤ length s.operations → KnowStands decode (s.trace ++ row ∷ []) store →
+  but_more : (s : State T) (row : Row T) (store : StoreState) → is_begun row ≡ false → row_op row ≤ length s.operations → KnowStands decode (s.trace ++ row ∷ []) store →
       StandsBut decode s (row_op row) → StandsBut decode (record s { store = store; trace = s.trace ++ row ∷ [] }) (row_op row)
   but_more s row store quiet within' k st =
       record {
@@ -148,9 +157,8 @@ module _ {T : Type 0} (encode : T → List ℕ) (decode : List ℕ → Option T)
       elim (numbered_set s.operations op new op o' some e) [ inl is ↦ subst (λ (x : Operation). OpStands decode rows op x.doing) is.1 h | inr isnt ↦ absurd (isnt.0 refl) ]
 
   running : (rows : List (Row T)) (op : ℕ) (call : Call T) (doing : Doing) → RunStands decode rows op call doing → OpStands decode rows op doing
-  running rows op call (Writing id bytes) r = (call, r)
-  running rows op call Listing r = (call, r)
-  running rows op call (Getting id) r = (call, r)
+  running rows op call (Write write) r = (call, r)
+  running rows op call (Read read) r = (call, r)
   running rows op call Ended r = absurd r.stands
 
   ended_at : (rows : List (Row T)) (op : ℕ) (doing : Doing) → doing ≡ Ended → EndStands decode rows op → OpStands decode rows op doing
@@ -171,10 +179,10 @@ module _ {T : Type 0} (encode : T → List ℕ) (decode : List ℕ → Option T)
 
   -- serves
 
-  effect_but : (s : State T) (op : ℕ) (request : Request) (changed : Bool) (store : Store) → op ≤ length s.operations → KnowStands decode (s.trace ++ effect_rows op request changed) store → StandsBut decode s op →
-      StandsBut decode (record s { store = store; trace = s.trace ++ effect_rows op request changed }) op
-  effect_but s op request true store most k st = but_more s (Effect op request) store refl most k st
-  effect_but s op request false store most k st =
+  effect_but : (s : State T) (op : ℕ) (effect : Option Request) (store : StoreState) → op ≤ length s.operations → KnowStands decode (s.trace ++ effect_rows op effect) store → StandsBut decode s op →
+      StandsBut decode (record s { store = store; trace = s.trace ++ effect_rows op effect }) op
+  effect_but s op (Some request) store most k st = but_more s (Effect op request) store refl most k st
+  effect_but s op None store most k st =
       let same = append-nil s.trace in
       record {
         know = k;
@@ -184,32 +192,27 @@ module _ {T : Type 0} (encode : T → List ℕ) (decode : List ℕ → Option T)
         each = λ n o ne e. subst (λ (t : List (Row T)). OpStands decode t n o.doing) (sym same) (st.each n o ne e);
       }
 
-  serve_keeps : (refused : Bool) (s : State T) (op : ℕ) (o : Operation) (call : Call T) (request : Request) → numbered s.operations op ≡ Some o → asked o.doing ≡ Some request → RunStands decode s.trace op call o.doing → Stands decode s →
-      Stands decode (served_as refused s op o request (turned_or refused (turned decode o.doing (reply_of s.store request)))).1
-  serve_keeps refused s op o call request e asks r st =
-      let bound = within s.operations op o e in
-      let after = after_serve decode refused s.trace s.store op call o.doing request asks st.know r in
-      let next = turned_or refused (turned decode o.doing (reply_of s.store request)) in
-      let changed = not refused && changes s.store request in
-      let s' : State T = record s { store = cond refused s.store (store_after s.store request); trace = s.trace ++ effect_rows op request changed } in
-      turn_keeps s' op o call next.0 next.1 bound.0 bound.1 (effect_but s op request changed (cond refused s.store (store_after s.store request)) bound.1 after.know (but s op st)) after.turn
-
-  run_of : (rows : List (Row T)) (op : ℕ) (doing : Doing) (request : Request) → asked doing ≡ Some request → OpStands decode rows op doing → (call : Call T) × RunStands decode rows op call doing
-  run_of rows op (Writing id bytes) request e h = h
-  run_of rows op Listing request e h = h
-  run_of rows op (Getting id) request e h = h
+  pub run_of : (rows : List (Row T)) (op : ℕ) (doing : Doing) (request : Request) → asked doing ≡ Some request → OpStands decode rows op doing → (call : Call T) × RunStands decode rows op call doing
+  run_of rows op (Write write) request e h = h
+  run_of rows op (Read read) request e h = h
   run_of rows op Ended request e h = cc
 
-  served_keeps : (refused : Bool) (s : State T) (op : ℕ) (o : Operation) (asks : Option Request) → numbered s.operations op ≡ Some o → asked o.doing ≡ asks → Stands decode s → Stands decode (served_by decode refused s op o asks).1
-  served_keeps refused s op o None e a st = st
-  served_keeps refused s op o (Some request) e a st =
-      let h = st.each op o (λ z. omega (arith, z, (within s.operations op o e).0)) e in
-      let r = run_of s.trace op o.doing request a h in
-      serve_keeps refused s op o r.0 request e a r.1 st
+  -- the operation that a serve is of
+  pub served_run : (old : State T) (op : ℕ) (told : Told T) (new : State T) → (v : Served decode old op told new) → Stands decode old → (call : Call T) × RunStands decode old.trace op call v.operation.doing
+  served_run old op told new v st = run_of old.trace op v.operation.doing v.request v.asks (st.each op v.operation (λ z. omega (arith, z, (within old.operations op v.operation v.found).0)) v.found)
 
-  serve_at : (refused : Bool) (s : State T) (op : ℕ) (found : Option Operation) → numbered s.operations op ≡ found → Stands decode s → Stands decode (served decode refused s op found).1
-  serve_at refused s op None e st = st
-  serve_at refused s op (Some o) e st = served_keeps refused s op o (asked o.doing) e refl st
+  serve_keeps : (old : State T) (op : ℕ) (told : Told T) (new : State T) → Served decode old op told new → Stands decode old → Stands decode new
+  serve_keeps old op told new v st =
+      let bound = within old.operations op v.operation v.found in
+      let r = served_run old op told new v st in
+      let effect = effect_of v.request v.reply in
+      let after = after_serve decode v.refused old.trace old.store new.store op r.0 v.operation.doing v.request v.reply v.asks st.know r.1 v.serves v.honest in
+      let s' : State T = record old { store = new.store; trace = old.trace ++ effect_rows op effect } in
+      let turn : TurnStands decode s'.trace op r.0 v.next = subst (TurnStands decode s'.trace op r.0) (sym v.turns) after.turn in
+      let kept = turn_keeps s' op v.operation r.0 v.next.0 v.next.1 bound.0 bound.1 (effect_but old op effect new.store bound.1 after.know (but old op st)) turn in
+      subst (λ (clients : ℕ). Stands decode (record { clients = clients; store = new.store; operations = new.operations; trace = new.trace })) (sym v.clients)
+      (subst (λ (operations : List Operation). Stands decode (record { clients = old.clients; store = new.store; operations = operations; trace = new.trace })) (sym v.operations)
+      (subst (λ (rows : List (Row T)). Stands decode (record { clients = old.clients; store = new.store; operations = with_doing old.operations op v.operation v.next.0; trace = rows })) (sym v.trace) kept))
 
   -- begins
 
@@ -248,7 +251,7 @@ module _ {T : Type 0} (encode : T → List ℕ) (decode : List ℕ → Option T)
         none = any_false (affects op) rows row f.none refl;
       }
 
-  base_known : (rows : List (Row T)) (store : Store) (base : Option ℕ) → KnowStands decode rows store → is_known_base rows base ≡ true → (base ≡ base_on (number_of base)) × (number_of base ≤ newest rows)
+  base_known : (rows : List (Row T)) (store : StoreState) (base : Option ℕ) → KnowStands decode rows store → is_known_base rows base ≡ true → (base ≡ base_on (number_of base)) × (number_of base ≤ newest rows)
   base_known rows store None k e = (refl, omega arith)
   base_known rows store (Some zero) k e = absurd (omega (arith, (k.told 0 e).0))
   base_known rows store (Some (suc n)) k e = (refl, (k.told (suc n) e).1)
@@ -257,34 +260,44 @@ module _ {T : Type 0} (encode : T → List ℕ) (decode : List ℕ → Option T)
   last_base None e = cc
   last_base (Some n) e = ap Some (eqb-true n 18446744073709551615 e)
 
+  id_fits : (rows : List (Row T)) (store : StoreState) (base : Option ℕ) → KnowStands decode rows store → number_of base ≤ newest rows → (number_of base == 18446744073709551615) ≡ false → number_of base + 1 < 2 ^ 64
+  id_fits rows store base k known next =
+      elim (cases_lt (number_of base) 18446744073709551615) [
+        | inl lt ↦ omega (arith, lt)
+        | inr ge ↦ (let small = k.small in absurd (both_ways _ next (eq-eqb (number_of base) 18446744073709551615 (omega (arith, ge, small, known)))))
+      ]
+
   -- how a call starts fits
-  start_turn : (rows : List (Row T)) (store : Store) (op : ℕ) (call : Call T) → KnowStands decode rows store → Fresh decode rows op → has_known_base rows call ≡ true → ReadsBack encode decode call →
+  start_turn : (rows : List (Row T)) (store : StoreState) (op : ℕ) (call : Call T) → KnowStands decode rows store → Fresh decode rows op → has_known_base rows call ≡ true → ReadsBack encode decode call →
       TurnStands decode (rows ++ Begun op call ∷ []) op call (started encode call)
   start_turn rows store op calls.Read k f known back =
       let b = began rows op calls.Read f in
-      record { called = b.called; begun = b.begun; running = b.running; stands = refl }
+      record { called = b.called; begun = b.begun; running = b.running; stands = (refl, refl) }
   start_turn rows store op (calls.Write base value) k f known back =
       let call : Call T = calls.Write base value in
       let row : Row T = Begun op call in
       let b = began rows op call f in
       let is = base_known rows store base k known in
-      let Goal : Bool → Type 0 = λ last. TurnStands decode (rows ++ row ∷ []) op call (cond last (Ended, Some (answers.Refused 10)) (Writing (number_of base + 1) (encode value), None)) in
+      let Goal : Bool → Type 0 = λ last. TurnStands decode (rows ++ row ∷ []) op call (cond last (Ended, Some (answers.Refused 10)) (Write (write_started world_names base (encode value)), None)) in
       elim (cases_Bool (number_of base == 18446744073709551615)) [
         | inl last ↦ subst Goal (sym last)
-            (record { is_end = refl; called = b.called; begun = b.begun; once = b.running; fits = inr (inr (refl, last_base base last)); tells_known = λ n e. cc })
+            (record { is_end = refl; called = b.called; begun = b.begun; once = b.running; fits = inr (inr (inr (refl, last_base base last))); tells_known = λ n e. cc })
         | inr next ↦ subst Goal (sym next)
             (record {
               called = b.called;
               begun = b.begun;
               running = b.running;
               stands = record {
+                bytes = encode value;
+                asks = refl;
+                fits = id_fits rows store base k is.1 next;
                 base = base;
                 value = value;
                 call_is = refl;
                 next = refl;
                 base_is = is.0;
                 known = omega (arith, is.1, newest_grows rows row);
-                reads = back;
+                reads = back next;
                 none = b.none;
               };
             })
@@ -311,8 +324,8 @@ module _ {T : Type 0} (encode : T → List ℕ) (decode : List ℕ → Option T)
   none_there zero o e = cc
   none_there (suc op) o e = cc
 
-  nothing_at : (n : ℕ) → get (empty {X = List ℕ} {R = nat_cmp}) n ≡ None
-  nothing_at n = get-empty nat_cmp n
+  nothing_at : (path : Segments) → option_map (λ (got : Got). got.bytes) (get (empty {X = Got} {R = path_cmp}) path) ≡ None
+  nothing_at path = ap (option_map (λ (got : Got). got.bytes)) (get-empty path_cmp path)
 
   none_numbered : (n : ℕ) → None ≡ numbered {A = Version} [] n
   none_numbered zero = refl
@@ -325,8 +338,11 @@ module _ {T : Type 0} (encode : T → List ℕ) (decode : List ℕ → Option T)
           good = λ k row e. cc;
           ids = λ k version e. cc;
           reads = λ k version e. cc;
-          files = λ n. nothing_at n ∙ ap (option_map (λ (v : Version). v.1)) (none_numbered n);
-          kept = refl;
+          small = omega arith;
+          files = λ n small. nothing_at (version_path world_names n) ∙ ap (option_map (λ (v : Version). v.1)) (none_numbered n);
+          kept = λ path. nothing_at path ∙ sym (get-empty path_cmp path);
+          left = refl;
+          honest = refl;
           told = λ n e. cc;
         };
         count = refl;
@@ -340,12 +356,10 @@ module _ {T : Type 0} (encode : T → List ℕ) (decode : List ℕ → Option T)
   begin_allowed true false e = cc
   begin_allowed false known_base e = cc
 
-  stepped_keeps : (refused : Bool) (s : State T) (event : Event T) → Stands decode s → refusal_of s event ≡ None → EventReadsBack encode decode event → Stands decode (stepped encode decode refused s event).1
-  stepped_keeps refused s (events.Begin client call) st e back = begin_keeps s client call st (begin_allowed (is_client s.clients client) (has_known_base s.trace call) e) back
-  stepped_keeps refused s (events.Serve op) st e back = serve_at refused s op (numbered s.operations op) refl st
-
   pub takes_keeps : (old : State T) (event : Event T) (told : Told T) (new : State T) → Takes encode decode old event told new → Stands decode old → Stands decode new
-  takes_keeps old event told new t st = subst (λ (p : Told T × State T). Stands decode p.1) t.step (stepped_keeps (lacks_memory told) old event st t.allowed t.reads_back)
+  takes_keeps old (events.Begin client call) told new t st =
+      subst (λ (p : Told T × State T). Stands decode p.1) t.step.step (begin_keeps old client call st (begin_allowed (is_client old.clients client) (has_known_base old.trace call) t.allowed) t.step.reads_back)
+  takes_keeps old (events.Serve op) told new t st = serve_keeps old op told new t.step st
 
   pub runs_keep : (old : State T) (taken : List (Event T × Told T)) (new : State T) → Runs encode decode old taken new → Stands decode old → Stands decode new
   runs_keep old [] new r st = subst (λ (s : State T). Stands decode s) (sym r) st

@@ -1,11 +1,12 @@
+pub mod Lists
 pub mod NumeralLemmas
 pub mod RecordLemmas
-pub mod StoreLemmas
+pub mod Turning
 pub mod Serving
-pub mod Lists
 pub mod Rows
 pub mod Stands
 pub mod Effects
+pub mod Listed
 pub mod Serves
 pub mod Events
 pub mod Runs

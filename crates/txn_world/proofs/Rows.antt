@@ -6,12 +6,11 @@ use Rattle.std.proofs.lemmas.List.{length-append, take-append-le, take_all, appe
 use Rattle.std.proofs.lemmas.Bool.{ne_eqb, eq-eqb}
 use Rattle.std.proofs.lemmas.Option.{slice_get_within}
 use Rattle.txn_world.specs.declared.event.Call.{Call}
-use Rattle.txn_world.specs.declared.store.Request.{Request}
+use Rattle.txn_store.specs.declared.request.Request.{Request}
 use Rattle.txn_world.specs.declared.trace.Row.{Row}
 use Rattle.txn_world.specs.declared.trace.Row.TheVariants.{Effect, Begun, Answered}
 use Rattle.txn_world.specs.Lists.{numbered}
-use Rattle.txn_world.specs.Store.{Store}
-use Rattle.txn_world.specs.History.{Version, created_by, has_id, with_version, versions_from, versions_of, newest, stored_with, stored_from, stored, IsEntry}
+use Rattle.txn_world.specs.History.{Contents, Version, created_by, has_id, with_version, versions_from, versions_of, newest, stored_with, stored_from, stored, put_count, IsEntry}
 use Rattle.txn_world.specs.Calls.{begins, ends, was_begun, IsCall, AtRow, begun_count}
 use Rattle.txn_world.specs.OneHistory.{Fits, IsOneHistory}
 use Rattle.txn_world.proofs.Lists.{get_more, get_kept, numbered_kept}
@@ -45,9 +44,9 @@ module _ {T : Type 0} where
   pub versions_of-more : (rows : List (Row T)) (row : Row T) → versions_of (rows ++ row ∷ []) ≡ with_version (versions_of rows) (created_by row)
   versions_of-more rows row = versions_from-more [] rows row
 
-  stored_from-more : (store : Store) (rows : List (Row T)) (row : Row T) → stored_from store (rows ++ row ∷ []) ≡ stored_with (stored_from store rows) row
-  stored_from-more store [] row = refl
-  stored_from-more store (r ∷ rows) row = stored_from-more (stored_with store r) rows row
+  stored_from-more : (contents : Contents) (rows : List (Row T)) (row : Row T) → stored_from contents (rows ++ row ∷ []) ≡ stored_with (stored_from contents rows) row
+  stored_from-more contents [] row = refl
+  stored_from-more contents (r ∷ rows) row = stored_from-more (stored_with contents r) rows row
 
   pub stored-more : (rows : List (Row T)) (row : Row T) → stored (rows ++ row ∷ []) ≡ stored_with (stored rows) row
   stored-more rows row = stored_from-more empty rows row
@@ -125,6 +124,13 @@ module _ {T : Type 0} where
   begun_count-begun (Begun o c ∷ rows) op call = omega (arith, begun_count-begun rows op call)
   begun_count-begun (Effect o request ∷ rows) op call = begun_count-begun rows op call
   begun_count-begun (Answered o answer ∷ rows) op call = begun_count-begun rows op call
+
+  -- how many tokens one row took
+  pub put_count-more : (rows : List (Row T)) (row : Row T) → put_count (rows ++ row ∷ []) ≡ put_count rows + put_count (row ∷ [])
+  put_count-more [] row = omega arith
+  put_count-more (Begun o call ∷ rows) row = put_count-more rows row
+  put_count-more (Answered o answer ∷ rows) row = put_count-more rows row
+  put_count-more (Effect o request ∷ rows) row = let rest = put_count-more rows row in omega (arith, rest)
 
   -- an effect of the operation among the rows
   pub effect_found : (rows : List (Row T)) (op k : ℕ) (request : Request) → slice_get rows k ≡ Some (Effect op request) → has_effect rows op ≡ true

@@ -1,10 +1,26 @@
 -- What holds of each state that a world reaches, as its public calls say it.
-use Rattle.std.proofs.Common.{◌≡◌, ℕ, zero, suc, ◌+◌, ◌<◌, List, [], ◌∷◌, ◌++◌, length, Bool, true, false, ◌&&◌, not, cond, is_some, is_ok, Option, Some, None, Result, Ok, Err, OnErr, IfOk, inl, inr, refl, sym, ◌∙◌, ap, subst, arith}
-use Rattle.std.specs.FinMap.{contains_key, insert}
+use Rattle.std.proofs.Common.{◌≡◌, ℕ, zero, suc, ◌+◌, ◌<◌, List, [], ◌∷◌, ◌++◌, length, Bool, true, false, cond, is_some, is_ok, Option, Some, None, Result, Ok, Err, OnErr, IfOk, inl, inr, refl, sym, ◌∙◌, ap, subst, arith}
+use Rattle.std.specs.FinMap.{get}
 use Rattle.std.proofs.lemmas.List.{map-append}
-use Rattle.txn_world.specs.declared.operation.Doing.{Doing}
-use Rattle.txn_world.specs.declared.operation.Doing.TheVariants.{Writing, Listing, Getting, Ended}
-use Rattle.txn_world.specs.declared.operation.Operation.{Operation}
+use Rattle.std.proofs.lemmas.Option.{same_Some}
+use Rattle.txn_store.specs.VersionName.{version_path}
+use Rattle.txn_store.specs.Store.{State as StoreState, Puts, Gets, Lists}
+use Rattle.txn_store.specs.Requests.{Serves}
+use Rattle.txn_store.specs.declared.store.Got.{Got}
+use Rattle.txn_store.specs.declared.store.ObjectMeta.{ObjectMeta}
+use Rattle.txn_store.specs.declared.store.PutMode.TheVariants.{Create}
+use Rattle.txn_store.specs.declared.store.StoreError.{StoreError}
+use Rattle.txn_store.specs.declared.store.StoreError.TheVariants as errors
+use Rattle.txn_store.specs.declared.request.Request.{Request}
+use Rattle.txn_store.specs.declared.request.Request.TheVariants as requests
+use Rattle.txn_store.specs.declared.request.Reply.{Reply}
+use Rattle.txn_store.specs.declared.request.Reply.TheVariants as replies
+use Rattle.txn_steps.specs.declared.write.WriteOp.{WriteOp}
+use Rattle.txn_steps.specs.declared.read.ReadOp.TheVariants.{Lists as ListOp, Gets as GetOp}
+use Rattle.txn_world.specs.declared.doing.Doing.{Doing}
+use Rattle.txn_world.specs.declared.doing.Doing.TheVariants.{Write, Read, Ended}
+use Rattle.txn_world.specs.declared.doing.Operation.{Operation}
+use Rattle.txn_world.specs.declared.event.Call.{Call}
 use Rattle.txn_world.specs.declared.event.Answer.{Answer}
 use Rattle.txn_world.specs.declared.event.Told.{Told}
 use Rattle.txn_world.specs.declared.event.Told.TheVariants as told
@@ -12,20 +28,19 @@ use Rattle.txn_world.specs.declared.event.Event.{Event}
 use Rattle.txn_world.specs.declared.event.Event.TheVariants as events
 use Rattle.txn_world.specs.declared.event.EventFault.{EventFault}
 use Rattle.txn_world.specs.declared.event.EventFault.TheVariants as faults
-use Rattle.txn_world.specs.declared.store.Request.{Request}
-use Rattle.txn_world.specs.declared.store.Request.TheVariants as requests
 use Rattle.txn_world.specs.declared.trace.Row.{Row}
 use Rattle.txn_world.specs.declared.trace.Row.TheVariants.{Begun}
 use Rattle.txn_world.specs.Lists.{numbered}
-use Rattle.txn_world.specs.Store.{Store, store_after, changes, reply_of}
-use Rattle.txn_world.specs.History.{stored}
+use Rattle.txn_world.specs.Names.{world_names}
+use Rattle.txn_world.specs.History.{HasContents, stored}
 use Rattle.txn_world.specs.Calls.{is_running}
 use Rattle.txn_world.specs.OneHistory.{IsOneHistory}
 use Rattle.txn_world.specs.Allowed.{fault_of, op_told, answer_row, IsEffectRow, AddsRows}
-use Rattle.txn_world.specs.Operation.{Turned, started, asked, turned, turned_or}
-use Rattle.txn_world.specs.Machine.{State, WorldState, opening, asked_of, asked_by, told_of, answer_rows, effect_rows, next_op, begun_as, served_as, lacks_memory, fault_met, refusal_of, served_by, served, stepped, Takes, Meets, Outcomes, taken_count, RunsPast, Runs, IsReached}
-use Rattle.txn_world.proofs.Stands.{OpStands, Stands}
-use Rattle.txn_world.proofs.Events.{within, reached_stands}
+use Rattle.txn_world.specs.Doing.{started, asked, IsPut, IsList, IsGet, AsksInKind}
+use Rattle.txn_world.specs.Machine.{State, WorldState, opening, asked_of, AskInKind, told_of, answer_rows, effect_of, effect_rows, next_op, begun_as, fault_met, refusal_of, Served, Takes, Meets, Outcomes, taken_count, RunsPast, Runs, IsReached}
+use Rattle.txn_world.proofs.Stands.{RunStands, OpStands, Stands, create}
+use Rattle.txn_world.proofs.Serves.{create_none, failed}
+use Rattle.txn_world.proofs.Events.{within, served_run, reached_stands}
 
 module _ {T : Type 0} (encode : T → List ℕ) (decode : List ℕ → Option T) where
   -- one more step of a run
@@ -33,20 +48,9 @@ module _ {T : Type 0} (encode : T → List ℕ) (decode : List ℕ → Option T)
   runs_more old [] middle event told new r t = (new, subst (λ (s : State T). Takes encode decode s event told new) r t, refl)
   runs_more old (p ∷ taken) middle event told new r t = (r.0, r.1, runs_more r.0 taken middle event told new r.2 t)
 
-  served_by_clients : (refused : Bool) (s : State T) (op : ℕ) (o : Operation) (asks : Option Request) → (served_by decode refused s op o asks).1.clients ≡ s.clients
-  served_by_clients refused s op o None = refl
-  served_by_clients refused s op o (Some request) = refl
-
-  served_clients : (refused : Bool) (s : State T) (op : ℕ) (found : Option Operation) → (served decode refused s op found).1.clients ≡ s.clients
-  served_clients refused s op None = refl
-  served_clients refused s op (Some o) = served_by_clients refused s op o (asked o.doing)
-
-  stepped_clients : (refused : Bool) (s : State T) (event : Event T) → (stepped encode decode refused s event).1.clients ≡ s.clients
-  stepped_clients refused s (events.Begin client call) = refl
-  stepped_clients refused s (events.Serve op) = served_clients refused s op (numbered s.operations op)
-
   pub takes_clients : (old : State T) (event : Event T) (told : Told T) (new : State T) → Takes encode decode old event told new → new.clients ≡ old.clients
-  takes_clients old event told new t = sym (ap (λ (p : Told T × State T). p.1.clients) t.step) ∙ stepped_clients (lacks_memory told) old event
+  takes_clients old (events.Begin client call) told new t = sym (ap (λ (p : Told T × State T). p.1.clients) t.step.step)
+  takes_clients old (events.Serve op) told new t = t.step.clients
 
   pub reached_more : (old : State T) (event : Event T) (told : Told T) (new : State T) → IsReached encode decode old → Takes encode decode old event told new → IsReached encode decode new
   reached_more old event told new r t =
@@ -60,9 +64,8 @@ module _ {T : Type 0} (encode : T → List ℕ) (decode : List ℕ → Option T)
   -- refusals, by the trace
 
   running_asks : (rows : List (Row T)) (op : ℕ) (doing : Doing) → OpStands decode rows op doing → is_some (asked doing) ≡ is_running rows op
-  running_asks rows op (Writing id bytes) h = sym (rw (h.1.begun, h.1.running) refl)
-  running_asks rows op Listing h = sym (rw (h.1.begun, h.1.running) refl)
-  running_asks rows op (Getting id) h = sym (rw (h.1.begun, h.1.running) refl)
+  running_asks rows op (Write write) h = sym (rw (h.1.begun, h.1.running) refl)
+  running_asks rows op (Read read) h = sym (rw (h.1.begun, h.1.running) refl)
   running_asks rows op Ended h = sym (rw (h.begun, h.answered) refl)
 
   past : {A : Type 0} (xs : List A) (n : ℕ) → numbered xs (suc n) ≡ None → length xs < suc n
@@ -86,8 +89,18 @@ module _ {T : Type 0} (encode : T → List ℕ) (decode : List ℕ → Option T)
   pub reached_history : (s : State T) → IsReached encode decode s → IsOneHistory decode s.trace
   reached_history s r = (reached_stands encode decode s r).know.good
 
-  pub reached_stored : (s : State T) → IsReached encode decode s → s.store ≡ stored s.trace
+  pub reached_stored : (s : State T) → IsReached encode decode s → HasContents s.store.files (stored s.trace)
   reached_stored s r = (reached_stands encode decode s r).know.kept
+
+  -- each operation asks in its kind
+  asks_kind : (rows : List (Row T)) (op : ℕ) (doing : Doing) → OpStands decode rows op doing → AsksInKind doing
+  asks_kind rows op (Write write) h = subst IsPut (sym h.1.stands.asks) tt
+  asks_kind rows op (Read (ListOp request)) h = subst IsList (sym h.1.stands.1) tt
+  asks_kind rows op (Read (GetOp id request)) h = subst IsGet (sym h.1.stands.1) tt
+  asks_kind rows op Ended h = tt
+
+  pub reached_asks : (s : State T) → IsReached encode decode s → AskInKind s.operations
+  reached_asks s r op o e = let st = reached_stands encode decode s r in asks_kind s.trace op o.doing (st.each op o (λ z. omega (arith, z, (within encode decode s.operations op o e).0)) e)
 
   -- rows that an event adds
 
@@ -107,55 +120,94 @@ module _ {T : Type 0} (encode : T → List ℕ) (decode : List ℕ → Option T)
   went_op op None = refl
   went_op op (Some answer) = refl
 
-  unchanged : (store : Store) (request : Request) → changes store request ≡ false → store_after store request ≡ store
-  unchanged store (requests.Create id bytes) e =
-      let there : contains_key store id ≡ true = turned_not (contains_key store id) e in ap (λ b. cond b store (insert store id bytes)) there
-    where
-      turned_not : (b : Bool) → not b ≡ false → b ≡ true
-      turned_not true h = refl
-      turned_not false h = cc
-  unchanged store requests.List e = refl
-  unchanged store (requests.Get id) e = refl
+  put_row : (op : ℕ) (write : WriteOp) (bytes : List ℕ) (old new : StoreState) (answer : Result ℕ StoreError) → Puts (version_path world_names write.id) bytes Create old answer new → new.failures ≡ 0 →
+      IsEffectRow {T = T} op old.files new.files (effect_rows op (effect_of (create write.id bytes) (replies.Put answer)))
+  put_row op write bytes old new (Ok token) p honest =
+      let missing = create_none (get old.files (version_path world_names write.id)) p.allowed in
+      inr (create write.id bytes, refl, (token, p.placed.files, λ e. (let there : is_some (get old.files (version_path world_names write.id)) ≡ true = ap is_some e in cc)))
+  put_row op write bytes old new (Err errors.AlreadyExists) p honest = inl (refl, p.err.1.files)
+  put_row op write bytes old new (Err errors.NoMemory) p honest = inl (refl, p.err.1.files)
+  put_row op write bytes old new (Err errors.TokensExhausted) p honest = inl (refl, p.err.2.files)
+  put_row op write bytes old new (Err errors.Failed) p honest = failed decode old new honest p.err.0
+  put_row op write bytes old new (Err errors.NotFound) p honest = inl (refl, p.err.1.files)
+  put_row op write bytes old new (Err errors.Precondition) p honest = inl (refl, p.err.1.files)
+  put_row op write bytes old new (Err errors.NotModified) p honest = inl (refl, p.err.1.files)
 
-  effect_row : (refused changed : Bool) (op : ℕ) (store : Store) (request : Request) → changes store request ≡ changed →
-      IsEffectRow {T = T} op store (cond refused store (store_after store request)) (effect_rows op request (not refused && changed))
-  effect_row true changed op store request e = inl (refl, refl)
-  effect_row false true op store request e = inr (request, refl, e, refl)
-  effect_row false false op store request e = inl (refl, unchanged store request e)
+  list_files : (old new : StoreState) (answer : Result (List ObjectMeta) StoreError) → Lists world_names.dir old answer new → new.failures ≡ 0 → new.files ≡ old.files
+  list_files old new (Ok metas) l honest = l.kept.files
+  list_files old new (Err errors.NoMemory) l honest = l.err.1.files
+  list_files old new (Err errors.Failed) l honest = failed decode old new honest l.err.0
+  list_files old new (Err errors.TokensExhausted) l honest = absurd l.err
+  list_files old new (Err errors.NotFound) l honest = l.err.1.files
+  list_files old new (Err errors.AlreadyExists) l honest = l.err.1.files
+  list_files old new (Err errors.Precondition) l honest = l.err.1.files
+  list_files old new (Err errors.NotModified) l honest = l.err.1.files
 
-  abbrev Adds : State T → Event T → Told T × State T → Type 0
-  Adds old event after = AddsRows old.trace old.store event after.0 after.1.trace after.1.store
+  get_files : (path : List (List ℕ)) (old new : StoreState) (answer : Result Got StoreError) → Gets path None old answer new → new.failures ≡ 0 → new.files ≡ old.files
+  get_files path old new (Ok got) g honest = g.kept.files
+  get_files path old new (Err errors.NoMemory) g honest = g.err.1.files
+  get_files path old new (Err errors.Failed) g honest = failed decode old new honest g.err.0
+  get_files path old new (Err errors.TokensExhausted) g honest = absurd g.err
+  get_files path old new (Err errors.NotFound) g honest = g.err.1.files
+  get_files path old new (Err errors.AlreadyExists) g honest = g.err.1.files
+  get_files path old new (Err errors.Precondition) g honest = g.err.1.files
+  get_files path old new (Err errors.NotModified) g honest = g.err.1.files
 
-  served_adds : (refused : Bool) (s : State T) (op : ℕ) (o : Operation) (request : Request) (next : Turned T) → Adds s (events.Serve op) (served_as refused s op o request next)
-  served_adds refused s op o request next =
-      (effect_rows op request (not refused && changes s.store request), effect_row refused (changes s.store request) op s.store request refl, ap (λ rows. (s.trace ++ effect_rows op request (not refused && changes s.store request)) ++ rows) (went_row op next.1), went_op op next.1)
+  abbrev RowOf : ℕ → StoreState → StoreState → Request → Reply → Type 0
+  RowOf op old new request reply = IsEffectRow {T = T} op old.files new.files (effect_rows op (effect_of request reply))
 
-  asks_adds : (refused : Bool) (s : State T) (op : ℕ) (o : Operation) (asks : Option Request) → asked o.doing ≡ asks → is_some (asked o.doing) ≡ true → Adds s (events.Serve op) (served_by decode refused s op o asks)
-  asks_adds refused s op o None a e = cc
-  asks_adds refused s op o (Some request) a e = served_adds refused s op o request (turned_or refused (turned decode o.doing (reply_of s.store request)))
+  create_row : (op : ℕ) (write : WriteOp) (bytes : List ℕ) (old new : StoreState) (reply : Reply) → Serves (create write.id bytes) old reply new → new.failures ≡ 0 → RowOf op old new (create write.id bytes) reply
+  create_row op write bytes old new (replies.Put answer) s honest = put_row op write bytes old new answer s honest
+  create_row op write bytes old new (replies.Get answer) s honest = absurd s
+  create_row op write bytes old new (replies.List answer) s honest = absurd s
+  create_row op write bytes old new (replies.Delete answer) s honest = absurd s
 
-  serve_adds : (refused : Bool) (s : State T) (op : ℕ) (found : Option Operation) → is_some (asked_of found) ≡ true → Adds s (events.Serve op) (served decode refused s op found)
-  serve_adds refused s op None e = cc
-  serve_adds refused s op (Some o) e = asks_adds refused s op o (asked o.doing) refl e
+  list_row : (op : ℕ) (old new : StoreState) (reply : Reply) → Serves (requests.List world_names.dir) old reply new → new.failures ≡ 0 → RowOf op old new (requests.List world_names.dir) reply
+  list_row op old new (replies.List answer) s honest = inl (refl, list_files old new answer s honest)
+  list_row op old new (replies.Put answer) s honest = absurd s
+  list_row op old new (replies.Get answer) s honest = absurd s
+  list_row op old new (replies.Delete answer) s honest = absurd s
 
-  allowed_asks : (b : Bool) → cond b None (Some faults.UnknownNumber) ≡ None → b ≡ true
-  allowed_asks true e = refl
-  allowed_asks false e = cc
+  get_row : (op id : ℕ) (old new : StoreState) (reply : Reply) → Serves (requests.Get (version_path world_names id) None) old reply new → new.failures ≡ 0 → RowOf op old new (requests.Get (version_path world_names id) None) reply
+  get_row op id old new (replies.Get answer) s honest = inl (refl, get_files (version_path world_names id) old new answer s honest)
+  get_row op id old new (replies.Put answer) s honest = absurd s
+  get_row op id old new (replies.List answer) s honest = absurd s
+  get_row op id old new (replies.Delete answer) s honest = absurd s
 
-  stepped_adds : (refused : Bool) (s : State T) (event : Event T) → refusal_of s event ≡ None → Adds s event (stepped encode decode refused s event)
-  stepped_adds refused s (events.Begin client call) e =
+  served_row : (rows : List (Row T)) (op : ℕ) (call : Call T) (doing : Doing) (old new : StoreState) (request : Request) (reply : Reply) → asked doing ≡ Some request → RunStands decode rows op call doing → Serves request old reply new → new.failures ≡ 0 → RowOf op old new request reply
+  served_row rows op call (Write write) old new request reply asks r s honest =
+      let is : request ≡ create write.id r.stands.bytes = sym (same_Some write.request request asks) ∙ r.stands.asks in
+      subst (λ (q : Request). RowOf op old new q reply) (sym is) (create_row op write r.stands.bytes old new reply (subst (λ (q : Request). Serves q old reply new) is s) honest)
+  served_row rows op call (Read (ListOp own)) old new request reply asks r s honest =
+      let is : request ≡ requests.List world_names.dir = sym (same_Some own request asks) ∙ r.stands.1 in
+      subst (λ (q : Request). RowOf op old new q reply) (sym is) (list_row op old new reply (subst (λ (q : Request). Serves q old reply new) is s) honest)
+  served_row rows op call (Read (GetOp id own)) old new request reply asks r s honest =
+      let is : request ≡ requests.Get (version_path world_names id) None = sym (same_Some own request asks) ∙ r.stands.1 in
+      subst (λ (q : Request). RowOf op old new q reply) (sym is) (get_row op id old new reply (subst (λ (q : Request). Serves q old reply new) is s) honest)
+  served_row rows op call Ended old new request reply asks r s honest = absurd r.stands
+
+  serve_adds : (old : State T) (op : ℕ) (said : Told T) (new : State T) → Served decode old op said new → Stands decode old → AddsRows old.trace old.store.files (events.Serve op) said new.trace new.store.files
+  serve_adds old op said new v st =
+      let r = served_run encode decode old op said new v st in
+      let rows = effect_rows op (effect_of v.request v.reply) in
+      let trace : new.trace ≡ (old.trace ++ rows) ++ answer_row said = v.trace ∙ ap (λ more. (old.trace ++ rows) ++ more) (went_row op v.next.1 ∙ ap answer_row (sym v.tells)) in
+      (rows, served_row old.trace op r.0 v.operation.doing old.store new.store v.request v.reply v.asks r.1 v.serves v.honest, trace, ap op_told v.tells ∙ went_op op v.next.1)
+
+  begin_adds : (s : State T) (client : ℕ) (call : Call T) → AddsRows s.trace s.store.files (events.Begin client call) (begun_as s client call (started encode call)).0 (begun_as s client call (started encode call)).1.trace (begun_as s client call (started encode call)).1.store.files
+  begin_adds s client call =
       let start = started encode call in
       let op = sym (begun_op (next_op s) start.1) in
       (subst (λ (n : ℕ). (begun_as s client call start).1.trace ≡ (s.trace ++ Begun n call ∷ []) ++ answer_row (begun_as s client call start).0) op (ap (λ rows. (s.trace ++ Begun (next_op s) call ∷ []) ++ rows) (begun_row (next_op s) start.1)), refl)
-  stepped_adds refused s (events.Serve op) e = serve_adds refused s op (numbered s.operations op) (allowed_asks (is_some (asked_by s.operations op)) e)
 
   -- which rows an event adds
-  pub adds_rows : (old : State T) (event : Event T) (told : Told T) (new : State T) → Takes encode decode old event told new → AddsRows old.trace old.store event told new.trace new.store
-  adds_rows old event told new t = subst (Adds old event) t.step (stepped_adds (lacks_memory told) old event t.allowed)
+  pub adds_rows : (old : State T) (event : Event T) (told : Told T) (new : State T) → IsReached encode decode old → Takes encode decode old event told new → AddsRows old.trace old.store.files event told new.trace new.store.files
+  adds_rows old (events.Begin client call) told new reached t =
+      subst (λ (p : Told T × State T). AddsRows old.trace old.store.files (events.Begin client call) p.0 p.1.trace p.1.store.files) t.step.step (begin_adds old client call)
+  adds_rows old (events.Serve op) told new reached t = serve_adds old op told new t.step (reached_stands encode decode old reached)
 
-  pub added_rows : (r : Result (Told T) EventFault) (old : State T) (event : Event T) (new : State T) → IfOk r (λ told. Takes encode decode old event told new) → IfOk r (λ told. AddsRows old.trace old.store event told new.trace new.store)
-  added_rows (Ok told) old event new ok = adds_rows old event told new ok
-  added_rows (Err fault) old event new ok = tt
+  pub added_rows : (r : Result (Told T) EventFault) (old : State T) (event : Event T) (new : State T) → IsReached encode decode old → IfOk r (λ told. Takes encode decode old event told new) → IfOk r (λ told. AddsRows old.trace old.store.files event told new.trace new.store.files)
+  added_rows (Ok told) old event new reached ok = adds_rows old event told new reached ok
+  added_rows (Err fault) old event new reached ok = tt
 
   -- a run past refused events, with one more
 

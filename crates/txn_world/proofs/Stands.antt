@@ -1,22 +1,39 @@
 -- The invariant: what stands of the store, of an operation that runs, and of a whole state.
-use Rattle.std.proofs.Common.{◌≡◌, ◌≢◌, ℕ, ◌+◌, ◌<◌, ◌≤◌, List, length, slice_get, true, false, Option, Some, None}
+use Rattle.std.proofs.Common.{◌≡◌, ◌≢◌, ℕ, ◌+◌, ◌<◌, ◌≤◌, ◌^◌, List, length, slice_get, true, false, Option, Some, None}
 use Rattle.std.specs.Option.{option_map}
 use Rattle.std.specs.FinMap.{get}
-use Rattle.txn_world.specs.declared.operation.Doing.{Doing}
-use Rattle.txn_world.specs.declared.operation.Doing.TheVariants.{Writing, Listing, Getting, Ended}
-use Rattle.txn_world.specs.declared.operation.Operation.{Operation}
+use Rattle.txn_store.specs.Store.{Files, State as StoreState}
+use Rattle.txn_store.specs.VersionName.{version_path}
+use Rattle.txn_store.specs.declared.store.PutMode.TheVariants.{Create}
+use Rattle.txn_store.specs.declared.request.Request.{Request}
+use Rattle.txn_store.specs.declared.request.Request.TheVariants as requests
+use Rattle.txn_steps.specs.declared.write.WriteOp.{WriteOp}
+use Rattle.txn_steps.specs.declared.read.ReadOp.{ReadOp}
+use Rattle.txn_steps.specs.declared.read.ReadOp.TheVariants.{Lists, Gets}
+use Rattle.txn_steps.specs.Steps.{number_of}
+use Rattle.txn_world.specs.declared.doing.Doing.{Doing}
+use Rattle.txn_world.specs.declared.doing.Doing.TheVariants.{Write, Read, Ended}
+use Rattle.txn_world.specs.declared.doing.Operation.{Operation}
 use Rattle.txn_world.specs.declared.event.Call.{Call}
 use Rattle.txn_world.specs.declared.event.Call.TheVariants as calls
 use Rattle.txn_world.specs.declared.event.Answer.{Answer}
 use Rattle.txn_world.specs.declared.trace.Row.{Row}
 use Rattle.txn_world.specs.Lists.{numbered}
-use Rattle.txn_world.specs.Store.{Store}
-use Rattle.txn_world.specs.History.{Version, versions_of, newest, stored}
-use Rattle.txn_world.specs.Calls.{was_begun, was_answered, IsCall, begun_count, id_told, is_id, was_told, AtRow}
-use Rattle.txn_world.specs.OneHistory.{number_of, base_on, AnswerFits, IsOneHistory}
-use Rattle.txn_world.specs.Operation.{Turned}
+use Rattle.txn_world.specs.Names.{world_names}
+use Rattle.txn_world.specs.History.{Version, HasContents, is_id, versions_of, newest, stored, put_count}
+use Rattle.txn_world.specs.Calls.{was_begun, was_answered, IsCall, begun_count, id_told, was_told, AtRow}
+use Rattle.txn_world.specs.OneHistory.{base_on, AnswerFits, IsOneHistory}
+use Rattle.txn_world.specs.Doing.{Next}
 use Rattle.txn_world.specs.Machine.{State}
 use Rattle.txn_world.proofs.Rows.{has_effect}
+
+-- the create of a version
+abbrev pub create : ℕ → List ℕ → Request
+create id bytes = requests.Put (version_path world_names id) bytes Create
+
+-- the bytes under the path of a version
+abbrev pub file_at : Files → ℕ → Option (List ℕ)
+file_at files n = option_map (λ got. got.bytes) (get files (version_path world_names n))
 
 -- the bytes of version n
 abbrev pub bytes_at : List Version → ℕ → Option (List ℕ)
@@ -24,20 +41,26 @@ bytes_at versions n = option_map (λ version. version.1) (numbered versions n)
 
 module _ {T : Type 0} (decode : List ℕ → Option T) where
   -- the rows are one history, and the store stands for it
-  pub record KnowStands (rows : List (Row T)) (store : Store) : Type 0 where
+  pub record KnowStands (rows : List (Row T)) (store : StoreState) : Type 0 where
     pub good : IsOneHistory decode rows
     pub ids : (k : ℕ) (version : Version) → slice_get (versions_of rows) k ≡ Some version → version.0 ≡ k + 1
     pub reads : (k : ℕ) (version : Version) → slice_get (versions_of rows) k ≡ Some version → (value : T) × (decode version.1 ≡ Some value)
-    pub files : (n : ℕ) → get store n ≡ bytes_at (versions_of rows) n
-    pub kept : store ≡ stored rows
+    pub small : newest rows < 2 ^ 64
+    pub files : (n : ℕ) → n < 2 ^ 64 → file_at store.files n ≡ bytes_at (versions_of rows) n
+    pub kept : HasContents store.files (stored rows)
+    pub left : store.left + put_count rows ≡ 18446744073709551615
+    pub honest : store.failures ≡ 0
     pub told : (n : ℕ) → was_told rows n ≡ true → (0 < n) × (n ≤ newest rows)
 
   -- a write that asks for its create
-  pub record WritingStands (rows : List (Row T)) (op : ℕ) (call : Call T) (id : ℕ) (bytes : List ℕ) : Type 0 where
+  pub record WritingStands (rows : List (Row T)) (op : ℕ) (call : Call T) (write : WriteOp) : Type 0 where
+    pub bytes : List ℕ
+    pub asks : write.request ≡ create write.id bytes
+    pub fits : write.id < 2 ^ 64
     pub base : Option ℕ
     pub value : T
     pub call_is : call ≡ calls.Write base value
-    pub next : id ≡ number_of base + 1
+    pub next : write.id ≡ number_of base + 1
     pub base_is : base ≡ base_on (number_of base)
     pub known : number_of base ≤ newest rows
     pub reads : decode bytes ≡ Some value
@@ -50,10 +73,13 @@ module _ {T : Type 0} (decode : List ℕ → Option T) where
     pub moment : AtRow rows op (λ front. (newest front ≡ id) × (numbered (versions_of front) id ≡ Some version))
     pub kept : numbered (versions_of rows) id ≡ Some version
 
+  abbrev pub ReadingStands : List (Row T) → ℕ → Call T → ReadOp → Type 0
+  ReadingStands rows op call (Lists request) = (call ≡ calls.Read) × (request ≡ requests.List world_names.dir)
+  ReadingStands rows op call (Gets id request) = GettingStands rows op call id × (request ≡ requests.Get (version_path world_names id) None)
+
   abbrev pub DoingStands : List (Row T) → ℕ → Call T → Doing → Type 0
-  DoingStands rows op call (Writing id bytes) = WritingStands rows op call id bytes
-  DoingStands rows op call Listing = call ≡ calls.Read
-  DoingStands rows op call (Getting id) = GettingStands rows op call id
+  DoingStands rows op call (Write write) = WritingStands rows op call write
+  DoingStands rows op call (Read read) = ReadingStands rows op call read
   DoingStands rows op call Ended = ⊥
 
   -- an operation that runs
@@ -69,9 +95,8 @@ module _ {T : Type 0} (decode : List ℕ → Option T) where
     pub answered : was_answered rows op ≡ true
 
   abbrev pub OpStands : List (Row T) → ℕ → Doing → Type 0
-  OpStands rows op (Writing id bytes) = (call : Call T) × RunStands rows op call (Writing id bytes)
-  OpStands rows op Listing = (call : Call T) × RunStands rows op call Listing
-  OpStands rows op (Getting id) = (call : Call T) × RunStands rows op call (Getting id)
+  OpStands rows op (Write write) = (call : Call T) × RunStands rows op call (Write write)
+  OpStands rows op (Read read) = (call : Call T) × RunStands rows op call (Read read)
   OpStands rows op Ended = EndStands rows op
 
   -- an answer that an operation is about to give
@@ -88,7 +113,7 @@ module _ {T : Type 0} (decode : List ℕ → Option T) where
   TurnOf rows op call doing (Some answer) = Ends rows op call doing answer
 
   -- What an operation does next fits. Operations prove it and see no state, the state's proof uses it and opens no operation.
-  abbrev pub TurnStands : List (Row T) → ℕ → Call T → Turned T → Type 0
+  abbrev pub TurnStands : List (Row T) → ℕ → Call T → Next T → Type 0
   TurnStands rows op call next = TurnOf rows op call next.0 next.1
 
   -- no row is of this operation

@@ -1,15 +1,17 @@
 -- Which events are allowed after a trace, and which rows they add to it.
-use Rattle.std.specs.Prelude.{◌≡◌, ℕ, zero, suc, List, [], ◌∷◌, ◌++◌, ◌⊎◌, nat_lt, Bool, true, false, if◌then◌else◌, Option, Some, None}
+use Rattle.std.specs.Prelude.{◌≡◌, ◌≢◌, ℕ, zero, suc, List, [], ◌∷◌, ◌++◌, ◌⊎◌, nat_lt, Bool, true, false, if◌then◌else◌, Option, Some, None}
+use Rattle.std.specs.FinMap.{get, insert, remove, contains_key}
 use Rattle.txn_world.specs.declared.event.Event.{Event}
 use Rattle.txn_world.specs.declared.event.Event.TheVariants as events
 use Rattle.txn_world.specs.declared.event.EventFault.{EventFault}
 use Rattle.txn_world.specs.declared.event.EventFault.TheVariants as faults
 use Rattle.txn_world.specs.declared.event.Told.{Told}
 use Rattle.txn_world.specs.declared.event.Told.TheVariants as told
-use Rattle.txn_world.specs.declared.store.Request.{Request}
+use Rattle.txn_store.specs.Store.{Files}
+use Rattle.txn_store.specs.declared.request.Request.{Request}
+use Rattle.txn_store.specs.declared.request.Request.TheVariants as requests
 use Rattle.txn_world.specs.declared.trace.Row.{Row}
 use Rattle.txn_world.specs.declared.trace.Row.TheVariants.{Effect, Begun, Answered}
-use Rattle.txn_world.specs.Store.{Store, changes, store_after}
 use Rattle.txn_world.specs.Calls.{is_running}
 use Rattle.txn_world.specs.OneHistory.{has_known_base}
 
@@ -26,6 +28,14 @@ is_client clients (suc n) = nat_lt n clients
 abbrev pub begin_fault : Bool → Bool → Option EventFault
 begin_fault known_client known_base =
     if known_client then (if known_base then None else Some faults.UnknownBase) else Some faults.UnknownNumber
+
+-- The request changed the files: a put stored its bytes with a token that the path did not have, or a delete removed a file.
+abbrev pub Changes : Files → Request → Files → Type 0
+Changes before (requests.Put path bytes mode) after =
+    (token : ℕ) × (after ≡ insert before path (record { bytes = bytes; token = token })) × (get before path ≢ Some (record { bytes = bytes; token = token }))
+Changes before (requests.Get path known) after = ⊥
+Changes before (requests.List prefix) after = ⊥
+Changes before (requests.Delete path) after = (after ≡ remove before path) × (contains_key before path ≡ true)
 
 module _ {T : Type 0} where
   -- why an event is refused after these rows, where it is
@@ -45,13 +55,13 @@ module _ {T : Type 0} where
   answer_row (told.Began op) = []
   answer_row (told.Went op) = []
 
-  -- the row of a request, where it changed the store
-  abbrev pub IsEffectRow : ℕ → Store → Store → List (Row T) → Type 0
+  -- the row of a request, exactly where it changed the files of the store
+  abbrev pub IsEffectRow : ℕ → Files → Files → List (Row T) → Type 0
   IsEffectRow op before after rows =
       ((rows ≡ []) × (after ≡ before))
-      ⊎ ((request : Request) × (rows ≡ Effect op request ∷ []) × (changes before request ≡ true) × (after ≡ store_after before request))
+      ⊎ ((request : Request) × (rows ≡ Effect op request ∷ []) × Changes before request after)
 
   -- The rows that an event adds: a begin that of its call, a serve that of its effect, and then that of the answer, where one is told.
-  abbrev pub AddsRows : List (Row T) → Store → Event T → Told T → List (Row T) → Store → Type 0
+  abbrev pub AddsRows : List (Row T) → Files → Event T → Told T → List (Row T) → Files → Type 0
   AddsRows old before (events.Begin client call) t new after = (new ≡ (old ++ Begun (op_told t) call ∷ []) ++ answer_row t) × (after ≡ before)
   AddsRows old before (events.Serve op) t new after = (rows : List (Row T)) × IsEffectRow op before after rows × (new ≡ (old ++ rows) ++ answer_row t) × (op_told t ≡ op)

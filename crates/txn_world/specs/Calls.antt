@@ -6,10 +6,7 @@ use Rattle.txn_world.specs.declared.event.Answer.{Answer}
 use Rattle.txn_world.specs.declared.event.Answer.TheVariants as answers
 use Rattle.txn_world.specs.declared.trace.Row.{Row}
 use Rattle.txn_world.specs.declared.trace.Row.TheVariants.{Effect, Begun, Answered}
-
-abbrev pub is_id : ℕ → Option ℕ → Bool
-is_id n None = false
-is_id n (Some id) = id == n
+use Rattle.txn_world.specs.History.{is_id}
 
 module _ {T : Type 0} where
   abbrev pub begins : ℕ → Row T → Bool

@@ -1,38 +1,70 @@
 -- The history of a trace: what its effects make of the versions, the boundary, the erased ids and the store.
 -- Each is a fold over the rows in their order, so "at a row" means "of the rows up to it".
-use Rattle.std.specs.Prelude.{◌≡◌, ℕ, List, [], ◌∷◌, ◌++◌, ◌==◌, Bool, false, if◌then◌else◌, Option, Some, None, length, map}
+use Rattle.std.specs.Prelude.{◌≡◌, ℕ, List, [], ◌∷◌, ◌++◌, ◌==◌, ◌+◌, Bool, true, false, if◌then◌else◌, Option, Some, None, length, map}
 use Rattle.std.specs.List.{list_any}
-use Rattle.std.specs.FinMap.{empty}
-use Rattle.txn_world.specs.declared.store.Request.{Request}
-use Rattle.txn_world.specs.declared.store.Request.TheVariants as requests
+use Rattle.std.specs.Option.{option_map}
+use Rattle.std.specs.FinMap.{FinMap, empty, get, insert, remove}
+use Rattle.txn_store.specs.Paths.{Segments, path_cmp}
+use Rattle.txn_store.specs.VersionOf.{version_of}
+use Rattle.txn_store.specs.Store.{Files}
+use Rattle.txn_store.specs.declared.request.Request.{Request}
+use Rattle.txn_store.specs.declared.request.Request.TheVariants as requests
 use Rattle.txn_world.specs.declared.trace.Row.{Row}
 use Rattle.txn_world.specs.declared.trace.Row.TheVariants.{Effect, Begun, Answered}
 use Rattle.txn_world.specs.Lists.{numbered}
-use Rattle.txn_world.specs.Store.{Store, store_after}
+use Rattle.txn_world.specs.Names.{world_names}
 
 -- a version: its id, and the bytes of its first create
 abbrev pub Version : Type 0
 Version = ℕ × List ℕ
 
+abbrev pub is_id : ℕ → Option ℕ → Bool
+is_id n None = false
+is_id n (Some id) = id == n
+
 -- What a request does to the names of the store is read in these three, and nowhere else.
 
 -- the version that it creates
 abbrev pub created : Request → Option Version
-created (requests.Create id bytes) = Some (id, bytes)
-created requests.List = None
-created (requests.Get id) = None
+created (requests.Put path bytes mode) = option_map (λ id. (id, bytes)) (version_of world_names path)
+created (requests.Get path known) = None
+created (requests.List prefix) = None
+created (requests.Delete path) = None
 
 -- the boundary after it: no request puts one
 abbrev pub raised : ℕ → Request → ℕ
-raised boundary (requests.Create id bytes) = boundary
-raised boundary requests.List = boundary
-raised boundary (requests.Get id) = boundary
+raised boundary (requests.Put path bytes mode) = boundary
+raised boundary (requests.Get path known) = boundary
+raised boundary (requests.List prefix) = boundary
+raised boundary (requests.Delete path) = boundary
 
--- it removes the name of this id: none does
+-- it removes the name of this id
 abbrev pub removes : ℕ → Request → Bool
-removes n (requests.Create id bytes) = false
-removes n requests.List = false
-removes n (requests.Get id) = false
+removes n (requests.Put path bytes mode) = false
+removes n (requests.Get path known) = false
+removes n (requests.List prefix) = false
+removes n (requests.Delete path) = is_id n (version_of world_names path)
+
+-- a put takes a token of the store
+abbrev pub is_put : Request → Bool
+is_put (requests.Put path bytes mode) = true
+is_put (requests.Get path known) = false
+is_put (requests.List prefix) = false
+is_put (requests.Delete path) = false
+
+-- The contents of the store: the bytes under each path, tokens aside.
+abbrev pub Contents : Type 0
+Contents = FinMap path_cmp (List ℕ)
+
+abbrev pub contents_after : Contents → Request → Contents
+contents_after contents (requests.Put path bytes mode) = insert contents path bytes
+contents_after contents (requests.Get path known) = contents
+contents_after contents (requests.List prefix) = contents
+contents_after contents (requests.Delete path) = remove contents path
+
+-- files with these contents
+abbrev pub HasContents : Files → Contents → Type 0
+HasContents files contents = (path : Segments) → option_map (λ got. got.bytes) (get files path) ≡ get contents path
 
 abbrev pub has_id : List Version → ℕ → Bool
 has_id versions id = list_any (λ version. version.0 == id) versions
@@ -85,19 +117,26 @@ module _ {T : Type 0} where
   abbrev pub was_erased : List (Row T) → ℕ → Bool
   was_erased rows n = list_any (erases n) rows
 
-  -- the store after a row
-  abbrev pub stored_with : Store → Row T → Store
-  stored_with store (Effect op request) = store_after store request
-  stored_with store (Begun op call) = store
-  stored_with store (Answered op answer) = store
+  -- the contents of the store after a row
+  abbrev pub stored_with : Contents → Row T → Contents
+  stored_with contents (Effect op request) = contents_after contents request
+  stored_with contents (Begun op call) = contents
+  stored_with contents (Answered op answer) = contents
 
-  abbrev pub stored_from : Store → List (Row T) → Store
-  stored_from store [] = store
-  stored_from store (row ∷ rows) = stored_from (stored_with store row) rows
+  abbrev pub stored_from : Contents → List (Row T) → Contents
+  stored_from contents [] = contents
+  stored_from contents (row ∷ rows) = stored_from (stored_with contents row) rows
 
-  -- the store: the empty store after the requests of the effects
-  abbrev pub stored : List (Row T) → Store
+  -- the contents of the store: those of the empty store after the requests of the effects
+  abbrev pub stored : List (Row T) → Contents
   stored rows = stored_from empty rows
+
+  -- how many tokens the effects took
+  abbrev pub put_count : List (Row T) → ℕ
+  put_count [] = 0
+  put_count (Effect op request ∷ rows) = (if is_put request then 1 else 0) + put_count rows
+  put_count (Begun op call ∷ rows) = put_count rows
+  put_count (Answered op answer ∷ rows) = put_count rows
 
 module _ {T : Type 0} (decode : List ℕ → Option T) where
   -- the history: what the codec reads in the first create of each version

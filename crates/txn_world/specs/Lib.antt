@@ -1,12 +1,12 @@
 pub mod Numerals
 pub mod Refusal
 pub mod Record
-pub mod Store
 pub mod Lists
+pub mod Names
 pub mod History
 pub mod Calls
 pub mod OneHistory
 pub mod Allowed
-pub mod Operation
+pub mod Doing
 pub mod Machine
 pub mod Shown

@@ -1,8 +1,14 @@
--- The world's step, as a function of plain data.
-use Rattle.std.specs.Prelude.{◌≡◌, ℕ, List, [], ◌∷◌, ◌++◌, ◌+◌, ◌-◌, ◌&&◌, Bool, false, not, if◌then◌else◌, Option, Some, None, Result, Ok, Err, length, slice_set, is_some, is_ok, map}
+-- The world's step, over the store's contract.
+use Rattle.std.specs.Prelude.{◌≡◌, ℕ, List, [], ◌∷◌, ◌++◌, ◌+◌, ◌-◌, ◌^◌, Bool, true, false, if◌then◌else◌, Option, Some, None, Result, Ok, Err, length, slice_set, is_some, is_ok, map}
 use Rattle.std.specs.FinMap.{empty}
-use Rattle.txn_world.specs.declared.operation.Doing.{Doing}
-use Rattle.txn_world.specs.declared.operation.Operation.{Operation}
+use Rattle.txn_store.specs.Store.{State as StoreState}
+use Rattle.txn_store.specs.Requests.{Serves}
+use Rattle.txn_store.specs.declared.request.Request.{Request}
+use Rattle.txn_store.specs.declared.request.Request.TheVariants as requests
+use Rattle.txn_store.specs.declared.request.Reply.{Reply}
+use Rattle.txn_store.specs.declared.request.Reply.TheVariants as replies
+use Rattle.txn_world.specs.declared.doing.Doing.{Doing}
+use Rattle.txn_world.specs.declared.doing.Operation.{Operation}
 use Rattle.txn_world.specs.declared.event.Call.{Call}
 use Rattle.txn_world.specs.declared.event.Answer.{Answer}
 use Rattle.txn_world.specs.declared.event.Told.{Told}
@@ -11,20 +17,17 @@ use Rattle.txn_world.specs.declared.event.Event.{Event}
 use Rattle.txn_world.specs.declared.event.Event.TheVariants as events
 use Rattle.txn_world.specs.declared.event.EventFault.{EventFault}
 use Rattle.txn_world.specs.declared.event.EventFault.TheVariants as faults
-use Rattle.txn_world.specs.declared.store.Request.{Request}
-use Rattle.txn_world.specs.declared.store.Reply.{Reply}
 use Rattle.txn_world.specs.declared.trace.Row.{Row}
 use Rattle.txn_world.specs.declared.trace.Row.TheVariants.{Effect, Begun, Answered}
 use Rattle.txn_world.specs.Lists.{numbered}
-use Rattle.txn_world.specs.Store.{Store, reply_of, store_after, changes}
-use Rattle.txn_world.specs.Operation.{Turned, started, asked, turned, turned_or, lacks_answer, ReadsBack}
+use Rattle.txn_world.specs.Doing.{Next, started, asked, turned, Turns, IsReply, AsksInKind, ReadsBack}
 use Rattle.txn_world.specs.Allowed.{begin_fault, is_client, fault_of}
 use Rattle.txn_world.specs.OneHistory.{has_known_base}
 
 -- all of a world but its codec and its allocator
 pub record State (T : Type 0) : Type 0 where
   pub clients : ℕ
-  pub store : Store
+  pub store : StoreState
   pub operations : List Operation
   pub trace : List (Row T)
 
@@ -32,6 +35,10 @@ pub record State (T : Type 0) : Type 0 where
 pub record WorldState (T C : Type 0) : Type 0 where
   pub codec : C
   pub state : State T
+
+-- the empty store, which gives the tokens 1, 2, 3 and so on
+abbrev pub empty_store : StoreState
+empty_store = record { files = empty; given = []; left = 2 ^ 64 - 1; calls = 0; failures = 0 }
 
 abbrev pub asked_of : Option Operation → Option Request
 asked_of None = None
@@ -41,6 +48,38 @@ asked_of (Some operation) = asked operation.doing
 abbrev pub asked_by : List Operation → ℕ → Option Request
 asked_by operations op = asked_of (numbered operations op)
 
+-- the reply is of the kind that the operation asks for
+abbrev pub IsReplyBy : Option Operation → Reply → Type 0
+IsReplyBy None reply = ⊥
+IsReplyBy (Some operation) reply = IsReply operation.doing reply
+
+-- each operation asks in its kind: a write for a put, a read for its listing or its get
+abbrev pub AskInKind : List Operation → Type 0
+AskInKind operations = (op : ℕ) (operation : Operation) → numbered operations op ≡ Some operation → AsksInKind operation.doing
+
+-- the reply says that the request changed the store
+abbrev pub took : Reply → Bool
+took (replies.Put (Ok token)) = true
+took (replies.Put (Err error)) = false
+took (replies.Get answer) = false
+took (replies.List answer) = false
+took (replies.Delete answer) = false
+
+-- a request that may change the store
+abbrev pub may_change : Request → Option Request
+may_change (requests.Put path bytes mode) = Some (requests.Put path bytes mode)
+may_change (requests.Get path known) = None
+may_change (requests.List prefix) = None
+may_change (requests.Delete path) = None
+
+-- the request that changed the store, by its reply
+abbrev pub effect_of : Request → Reply → Option Request
+effect_of request (replies.Put (Ok token)) = Some request
+effect_of request (replies.Put (Err error)) = None
+effect_of request (replies.Get answer) = None
+effect_of request (replies.List answer) = None
+effect_of request (replies.Delete answer) = None
+
 -- the operations, where one of them does this next
 abbrev pub with_doing : List Operation → ℕ → Operation → Doing → List Operation
 with_doing operations op operation doing = slice_set operations (op - 1) (record { client = operation.client; doing = doing })
@@ -48,14 +87,15 @@ with_doing operations op operation doing = slice_set operations (op - 1) (record
 module _ {T : Type 0} where
   -- a world in which nothing has happened
   abbrev pub opening : ℕ → State T
-  opening clients = record { clients = clients; store = empty; operations = []; trace = [] }
+  opening clients = record { clients = clients; store = empty_store; operations = []; trace = [] }
 
   abbrev pub answer_rows : ℕ → Option (Answer T) → List (Row T)
   answer_rows op None = []
   answer_rows op (Some answer) = Answered op answer ∷ []
 
-  abbrev pub effect_rows : ℕ → Request → Bool → List (Row T)
-  effect_rows op request changed = if changed then Effect op request ∷ [] else []
+  abbrev pub effect_rows : ℕ → Option Request → List (Row T)
+  effect_rows op None = []
+  effect_rows op (Some request) = Effect op request ∷ []
 
   -- what is told: the answer where there is one
   abbrev pub told_of : Told T → ℕ → Option (Answer T) → Told T
@@ -66,7 +106,7 @@ module _ {T : Type 0} where
   abbrev pub next_op : State T → ℕ
   next_op s = length s.operations + 1
 
-  abbrev pub begun_as : State T → ℕ → Call T → Turned T → Told T × State T
+  abbrev pub begun_as : State T → ℕ → Call T → Next T → Told T × State T
   begun_as s client call start = (
     told_of (told.Began (next_op s)) (next_op s) start.1,
     record s {
@@ -74,22 +114,6 @@ module _ {T : Type 0} where
       trace = (s.trace ++ Begun (next_op s) call ∷ []) ++ answer_rows (next_op s) start.1;
     },
   )
-
-  abbrev pub served_as : Bool → State T → ℕ → Operation → Request → Turned T → Told T × State T
-  served_as refused s op operation request next = (
-    told_of (told.Went op) op next.1,
-    record s {
-      store = if refused then s.store else store_after s.store request;
-      operations = with_doing s.operations op operation next.0;
-      trace = (s.trace ++ effect_rows op request (not refused && changes s.store request)) ++ answer_rows op next.1;
-    },
-  )
-
-  -- the answer to an event for which memory was wanting
-  abbrev pub lacks_memory : Told T → Bool
-  lacks_memory (told.Answered op answer) = lacks_answer (Some answer)
-  lacks_memory (told.Began op) = false
-  lacks_memory (told.Went op) = false
 
   -- why a state refuses an event, where it does
   abbrev pub refusal_of : State T → Event T → Option EventFault
@@ -110,40 +134,47 @@ fault_met (Err faults.UnknownBase) = Some faults.UnknownBase
 fault_met (Err faults.NoMemory) = None
 
 module _ {T : Type 0} (decode : List ℕ → Option T) where
-  -- the operation that asked takes the reply: where it wants memory, it ends with refusal 9
+  -- the operation takes a reply
   abbrev pub AdvancesAt : List Operation → List Operation → ℕ → Option Operation → Reply → Option (Answer T) → Type 0
   AdvancesAt old new op None reply answer = ⊥
   AdvancesAt old new op (Some operation) reply answer =
-      (next : Turned T) × (next ≡ turned_or (lacks_answer answer) (turned decode operation.doing reply)) × (new ≡ with_doing old op operation next.0) × (answer ≡ next.1)
+      (doing : Doing) × Turns decode operation.doing reply doing answer × (new ≡ with_doing old op operation doing)
 
   abbrev pub Advances : List Operation → List Operation → ℕ → Reply → Option (Answer T) → Type 0
   Advances old new op reply answer = AdvancesAt old new op (numbered old op) reply answer
 
-  abbrev pub served_by : Bool → State T → ℕ → Operation → Option Request → Told T × State T
-  served_by refused s op operation None = (told.Went op, s)
-  served_by refused s op operation (Some request) =
-      served_as refused s op operation request (turned_or refused (turned decode operation.doing (reply_of s.store request)))
-
-  abbrev pub served : Bool → State T → ℕ → Option Operation → Told T × State T
-  served refused s op None = (told.Went op, s)
-  served refused s op (Some operation) = served_by refused s op operation (asked operation.doing)
+  -- A serve: the operation's request is served by the store, which never fails, and the operation takes the reply.
+  pub record Served (old : State T) (op : ℕ) (said : Told T) (new : State T) : Type 0 where
+    pub operation : Operation
+    pub found : numbered old.operations op ≡ Some operation
+    pub request : Request
+    pub asks : asked operation.doing ≡ Some request
+    pub reply : Reply
+    pub serves : Serves request old.store reply new.store
+    pub honest : new.store.failures ≡ 0
+    -- a growth of the operation was refused
+    pub refused : Bool
+    pub next : Next T
+    pub turns : next ≡ turned decode refused operation.doing reply
+    pub tells : said ≡ told_of (told.Went op) op next.1
+    pub clients : new.clients ≡ old.clients
+    pub operations : new.operations ≡ with_doing old.operations op operation next.0
+    pub trace : new.trace ≡ (old.trace ++ effect_rows op (effect_of request reply)) ++ answer_rows op next.1
 
 module _ {T : Type 0} (encode : T → List ℕ) (decode : List ℕ → Option T) where
-  -- What an event tells, and the state after it. Where refused, a growth was refused on the way of a serve:
-  -- the operation ends with refusal 9, and the store is as it was.
-  abbrev pub stepped : Bool → State T → Event T → Told T × State T
-  stepped refused s (events.Begin client call) = begun_as s client call (started encode call)
-  stepped refused s (events.Serve op) = served decode refused s op (numbered s.operations op)
+  -- A begin: its call's operation starts.
+  pub record Begins (old : State T) (client : ℕ) (call : Call T) (told : Told T) (new : State T) : Type 0 where
+    pub reads_back : ReadsBack encode decode call
+    pub step : begun_as old client call (started encode call) ≡ (told, new)
 
-  abbrev pub EventReadsBack : Event T → Type 0
-  EventReadsBack (events.Begin client call) = ReadsBack encode decode call
-  EventReadsBack (events.Serve op) = Unit {0}
+  abbrev pub Steps : State T → Event T → Told T → State T → Type 0
+  Steps old (events.Begin client call) told new = Begins old client call told new
+  Steps old (events.Serve op) told new = Served decode old op told new
 
   -- From old the event may tell this, and lead to new.
   pub record Takes (old : State T) (event : Event T) (told : Told T) (new : State T) : Type 0 where
     pub allowed : refusal_of old event ≡ None
-    pub reads_back : EventReadsBack event
-    pub step : stepped (lacks_memory told) old event ≡ (told, new)
+    pub step : Steps old event told new
 
   -- An event's outcome: it is taken, or it is refused as the trace says, or for want of memory, and changes nothing.
   abbrev pub Meets : State T → Event T → Result (Told T) EventFault → State T → Type 0

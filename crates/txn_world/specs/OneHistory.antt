@@ -1,24 +1,20 @@
 -- One history: when a row fits the rows before it.
-use Rattle.std.specs.Prelude.{◌≡◌, ℕ, zero, suc, List, ◌+◌, ◌<◌, ◌≤◌, ◌⊎◌, Bool, true, false, Option, Some, None, unwrap_or, take, slice_get}
+use Rattle.std.specs.Prelude.{◌≡◌, ℕ, zero, suc, List, ◌+◌, ◌<◌, ◌≤◌, ◌⊎◌, Bool, true, false, Option, Some, None, take, slice_get}
 use Rattle.txn_world.specs.declared.event.Call.{Call}
 use Rattle.txn_world.specs.declared.event.Call.TheVariants as calls
 use Rattle.txn_world.specs.declared.event.Answer.{Answer}
 use Rattle.txn_world.specs.declared.event.Answer.TheVariants as answers
-use Rattle.txn_world.specs.declared.store.Request.{Request}
-use Rattle.txn_world.specs.declared.store.Request.TheVariants as requests
+use Rattle.txn_store.specs.declared.request.Request.{Request}
 use Rattle.txn_world.specs.declared.trace.Row.{Row}
 use Rattle.txn_world.specs.declared.trace.Row.TheVariants.{Effect, Begun, Answered}
-use Rattle.txn_world.specs.History.{has_id, versions_of, newest, boundary, IsEntry}
+use Rattle.txn_steps.specs.Steps.{number_of}
+use Rattle.txn_world.specs.History.{Version, created, has_id, versions_of, newest, boundary, put_count, IsEntry}
 use Rattle.txn_world.specs.Calls.{was_begun, was_answered, IsCall, begun_count, was_told, AtRow}
 
 -- the base of a write directly on entry n: none on 0
 abbrev pub base_on : ℕ → Option ℕ
 base_on zero = None
 base_on (suc n) = Some (suc n)
-
--- the number of a base, 0 for none
-abbrev pub number_of : Option ℕ → ℕ
-number_of base = unwrap_or base 0
 
 module _ {T : Type 0} where
   -- the call writes this entry directly on entry n
@@ -50,17 +46,21 @@ module _ {T : Type 0} (decode : List ℕ → Option T) where
     pub next : id ≡ newest before + 1
     pub written : WritesOn before op call (newest before) value
 
-  -- an effect is a legal move
+  abbrev pub VersionPut : List (Row T) → ℕ → Option Version → Type 0
+  VersionPut before op None = ⊥
+  VersionPut before op (Some version) = Appends before op version.0 version.1
+
+  -- an effect is a legal move: it creates a version, which is an append
   abbrev pub IsLegal : List (Row T) → ℕ → Request → Type 0
-  IsLegal before op (requests.Create id bytes) = Appends before op id bytes
-  IsLegal before op requests.List = ⊥
-  IsLegal before op (requests.Get id) = ⊥
+  IsLegal before op request = VersionPut before op (created request)
 
   -- Version n was first created by the operation, at a row of its call, with this value.
   pub record Entered (before : List (Row T)) (op n : ℕ) (value : T) : Type 0 where
     pub place : ℕ
+    pub request : Request
     pub bytes : List ℕ
-    pub effect : slice_get before place ≡ Some (Effect op (requests.Create n bytes))
+    pub effect : slice_get before place ≡ Some (Effect op request)
+    pub creates : created request ≡ Some (n, bytes)
     pub begun : was_begun (take place before) op ≡ true
     pub first : has_id (versions_of (take place before)) n ≡ false
     pub reads : decode bytes ≡ Some value
@@ -70,10 +70,13 @@ module _ {T : Type 0} (decode : List ℕ → Option T) where
     pub longer : number_of base < newest before
     pub fenced : (n : ℕ) (value : T) → Entered before op n value → n ≤ boundary before
 
-  -- a write is refused because its base was overtaken, for want of memory, or because no id is left
+  -- A write is refused because its base was overtaken, because the store has no token left, for want of memory, or because no id is left.
   abbrev pub WriteRefused : List (Row T) → ℕ → Option ℕ → ℕ → Type 0
   WriteRefused before op base number =
-      ((number ≡ 5) × Overtaken before op base) ⊎ (number ≡ 9) ⊎ ((number ≡ 10) × (base ≡ Some 18446744073709551615))
+      ((number ≡ 5) × Overtaken before op base)
+      ⊎ ((number ≡ 2) × (put_count before ≡ 18446744073709551615))
+      ⊎ (number ≡ 9)
+      ⊎ ((number ≡ 10) × (base ≡ Some 18446744073709551615))
 
   -- success: the version is its own, with its value
   abbrev pub WriteFits : List (Row T) → ℕ → Option ℕ → T → Answer T → Type 0

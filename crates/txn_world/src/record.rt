@@ -2,14 +2,15 @@
 ghost use Rattle.std.specs.Prelude.{◌≡◌, ◌↔◌, Some, Ok, IfSome, IfOk, IfErr};
 ghost use Rattle.txn_world.specs.declared.record.Record.{Record};
 ghost use Rattle.txn_world.specs.Record.{record_text, record_read, IsNumbers};
-ghost use Rattle.txn_world.specs.Refusal.{OnRefused, IsBadRecord};
+ghost use Rattle.txn_steps.specs.Refusal.{OnRefused};
+ghost use Rattle.txn_world.specs.Refusal.{IsBadRecord};
 
-use crate::codec::{CodecFault, ObjectCodec};
 use crate::numerals::read_decimal;
 use anyhow::anyhow;
 use bytes::Bytes;
 use std::alloc::{AllocError, Global};
 use std::{fmt, str};
+use txn_steps::codec::{CodecFault, ObjectCodec};
 
 /// The value that the program keeps: an epoch, and a payload that means nothing to the world.
 #[derive(Clone, Copy, Debug, PartialEq, Eq)]

@@ -1,16 +1,21 @@
 //! All that a world keeps, and its step.
-ghost use Rattle.std.specs.Prelude.{◌≡◌, ◌++◌, ◌≤◌, ◌<◌, ◌+◌, IfOk, IfSome, OnErr, IsSome, IsTrue, vec_len, vec_capacity};
+ghost use Rattle.std.specs.Prelude.{◌≡◌, ◌++◌, ◌≤◌, ◌<◌, ◌+◌, IfOk, IfSome, OnErr, IsSome, None, if◌then◌else◌, vec_len, vec_capacity};
 ghost use Rattle.std.specs.HashSet.{spare};
-ghost use Rattle.std.specs.Option.{ForSome};
-ghost use Rattle.txn_world.specs.Operation.{IsExactClone, IsAnswerTo, may_lack, first_of, lacks_answer, refusal_of_number};
-ghost use Rattle.txn_world.specs.Machine.{told_of, answer_rows, asked_by, Advances};
+ghost use Rattle.std.specs.Option.{ForSome, option_copied};
+ghost use Rattle.txn_world.specs.Lists.{numbered};
+ghost use Rattle.txn_world.specs.Names.{world_names};
+ghost use Rattle.txn_world.specs.Doing.{IsExactClone, first_of, refusal_of_number};
+ghost use Rattle.txn_world.specs.Machine.{told_of, answer_rows, asked_by, may_change, took, Advances, IsReplyBy};
 
-use crate::codec::ObjectCodec;
+use crate::doing::{Operation, start};
 use crate::event::{Answer, Call, Event, EventFault, Told};
-use crate::operation::{Operation, start};
-use crate::store::{Reply, Request, Versions};
 use crate::trace::{Row, Trace, push_within};
 use std::alloc::{AllocError, Global};
+use txn_steps::codec::ObjectCodec;
+use txn_steps::layout::Layout;
+use txn_store::in_memory::InMemory;
+use txn_store::path::{Path, PathFault};
+use txn_store::request::{Reply, Request, serve};
 
 impl From<AllocError> for EventFault {
     ghost use Rattle.std.specs.Prelude.{◌≡◌};
@@ -57,68 +62,106 @@ fn refused_by<T>(number: Option<u8>) -> Option<(Answer<T>, Answer<T>)>
 }
 
 /// What an operation asks of the store: nothing where it is not there, or has ended.
-fn request_of(operations: &[Operation], op: u64) -> Result<Option<Request>, AllocError>
-    ensures ok { IfOk result (λ request. request ≡ asked_by operations.now op) }
-    ensures err { OnErr result (IsSome (asked_by operations.now op)) }
+fn asked(operations: &[Operation], op: u64) -> Option<&Request>
+    ensures { option_copied result ≡ asked_by operations.now op }
 {
     if op == 0 {
-        return Ok(None);
+        return None;
     }
-    match operations.get((op - 1) as usize) {
-        None => Ok(None),
-        Some(operation) => operation.doing.ask(),
+    operations.get((op - 1) as usize)?.doing.ask()
+}
+
+/// A copy of a request that may change the store, for the trace.
+fn copy_of(request: &Request) -> Result<Option<Request>, AllocError>
+    ensures { IfOk result (λ copy. copy ≡ may_change request.now) }
+{
+    match request {
+        Request::Put { .. } => Ok(Some(request.try_clone()?)),
+        _ => Ok(None),
     }
+}
+
+/// Whether the reply says that the request changed the store.
+fn took(reply: &Reply) -> bool
+    ensures { result ≡ took reply.now }
+{
+    matches!(reply, Reply::Put(Ok(_)))
+}
+
+/// The request that changed the store, by its reply. A copy of it was made before.
+fn effect_of(reply: &Reply, copy: Option<Request>) -> Option<Request>
+    ensures { result ≡ (if took reply.now then copy else None) }
+{
+    if took(reply) { copy } else { None }
 }
 
 /// Hands the reply to the operation that asked.
 fn advance<T: Clone, C: ObjectCodec<T>>(
     alloc: Global,
-    codec: &C,
+    layout: &Layout<C>,
     operations: &mut Vec<Operation>,
     op: u64,
     reply: Reply,
 ) -> Option<(Answer<T>, Answer<T>)>
     requires exact { IsExactClone T.is_clone }
-    requires asked { IsAnswerTo (asked_by operations.old.items op) reply }
-    ensures advanced { Advances (C.decoded codec.now) operations.old.items operations.new.items op reply (first_of result) }
+    requires names { layout.now.names ≡ world_names }
+    requires asked { IsReplyBy (numbered operations.old.items op) reply }
+    ensures advanced { Advances (C.decoded layout.now.codec) operations.old.items operations.new.items op reply (first_of result) }
     ensures twice { IfSome result (λ pair. pair.1 ≡ pair.0) }
-    ensures wanting { IsTrue (lacks_answer (first_of result)) → IsTrue (may_lack reply) }
 {
     operations[(op - 1) as usize]
         .doing
-        .take(alloc, codec, reply)
+        .take(alloc, layout, reply)
+}
+
+/// Versions are the files root/test/<n>.val.
+fn world_layout<C: Drop>(alloc: Global, codec: C) -> Result<Layout<C>, AllocError>
+    ensures names { IfOk result (λ layout. layout.names ≡ world_names) }
+    ensures codec { IfOk result (λ layout. layout.codec ≡ codec) }
+{
+    let root = match Path::root(alloc).join("root") {
+        Ok(root) => root,
+        Err(PathFault::NoMemory) => return Err(AllocError),
+        Err(PathFault::BadSegment) => unreachable!(),
+    };
+    match Layout::new(alloc, &root, "test", "val", codec) {
+        Ok(layout) => Ok(layout),
+        Err(PathFault::NoMemory) => Err(AllocError),
+        Err(PathFault::BadSegment) => unreachable!(),
+    }
 }
 
 /// All that a world keeps.
 #[derive(Drop)]
 pub(crate) struct Tables<T: Drop, C> {
     alloc: Global,
-    pub codec: C,
+    pub layout: Layout<C>,
     clients: u64,
-    store: Versions,
+    store: InMemory,
     operations: Vec<Operation>,
     trace: Trace<T>,
+    ghost names: { layout.names ≡ world_names },
 }
 
-impl<T: Clone, C: ObjectCodec<T>> Tables<T, C> {
+impl<T: Clone, C: ObjectCodec<T> + Drop> Tables<T, C> {
     ghost use Rattle.std.specs.Prelude.{◌≡◌, IfOk, OnErr};
-    ghost use Rattle.txn_world.specs.Operation.{IsExactClone};
+    ghost use Rattle.txn_world.specs.Doing.{IsExactClone};
     ghost use Rattle.txn_world.specs.OneHistory.{has_known_base};
-    ghost use Rattle.txn_world.specs.Machine.{Takes, opening, refusal_of, fault_met};
+    ghost use Rattle.txn_world.specs.Machine.{Takes, AskInKind, opening, refusal_of, fault_met};
     ghost use Rattle.txn_world.specs.Shown.{shown};
 
-    pub fn new(alloc: Global, codec: C, clients: u64) -> Tables<T, C>
-        ensures shown { shown result ≡ opening clients }
-        ensures codec { result.codec ≡ codec }
+    pub fn new(alloc: Global, codec: C, clients: u64) -> Result<Tables<T, C>, AllocError>
+        ensures shown { IfOk result (λ tables. shown tables ≡ opening clients) }
+        ensures codec { IfOk result (λ tables. tables.layout.codec ≡ codec) }
     {
-        Tables {
+        Ok(Tables {
             alloc,
-            codec,
+            layout: world_layout(alloc, codec)?,
             clients,
-            store: Versions::new(alloc),
+            store: InMemory::new(alloc),
             operations: Vec::new(alloc),
             trace: Trace::new(alloc),
-        }
+        })
     }
 
     pub fn rows(&self) -> &[Row<T>]
@@ -140,9 +183,9 @@ impl<T: Clone, C: ObjectCodec<T>> Tables<T, C> {
     fn begin(&mut self, client: u64, call: Call<T>) -> Result<Told<T>, EventFault>
         requires { IsExactClone T.is_clone }
         ensures fault { fault_met result ≡ refusal_of (shown self.old) (Event.Begin client call) }
-        ensures codec { self.new.codec ≡ self.old.codec }
+        ensures codec { self.new.layout.codec ≡ self.old.layout.codec }
         ensures err { OnErr result (shown self.new ≡ shown self.old) }
-        ensures ok { IfOk result (λ told. Takes (C.encoded self.old.codec) (C.decoded self.old.codec) (shown self.old) (Event.Begin client call) told (shown self.new)) }
+        ensures ok { IfOk result (λ told. Takes (C.encoded self.old.layout.codec) (C.decoded self.old.layout.codec) (shown self.old) (Event.Begin client call) told (shown self.new)) }
     {
         if client == 0 || client > self.clients {
             return Err(EventFault::UnknownNumber);
@@ -150,7 +193,7 @@ impl<T: Clone, C: ObjectCodec<T>> Tables<T, C> {
         if !self.knows_base(&call) {
             return Err(EventFault::UnknownBase);
         }
-        let (doing, refusal) = start(self.alloc, &self.codec, &call)?;
+        let (doing, refusal) = start(self.alloc, &self.layout, &call)?;
         self.operations.reserve(1)?;
         self.trace.reserve()?;
         let op = self.operations.len() as u64 + 1;
@@ -161,29 +204,32 @@ impl<T: Clone, C: ObjectCodec<T>> Tables<T, C> {
     }
 
     fn serve(&mut self, op: u64) -> Result<Told<T>, EventFault>
-        requires { IsExactClone T.is_clone }
+        requires exact { IsExactClone T.is_clone }
+        requires asks { AskInKind self.old.operations.items }
         ensures fault { fault_met result ≡ refusal_of (shown self.old) (Event.Serve op) }
-        ensures codec { self.new.codec ≡ self.old.codec }
+        ensures codec { self.new.layout.codec ≡ self.old.layout.codec }
         ensures err { OnErr result (shown self.new ≡ shown self.old) }
-        ensures ok { IfOk result (λ told. Takes (C.encoded self.old.codec) (C.decoded self.old.codec) (shown self.old) (Event.Serve op) told (shown self.new)) }
+        ensures ok { IfOk result (λ told. Takes (C.encoded self.old.layout.codec) (C.decoded self.old.layout.codec) (shown self.old) (Event.Serve op) told (shown self.new)) }
     {
-        let Some(request) = request_of(&self.operations, op)? else {
+        let Some(request) = asked(&self.operations, op) else {
             return Err(EventFault::UnknownNumber);
         };
+        let copy = copy_of(request)?;
         self.trace.reserve()?;
-        let reply = self.store.serve(&request);
-        self.trace.effect(op, request, reply.is_created());
-        let answers = advance(self.alloc, &self.codec, &mut self.operations, op, reply);
+        let reply = serve(self.alloc, &mut self.store, request);
+        self.trace.effect(op, effect_of(&reply, copy));
+        let answers = advance(self.alloc, &self.layout, &mut self.operations, op, reply);
         Ok(tell(&mut self.trace, op, answers, Told::Went(op)))
     }
 
     /// Takes one event. What it needs to grow is made room for before the store is asked.
     pub fn take(&mut self, event: Event<T>) -> Result<Told<T>, EventFault>
-        requires { IsExactClone T.is_clone }
+        requires exact { IsExactClone T.is_clone }
+        requires asks { AskInKind self.old.operations.items }
         ensures fault { fault_met result ≡ refusal_of (shown self.old) event }
-        ensures codec { self.new.codec ≡ self.old.codec }
+        ensures codec { self.new.layout.codec ≡ self.old.layout.codec }
         ensures err { OnErr result (shown self.new ≡ shown self.old) }
-        ensures ok { IfOk result (λ told. Takes (C.encoded self.old.codec) (C.decoded self.old.codec) (shown self.old) event told (shown self.new)) }
+        ensures ok { IfOk result (λ told. Takes (C.encoded self.old.layout.codec) (C.decoded self.old.layout.codec) (shown self.old) event told (shown self.new)) }
     {
         match event {
             Event::Begin(client, call) => self.begin(client, call),

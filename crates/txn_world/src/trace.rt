@@ -4,12 +4,12 @@ ghost use Rattle.std.specs.HashSet.{contains, spare};
 ghost use Rattle.txn_world.specs.Calls.{was_told, id_told};
 
 use crate::event::{Answer, Call};
-use crate::store::Request;
 use std::alloc::{AllocError, Global};
 use std::collections::HashSet;
+use txn_store::request::Request;
 
 /// One row of a trace. Each names its operation.
-#[derive(Debug, Drop)]
+#[derive(Drop)]
 pub enum Row<T> {
     /// The operation's request changed the store.
     Effect(u64, Request),
@@ -21,7 +21,7 @@ pub enum Row<T> {
 
 /// The rows so far. The ids that they told stand beside them, so that a base is looked up and not
 /// searched for.
-#[derive(Debug, Drop)]
+#[derive(Drop)]
 pub(crate) struct Trace<T> {
     pub rows: Vec<Row<T>>,
     pub told: HashSet<u64>,
@@ -71,15 +71,15 @@ impl<T: Drop> Trace<T> {
         push_within(&mut self.rows, Row::Begun(op, call));
     }
 
-    /// Adds the request of an operation, where it changed the store.
-    pub fn effect(&mut self, op: u64, request: Request, changed: bool)
+    /// Adds the request of an operation, where one changed the store.
+    pub fn effect(&mut self, op: u64, request: Option<Request>)
         requires { vec_len self.old.rows < vec_capacity self.old.rows }
-        ensures rows { self.new.rows.items ≡ self.old.rows.items ++ effect_rows op request changed }
+        ensures rows { self.new.rows.items ≡ self.old.rows.items ++ effect_rows op request }
         ensures len { vec_len self.new.rows ≤ vec_len self.old.rows + 1 }
         ensures capacity { vec_capacity self.old.rows ≤ vec_capacity self.new.rows }
         ensures spare { spare self.new.told ≡ spare self.old.told }
     {
-        if changed {
+        if let Some(request) = request {
             push_within(&mut self.rows, Row::Effect(op, request));
         }
     }

@@ -1,22 +1,27 @@
 //! Clients over one store, one event at a time.
 ghost use Rattle.std.specs.Prelude.{◌≡◌, ◌≤◌, List, map, IfOk, OnErr, Some};
 ghost use Rattle.std.specs.Option.{option_copied, option_map};
-ghost use Rattle.txn_world.specs.Operation.{IsExactClone};
-ghost use Rattle.txn_world.specs.History.{created_by, history, stored};
+ghost use Rattle.txn_store.specs.VersionOf.{version_of};
+ghost use Rattle.txn_world.specs.Names.{world_names};
+ghost use Rattle.txn_world.specs.Doing.{IsExactClone};
+ghost use Rattle.txn_world.specs.History.{HasContents, created_by, history, stored};
 ghost use Rattle.txn_world.specs.OneHistory.{IsOneHistory};
 ghost use Rattle.txn_world.specs.Allowed.{fault_of, AddsRows};
 ghost use Rattle.txn_world.specs.Machine.{State, opening, fault_met, Takes, RunsPast, Runs};
 ghost use Rattle.txn_world.specs.declared.event.Event.{Event};
 ghost use Rattle.txn_world.specs.declared.event.Told.{Told};
 
-use crate::codec::{CodecFault, ObjectCodec};
 use crate::event::{Event, EventFault, Told};
-use crate::store::Request;
 use crate::tables::Tables;
 use crate::trace::Row;
 use bytes::Bytes;
 use std::alloc::{AllocError, Global};
 use std::marker::Model;
+use txn_steps::codec::{CodecFault, ObjectCodec};
+use txn_steps::layout::Layout;
+use txn_store::path::Path;
+use txn_store::request::Request;
+use txn_store::version_names::VersionNames;
 
 /// Clients over one store. Contracts see its codec, and the state that its events lead to.
 #[derive(Drop)]
@@ -30,40 +35,52 @@ impl<T: Clone, C: ObjectCodec<T> + Drop> Model for World<T, C> {
     ghost Value = { WorldState T C };
 
     ghost use Rattle.std.specs.Coded.{codes};
-    ghost use Rattle.txn_world.specs.Store.{store_code};
+    ghost use Rattle.txn_store.specs.Memory.{files_code};
 
-    ghost coded = { Prim.hlevel (codes, store_code) };
+    ghost coded = { Prim.hlevel (codes, files_code) };
 
     ghost use Rattle.txn_world.specs.Shown.{shown, shown_world};
 
     ghost view = { λ world. shown_world world.tables };
 
-    ghost invariant = { λ world. IsReached (C.encoded world.tables.codec) (C.decoded world.tables.codec) (shown world.tables) };
+    ghost invariant = { λ world. IsReached (C.encoded world.tables.layout.codec) (C.decoded world.tables.layout.codec) (shown world.tables) };
 }
 
 /// The bytes of the version that a row creates.
-fn created_bytes<T>(row: &Row<T>) -> Option<&Bytes>
+fn created_bytes<'a, T>(names: &VersionNames, row: &'a Row<T>) -> Option<&'a Bytes>
+    requires { names.now ≡ world_names }
     ensures { option_copied result ≡ option_map (λ version. version.1) (created_by row.now) }
 {
     match row {
-        Row::Effect(_, Request::Create(_, bytes)) => Some(bytes),
+        Row::Effect(_, Request::Put { path, bytes, .. }) => match version_of(names, path) {
+            Some(_) => Some(bytes),
+            None => None,
+        },
         _ => None,
     }
+}
+
+/// The id of the version that a path is.
+fn version_of(names: &VersionNames, path: &Path) -> Option<u64>
+    ensures { result ≡ version_of names.now path.now }
+{
+    names.parse_id(path)
 }
 
 /// The values of the entries that rows make: in one history each create makes one.
 fn entries_of<T: Drop, C: ObjectCodec<T>>(
     alloc: Global,
-    codec: &C,
+    layout: &Layout<C>,
     rows: &[Row<T>],
 ) -> Result<Vec<T>, AllocError>
-    requires { IsOneHistory (C.decoded codec.now) rows.now }
-    ensures { IfOk result (λ entries. map Some entries.items ≡ history (C.decoded codec.now) rows.now) }
+    requires names { layout.now.names ≡ world_names }
+    requires good { IsOneHistory (C.decoded layout.now.codec) rows.now }
+    ensures { IfOk result (λ entries. map Some entries.items ≡ history (C.decoded layout.now.codec) rows.now) }
 {
     let mut entries = Vec::new(alloc);
     for row in rows {
-        if let Some(bytes) = created_bytes(row) {
-            match codec.decode(alloc, bytes) {
+        if let Some(bytes) = created_bytes(&layout.names, row) {
+            match layout.codec.decode(alloc, bytes) {
                 Ok(value) => entries.push(value)?,
                 Err(CodecFault::NoMemory) => return Err(AllocError),
                 Err(CodecFault::Refused(_)) => unreachable!(),
@@ -81,7 +98,7 @@ impl<T: Clone, C: ObjectCodec<T> + Drop> World<T, C> {
         ensures { IfOk result (λ world. world ≡ record { codec = codec; state = opening clients }) }
     {
         Ok(World {
-            tables: Tables::new(alloc, codec, clients),
+            tables: Tables::new(alloc, codec, clients)?,
         })
     }
 
@@ -95,7 +112,7 @@ impl<T: Clone, C: ObjectCodec<T> + Drop> World<T, C> {
         ensures err { OnErr result (self.new ≡ self.old) }
         // The step, as a function of the state, but for want of memory.
         ensures ok { IfOk result (λ told. Takes (C.encoded self.old.codec) (C.decoded self.old.codec) self.old.state event told self.new.state) }
-        ensures rows { IfOk result (λ told. AddsRows self.old.state.trace self.old.state.store event told self.new.state.trace self.new.state.store) }
+        ensures rows { IfOk result (λ told. AddsRows self.old.state.trace self.old.state.store.files event told self.new.state.trace self.new.state.store.files) }
     {
         self.tables.take(event)
     }
@@ -120,8 +137,8 @@ impl<T: Clone, C: ObjectCodec<T> + Drop> World<T, C> {
         ensures rows { result.now ≡ self.now.state.trace }
         // Whatever events came, the versions are one history, and each answer fits it.
         ensures one_history { IsOneHistory (C.decoded self.now.codec) result.now }
-        // The store is the empty store after the requests of the effects.
-        ensures stored { self.now.state.store ≡ stored result.now }
+        // The store has the contents of the empty store after the requests of the effects.
+        ensures stored { HasContents self.now.state.store.files (stored result.now) }
     {
         self.tables.rows()
     }
@@ -130,7 +147,7 @@ impl<T: Clone, C: ObjectCodec<T> + Drop> World<T, C> {
     pub fn entries(&self, alloc: Global) -> Result<Vec<T>, AllocError>
         ensures { IfOk result (λ entries. map Some entries.items ≡ history (C.decoded self.now.codec) self.now.state.trace) }
     {
-        entries_of(alloc, &self.tables.codec, self.tables.rows())
+        entries_of(alloc, &self.tables.layout, self.tables.rows())
     }
 }
 

@@ -4,4 +4,4 @@ use Rattle.txn_world.proofs.world.entries_of.Given as goal
 
 -- the entries of the rows so far
 abbrev pub invariant-loop-row : goal.invariant-loop-row
-invariant-loop-row g l = map Some l.entries.items ≡ history (g.C.ObjectCodec.decoded l.codec) (take l.row-index l.rows)
+invariant-loop-row g l = map Some l.entries.items ≡ history (g.C.ObjectCodec.decoded l.layout.codec) (take l.row-index l.rows)

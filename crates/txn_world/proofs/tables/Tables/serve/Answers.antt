@@ -1,14 +1,12 @@
-use Rattle.std.proofs.Common.{rules}
-use Rattle.txn_world.proofs.Serving.{serve_lem}
+use Rattle.std.proofs.Common.{refl, ap, ◌∙◌, ◌++◌}
+use Rattle.txn_store.specs.Memory.{state_of}
+use Rattle.txn_world.specs.Doing.{first_of}
+use Rattle.txn_world.specs.Machine.{asked_by, effect_rows}
 use Rattle.txn_world.specs.Shown.{shown}
+use Rattle.txn_world.proofs.Serving.{served_takes}
 use Rattle.txn_world.proofs.tables.Tables.serve.Goals as goal
 
 pub returns-clause-ok : goal.returns-clause-ok
 returns-clause-ok g c =
-    record {
-      allowed = search rules;
-      reads_back = tt;
-      step = serve_lem (g.C.ObjectCodec.decoded c.args.self.now.codec) (shown c.args.self.now) c.args.op c.in-Some.request c.serve-reply.result _ c.tell.result
-          c.serve-reply.new.self c.advance-answers.new.operations.items c.effect.new.self.rows.items c.tell.new.trace.rows.items
-          (search rules) (search rules) (search rules) (search rules) c.advance-answers.ensures.advanced c.advance-answers.ensures.wanting c.tell.ensures.told c.tell.ensures.rows;
-    }
+    served_takes (g.C.ObjectCodec.encoded c.args.self.now.layout.codec) (g.C.ObjectCodec.decoded c.args.self.now.layout.codec) (shown c.args.self.now) c.args.op c.in-Some.request.now c.serve-reply.result c.in_ok-copy.copy c.effect_of.result (state_of c.serve-reply.new.store) c.advance-answers.new.operations.items (first_of c.advance-answers.result) c.effect.new.self.rows.items c.tell.new.trace.rows.items c.tell.result
+    (c.in-Some.ensures ∙ ap (λ os. asked_by os c.args.op) c.deref.ensures.value) c.in_ok-copy.ensures c.serve-reply.ensures refl c.effect_of.ensures (c.effect.ensures.rows ∙ ap (λ rs. rs ++ effect_rows c.args.op c.effect_of.result) c.in_ok-reserve.ensures.rows) c.advance-answers.ensures.advanced c.tell.ensures.told c.tell.ensures.rows

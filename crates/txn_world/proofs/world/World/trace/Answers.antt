@@ -4,8 +4,8 @@ use Rattle.txn_world.proofs.world.World.trace.Goals as goal
 
 pub returns-clause-one_history : goal.returns-clause-one_history
 returns-clause-one_history g c =
-    rw (c.rows.ensures, ← c.self.view_is) (reached_history (g.C.ObjectCodec.encoded c.self.inside.tables.codec) (g.C.ObjectCodec.decoded c.self.inside.tables.codec) (shown c.self.inside.tables) c.self.invariant)
+    rw (c.rows.ensures, ← c.self.view_is) (reached_history (g.C.ObjectCodec.encoded c.self.inside.tables.layout.codec) (g.C.ObjectCodec.decoded c.self.inside.tables.layout.codec) (shown c.self.inside.tables) c.self.invariant)
 
 pub returns-clause-stored : goal.returns-clause-stored
 returns-clause-stored g c =
-    rw (c.rows.ensures, ← c.self.view_is) (reached_stored (g.C.ObjectCodec.encoded c.self.inside.tables.codec) (g.C.ObjectCodec.decoded c.self.inside.tables.codec) (shown c.self.inside.tables) c.self.invariant)
+    rw (c.rows.ensures, ← c.self.view_is) (reached_stored (g.C.ObjectCodec.encoded c.self.inside.tables.layout.codec) (g.C.ObjectCodec.decoded c.self.inside.tables.layout.codec) (shown c.self.inside.tables) c.self.invariant)

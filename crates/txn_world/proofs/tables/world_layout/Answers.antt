@@ -1,0 +1,7 @@
+use Rattle.std.proofs.Common.{rules}
+use Rattle.txn_world.specs.Names.{world_names}
+use Rattle.txn_world.proofs.tables.world_layout.Goals as goal
+
+pub returns-in-Ok-new-clause-names : goal.returns-in-Ok-new-clause-names
+unfolding world_names
+returns-in-Ok-new-clause-names g c = search rules
