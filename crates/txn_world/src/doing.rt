@@ -32,7 +32,8 @@ pub struct Operation {
 }
 
 /// How a call starts: what its operation does, and the number of its refusal where it has one at
-/// once. The bytes of a write are made here, before anything is asked of the store.
+/// once. The bytes of a write are made here, before anything is asked of the store. The only error
+/// is want of memory.
 pub fn start<T: Drop, C: ObjectCodec<T>>(
     alloc: Global,
     layout: &Layout<C>,

@@ -91,7 +91,8 @@ fn entries_of<T: Drop, C: ObjectCodec<T>>(
 }
 
 impl<T: Clone, C: ObjectCodec<T> + Drop> World<T, C> {
-    /// A world in which nothing has happened, with clients 1 to `clients`.
+    /// A world in which nothing has happened, with clients 1 to `clients`, of which there are 1 to
+    /// 64. The only error is want of memory, and then there is no world.
     pub fn new(alloc: Global, codec: C, clients: u64) -> Result<World<T, C>, AllocError>
         requires some { 1 ≤ clients }
         requires few { clients ≤ 64 }
@@ -117,7 +118,8 @@ impl<T: Clone, C: ObjectCodec<T> + Drop> World<T, C> {
         self.tables.take(event)
     }
 
-    /// Takes these events in order, past those that are refused, and says how many were taken.
+    /// Takes these events in order, past those that are refused, and says how many were taken. An event
+    /// that is refused for want of memory is passed over too.
     pub fn run(&mut self, events: Vec<Event<T>>) -> u64
         requires { IsExactClone T.is_clone }
         ensures codec { self.new.codec ≡ self.old.codec }
@@ -143,7 +145,8 @@ impl<T: Clone, C: ObjectCodec<T> + Drop> World<T, C> {
         self.tables.rows()
     }
 
-    /// The history: the values of the versions, in the order of their first creation.
+    /// The history: the values of the versions, in the order of their first creation. The only error
+    /// is want of memory; the world is as it was.
     pub fn entries(&self, alloc: Global) -> Result<Vec<T>, AllocError>
         ensures { IfOk result (λ entries. map Some entries.items ≡ history (C.decoded self.now.codec) self.now.state.trace) }
     {
