@@ -1,5 +1,5 @@
 //! A store in memory.
-ghost use Rattle.std.specs.Prelude.{◌≡◌, IfOk, IsOk, OnOk, OnErr};
+ghost use Rattle.std.specs.Prelude.{◌≡◌, is_some, IfOk, IsOk, OnOk, OnErr};
 ghost use Rattle.std.specs.Option.{option_copied};
 ghost use Rattle.std.specs.FinMap as finmap;
 ghost use Rattle.std.specs.BTreeMap.{IsOrdered};
@@ -86,6 +86,13 @@ impl InMemory {
             },
             Request::Delete { path } => Reply::Delete(self.delete(path)),
         }
+    }
+
+    /// Whether a file stands under a path. It takes no memory, and is no call that counts.
+    pub fn contains(&self, path: &Path) -> bool
+        ensures { result ≡ is_some (finmap.get self.now.files path.now) }
+    {
+        self.held(path).is_some()
     }
 
     /// What stands under a path.

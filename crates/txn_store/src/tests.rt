@@ -200,6 +200,20 @@ fn a_listing_is_below_its_prefix_by_whole_segments(rt: HostRuntime) -> Result<()
 }
 
 #[test]
+fn a_store_contains_what_was_put_and_not_removed(rt: HostRuntime) -> Result<(), Fail> {
+    let mut store = InMemory::new(rt.alloc());
+    let a = at(rt.alloc(), "a")?;
+    let below = at(rt.alloc(), "a/b")?;
+    assert!(rt; !store.contains(&a));
+    store.put(&a, &Bytes::from_static(b"x"), &PutMode::Create)?;
+    assert!(rt; store.contains(&a));
+    assert!(rt; !store.contains(&below));
+    assert_eq!(rt; store.delete(&a), Ok(()));
+    assert!(rt; !store.contains(&a));
+    Ok(())
+}
+
+#[test]
 fn the_last_token_is_the_greatest(rt: HostRuntime) -> Result<(), Fail> {
     let mut store = InMemory::from_token(rt.alloc(), u64::MAX);
     let a = at(rt.alloc(), "a")?;
