@@ -1,6 +1,10 @@
 pub mod Errors
 pub mod Refusal
 pub mod NumberBytes
+pub mod BoundaryText
 pub mod Steps
+pub mod CheckSteps
 pub mod WriteSteps
 pub mod ReadSteps
+pub mod AdvanceSteps
+pub mod DeleteSteps

@@ -2,26 +2,29 @@
 ghost use Rattle.std.specs.Prelude.{◌≡◌, IfOk, None, Err, unwrap_or};
 ghost use Rattle.txn_store.specs.VersionName.{version_path};
 ghost use Rattle.txn_store.specs.VersionOf.{version_of};
-ghost use Rattle.txn_steps.specs.Steps.{turned_by_number, lacks_memory};
-ghost use Rattle.txn_steps.specs.ReadSteps.{greater_of, greatest_listed, listed_turned, got_turned, read_or_lacks};
+ghost use Rattle.txn_steps.specs.Steps.{turned_by_number, lacks_memory, error_in, TellsErrorOf};
+ghost use Rattle.txn_steps.specs.ReadSteps.{greater_of, greatest_listed, read_started, getting, holding, listed_turned, got_turned, read_or_lacks};
 
+use crate::check::CheckOp;
 use crate::codec::ObjectCodec;
 use crate::error::TransactionalObjectError;
 use crate::id::MonotonicId;
 use crate::layout::Layout;
-use crate::turned::Turned;
+use crate::turned::{self, Turned, goes_as, taken};
 use std::alloc::{AllocError, Global};
 use txn_store::request::{Listing, Reply, Request};
 use txn_store::store::{Got, ObjectMeta, StoreError};
 use txn_store::version_names::VersionNames;
 
-/// A read of the newest version: a listing, and the get of the greatest listed id.
+/// A read of the newest version: a listing, the get of the greatest listed id, and the check of that id.
 #[derive(Drop)]
-pub enum ReadOp {
+pub enum ReadOp<T> {
     /// It asks for a listing of the versions.
     Lists(Request),
     /// It asks for the version of this id.
     Gets(MonotonicId, Request),
+    /// It holds the version of this id, until it answers it, and asks for the check of the id.
+    Checks(MonotonicId, Option<T>, CheckOp),
 }
 
 /// What a read answers: the id and the value of the newest version, or that there is none.
@@ -72,23 +75,41 @@ fn get_request(alloc: Global, names: &VersionNames, id: u64) -> Result<Request, 
     })
 }
 
-fn no_memory<T>() -> Turned<ReadAnswer<T>>
-    ensures { turned_by_number result ≡ Turned.Done (Err 9) }
+/// What a read does next where it goes on, and what it says.
+type Step<T> = turned::Step<ReadOp<T>, Option<(MonotonicId, T)>>;
+
+/// It asks for a listing.
+fn list<T>(names: &VersionNames) -> Result<ReadOp<T>, AllocError>
+    ensures { IfOk result (λ op. op ≡ read_started names.now) }
 {
-    Turned::Done(Err(TransactionalObjectError::NoMemory))
+    Ok(ReadOp::Lists(list_request(names)?))
 }
 
-/// What a read does next where it goes on, and what it says.
-type Step<T> = (Option<ReadOp>, Turned<ReadAnswer<T>>);
+/// It asks for the version of this id.
+fn get<T>(alloc: Global, names: &VersionNames, id: u64) -> Result<ReadOp<T>, AllocError>
+    ensures { IfOk result (λ op. op ≡ getting names.now id) }
+{
+    let request = get_request(alloc, names, id)?;
+    Ok(ReadOp::Gets(MonotonicId::new(id), request))
+}
+
+/// It holds a value, and asks for the check of its id.
+fn hold<T: Drop, C>(layout: &Layout<C>, id: MonotonicId, value: T) -> Result<ReadOp<T>, AllocError>
+    ensures { IfOk result (λ op. op ≡ holding layout.now.boundary id value) }
+{
+    let check = CheckOp::start(layout, id)?;
+    Ok(ReadOp::Checks(id, Some(value), check))
+}
 
 /// After the listing.
 fn after_list<T>(
     alloc: Global,
     names: &VersionNames,
     answer: Result<Listing, StoreError>,
-    op: &ReadOp,
+    op: &ReadOp<T>,
 ) -> Step<T>
-    ensures { (unwrap_or result.0 op.now, turned_by_number result.1) ≡ read_or_lacks (lacks_memory (turned_by_number result.1)) op.now (listed_turned names.now op.now answer) }
+    ensures turned { (unwrap_or result.0 op.now, turned_by_number result.1) ≡ read_or_lacks (lacks_memory (turned_by_number result.1)) op.now (listed_turned names.now op.now answer) }
+    ensures store_error { TellsErrorOf (error_in answer) result.1 }
 {
     let listing = match answer {
         Ok(listing) => listing,
@@ -96,48 +117,41 @@ fn after_list<T>(
     };
     match greatest(names, listing.as_slice()) {
         None => (None, Turned::Done(Ok(None))),
-        Some(id) => match get_request(alloc, names, id) {
-            Ok(request) => (
-                Some(ReadOp::Gets(MonotonicId::new(id), request)),
-                Turned::Goes,
-            ),
-            Err(_) => (None, no_memory()),
-        },
+        Some(id) => goes_as(get(alloc, names, id)),
     }
 }
 
 /// After the get.
-fn after_get<T, C: ObjectCodec<T>>(
+fn after_get<T: Drop, C: ObjectCodec<T>>(
     alloc: Global,
     layout: &Layout<C>,
     answer: Result<Got, StoreError>,
     id: MonotonicId,
-    op: &ReadOp,
+    op: &ReadOp<T>,
 ) -> Step<T>
-    ensures { (unwrap_or result.0 op.now, turned_by_number result.1) ≡ read_or_lacks (lacks_memory (turned_by_number result.1)) op.now (got_turned layout.now.names (C.decoded layout.now.codec) op.now id answer) }
+    ensures turned { (unwrap_or result.0 op.now, turned_by_number result.1) ≡ read_or_lacks (lacks_memory (turned_by_number result.1)) op.now (got_turned layout.now.names layout.now.boundary (C.decoded layout.now.codec) op.now id answer) }
+    ensures store_error { TellsErrorOf (error_in answer) result.1 }
 {
     match answer {
         Ok(got) => match layout.codec.decode(alloc, &got.bytes) {
-            Ok(value) => (None, Turned::Done(Ok(Some((id, value))))),
+            Ok(value) => goes_as(hold(layout, id, value)),
             Err(fault) => (None, Turned::Done(Err(fault.into()))),
         },
         // It was removed since it was listed: the read starts again.
-        Err(StoreError::NotFound) => match list_request(&layout.names) {
-            Ok(request) => (Some(ReadOp::Lists(request)), Turned::Goes),
-            Err(_) => (None, no_memory()),
-        },
+        Err(StoreError::NotFound) => goes_as(list(&layout.names)),
         Err(error) => (None, Turned::Done(Err(error.into()))),
     }
 }
 
-impl ReadOp {
+impl<T: Drop> ReadOp<T> {
     ghost use Rattle.txn_steps.specs.ReadSteps.{read_started, read_asked, read_turned, read_or_lacks, IsReadReply};
+    ghost use Rattle.txn_steps.specs.Steps.{reply_error, TellsErrorOf};
 
     /// A read, which begins with its listing. The only error is want of memory.
-    pub fn start<C>(layout: &Layout<C>) -> Result<ReadOp, AllocError>
+    pub fn start<C>(layout: &Layout<C>) -> Result<ReadOp<T>, AllocError>
         ensures { IfOk result (λ op. op ≡ read_started layout.now.names) }
     {
-        Ok(ReadOp::Lists(list_request(&layout.names)?))
+        list(&layout.names)
     }
 
     /// What it asks of the store. It takes no memory.
@@ -147,34 +161,44 @@ impl ReadOp {
         match self {
             ReadOp::Lists(request) => request,
             ReadOp::Gets(_, request) => request,
+            ReadOp::Checks(_, _, check) => check.ask(),
         }
     }
 
     /// Takes the store's reply to what it asks. With no version listed it answers `None`; else it
-    /// goes on to the greatest listed one, and answers its id and value. Where that one is missing
-    /// it lists again. Bytes that the codec refuses are `CallbackError`, a growth that is refused is
-    /// `NoMemory`, and an error of the store is as it becomes.
-    pub fn take<T, C: ObjectCodec<T>>(
+    /// gets the greatest listed one, and lists again where that is missing. What it got it decodes,
+    /// and then has its id checked: where the check accepts it, it answers the id and the value, and
+    /// where the id is at or below the boundary it lists again. Bytes that the codec refuses are
+    /// `CallbackError`, a growth that is refused is `NoMemory`, and an error of the store or of the
+    /// check is as it becomes.
+    pub fn take<C: ObjectCodec<T>>(
         &mut self,
         alloc: Global,
         layout: &Layout<C>,
         reply: Reply,
     ) -> Turned<ReadAnswer<T>>
         requires { IsReadReply self.old reply }
-        ensures { (self.new, turned_by_number result) ≡ read_or_lacks (lacks_memory (turned_by_number result)) self.old (read_turned layout.now.names (C.decoded layout.now.codec) self.old reply) }
+        ensures turned { (self.new, turned_by_number result) ≡ read_or_lacks (lacks_memory (turned_by_number result)) self.old (read_turned layout.now.names layout.now.boundary (C.decoded layout.now.codec) self.old reply) }
+        ensures store_error { TellsErrorOf (reply_error reply) result }
     {
-        let (next, turned) = match (&*self, reply) {
+        let step = match (&mut *self, reply) {
             (ReadOp::Lists(_), Reply::List(answer)) => {
                 after_list(alloc, &layout.names, answer, self)
             }
             (ReadOp::Gets(id, _), Reply::Get(answer)) => {
                 after_get(alloc, layout, answer, *id, self)
             }
+            (ReadOp::Checks(id, value, check), reply) => match check.decide(reply) {
+                Ok(()) => (
+                    None,
+                    Turned::Done(Ok(value.take().map(|value| (*id, value)))),
+                ),
+                // The boundary has reached it: the read starts again.
+                Err(TransactionalObjectError::ObjectVersionExists) => goes_as(list(&layout.names)),
+                Err(error) => (None, Turned::Done(Err(error))),
+            },
             _ => unreachable!(),
         };
-        if let Some(next) = next {
-            *self = next;
-        }
-        turned
+        taken(self, step)
     }
 }

@@ -1,0 +1,2 @@
+pub mod BoundaryLemmas
+pub mod LayoutLemmas
