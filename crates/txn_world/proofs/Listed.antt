@@ -23,8 +23,8 @@ use Rattle.txn_steps.specs.ReadSteps.{greater_of, greatest_from, greatest_listed
 use Rattle.txn_world.specs.declared.trace.Row.{Row}
 use Rattle.txn_world.specs.Names.{world_names}
 use Rattle.txn_world.specs.History.{Version, is_id, versions_of, newest}
-use Rattle.txn_world.proofs.Stands.{KnowStands, bytes_at}
-use Rattle.txn_world.proofs.Effects.{bytes_within, within_bytes, is_stored}
+use Rattle.txn_world.proofs.Stands.{KnowStands, is_there}
+use Rattle.txn_world.proofs.Effects.{bytes_within, there_bytes}
 
 is_id_some : (n : ℕ) (found : Option ℕ) → is_id n found ≡ true → found ≡ Some n
 is_id_some n None h = cc
@@ -165,14 +165,20 @@ IsNewest None m = m ≡ 0
 IsNewest (Some n) m = (0 < n) × (n ≡ m)
 
 module _ {T : Type 0} (decode : List ℕ → Option T) where
-  listed_bytes : (rows : List (Row T)) (store : StoreState) (metas : List ObjectMeta) (n : ℕ) → KnowStands decode rows store → IsPermutation (listing world_names.dir (entries store.files)) metas → n < 2 ^ 64 → has_listed n metas ≡ is_some (bytes_at (versions_of rows) n)
-  listed_bytes rows store metas n k same fits =
-      sym (list_any-IsPermutation (is_listed_as n) (listing world_names.dir (entries store.files)) metas same) ∙ (listed_stored store.files n fits ∙ is_stored decode rows store n k fits)
+  listed_there : (store : StoreState) (metas : List ObjectMeta) (n : ℕ) → IsPermutation (listing world_names.dir (entries store.files)) metas → n < 2 ^ 64 → has_listed n metas ≡ is_there store.files n
+  listed_there store metas n same fits = sym (list_any-IsPermutation (is_listed_as n) (listing world_names.dir (entries store.files)) metas same) ∙ listed_stored store.files n fits
+
+  -- the newest version is there
+  newest_there : (rows : List (Row T)) (store : StoreState) → KnowStands decode rows store → 0 < newest rows → is_there store.files (newest rows) ≡ true
+  newest_there rows store k some =
+      let v = bytes_within (versions_of rows) (newest rows) some (omega arith) in
+      elim k.history.gap [
+        | inl below ↦ there_bytes store.files (newest rows) ∙ ap is_some (k.files.there (newest rows) below (omega arith) ∙ ap (option_map (λ (version : Version). version.1)) v.1)
+        | inr none ↦ absurd (omega (arith, some, none.0))
+      ]
 
   newest_listed : (rows : List (Row T)) (store : StoreState) (metas : List ObjectMeta) → KnowStands decode rows store → IsPermutation (listing world_names.dir (entries store.files)) metas → 0 < newest rows → has_listed (newest rows) metas ≡ true
-  newest_listed rows store metas k same some =
-      let v = bytes_within (versions_of rows) (newest rows) some (omega arith) in
-      listed_bytes rows store metas (newest rows) k same k.small ∙ ap is_some (ap (option_map (λ (version : Version). version.1)) v.1)
+  newest_listed rows store metas k same some = listed_there store metas (newest rows) same k.history.small ∙ newest_there rows store k some
 
   found_newest : (rows : List (Row T)) (store : StoreState) (metas : List ObjectMeta) (found : Option ℕ) → greatest_listed world_names metas ≡ found → KnowStands decode rows store → IsPermutation (listing world_names.dir (entries store.files)) metas → IsNewest found (newest rows)
   found_newest rows store metas None e k same =
@@ -187,7 +193,8 @@ module _ {T : Type 0} (decode : List ℕ → Option T) where
       elim (greatest_one None metas n e) [
         | inl none ↦ cc
         | inr listed ↦
-            let bound = within_bytes (versions_of rows) n (sym (listed_bytes rows store metas n k same (listed_fits metas n listed)) ∙ listed) in
+            let small = listed_fits metas n listed in
+            let bound = k.files.within n small (sym (listed_there store metas n same small) ∙ listed) in
             let above = greatest_most None metas (newest rows) (inr (newest_listed rows store metas k same (omega (arith, bound.0, bound.1)))) in
             let same_n = same_Some above.0 n (sym above.1 ∙ e) in
             (bound.0, omega (arith, bound.1, above.2, same_n))

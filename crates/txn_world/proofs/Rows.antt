@@ -1,7 +1,7 @@
 -- What one more row does to what a trace says.
 use Rattle.std.proofs.Common.{◌≡◌, ◌≢◌, ℕ, zero, suc, ◌+◌, ◌≤◌, List, [], ◌∷◌, ◌++◌, length, take, map, slice_get, Bool, true, false, ◌==◌, ◌||◌, cond, Option, Some, None, inl, inr, refl, sym, ◌∙◌, ap, subst, arith}
 use Rattle.std.specs.List.{list_any}
-use Rattle.std.specs.FinMap.{empty}
+use Rattle.std.specs.FinMap.{empty, get}
 use Rattle.std.proofs.lemmas.List.{length-append, take-append-le, take_all, append-nil}
 use Rattle.std.proofs.lemmas.Bool.{ne_eqb, eq-eqb}
 use Rattle.std.proofs.lemmas.Option.{slice_get_within}
@@ -10,7 +10,8 @@ use Rattle.txn_store.specs.declared.request.Request.{Request}
 use Rattle.txn_world.specs.declared.trace.Row.{Row}
 use Rattle.txn_world.specs.declared.trace.Row.TheVariants.{Effect, Begun, Answered}
 use Rattle.txn_world.specs.Lists.{numbered}
-use Rattle.txn_world.specs.History.{Contents, Version, created_by, has_id, with_version, versions_from, versions_of, newest, stored_with, stored_from, stored, put_count, IsEntry}
+use Rattle.txn_world.specs.Names.{world_boundary}
+use Rattle.txn_world.specs.History.{Contents, Version, created_by, has_id, with_version, versions_from, versions_of, newest, stored_with, stored_from, stored, boundary_said, boundary, put_count, IsEntry}
 use Rattle.txn_world.specs.Calls.{begins, ends, was_begun, IsCall, AtRow, begun_count}
 use Rattle.txn_world.specs.OneHistory.{Fits, IsOneHistory}
 use Rattle.txn_world.proofs.Lists.{get_more, get_kept, numbered_kept}
@@ -50,6 +51,10 @@ module _ {T : Type 0} where
 
   pub stored-more : (rows : List (Row T)) (row : Row T) → stored (rows ++ row ∷ []) ≡ stored_with (stored rows) row
   stored-more rows row = stored_from-more empty rows row
+
+  -- a row that leaves the store's contents leaves the boundary
+  pub boundary-same : (rows : List (Row T)) (row : Row T) → stored (rows ++ row ∷ []) ≡ stored rows → boundary (rows ++ row ∷ []) ≡ boundary rows
+  boundary-same rows row same = ap (λ (contents : Contents). boundary_said (get contents world_boundary)) same
 
   -- a row changes the versions at their end alone
   pub versions_grow : (rows : List (Row T)) (row : Row T) → (more : List Version) × (versions_of (rows ++ row ∷ []) ≡ versions_of rows ++ more)

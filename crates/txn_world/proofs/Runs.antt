@@ -1,24 +1,31 @@
 -- What holds of each state that a world reaches, as its public calls say it.
-use Rattle.std.proofs.Common.{◌≡◌, ℕ, zero, suc, ◌+◌, ◌<◌, List, [], ◌∷◌, ◌++◌, length, Bool, true, false, cond, is_some, is_ok, Option, Some, None, Result, Ok, Err, OnErr, IfOk, inl, inr, refl, sym, ◌∙◌, ap, subst, arith}
+use Rattle.std.proofs.Common.{◌≡◌, ◌≢◌, ℕ, zero, suc, ◌+◌, ◌<◌, List, [], ◌∷◌, ◌++◌, length, Bool, true, false, cond, is_some, is_ok, Option, Some, None, Result, Ok, Err, OnErr, IfOk, inl, inr, refl, sym, ◌∙◌, ap, subst, arith}
 use Rattle.std.specs.FinMap.{get}
 use Rattle.std.proofs.lemmas.List.{map-append}
-use Rattle.std.proofs.lemmas.Option.{same_Some}
-use Rattle.txn_store.specs.VersionName.{version_path}
-use Rattle.txn_store.specs.Store.{State as StoreState, Puts, Gets, Lists}
+use Rattle.txn_store.specs.Paths.{Segments}
+use Rattle.txn_store.specs.Store.{State as StoreState, Placed, Removed, Puts, Gets, Deletes}
 use Rattle.txn_store.specs.Requests.{Serves}
 use Rattle.txn_store.specs.declared.store.Got.{Got}
-use Rattle.txn_store.specs.declared.store.ObjectMeta.{ObjectMeta}
-use Rattle.txn_store.specs.declared.store.PutMode.TheVariants.{Create}
+use Rattle.txn_store.specs.declared.store.PutMode.{PutMode}
 use Rattle.txn_store.specs.declared.store.StoreError.{StoreError}
 use Rattle.txn_store.specs.declared.store.StoreError.TheVariants as errors
 use Rattle.txn_store.specs.declared.request.Request.{Request}
 use Rattle.txn_store.specs.declared.request.Request.TheVariants as requests
 use Rattle.txn_store.specs.declared.request.Reply.{Reply}
 use Rattle.txn_store.specs.declared.request.Reply.TheVariants as replies
+use Rattle.txn_steps.specs.declared.check.CheckOp.{CheckOp}
+use Rattle.txn_steps.specs.declared.write.WriteStep.{WriteStep}
+use Rattle.txn_steps.specs.declared.write.WriteStep.TheVariants as writes
 use Rattle.txn_steps.specs.declared.write.WriteOp.{WriteOp}
-use Rattle.txn_steps.specs.declared.read.ReadOp.TheVariants.{Lists as ListOp, Gets as GetOp}
+use Rattle.txn_steps.specs.declared.read.ReadOp.{ReadOp}
+use Rattle.txn_steps.specs.declared.read.ReadOp.TheVariants as reads
+use Rattle.txn_steps.specs.declared.advance.AdvanceOp.{AdvanceOp}
+use Rattle.txn_steps.specs.declared.advance.AdvanceOp.TheVariants as advances
+use Rattle.txn_steps.specs.declared.delete.DeleteStep.{DeleteStep}
+use Rattle.txn_steps.specs.declared.delete.DeleteStep.TheVariants as deletes
+use Rattle.txn_steps.specs.declared.delete.DeleteOp.{DeleteOp}
 use Rattle.txn_world.specs.declared.doing.Doing.{Doing}
-use Rattle.txn_world.specs.declared.doing.Doing.TheVariants.{Write, Read, Ended}
+use Rattle.txn_world.specs.declared.doing.Doing.TheVariants.{Write, Read, Check, Advance, Delete, Ended}
 use Rattle.txn_world.specs.declared.doing.Operation.{Operation}
 use Rattle.txn_world.specs.declared.event.Call.{Call}
 use Rattle.txn_world.specs.declared.event.Answer.{Answer}
@@ -31,16 +38,17 @@ use Rattle.txn_world.specs.declared.event.EventFault.TheVariants as faults
 use Rattle.txn_world.specs.declared.trace.Row.{Row}
 use Rattle.txn_world.specs.declared.trace.Row.TheVariants.{Begun}
 use Rattle.txn_world.specs.Lists.{numbered}
-use Rattle.txn_world.specs.Names.{world_names}
 use Rattle.txn_world.specs.History.{HasContents, stored}
 use Rattle.txn_world.specs.Calls.{is_running}
 use Rattle.txn_world.specs.OneHistory.{IsOneHistory}
 use Rattle.txn_world.specs.Allowed.{fault_of, op_told, answer_row, IsEffectRow, AddsRows}
-use Rattle.txn_world.specs.Doing.{started, asked, IsPut, IsList, IsGet, AsksInKind}
+use Rattle.txn_world.specs.Doing.{started, asked, IsPut, IsList, IsGet, IsDelete, WriteInKind, ReadInKind, AdvanceInKind, DeleteInKind, AsksInKind}
 use Rattle.txn_world.specs.Machine.{State, WorldState, opening, asked_of, AskInKind, told_of, answer_rows, effect_of, effect_rows, next_op, begun_as, fault_met, refusal_of, Served, Takes, Meets, Outcomes, taken_count, RunsPast, Runs, IsReached}
-use Rattle.txn_world.proofs.Stands.{RunStands, OpStands, Stands, create}
-use Rattle.txn_world.proofs.Serves.{create_none, failed}
-use Rattle.txn_world.proofs.Events.{within, served_run, reached_stands}
+use Rattle.txn_world.proofs.Stands.{AllGiven, WritingStands, ReadingStands, AdvancingStands, DeletingStands, OpStands, Stands}
+use Rattle.txn_world.proofs.Effects.{removed_missing}
+use Rattle.txn_world.proofs.Checks.{failed, list_kept}
+use Rattle.txn_world.proofs.PutFaults.{not_some}
+use Rattle.txn_world.proofs.Events.{within, reached_stands}
 
 module _ {T : Type 0} (encode : T → List ℕ) (decode : List ℕ → Option T) where
   -- one more step of a run
@@ -63,10 +71,13 @@ module _ {T : Type 0} (encode : T → List ℕ) (decode : List ℕ → Option T)
 
   -- refusals, by the trace
 
-  running_asks : (rows : List (Row T)) (op : ℕ) (doing : Doing) → OpStands decode rows op doing → is_some (asked doing) ≡ is_running rows op
-  running_asks rows op (Write write) h = sym (rw (h.1.begun, h.1.running) refl)
-  running_asks rows op (Read read) h = sym (rw (h.1.begun, h.1.running) refl)
-  running_asks rows op Ended h = sym (rw (h.begun, h.answered) refl)
+  running_asks : (rows : List (Row T)) (store : StoreState) (op : ℕ) (doing : Doing T) → OpStands decode rows store op doing → is_some (asked doing) ≡ is_running rows op
+  running_asks rows store op (Write write) h = sym (rw (h.1.begun, h.1.running) refl)
+  running_asks rows store op (Read read) h = sym (rw (h.1.begun, h.1.running) refl)
+  running_asks rows store op (Check check) h = sym (rw (h.1.begun, h.1.running) refl)
+  running_asks rows store op (Advance advance) h = sym (rw (h.1.begun, h.1.running) refl)
+  running_asks rows store op (Delete delete) h = sym (rw (h.1.begun, h.1.running) refl)
+  running_asks rows store op Ended h = sym (rw (h.begun, h.answered) refl)
 
   past : {A : Type 0} (xs : List A) (n : ℕ) → numbered xs (suc n) ≡ None → length xs < suc n
   past [] n e = omega arith
@@ -77,9 +88,9 @@ module _ {T : Type 0} (encode : T → List ℕ) (decode : List ℕ → Option T)
   not_running s zero st e = rw st.zero refl
   not_running s (suc n) st e = rw (st.fresh (suc n) (past s.operations n e)).begun refl
 
-  asks_at : (s : State T) (op : ℕ) (o : Option Operation) → Stands decode s → numbered s.operations op ≡ o → is_some (asked_of o) ≡ is_running s.trace op
+  asks_at : (s : State T) (op : ℕ) (o : Option (Operation T)) → Stands decode s → numbered s.operations op ≡ o → is_some (asked_of o) ≡ is_running s.trace op
   asks_at s op None st e = sym (not_running s op st e)
-  asks_at s op (Some o) st e = running_asks s.trace op o.doing (st.each op o (λ z. omega (arith, z, (within encode decode s.operations op o e).0)) e)
+  asks_at s op (Some o) st e = running_asks s.trace s.store op o.doing (st.each op o (λ z. omega (arith, z, (within encode decode s.operations op o e).0)) e)
 
   -- a reached state refuses what the trace says is to be refused
   pub refusal_lem : (s : State T) (event : Event T) → IsReached encode decode s → refusal_of s event ≡ fault_of s.clients s.trace event
@@ -87,20 +98,41 @@ module _ {T : Type 0} (encode : T → List ℕ) (decode : List ℕ → Option T)
   refusal_lem s (events.Serve op) r = ap (λ (b : Bool). cond b None (Some faults.UnknownNumber)) (asks_at s op (numbered s.operations op) (reached_stands encode decode s r) refl)
 
   pub reached_history : (s : State T) → IsReached encode decode s → IsOneHistory decode s.trace
-  reached_history s r = (reached_stands encode decode s r).know.good
+  reached_history s r = (reached_stands encode decode s r).know.history.good
 
   pub reached_stored : (s : State T) → IsReached encode decode s → HasContents s.store.files (stored s.trace)
-  reached_stored s r = (reached_stands encode decode s r).know.kept
+  reached_stored s r = (reached_stands encode decode s r).know.files.kept
 
   -- each operation asks in its kind
-  asks_kind : (rows : List (Row T)) (op : ℕ) (doing : Doing) → OpStands decode rows op doing → AsksInKind doing
-  asks_kind rows op (Write write) h = subst IsPut (sym h.1.stands.asks) tt
-  asks_kind rows op (Read (ListOp request)) h = subst IsList (sym h.1.stands.1) tt
-  asks_kind rows op (Read (GetOp id request)) h = subst IsGet (sym h.1.stands.1) tt
-  asks_kind rows op Ended h = tt
+
+  write_kind : (rows : List (Row T)) (op : ℕ) (call : Call T) (step : WriteStep) (write : WriteOp) → WritingStands decode rows op call step write → WriteInKind step write
+  write_kind rows op call writes.Puts write w = subst IsPut (sym w.asks) tt
+  write_kind rows op call writes.Checks write w = subst (λ (c : CheckOp). IsGet c.request) (sym w.checks) tt
+
+  read_kind : (rows : List (Row T)) (op : ℕ) (call : Call T) (read : ReadOp T) → ReadingStands decode rows op call read → ReadInKind read
+  read_kind rows op call (reads.Lists request) h = subst IsList (sym h.1) tt
+  read_kind rows op call (reads.Gets id request) h = subst IsGet (sym h.1) tt
+  read_kind rows op call (reads.Checks id (Some value) check) h = subst (λ (c : CheckOp). IsGet c.request) (sym h.checks) tt
+  read_kind rows op call (reads.Checks id None check) h = absurd h
+
+  advance_kind : (rows : List (Row T)) (store : StoreState) (call : Call T) (advance : AdvanceOp) → AdvancingStands decode rows store call advance → AdvanceInKind advance
+  advance_kind rows store call (advances.Gets to request) h = subst IsGet (sym h.2) tt
+  advance_kind rows store call (advances.Puts to request) h = subst IsPut (sym h.2.asks) tt
+
+  delete_kind : (call : Call T) (step : DeleteStep) (delete : DeleteOp) → DeletingStands decode call delete → DeleteInKind step delete
+  delete_kind call deletes.Checks delete h = subst (λ (c : CheckOp). IsGet c.request) (sym h.checks) tt
+  delete_kind call deletes.Removes delete h = subst IsDelete (sym h.removes) tt
+
+  asks_kind : (rows : List (Row T)) (store : StoreState) (op : ℕ) (doing : Doing T) → OpStands decode rows store op doing → AsksInKind doing
+  asks_kind rows store op (Write write) h = write_kind rows op h.0 write.step write h.1.stands
+  asks_kind rows store op (Read read) h = read_kind rows op h.0 read h.1.stands
+  asks_kind rows store op (Check check) h = subst (λ (c : CheckOp). IsGet c.request) (sym h.1.stands.1) tt
+  asks_kind rows store op (Advance advance) h = advance_kind rows store h.0 advance h.1.stands
+  asks_kind rows store op (Delete delete) h = delete_kind h.0 delete.step delete h.1.stands.0
+  asks_kind rows store op Ended h = tt
 
   pub reached_asks : (s : State T) → IsReached encode decode s → AskInKind s.operations
-  reached_asks s r op o e = let st = reached_stands encode decode s r in asks_kind s.trace op o.doing (st.each op o (λ z. omega (arith, z, (within encode decode s.operations op o e).0)) e)
+  reached_asks s r op o e = let st = reached_stands encode decode s r in asks_kind s.trace s.store op o.doing (st.each op o (λ z. omega (arith, z, (within encode decode s.operations op o e).0)) e)
 
   -- rows that an event adds
 
@@ -120,78 +152,72 @@ module _ {T : Type 0} (encode : T → List ℕ) (decode : List ℕ → Option T)
   went_op op None = refl
   went_op op (Some answer) = refl
 
-  put_row : (op : ℕ) (write : WriteOp) (bytes : List ℕ) (old new : StoreState) (answer : Result ℕ StoreError) → Puts (version_path world_names write.id) bytes Create old answer new → new.failures ≡ 0 →
-      IsEffectRow {T = T} op old.files new.files (effect_rows op (effect_of (create write.id bytes) (replies.Put answer)))
-  put_row op write bytes old new (Ok token) p honest =
-      let missing = create_none (get old.files (version_path world_names write.id)) p.allowed in
-      inr (create write.id bytes, refl, (token, p.placed.files, λ e. (let there : is_some (get old.files (version_path world_names write.id)) ≡ true = ap is_some e in cc)))
-  put_row op write bytes old new (Err errors.AlreadyExists) p honest = inl (refl, p.err.1.files)
-  put_row op write bytes old new (Err errors.NoMemory) p honest = inl (refl, p.err.1.files)
-  put_row op write bytes old new (Err errors.TokensExhausted) p honest = inl (refl, p.err.2.files)
-  put_row op write bytes old new (Err errors.Failed) p honest = failed decode old new honest p.err.0
-  put_row op write bytes old new (Err errors.NotFound) p honest = inl (refl, p.err.1.files)
-  put_row op write bytes old new (Err errors.Precondition) p honest = inl (refl, p.err.1.files)
-  put_row op write bytes old new (Err errors.NotModified) p honest = inl (refl, p.err.1.files)
-
-  list_files : (old new : StoreState) (answer : Result (List ObjectMeta) StoreError) → Lists world_names.dir old answer new → new.failures ≡ 0 → new.files ≡ old.files
-  list_files old new (Ok metas) l honest = l.kept.files
-  list_files old new (Err errors.NoMemory) l honest = l.err.1.files
-  list_files old new (Err errors.Failed) l honest = failed decode old new honest l.err.0
-  list_files old new (Err errors.TokensExhausted) l honest = absurd l.err
-  list_files old new (Err errors.NotFound) l honest = l.err.1.files
-  list_files old new (Err errors.AlreadyExists) l honest = l.err.1.files
-  list_files old new (Err errors.Precondition) l honest = l.err.1.files
-  list_files old new (Err errors.NotModified) l honest = l.err.1.files
-
-  get_files : (path : List (List ℕ)) (old new : StoreState) (answer : Result Got StoreError) → Gets path None old answer new → new.failures ≡ 0 → new.files ≡ old.files
-  get_files path old new (Ok got) g honest = g.kept.files
-  get_files path old new (Err errors.NoMemory) g honest = g.err.1.files
-  get_files path old new (Err errors.Failed) g honest = failed decode old new honest g.err.0
-  get_files path old new (Err errors.TokensExhausted) g honest = absurd g.err
-  get_files path old new (Err errors.NotFound) g honest = g.err.1.files
-  get_files path old new (Err errors.AlreadyExists) g honest = g.err.1.files
-  get_files path old new (Err errors.Precondition) g honest = g.err.1.files
-  get_files path old new (Err errors.NotModified) g honest = g.err.1.files
+  -- what a request that was served adds
 
   abbrev RowOf : ℕ → StoreState → StoreState → Request → Reply → Type 0
-  RowOf op old new request reply = IsEffectRow {T = T} op old.files new.files (effect_rows op (effect_of request reply))
+  RowOf op old new request reply = IsEffectRow {T = T} op old.files new.files (effect_rows op (effect_of old.files request reply))
 
-  create_row : (op : ℕ) (write : WriteOp) (bytes : List ℕ) (old new : StoreState) (reply : Reply) → Serves (create write.id bytes) old reply new → new.failures ≡ 0 → RowOf op old new (create write.id bytes) reply
-  create_row op write bytes old new (replies.Put answer) s honest = put_row op write bytes old new answer s honest
-  create_row op write bytes old new (replies.Get answer) s honest = absurd s
-  create_row op write bytes old new (replies.List answer) s honest = absurd s
-  create_row op write bytes old new (replies.Delete answer) s honest = absurd s
+  -- a token that is new is not a file's
+  fresh_token : (path : Segments) (bytes : List ℕ) (token : ℕ) (old new : StoreState) → AllGiven old → Placed path bytes token old new → get old.files path ≢ Some (record { bytes = bytes; token = token })
+  fresh_token path bytes token old new all placed e = placed.fresh (all path (record { bytes = bytes; token = token }) e)
 
-  list_row : (op : ℕ) (old new : StoreState) (reply : Reply) → Serves (requests.List world_names.dir) old reply new → new.failures ≡ 0 → RowOf op old new (requests.List world_names.dir) reply
-  list_row op old new (replies.List answer) s honest = inl (refl, list_files old new answer s honest)
-  list_row op old new (replies.Put answer) s honest = absurd s
-  list_row op old new (replies.Get answer) s honest = absurd s
-  list_row op old new (replies.Delete answer) s honest = absurd s
+  put_row : (op : ℕ) (path : Segments) (bytes : List ℕ) (mode : PutMode) (old new : StoreState) (answer : Result ℕ StoreError) → AllGiven old → Puts path bytes mode old answer new → new.failures ≡ 0 → RowOf op old new (requests.Put path bytes mode) (replies.Put answer)
+  put_row op path bytes mode old new (Ok token) all p honest = inr (requests.Put path bytes mode, refl, (token, p.placed.files, fresh_token path bytes token old new all p.placed))
+  put_row op path bytes mode old new (Err errors.AlreadyExists) all p honest = inl (refl, p.err.1.files)
+  put_row op path bytes mode old new (Err errors.NoMemory) all p honest = inl (refl, p.err.1.files)
+  put_row op path bytes mode old new (Err errors.TokensExhausted) all p honest = inl (refl, p.err.2.files)
+  put_row op path bytes mode old new (Err errors.Failed) all p honest = failed old new honest p.err.0
+  put_row op path bytes mode old new (Err errors.NotFound) all p honest = inl (refl, p.err.1.files)
+  put_row op path bytes mode old new (Err errors.Precondition) all p honest = inl (refl, p.err.1.files)
+  put_row op path bytes mode old new (Err errors.NotModified) all p honest = inl (refl, p.err.1.files)
 
-  get_row : (op id : ℕ) (old new : StoreState) (reply : Reply) → Serves (requests.Get (version_path world_names id) None) old reply new → new.failures ≡ 0 → RowOf op old new (requests.Get (version_path world_names id) None) reply
-  get_row op id old new (replies.Get answer) s honest = inl (refl, get_files (version_path world_names id) old new answer s honest)
-  get_row op id old new (replies.Put answer) s honest = absurd s
-  get_row op id old new (replies.List answer) s honest = absurd s
-  get_row op id old new (replies.Delete answer) s honest = absurd s
+  get_files : (path : Segments) (known : Option ℕ) (old new : StoreState) (answer : Result Got StoreError) → Gets path known old answer new → new.failures ≡ 0 → new.files ≡ old.files
+  get_files path known old new (Ok got) g honest = g.kept.files
+  get_files path known old new (Err errors.NoMemory) g honest = g.err.1.files
+  get_files path known old new (Err errors.Failed) g honest = failed old new honest g.err.0
+  get_files path known old new (Err errors.TokensExhausted) g honest = absurd g.err
+  get_files path known old new (Err errors.NotFound) g honest = g.err.1.files
+  get_files path known old new (Err errors.AlreadyExists) g honest = g.err.1.files
+  get_files path known old new (Err errors.Precondition) g honest = g.err.1.files
+  get_files path known old new (Err errors.NotModified) g honest = g.err.1.files
 
-  served_row : (rows : List (Row T)) (op : ℕ) (call : Call T) (doing : Doing) (old new : StoreState) (request : Request) (reply : Reply) → asked doing ≡ Some request → RunStands decode rows op call doing → Serves request old reply new → new.failures ≡ 0 → RowOf op old new request reply
-  served_row rows op call (Write write) old new request reply asks r s honest =
-      let is : request ≡ create write.id r.stands.bytes = sym (same_Some write.request request asks) ∙ r.stands.asks in
-      subst (λ (q : Request). RowOf op old new q reply) (sym is) (create_row op write r.stands.bytes old new reply (subst (λ (q : Request). Serves q old reply new) is s) honest)
-  served_row rows op call (Read (ListOp own)) old new request reply asks r s honest =
-      let is : request ≡ requests.List world_names.dir = sym (same_Some own request asks) ∙ r.stands.1 in
-      subst (λ (q : Request). RowOf op old new q reply) (sym is) (list_row op old new reply (subst (λ (q : Request). Serves q old reply new) is s) honest)
-  served_row rows op call (Read (GetOp id own)) old new request reply asks r s honest =
-      let is : request ≡ requests.Get (version_path world_names id) None = sym (same_Some own request asks) ∙ r.stands.1 in
-      subst (λ (q : Request). RowOf op old new q reply) (sym is) (get_row op id old new reply (subst (λ (q : Request). Serves q old reply new) is s) honest)
-  served_row rows op call Ended old new request reply asks r s honest = absurd r.stands
+  removed_row : (there : Bool) (op : ℕ) (path : Segments) (old new : StoreState) → is_some (get old.files path) ≡ there → Removed path old new → IsEffectRow {T = T} op old.files new.files (effect_rows op (cond there (Some (requests.Delete path)) None))
+  removed_row true op path old new e gone = inr (requests.Delete path, refl, (gone.files, e))
+  removed_row false op path old new e gone = inl (refl, gone.files ∙ removed_missing old.files path (not_some (get old.files path) e))
+
+  delete_row : (op : ℕ) (path : Segments) (old new : StoreState) (answer : Result (Unit {0}) StoreError) → Deletes path old answer new → new.failures ≡ 0 → RowOf op old new (requests.Delete path) (replies.Delete answer)
+  delete_row op path old new (Ok done) d honest = removed_row (is_some (get old.files path)) op path old new refl d.removed
+  delete_row op path old new (Err errors.NoMemory) d honest = inl (refl, d.err.1.files)
+  delete_row op path old new (Err errors.Failed) d honest = failed old new honest d.err.0
+  delete_row op path old new (Err errors.TokensExhausted) d honest = absurd d.err
+  delete_row op path old new (Err errors.NotFound) d honest = inl (refl, d.err.1.files)
+  delete_row op path old new (Err errors.AlreadyExists) d honest = inl (refl, d.err.1.files)
+  delete_row op path old new (Err errors.Precondition) d honest = inl (refl, d.err.1.files)
+  delete_row op path old new (Err errors.NotModified) d honest = inl (refl, d.err.1.files)
+
+  served_row : (op : ℕ) (old new : StoreState) (request : Request) (reply : Reply) → AllGiven old → Serves request old reply new → new.failures ≡ 0 → RowOf op old new request reply
+  served_row op old new (requests.Put path bytes mode) (replies.Put answer) all s honest = put_row op path bytes mode old new answer all s honest
+  served_row op old new (requests.Get path known) (replies.Get answer) all s honest = inl (refl, get_files path known old new answer s honest)
+  served_row op old new (requests.List prefix) (replies.List answer) all s honest = inl (refl, (list_kept prefix old new answer s honest).files)
+  served_row op old new (requests.Delete path) (replies.Delete answer) all s honest = delete_row op path old new answer s honest
+  served_row op old new (requests.Put path bytes mode) (replies.Get answer) all s honest = absurd s
+  served_row op old new (requests.Put path bytes mode) (replies.List answer) all s honest = absurd s
+  served_row op old new (requests.Put path bytes mode) (replies.Delete answer) all s honest = absurd s
+  served_row op old new (requests.Get path known) (replies.Put answer) all s honest = absurd s
+  served_row op old new (requests.Get path known) (replies.List answer) all s honest = absurd s
+  served_row op old new (requests.Get path known) (replies.Delete answer) all s honest = absurd s
+  served_row op old new (requests.List prefix) (replies.Put answer) all s honest = absurd s
+  served_row op old new (requests.List prefix) (replies.Get answer) all s honest = absurd s
+  served_row op old new (requests.List prefix) (replies.Delete answer) all s honest = absurd s
+  served_row op old new (requests.Delete path) (replies.Put answer) all s honest = absurd s
+  served_row op old new (requests.Delete path) (replies.Get answer) all s honest = absurd s
+  served_row op old new (requests.Delete path) (replies.List answer) all s honest = absurd s
 
   serve_adds : (old : State T) (op : ℕ) (said : Told T) (new : State T) → Served decode old op said new → Stands decode old → AddsRows old.trace old.store.files (events.Serve op) said new.trace new.store.files
   serve_adds old op said new v st =
-      let r = served_run encode decode old op said new v st in
-      let rows = effect_rows op (effect_of v.request v.reply) in
+      let rows = effect_rows op (effect_of old.store.files v.request v.reply) in
       let trace : new.trace ≡ (old.trace ++ rows) ++ answer_row said = v.trace ∙ ap (λ more. (old.trace ++ rows) ++ more) (went_row op v.next.1 ∙ ap answer_row (sym v.tells)) in
-      (rows, served_row old.trace op r.0 v.operation.doing old.store new.store v.request v.reply v.asks r.1 v.serves v.honest, trace, ap op_told v.tells ∙ went_op op v.next.1)
+      (rows, served_row op old.store new.store v.request v.reply st.know.files.given v.serves v.honest, trace, ap op_told v.tells ∙ went_op op v.next.1)
 
   begin_adds : (s : State T) (client : ℕ) (call : Call T) → AddsRows s.trace s.store.files (events.Begin client call) (begun_as s client call (started encode call)).0 (begun_as s client call (started encode call)).1.trace (begun_as s client call (started encode call)).1.store.files
   begin_adds s client call =

@@ -1,6 +1,6 @@
 -- Which events are allowed after a trace, and which rows they add to it.
-use Rattle.std.specs.Prelude.{◌≡◌, ◌≢◌, ℕ, zero, suc, List, [], ◌∷◌, ◌++◌, ◌⊎◌, nat_lt, Bool, true, false, if◌then◌else◌, Option, Some, None}
-use Rattle.std.specs.FinMap.{get, insert, remove, contains_key}
+use Rattle.std.specs.Prelude.{◌≡◌, ◌≢◌, ℕ, zero, suc, List, [], ◌∷◌, ◌++◌, ◌⊎◌, nat_lt, Bool, true, false, if◌then◌else◌, Option, Some, None, is_some}
+use Rattle.std.specs.FinMap.{get, insert, remove}
 use Rattle.txn_world.specs.declared.event.Event.{Event}
 use Rattle.txn_world.specs.declared.event.Event.TheVariants as events
 use Rattle.txn_world.specs.declared.event.EventFault.{EventFault}
@@ -13,11 +13,12 @@ use Rattle.txn_store.specs.declared.request.Request.TheVariants as requests
 use Rattle.txn_world.specs.declared.trace.Row.{Row}
 use Rattle.txn_world.specs.declared.trace.Row.TheVariants.{Effect, Begun, Answered}
 use Rattle.txn_world.specs.Calls.{is_running}
-use Rattle.txn_world.specs.OneHistory.{has_known_base}
+use Rattle.txn_world.specs.OneHistory.{has_known_base, has_low_boundary}
 
 abbrev pub fault_number : EventFault → ℕ
 fault_number faults.UnknownNumber = 1
 fault_number faults.UnknownBase = 3
+fault_number faults.BoundaryTooHigh = 4
 fault_number faults.NoMemory = 7
 
 -- clients are numbered from 1
@@ -25,9 +26,12 @@ abbrev pub is_client : ℕ → ℕ → Bool
 is_client clients zero = false
 is_client clients (suc n) = nat_lt n clients
 
-abbrev pub begin_fault : Bool → Bool → Option EventFault
-begin_fault known_client known_base =
-    if known_client then (if known_base then None else Some faults.UnknownBase) else Some faults.UnknownNumber
+-- a begin is tested for its client, its base and its boundary, in this order
+abbrev pub begin_fault : Bool → Bool → Bool → Option EventFault
+begin_fault known_client known_base low_boundary =
+    if known_client
+    then (if known_base then (if low_boundary then None else Some faults.BoundaryTooHigh) else Some faults.UnknownBase)
+    else Some faults.UnknownNumber
 
 -- The request changed the files: a put stored its bytes with a token that the path did not have, or a delete removed a file.
 abbrev pub Changes : Files → Request → Files → Type 0
@@ -35,12 +39,12 @@ Changes before (requests.Put path bytes mode) after =
     (token : ℕ) × (after ≡ insert before path (record { bytes = bytes; token = token })) × (get before path ≢ Some (record { bytes = bytes; token = token }))
 Changes before (requests.Get path known) after = ⊥
 Changes before (requests.List prefix) after = ⊥
-Changes before (requests.Delete path) after = (after ≡ remove before path) × (contains_key before path ≡ true)
+Changes before (requests.Delete path) after = (after ≡ remove before path) × (is_some (get before path) ≡ true)
 
 module _ {T : Type 0} where
   -- why an event is refused after these rows, where it is
   abbrev pub fault_of : ℕ → List (Row T) → Event T → Option EventFault
-  fault_of clients rows (events.Begin client call) = begin_fault (is_client clients client) (has_known_base rows call)
+  fault_of clients rows (events.Begin client call) = begin_fault (is_client clients client) (has_known_base rows call) (has_low_boundary rows call)
   fault_of clients rows (events.Serve op) = if is_running rows op then None else Some faults.UnknownNumber
 
   -- the operation that an event told of

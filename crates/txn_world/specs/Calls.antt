@@ -1,5 +1,5 @@
 -- The calls of a trace: when each began and ended, and which ids were answered.
-use Rattle.std.specs.Prelude.{◌≡◌, ℕ, List, [], ◌∷◌, ◌+◌, ◌≤◌, ◌==◌, ◌&&◌, Bool, true, false, not, Option, Some, None, length, take, slice_get}
+use Rattle.std.specs.Prelude.{◌≡◌, ℕ, List, [], ◌∷◌, ◌+◌, ◌≤◌, ◌==◌, nat_lt, ◌&&◌, Bool, true, false, not, Option, Some, None, length, take, slice_get}
 use Rattle.std.specs.List.{list_any}
 use Rattle.txn_world.specs.declared.event.Call.{Call}
 use Rattle.txn_world.specs.declared.event.Answer.{Answer}
@@ -7,6 +7,10 @@ use Rattle.txn_world.specs.declared.event.Answer.TheVariants as answers
 use Rattle.txn_world.specs.declared.trace.Row.{Row}
 use Rattle.txn_world.specs.declared.trace.Row.TheVariants.{Effect, Begun, Answered}
 use Rattle.txn_world.specs.History.{is_id}
+
+abbrev pub is_above : ℕ → Option ℕ → Bool
+is_above n None = false
+is_above n (Some id) = nat_lt n id
 
 module _ {T : Type 0} where
   abbrev pub begins : ℕ → Row T → Bool
@@ -45,6 +49,7 @@ module _ {T : Type 0} where
   id_told (answers.Wrote id) = Some id
   id_told (answers.Read None) = None
   id_told (answers.Read (Some found)) = Some found.0
+  id_told answers.Done = None
   id_told (answers.Refused number) = None
 
   abbrev pub tells : ℕ → Row T → Bool
@@ -55,6 +60,15 @@ module _ {T : Type 0} where
   -- some call answered this id
   abbrev pub was_told : List (Row T) → ℕ → Bool
   was_told rows n = list_any (tells n) rows
+
+  abbrev pub tells_above : ℕ → Row T → Bool
+  tells_above n (Answered op answer) = is_above n (id_told answer)
+  tells_above n (Effect op request) = false
+  tells_above n (Begun op call) = false
+
+  -- some call answered an id above this
+  abbrev pub is_below_told : List (Row T) → ℕ → Bool
+  is_below_told rows n = list_any (tells_above n) rows
 
   -- At a row of the operation's call: from its begin to the end of these rows.
   pub record AtRow (rows : List (Row T)) (op : ℕ) (holds : List (Row T) → Type 0) : Type 0 where

@@ -1,18 +1,25 @@
 -- The history of a trace: what its effects make of the versions, the boundary, the erased ids and the store.
 -- Each is a fold over the rows in their order, so "at a row" means "of the rows up to it".
-use Rattle.std.specs.Prelude.{◌≡◌, ℕ, List, [], ◌∷◌, ◌++◌, ◌==◌, ◌+◌, Bool, true, false, if◌then◌else◌, Option, Some, None, length, map}
+use Rattle.std.specs.Prelude.{◌≡◌, ℕ, List, [], ◌∷◌, ◌++◌, ◌==◌, ◌+◌, Bool, true, false, if◌then◌else◌, Option, Some, None, is_some, unwrap_or, length, map}
+use Rattle.std.specs.Ordering.{eq_by_cmp}
 use Rattle.std.specs.List.{list_any}
 use Rattle.std.specs.Option.{option_map}
 use Rattle.std.specs.FinMap.{FinMap, empty, get, insert, remove}
 use Rattle.txn_store.specs.Paths.{Segments, path_cmp}
+use Rattle.txn_store.specs.VersionName.{version_path}
 use Rattle.txn_store.specs.VersionOf.{version_of}
 use Rattle.txn_store.specs.Store.{Files}
 use Rattle.txn_store.specs.declared.request.Request.{Request}
 use Rattle.txn_store.specs.declared.request.Request.TheVariants as requests
 use Rattle.txn_world.specs.declared.trace.Row.{Row}
 use Rattle.txn_world.specs.declared.trace.Row.TheVariants.{Effect, Begun, Answered}
-use Rattle.txn_world.specs.Lists.{numbered}
-use Rattle.txn_world.specs.Names.{world_names}
+use Rattle.txn_world.specs.Lists.{numbered, AreAscending}
+use Rattle.txn_steps.specs.BoundaryText.{boundary_read}
+use Rattle.txn_world.specs.Names.{world_names, world_boundary}
+
+-- the path of the boundary file
+abbrev pub is_boundary : Segments → Bool
+is_boundary path = eq_by_cmp path_cmp path world_boundary
 
 -- a version: its id, and the bytes of its first create
 abbrev pub Version : Type 0
@@ -21,6 +28,11 @@ Version = ℕ × List ℕ
 abbrev pub is_id : ℕ → Option ℕ → Bool
 is_id n None = false
 is_id n (Some id) = id == n
+
+-- the bytes of a version of this id
+abbrev pub bytes_as : ℕ → Option Version → Option (List ℕ)
+bytes_as id None = None
+bytes_as id (Some version) = if version.0 == id then Some version.1 else None
 
 -- What a request does to the names of the store is read in these three, and nowhere else.
 
@@ -31,19 +43,19 @@ created (requests.Get path known) = None
 created (requests.List prefix) = None
 created (requests.Delete path) = None
 
--- the boundary after it: no request puts one
-abbrev pub raised : ℕ → Request → ℕ
-raised boundary (requests.Put path bytes mode) = boundary
-raised boundary (requests.Get path known) = boundary
-raised boundary (requests.List prefix) = boundary
-raised boundary (requests.Delete path) = boundary
+-- the boundary that it puts in its file
+abbrev pub raised : Request → Option ℕ
+raised (requests.Put path bytes mode) = if is_boundary path then boundary_read bytes else None
+raised (requests.Get path known) = None
+raised (requests.List prefix) = None
+raised (requests.Delete path) = None
 
--- it removes the name of this id
-abbrev pub removes : ℕ → Request → Bool
-removes n (requests.Put path bytes mode) = false
-removes n (requests.Get path known) = false
-removes n (requests.List prefix) = false
-removes n (requests.Delete path) = is_id n (version_of world_names path)
+-- the id whose name it removes
+abbrev pub removed : Request → Option ℕ
+removed (requests.Put path bytes mode) = None
+removed (requests.Get path known) = None
+removed (requests.List prefix) = None
+removed (requests.Delete path) = version_of world_names path
 
 -- a put takes a token of the store
 abbrev pub is_put : Request → Bool
@@ -65,6 +77,11 @@ contents_after contents (requests.Delete path) = remove contents path
 -- files with these contents
 abbrev pub HasContents : Files → Contents → Type 0
 HasContents files contents = (path : Segments) → option_map (λ got. got.bytes) (get files path) ≡ get contents path
+
+-- the number that a boundary file says, 0 where it is missing
+abbrev pub boundary_said : Option (List ℕ) → ℕ
+boundary_said None = 0
+boundary_said (Some bytes) = unwrap_or (boundary_read bytes) 0
 
 abbrev pub has_id : List Version → ℕ → Bool
 has_id versions id = list_any (λ version. version.0 == id) versions
@@ -93,29 +110,19 @@ module _ {T : Type 0} where
   abbrev pub newest : List (Row T) → ℕ
   newest rows = length (versions_of rows)
 
-  -- the boundary after a row
-  abbrev pub raised_by : ℕ → Row T → ℕ
-  raised_by at (Effect op request) = raised at request
-  raised_by at (Begun op call) = at
-  raised_by at (Answered op answer) = at
-
-  abbrev pub boundary_from : ℕ → List (Row T) → ℕ
-  boundary_from at [] = at
-  boundary_from at (row ∷ rows) = boundary_from (raised_by at row) rows
-
-  -- the boundary, 0 at first
-  abbrev pub boundary : List (Row T) → ℕ
-  boundary rows = boundary_from 0 rows
-
   -- a row removes the name of this id
   abbrev pub erases : ℕ → Row T → Bool
-  erases n (Effect op request) = removes n request
+  erases n (Effect op request) = is_id n (removed request)
   erases n (Begun op call) = false
   erases n (Answered op answer) = false
 
   -- the version of this id was erased
   abbrev pub was_erased : List (Row T) → ℕ → Bool
   was_erased rows n = list_any (erases n) rows
+
+  -- the erased ids, ascending
+  abbrev pub AreErased : List (Row T) → List ℕ → Type 0
+  AreErased rows ids = AreAscending (was_erased rows) ids
 
   -- the contents of the store after a row
   abbrev pub stored_with : Contents → Row T → Contents
@@ -130,6 +137,14 @@ module _ {T : Type 0} where
   -- the contents of the store: those of the empty store after the requests of the effects
   abbrev pub stored : List (Row T) → Contents
   stored rows = stored_from empty rows
+
+  -- the name of the version of this id is stored
+  abbrev pub is_stored : List (Row T) → ℕ → Bool
+  is_stored rows n = is_some (get (stored rows) (version_path world_names n))
+
+  -- the boundary: the number that its file says, 0 where it is missing
+  abbrev pub boundary : List (Row T) → ℕ
+  boundary rows = boundary_said (get (stored rows) world_boundary)
 
   -- how many tokens the effects took
   abbrev pub put_count : List (Row T) → ℕ

@@ -9,4 +9,5 @@ pub mod OneHistory
 pub mod Allowed
 pub mod Doing
 pub mod Machine
+pub mod Laws
 pub mod Shown

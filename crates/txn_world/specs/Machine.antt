@@ -1,7 +1,7 @@
 -- The world's step, over the store's contract.
 use Rattle.std.specs.Prelude.{◌≡◌, ℕ, List, [], ◌∷◌, ◌++◌, ◌+◌, ◌-◌, ◌^◌, Bool, true, false, if◌then◌else◌, Option, Some, None, Result, Ok, Err, length, slice_set, is_some, is_ok, map}
-use Rattle.std.specs.FinMap.{empty}
-use Rattle.txn_store.specs.Store.{State as StoreState}
+use Rattle.std.specs.FinMap.{empty, get}
+use Rattle.txn_store.specs.Store.{Files, State as StoreState}
 use Rattle.txn_store.specs.Requests.{Serves}
 use Rattle.txn_store.specs.declared.request.Request.{Request}
 use Rattle.txn_store.specs.declared.request.Request.TheVariants as requests
@@ -20,15 +20,16 @@ use Rattle.txn_world.specs.declared.event.EventFault.TheVariants as faults
 use Rattle.txn_world.specs.declared.trace.Row.{Row}
 use Rattle.txn_world.specs.declared.trace.Row.TheVariants.{Effect, Begun, Answered}
 use Rattle.txn_world.specs.Lists.{numbered}
+use Rattle.txn_world.specs.History.{is_boundary, boundary_said}
 use Rattle.txn_world.specs.Doing.{Next, started, asked, turned, Turns, IsReply, AsksInKind, ReadsBack}
 use Rattle.txn_world.specs.Allowed.{begin_fault, is_client, fault_of}
-use Rattle.txn_world.specs.OneHistory.{has_known_base}
+use Rattle.txn_world.specs.OneHistory.{has_known_base, has_low_boundary}
 
 -- all of a world but its codec and its allocator
 pub record State (T : Type 0) : Type 0 where
   pub clients : ℕ
   pub store : StoreState
-  pub operations : List Operation
+  pub operations : List (Operation T)
   pub trace : List (Row T)
 
 -- a world: its codec and its state
@@ -40,49 +41,54 @@ pub record WorldState (T C : Type 0) : Type 0 where
 abbrev pub empty_store : StoreState
 empty_store = record { files = empty; given = []; left = 2 ^ 64 - 1; calls = 0; failures = 0 }
 
-abbrev pub asked_of : Option Operation → Option Request
-asked_of None = None
-asked_of (Some operation) = asked operation.doing
+module _ {T : Type 0} where
+  abbrev pub asked_of : Option (Operation T) → Option Request
+  asked_of None = None
+  asked_of (Some operation) = asked operation.doing
 
--- what an operation asks of the store
-abbrev pub asked_by : List Operation → ℕ → Option Request
-asked_by operations op = asked_of (numbered operations op)
+  -- what an operation asks of the store
+  abbrev pub asked_by : List (Operation T) → ℕ → Option Request
+  asked_by operations op = asked_of (numbered operations op)
 
--- the reply is of the kind that the operation asks for
-abbrev pub IsReplyBy : Option Operation → Reply → Type 0
-IsReplyBy None reply = ⊥
-IsReplyBy (Some operation) reply = IsReply operation.doing reply
+  -- the reply is of the kind that the operation asks for
+  abbrev pub IsReplyBy : Option (Operation T) → Reply → Type 0
+  IsReplyBy None reply = ⊥
+  IsReplyBy (Some operation) reply = IsReply operation.doing reply
 
--- each operation asks in its kind: a write for a put, a read for its listing or its get
-abbrev pub AskInKind : List Operation → Type 0
-AskInKind operations = (op : ℕ) (operation : Operation) → numbered operations op ≡ Some operation → AsksInKind operation.doing
+  -- each operation asks in its kind: a write for a put, then for a get, and so on
+  abbrev pub AskInKind : List (Operation T) → Type 0
+  AskInKind operations = (op : ℕ) (operation : Operation T) → numbered operations op ≡ Some operation → AsksInKind operation.doing
 
--- the reply says that the request changed the store
+  -- the operations, where one of them does this next
+  abbrev pub with_doing : List (Operation T) → ℕ → Operation T → Doing T → List (Operation T)
+  with_doing operations op operation doing = slice_set operations (op - 1) (record { client = operation.client; doing = doing })
+
+-- the reply says that a put or a removal was done
 abbrev pub took : Reply → Bool
 took (replies.Put (Ok token)) = true
 took (replies.Put (Err error)) = false
 took (replies.Get answer) = false
 took (replies.List answer) = false
-took (replies.Delete answer) = false
+took (replies.Delete (Ok done)) = true
+took (replies.Delete (Err error)) = false
 
--- a request that may change the store
-abbrev pub may_change : Request → Option Request
-may_change (requests.Put path bytes mode) = Some (requests.Put path bytes mode)
-may_change (requests.Get path known) = None
-may_change (requests.List prefix) = None
-may_change (requests.Delete path) = None
+-- a request that changes these files where it is done: a put, or the removal of a file that is there
+abbrev pub may_change : Files → Request → Option Request
+may_change files (requests.Put path bytes mode) = Some (requests.Put path bytes mode)
+may_change files (requests.Get path known) = None
+may_change files (requests.List prefix) = None
+may_change files (requests.Delete path) = if is_some (get files path) then Some (requests.Delete path) else None
 
--- the request that changed the store, by its reply
-abbrev pub effect_of : Request → Reply → Option Request
-effect_of request (replies.Put (Ok token)) = Some request
-effect_of request (replies.Put (Err error)) = None
-effect_of request (replies.Get answer) = None
-effect_of request (replies.List answer) = None
-effect_of request (replies.Delete answer) = None
+-- the request that changed the store, by the files before it and its reply
+abbrev pub effect_of : Files → Request → Reply → Option Request
+effect_of files request reply = if took reply then may_change files request else None
 
--- the operations, where one of them does this next
-abbrev pub with_doing : List Operation → ℕ → Operation → Doing → List Operation
-with_doing operations op operation doing = slice_set operations (op - 1) (record { client = operation.client; doing = doing })
+-- the boundary after a request that changed the store, by the boundary before it
+abbrev pub boundary_after : ℕ → Request → ℕ
+boundary_after before (requests.Put path bytes mode) = if is_boundary path then boundary_said (Some bytes) else before
+boundary_after before (requests.Get path known) = before
+boundary_after before (requests.List prefix) = before
+boundary_after before (requests.Delete path) = if is_boundary path then 0 else before
 
 module _ {T : Type 0} where
   -- a world in which nothing has happened
@@ -117,7 +123,7 @@ module _ {T : Type 0} where
 
   -- why a state refuses an event, where it does
   abbrev pub refusal_of : State T → Event T → Option EventFault
-  refusal_of s (events.Begin client call) = begin_fault (is_client s.clients client) (has_known_base s.trace call)
+  refusal_of s (events.Begin client call) = begin_fault (is_client s.clients client) (has_known_base s.trace call) (has_low_boundary s.trace call)
   refusal_of s (events.Serve op) = if is_some (asked_by s.operations op) then None else Some faults.UnknownNumber
 
 module _ {T : Type 0} where
@@ -131,21 +137,22 @@ abbrev pub fault_met : {A : Type 0} → Result A EventFault → Option EventFaul
 fault_met (Ok told) = None
 fault_met (Err faults.UnknownNumber) = Some faults.UnknownNumber
 fault_met (Err faults.UnknownBase) = Some faults.UnknownBase
+fault_met (Err faults.BoundaryTooHigh) = Some faults.BoundaryTooHigh
 fault_met (Err faults.NoMemory) = None
 
 module _ {T : Type 0} (decode : List ℕ → Option T) where
   -- the operation takes a reply
-  abbrev pub AdvancesAt : List Operation → List Operation → ℕ → Option Operation → Reply → Option (Answer T) → Type 0
+  abbrev pub AdvancesAt : List (Operation T) → List (Operation T) → ℕ → Option (Operation T) → Reply → Option (Answer T) → Type 0
   AdvancesAt old new op None reply answer = ⊥
   AdvancesAt old new op (Some operation) reply answer =
-      (doing : Doing) × Turns decode operation.doing reply doing answer × (new ≡ with_doing old op operation doing)
+      (doing : Doing T) × Turns decode operation.doing reply doing answer × (new ≡ with_doing old op operation doing)
 
-  abbrev pub Advances : List Operation → List Operation → ℕ → Reply → Option (Answer T) → Type 0
+  abbrev pub Advances : List (Operation T) → List (Operation T) → ℕ → Reply → Option (Answer T) → Type 0
   Advances old new op reply answer = AdvancesAt old new op (numbered old op) reply answer
 
   -- A serve: the operation's request is served by the store, which never fails, and the operation takes the reply.
   pub record Served (old : State T) (op : ℕ) (said : Told T) (new : State T) : Type 0 where
-    pub operation : Operation
+    pub operation : Operation T
     pub found : numbered old.operations op ≡ Some operation
     pub request : Request
     pub asks : asked operation.doing ≡ Some request
@@ -159,7 +166,7 @@ module _ {T : Type 0} (decode : List ℕ → Option T) where
     pub tells : said ≡ told_of (told.Went op) op next.1
     pub clients : new.clients ≡ old.clients
     pub operations : new.operations ≡ with_doing old.operations op operation next.0
-    pub trace : new.trace ≡ (old.trace ++ effect_rows op (effect_of request reply)) ++ answer_rows op next.1
+    pub trace : new.trace ≡ (old.trace ++ effect_rows op (effect_of old.store.files request reply)) ++ answer_rows op next.1
 
 module _ {T : Type 0} (encode : T → List ℕ) (decode : List ℕ → Option T) where
   -- A begin: its call's operation starts.

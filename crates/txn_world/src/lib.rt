@@ -3,10 +3,14 @@
 
 pub mod doing;
 pub mod event;
+pub mod laws;
 pub mod numerals;
 pub mod record;
+mod requests;
 mod tables;
 #[cfg(test)]
 mod tests;
+#[cfg(test)]
+mod tests_boundary;
 pub mod trace;
 pub mod world;

@@ -1,16 +1,18 @@
 //! All that a world keeps, and its step.
-ghost use Rattle.std.specs.Prelude.{◌≡◌, ◌++◌, ◌≤◌, ◌<◌, ◌+◌, IfOk, IfSome, OnErr, IsSome, None, if◌then◌else◌, vec_len, vec_capacity};
-ghost use Rattle.std.specs.HashSet.{spare};
+ghost use Rattle.std.specs.Prelude.{◌≡◌, ◌++◌, ◌≤◌, ◌<◌, ◌+◌, IfOk, IfSome, OnErr, IsSome, None, if◌then◌else◌, nat_eq, vec_len, vec_capacity};
+ghost use Rattle.std.specs.HashSet.{contains, spare};
 ghost use Rattle.std.specs.Option.{ForSome, option_copied};
-ghost use Rattle.txn_world.specs.Lists.{numbered};
-ghost use Rattle.txn_world.specs.Names.{world_names};
+ghost use Rattle.txn_world.specs.Lists.{numbered, AreAscending};
+ghost use Rattle.txn_store.specs.Memory.{state_of};
+ghost use Rattle.txn_world.specs.Names.{world_names, world_boundary};
 ghost use Rattle.txn_world.specs.Doing.{IsExactClone, first_of, refusal_of_number};
 ghost use Rattle.txn_world.specs.Machine.{told_of, answer_rows, asked_by, may_change, took, Advances, IsReplyBy};
 
-use crate::doing::{Operation, start};
+use crate::doing::{Doing, Operation, start};
 use crate::event::{Answer, Call, Event, EventFault, Told};
 use crate::trace::{Row, Trace, push_within};
 use std::alloc::{AllocError, Global};
+use std::collections::{BTreeSet, HashSet};
 use txn_steps::codec::ObjectCodec;
 use txn_steps::layout::Layout;
 use txn_store::in_memory::InMemory;
@@ -62,7 +64,7 @@ fn refused_by<T>(number: Option<u8>) -> Option<(Answer<T>, Answer<T>)>
 }
 
 /// What an operation asks of the store: nothing where it is not there, or has ended.
-fn asked(operations: &[Operation], op: u64) -> Option<&Request>
+fn asked<T: Drop>(operations: &[Operation<T>], op: u64) -> Option<&Request>
     ensures { option_copied result ≡ asked_by operations.now op }
 {
     if op == 0 {
@@ -71,21 +73,23 @@ fn asked(operations: &[Operation], op: u64) -> Option<&Request>
     operations.get((op - 1) as usize)?.doing.ask()
 }
 
-/// A copy of a request that may change the store, for the trace.
-fn copy_of(request: &Request) -> Result<Option<Request>, AllocError>
-    ensures { IfOk result (λ copy. copy ≡ may_change request.now) }
+/// A copy of a request that changes the store where it is done, for the trace: of a put, or of the
+/// removal of a file that is there.
+fn copy_of(store: &InMemory, request: &Request) -> Result<Option<Request>, AllocError>
+    ensures { IfOk result (λ copy. copy ≡ may_change (state_of store.now).files request.now) }
 {
     match request {
         Request::Put { .. } => Ok(Some(request.try_clone()?)),
+        Request::Delete { path } if store.contains(path) => Ok(Some(request.try_clone()?)),
         _ => Ok(None),
     }
 }
 
-/// Whether the reply says that the request changed the store.
+/// Whether the reply says that a put or a removal was done.
 fn took(reply: &Reply) -> bool
     ensures { result ≡ took reply.now }
 {
-    matches!(reply, Reply::Put(Ok(_)))
+    matches!(reply, Reply::Put(Ok(_)) | Reply::Delete(Ok(())))
 }
 
 /// The request that changed the store, by its reply. A copy of it was made before.
@@ -99,12 +103,13 @@ fn effect_of(reply: &Reply, copy: Option<Request>) -> Option<Request>
 fn advance<T: Clone, C: ObjectCodec<T>>(
     alloc: Global,
     layout: &Layout<C>,
-    operations: &mut Vec<Operation>,
+    operations: &mut Vec<Operation<T>>,
     op: u64,
     reply: Reply,
 ) -> Option<(Answer<T>, Answer<T>)>
     requires exact { IsExactClone T.is_clone }
     requires names { layout.now.names ≡ world_names }
+    requires boundary { layout.now.boundary ≡ world_boundary }
     requires asked { IsReplyBy (numbered operations.old.items op) reply }
     ensures advanced { Advances (C.decoded layout.now.codec) operations.old.items operations.new.items op reply (first_of result) }
     ensures twice { IfSome result (λ pair. pair.1 ≡ pair.0) }
@@ -114,9 +119,10 @@ fn advance<T: Clone, C: ObjectCodec<T>>(
         .take(alloc, layout, reply)
 }
 
-/// Versions are the files root/test/<n>.val.
+/// Versions are the files root/test/<n>.val, and the boundary is the file root/gc/test.boundary.
 fn world_layout<C: Drop>(alloc: Global, codec: C) -> Result<Layout<C>, AllocError>
     ensures names { IfOk result (λ layout. layout.names ≡ world_names) }
+    ensures boundary { IfOk result (λ layout. layout.boundary ≡ world_boundary) }
     ensures codec { IfOk result (λ layout. layout.codec ≡ codec) }
 {
     let root = match Path::root(alloc).join("root") {
@@ -131,6 +137,21 @@ fn world_layout<C: Drop>(alloc: Global, codec: C) -> Result<Layout<C>, AllocErro
     }
 }
 
+/// The ids of a set, ascending.
+fn ascending(alloc: Global, ids: &HashSet<u64>) -> Result<Vec<u64>, AllocError>
+    ensures { IfOk result (λ list. AreAscending (contains nat_eq ids.now) list.items) }
+{
+    let mut sorted = BTreeSet::new(alloc);
+    for id in ids {
+        sorted.insert(*id)?;
+    }
+    let mut list = Vec::new(alloc);
+    for id in sorted {
+        list.push(id)?;
+    }
+    Ok(list)
+}
+
 /// All that a world keeps.
 #[derive(Drop)]
 pub(crate) struct Tables<T: Drop, C> {
@@ -138,17 +159,22 @@ pub(crate) struct Tables<T: Drop, C> {
     pub layout: Layout<C>,
     clients: u64,
     store: InMemory,
-    operations: Vec<Operation>,
+    operations: Vec<Operation<T>>,
     trace: Trace<T>,
     ghost names: { layout.names ≡ world_names },
+    ghost boundary: { layout.boundary ≡ world_boundary },
 }
 
 impl<T: Clone, C: ObjectCodec<T> + Drop> Tables<T, C> {
-    ghost use Rattle.std.specs.Prelude.{◌≡◌, IfOk, OnErr};
+    ghost use Rattle.std.specs.Prelude.{◌≡◌, ◌<◌, ◌≤◌, ◌+◌, IfOk, OnOk, OnErr, vec_len, vec_capacity};
     ghost use Rattle.txn_world.specs.Doing.{IsExactClone};
-    ghost use Rattle.txn_world.specs.OneHistory.{has_known_base};
-    ghost use Rattle.txn_world.specs.Machine.{Takes, AskInKind, opening, refusal_of, fault_met};
+    ghost use Rattle.txn_world.specs.OneHistory.{has_known_base, has_low_boundary};
+    ghost use Rattle.txn_world.specs.History.{boundary, AreErased};
+    ghost use Rattle.std.specs.HashSet.{spare};
+    ghost use Rattle.txn_world.specs.Doing.{refusal_of_number};
+    ghost use Rattle.txn_world.specs.Machine.{Takes, AskInKind, opening, refusal_of, fault_met, begun_as};
     ghost use Rattle.txn_world.specs.Shown.{shown};
+    ghost use Rattle.std.specs.Result.{result_err};
 
     pub fn new(alloc: Global, codec: C, clients: u64) -> Result<Tables<T, C>, AllocError>
         ensures shown { IfOk result (λ tables. shown tables ≡ opening clients) }
@@ -170,6 +196,18 @@ impl<T: Clone, C: ObjectCodec<T> + Drop> Tables<T, C> {
         &self.trace.rows
     }
 
+    pub fn boundary(&self) -> u64
+        ensures { result ≡ boundary (shown self.now).trace }
+    {
+        self.trace.reached
+    }
+
+    pub fn erased(&self, alloc: Global) -> Result<Vec<u64>, AllocError>
+        ensures { IfOk result (λ ids. AreErased (shown self.now).trace ids.items) }
+    {
+        ascending(alloc, &self.trace.erased)
+    }
+
     /// Whether the call's base is none, or an id that some call answered.
     fn knows_base(&self, call: &Call<T>) -> bool
         ensures { result ≡ has_known_base (shown self.now).trace call.now }
@@ -180,6 +218,33 @@ impl<T: Clone, C: ObjectCodec<T> + Drop> Tables<T, C> {
         }
     }
 
+    /// Whether the call advances to 0, or to what is below an id that some call answered.
+    fn is_low(&self, call: &Call<T>) -> bool
+        ensures { result ≡ has_low_boundary (shown self.now).trace call.now }
+    {
+        match call {
+            Call::Advance(to) => *to == 0 || self.trace.has_told_above(*to),
+            _ => true,
+        }
+    }
+
+    /// Why a begin is refused, where it is: its client, its base and its boundary are tested, in this
+    /// order.
+    fn allow(&self, client: u64, call: &Call<T>) -> Result<(), EventFault>
+        ensures { result_err result ≡ refusal_of (shown self.now) (Event.Begin client call.now) }
+    {
+        if client == 0 || client > self.clients {
+            return Err(EventFault::UnknownNumber);
+        }
+        if !self.knows_base(call) {
+            return Err(EventFault::UnknownBase);
+        }
+        if !self.is_low(call) {
+            return Err(EventFault::BoundaryTooHigh);
+        }
+        Ok(())
+    }
+
     fn begin(&mut self, client: u64, call: Call<T>) -> Result<Told<T>, EventFault>
         requires { IsExactClone T.is_clone }
         ensures fault { fault_met result ≡ refusal_of (shown self.old) (Event.Begin client call) }
@@ -187,20 +252,37 @@ impl<T: Clone, C: ObjectCodec<T> + Drop> Tables<T, C> {
         ensures err { OnErr result (shown self.new ≡ shown self.old) }
         ensures ok { IfOk result (λ told. Takes (C.encoded self.old.layout.codec) (C.decoded self.old.layout.codec) (shown self.old) (Event.Begin client call) told (shown self.new)) }
     {
-        if client == 0 || client > self.clients {
-            return Err(EventFault::UnknownNumber);
-        }
-        if !self.knows_base(&call) {
-            return Err(EventFault::UnknownBase);
-        }
+        self.allow(client, &call)?;
+        self.make_room()?;
         let (doing, refusal) = start(self.alloc, &self.layout, &call)?;
+        Ok(self.add(client, call, doing, refusal))
+    }
+
+    /// Makes room for one more operation and the rows of one event.
+    fn make_room(&mut self) -> Result<(), AllocError>
+        ensures codec { self.new.layout.codec ≡ self.old.layout.codec }
+        ensures shown { shown self.new ≡ shown self.old }
+        ensures place { OnOk result (vec_len self.new.operations < vec_capacity self.new.operations) }
+        ensures room { OnOk result (vec_len self.new.trace.rows + 2 ≤ vec_capacity self.new.trace.rows) }
+        ensures spare { OnOk result (1 ≤ spare self.new.trace.told) }
+    {
         self.operations.reserve(1)?;
-        self.trace.reserve()?;
+        self.trace.reserve()
+    }
+
+    /// Adds an operation, for which there is room.
+    fn add(&mut self, client: u64, call: Call<T>, doing: Doing<T>, refusal: Option<u8>) -> Told<T>
+        requires place { vec_len self.old.operations < vec_capacity self.old.operations }
+        requires room { vec_len self.old.trace.rows + 2 ≤ vec_capacity self.old.trace.rows }
+        requires spare { 1 ≤ spare self.old.trace.told }
+        ensures codec { self.new.layout.codec ≡ self.old.layout.codec }
+        ensures added { (result, shown self.new) ≡ begun_as (shown self.old) client call (doing, refusal_of_number refusal) }
+    {
         let op = self.operations.len() as u64 + 1;
         push_within(&mut self.operations, Operation { client, doing });
         self.trace.begin(op, call);
         let answers = refused_by(refusal);
-        Ok(tell(&mut self.trace, op, answers, Told::Began(op)))
+        tell(&mut self.trace, op, answers, Told::Began(op))
     }
 
     fn serve(&mut self, op: u64) -> Result<Told<T>, EventFault>
@@ -214,10 +296,11 @@ impl<T: Clone, C: ObjectCodec<T> + Drop> Tables<T, C> {
         let Some(request) = asked(&self.operations, op) else {
             return Err(EventFault::UnknownNumber);
         };
-        let copy = copy_of(request)?;
+        let copy = copy_of(&self.store, request)?;
         self.trace.reserve()?;
         let reply = serve(self.alloc, &mut self.store, request);
-        self.trace.effect(op, effect_of(&reply, copy));
+        let effect = effect_of(&reply, copy);
+        self.trace.effect(&self.layout, op, effect);
         let answers = advance(self.alloc, &self.layout, &mut self.operations, op, reply);
         Ok(tell(&mut self.trace, op, answers, Told::Went(op)))
     }

@@ -1,10 +1,9 @@
 //! Clients over one store, one event at a time.
 ghost use Rattle.std.specs.Prelude.{◌≡◌, ◌≤◌, List, map, IfOk, OnErr, Some};
-ghost use Rattle.std.specs.Option.{option_copied, option_map};
-ghost use Rattle.txn_store.specs.VersionOf.{version_of};
+ghost use Rattle.std.specs.Option.{option_copied};
 ghost use Rattle.txn_world.specs.Names.{world_names};
 ghost use Rattle.txn_world.specs.Doing.{IsExactClone};
-ghost use Rattle.txn_world.specs.History.{HasContents, created_by, history, stored};
+ghost use Rattle.txn_world.specs.History.{HasContents, created_by, bytes_as, history, stored, boundary, AreErased};
 ghost use Rattle.txn_world.specs.OneHistory.{IsOneHistory};
 ghost use Rattle.txn_world.specs.Allowed.{fault_of, AddsRows};
 ghost use Rattle.txn_world.specs.Machine.{State, opening, fault_met, Takes, RunsPast, Runs};
@@ -12,6 +11,7 @@ ghost use Rattle.txn_world.specs.declared.event.Event.{Event};
 ghost use Rattle.txn_world.specs.declared.event.Told.{Told};
 
 use crate::event::{Event, EventFault, Told};
+use crate::requests::created_version;
 use crate::tables::Tables;
 use crate::trace::Row;
 use bytes::Bytes;
@@ -19,8 +19,6 @@ use std::alloc::{AllocError, Global};
 use std::marker::Model;
 use txn_steps::codec::{CodecFault, ObjectCodec};
 use txn_steps::layout::Layout;
-use txn_store::path::Path;
-use txn_store::request::Request;
 use txn_store::version_names::VersionNames;
 
 /// Clients over one store. Contracts see its codec, and the state that its events lead to.
@@ -46,28 +44,22 @@ impl<T: Clone, C: ObjectCodec<T> + Drop> Model for World<T, C> {
     ghost invariant = { λ world. IsReached (C.encoded world.tables.layout.codec) (C.decoded world.tables.layout.codec) (shown world.tables) };
 }
 
-/// The bytes of the version that a row creates.
-fn created_bytes<'a, T>(names: &VersionNames, row: &'a Row<T>) -> Option<&'a Bytes>
+/// The bytes of the version of this id, where a row creates it.
+fn bytes_of<'a, T>(names: &VersionNames, row: &'a Row<T>, id: u64) -> Option<&'a Bytes>
     requires { names.now ≡ world_names }
-    ensures { option_copied result ≡ option_map (λ version. version.1) (created_by row.now) }
+    ensures { option_copied result ≡ bytes_as id (created_by row.now) }
 {
     match row {
-        Row::Effect(_, Request::Put { path, bytes, .. }) => match version_of(names, path) {
-            Some(_) => Some(bytes),
-            None => None,
+        Row::Effect(_, request) => match created_version(names, request) {
+            Some((created, bytes)) if created == id => Some(bytes),
+            _ => None,
         },
         _ => None,
     }
 }
 
-/// The id of the version that a path is.
-fn version_of(names: &VersionNames, path: &Path) -> Option<u64>
-    ensures { result ≡ version_of names.now path.now }
-{
-    names.parse_id(path)
-}
-
-/// The values of the entries that rows make: in one history each create makes one.
+/// The values of the entries that rows make: in one history each create of the next id makes one, and
+/// a create of another id makes an erased name again.
 fn entries_of<T: Drop, C: ObjectCodec<T>>(
     alloc: Global,
     layout: &Layout<C>,
@@ -79,7 +71,8 @@ fn entries_of<T: Drop, C: ObjectCodec<T>>(
 {
     let mut entries = Vec::new(alloc);
     for row in rows {
-        if let Some(bytes) = created_bytes(&layout.names, row) {
+        let next = entries.len() as u64 + 1;
+        if let Some(bytes) = bytes_of(&layout.names, row, next) {
             match layout.codec.decode(alloc, bytes) {
                 Ok(value) => entries.push(value)?,
                 Err(CodecFault::NoMemory) => return Err(AllocError),
@@ -104,8 +97,8 @@ impl<T: Clone, C: ObjectCodec<T> + Drop> World<T, C> {
     }
 
     /// Takes one event, and tells what it led to. A refused event changes nothing: it is refused
-    /// with [`EventFault::UnknownNumber`] or [`EventFault::UnknownBase`] exactly where the trace
-    /// says so, and with [`EventFault::NoMemory`] only where a growth was refused.
+    /// with [`EventFault::UnknownNumber`], [`EventFault::UnknownBase`] or
+    /// [`EventFault::BoundaryTooHigh`] exactly where the trace says so, and with [`EventFault::NoMemory`] only where a growth was refused.
     pub fn take(&mut self, event: Event<T>) -> Result<Told<T>, EventFault>
         requires { IsExactClone T.is_clone }
         ensures refused { fault_met result ≡ fault_of self.old.state.clients self.old.state.trace event }
@@ -151,6 +144,21 @@ impl<T: Clone, C: ObjectCodec<T> + Drop> World<T, C> {
         ensures { IfOk result (λ entries. map Some entries.items ≡ history (C.decoded self.now.codec) self.now.state.trace) }
     {
         entries_of(alloc, &self.tables.layout, self.tables.rows())
+    }
+
+    /// The boundary: the number that its file says, 0 where it is missing. It takes no memory.
+    pub fn boundary(&self) -> u64
+        ensures { result ≡ boundary self.now.state.trace }
+    {
+        self.tables.boundary()
+    }
+
+    /// The ids whose versions were removed, each once and ascending. The only error is want of memory;
+    /// the world is as it was.
+    pub fn erased(&self, alloc: Global) -> Result<Vec<u64>, AllocError>
+        ensures { IfOk result (λ ids. AreErased self.now.state.trace ids.items) }
+    {
+        self.tables.erased(alloc)
     }
 }
 

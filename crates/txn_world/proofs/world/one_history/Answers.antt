@@ -6,4 +6,4 @@ pub returns : goal.returns
 returns g c clients taken state runs =
     let encode = g.C.ObjectCodec.encoded c.args._codec.now in
     let decode = g.C.ObjectCodec.decoded c.args._codec.now in
-    (runs_keep encode decode (opening clients) taken state runs (opening_stands encode decode clients)).know.good
+    (runs_keep encode decode (opening clients) taken state runs (opening_stands encode decode clients)).know.history.good
