@@ -1,22 +1,20 @@
 -- What `split_once` finds of a text that begins with words of our own.
 use Rattle.std.proofs.Common.{◌≡◌, ◌≢◌, ℕ, zero, suc, subst, ◌<◌, ◌^◌, List, [], ◌∷◌, ◌++◌, length, get_or, Option, Some, None, decimal, sym, ◌∙◌, ap, refl, arith, rules, lit<, Bool, true, false, ◌==◌, nat_eq}
-use Rattle.std.specs.Prelude.{codes}
 use Rattle.std.specs.Int.{IsInRange}
 use Rattle.std.specs.Option.{MatchOption}
 use Rattle.std.specs.List.{list_any}
 use Rattle.std.specs.Str.Parse.{AllDigits, digits_value}
 use Rattle.std.specs.Cmp.Lexicographic.{same_text}
 use Rattle.std.proofs.lemmas.Str.Parse.{IsNumeralModel, numerals_by_value, tells_digits, not_in_digits}
-use Rattle.std.proofs.lemmas.Str.Pattern.{IsSplitOnceResult, split_after, split_parts}
+use Rattle.std.proofs.lemmas.Str.Pattern.{IsSplitOnceResult, split_after}
 use Rattle.std.proofs.lemmas.Fmt.{digits_decimal}
 use Rattle.std.proofs.lemmas.Grind.{common_steps}
 use denote.Ref.{Bor}
 use lib.Pointwise.{pointwise}
 use Rattle.txn_world.specs.declared.event.Call.{Call}
-use Rattle.txn_world.specs.declared.event.Call.TheVariants as calls
 use Rattle.txn_world.specs.declared.record.Record.{Record}
-use Rattle.txn_world.specs.Record.{record_text, IsNumbers}
-use Rattle.txnworld_cli.specs.Grammar.{base_text, call_text, begin_text, BaseFits, CallFits}
+use Rattle.txn_world.specs.Record.{record_text}
+use Rattle.txnworld_cli.specs.Grammar.{base_text, write_text, call_text, begin_text, BaseFits}
 
 own : IsNumeralModel (AllDigits 10) (digits_value 10)
 own = numerals_by_value (AllDigits 10) tells_digits
@@ -71,40 +69,12 @@ begin_cut bs client call r a b h small e is = at_some (decimal client) (call_tex
 pub begin_no_cut : (bs : List ℕ) (client : ℕ) (call : Call Record) (r : Found) → IsSplitOnceResult 32 bs r → client < 2 ^ 64 → bs ≡ begin_text client call → r ≡ None → ⊥
 begin_no_cut bs client call r h small e is = at_none (decimal client) (call_text call) r (cut bs (decimal client) (call_text call) r h (decimal_lacks 32 client small (λ k. omega (arith, k))) e) is
 
--- what stands after the word of a write
-pub record WriteParts (call : Call Record) (rest : List ℕ) : Type 0 where
-  pub base : Option ℕ
-  pub value : Record
-  pub call_is : call ≡ calls.Write base value
-  pub base_fits : BaseFits base
-  pub value_fits : IsNumbers value
-  pub rest_is : rest ≡ base_text base ++ (32 ∷ record_text value)
-
-pub write_cut : (bs : List ℕ) (call : Call Record) (b : Bool) (r : Found) (word rest : Bor (List ℕ)) →
-    b ≡ pointwise nat_eq bs (codes "read") → b ≡ false → IsSplitOnceResult 32 bs r → CallFits call → bs ≡ call_text call → r ≡ Some (word, rest) → WriteParts call rest.now
-write_cut bs (calls.Write base value) b r word rest test no_read h fits e is =
-    let parts = at_some (codes "write") (base_text base ++ (32 ∷ record_text value)) r word rest (cut bs (codes "write") (base_text base ++ (32 ∷ record_text value)) r h (lacks_of 32 (codes "write") refl) e) is in
-    record { base = base; value = value; call_is = refl; base_fits = fits.0; value_fits = fits.1; rest_is = parts.1 }
-write_cut bs calls.Read b r word rest test no_read h fits e is =
-    let yes : b ≡ true = test ∙ ap (λ xs. pointwise nat_eq xs (codes "read")) e in
-    let both : true ≡ false = sym yes ∙ no_read in
-    absurd (cc)
-
 -- the base and the value of a write
-pub base_cut : (call : Call Record) (rest : List ℕ) (w : WriteParts call rest) (r : Found) (a b : Bor (List ℕ)) → IsSplitOnceResult 32 rest r → r ≡ Some (a, b) → (a.now ≡ base_text w.base) × (b.now ≡ record_text w.value)
-base_cut call rest w r a b h is = at_some (base_text w.base) (record_text w.value) r a b (cut rest (base_text w.base) (record_text w.value) r h (base_lacks w.base w.base_fits) w.rest_is) is
+pub write_cut : (bs : List ℕ) (base : Option ℕ) (value : Record) (r : Found) (a b : Bor (List ℕ)) → IsSplitOnceResult 32 bs r → BaseFits base → bs ≡ write_text base value → r ≡ Some (a, b) → (a.now ≡ base_text base) × (b.now ≡ record_text value)
+write_cut bs base value r a b h fits e is = at_some (base_text base) (record_text value) r a b (cut bs (base_text base) (record_text value) r h (base_lacks base fits) e) is
 
-pub base_no_cut : (call : Call Record) (rest : List ℕ) (w : WriteParts call rest) (r : Found) → IsSplitOnceResult 32 rest r → r ≡ None → ⊥
-base_no_cut call rest w r h is = at_none (base_text w.base) (record_text w.value) r (cut rest (base_text w.base) (record_text w.value) r h (base_lacks w.base w.base_fits) w.rest_is) is
-
-joined : (bs : List ℕ) (r : Found) (a b : Bor (List ℕ)) (xs ys : List ℕ) → IsSplitOnceResult 32 bs r → r ≡ Some (a, b) → a.now ≡ xs → b.now ≡ ys → bs ≡ xs ++ (32 ∷ ys)
-joined bs r a b xs ys h is one two =
-    let whole : bs ≡ a.now ++ (32 ∷ b.now) = (split_parts 32 bs (Some (a, b)) (subst (IsSplitOnceResult 32 bs) is h) (lit< tt)).0 in
-    whole ∙ rw (one, two) refl
-
--- the words of a write, joined
-pub write_joined : (bs : List ℕ) (r q : Found) (word rest a b : Bor (List ℕ)) (base : Option ℕ) (value : Record) → IsSplitOnceResult 32 bs r → r ≡ Some (word, rest) → word.now ≡ codes "write" → IsSplitOnceResult 32 rest.now q → q ≡ Some (a, b) → a.now ≡ base_text base → b.now ≡ record_text value → bs ≡ call_text (calls.Write base value)
-write_joined bs r q word rest a b base value h is first k so one two = joined bs r word rest (codes "write") (base_text base ++ (32 ∷ record_text value)) h is first (joined rest.now q a b (base_text base) (record_text value) k so one two)
+pub write_no_cut : (bs : List ℕ) (base : Option ℕ) (value : Record) (r : Found) → IsSplitOnceResult 32 bs r → BaseFits base → bs ≡ write_text base value → r ≡ None → ⊥
+write_no_cut bs base value r h fits e is = at_none (base_text base) (record_text value) r (cut bs (base_text base) (record_text value) r h (base_lacks base fits) e) is
 
 -- no number is a dash
 pub dash_is_none : (bs : List ℕ) (base : Option ℕ) (b : Bool) → b ≡ pointwise nat_eq bs (45 ∷ []) → b ≡ true → BaseFits base → bs ≡ base_text base → ◌≡◌ {A = Option (Option ℕ)} (Some None) (Some base)

@@ -2,19 +2,19 @@
 use Rattle.std.proofs.Common.{◌≡◌, ℕ, ◌+◌, ◌<◌, List, [], ◌∷◌, ◌++◌, Bool, true, false, length, drop, get_or, add-one, Option, Some, None, IfSome, inl, inr, refl, sym, ◌∙◌, ap, subst, arith, length-append}
 use Rattle.std.proofs.lemmas.List.{append_assoc, append-nil}
 use Rattle.std.proofs.Math.Seq.{drop-cons}
-use Rattle.std.specs.Prelude.{codes, map}
+use Rattle.std.specs.Prelude.{map}
 use Rattle.std.specs.Io.KnownBytes.{Appends, append_known}
 use Rattle.txn_world.specs.declared.record.Record.{Record}
 use Rattle.txn_world.specs.Machine.{State, opening}
 use Rattle.txn_world.specs.Record.{record_read}
-use Rattle.txn_world.specs.History.{history}
+use Rattle.txn_world.specs.History.{history, boundary, AreErased}
 use Rattle.txnworld_cli.specs.declared.line.Line.{Line}
 use Rattle.txnworld_cli.specs.declared.line.Line.TheVariants as lines
 use Rattle.txnworld_cli.specs.declared.stop.Stop.{Stop}
 use Rattle.txnworld_cli.specs.declared.stop.Stop.TheVariants as stops
 use Rattle.txnworld_cli.specs.Lines.{lines_of, is_skipped, kept}
 use Rattle.txnworld_cli.specs.Grammar.{Says}
-use Rattle.txnworld_cli.specs.Printed.{with_feed, entry_text, entries_text}
+use Rattle.txnworld_cli.specs.Printed.{with_feed, entry_text, entries_text, boundary_text, erased_text, end_text}
 use Rattle.txnworld_cli.specs.Script.{EventSteps, MayStand, LineSteps, Plays, EndsWith, IsBadNext, IsBadLine, IsFront, IsEndFront, IsPrinted, IsPrintedBefore, IsFrontPrinted, StopsAfter}
 use Rattle.txnworld_cli.proofs.Steps.{both_after}
 use Rattle.txnworld_cli.specs.Reading.{OnBadLine, SkipsTo, NextIs, ReadsNext, MeetsBad, Opens, OpensBad}
@@ -48,19 +48,24 @@ entries_step i values d lt = ap (entries_text (i + 1)) (drop-cons values i d lt)
 pub gathers_end : (a b : Option (List ℕ)) (old mid new text one two : List ℕ) → Appends a (append_known b old) text → mid ≡ old ++ one → new ≡ mid ++ two → Appends a (append_known b new) (text ++ (one ++ two))
 gathers_end a b old mid new text one two before first second = appends_both a (append_known b old) (append_known b new) text (one ++ two) before (gathers b old new (one ++ two) (both_after old mid new one two first second))
 
+-- These are the history and the erased ids.
+pub record Ended (s : State Record) (values : List Record) (ids : List ℕ) : Type 0 where
+  pub entries : map Some values ≡ history record_read s.trace
+  pub erased : AreErased s.trace ids
+
 -- what was printed of the end lines, and what was still to print
-end_front : (s : State Record) (values : List Record) (text more : List ℕ) → map Some values ≡ history record_read s.trace → text ++ more ≡ entries_text 1 values ++ (with_feed (codes "boundary 0") ++ with_feed (codes "erased none")) → IsEndFront (Some s) [] text
-end_front s values text more are e = inr (more, (values, are, e))
+end_front : (s : State Record) (values : List Record) (ids text more : List ℕ) → Ended s values ids → text ++ more ≡ end_text values (boundary s.trace) ids → IsEndFront (Some s) [] text
+end_front s values ids text more are e = inr (more, record { values = values; ids = ids; entries = are.entries; erased = are.erased; whole = e })
 
-pub entries_front : (stop : Stop) (s : State Record) (values : List Record) (old new : Option (List ℕ)) → map Some values ≡ history record_read s.trace → StopsInEntries stop values old new → StopsInEnd stop s old new
-entries_front stop s values old new are (inl is) = inl is
-entries_front stop s values old new are (inr is) =
-    let rest = with_feed (codes "boundary 0") ++ with_feed (codes "erased none") in
+pub entries_front : (stop : Stop) (s : State Record) (values : List Record) (ids : List ℕ) (old new : Option (List ℕ)) → Ended s values ids → StopsInEntries stop values old new → StopsInEnd stop s old new
+entries_front stop s values ids old new are (inl is) = inl is
+entries_front stop s values ids old new are (inr is) =
+    let rest = with_feed (boundary_text (boundary s.trace)) ++ with_feed (erased_text ids) in
     let whole : is.1 ++ (is.2 ++ rest) ≡ entries_text 1 values ++ rest = sym (append_assoc is.1 is.2 rest) ∙ ap (λ xs. xs ++ rest) is.3 in
-    inr (is.0, is.1, end_front s values is.1 (is.2 ++ rest) are whole, is.4)
+    inr (is.0, is.1, end_front s values ids is.1 (is.2 ++ rest) are whole, is.4)
 
-pub line_front : (stop : Stop) (s : State Record) (values : List Record) (old new : Option (List ℕ)) (text more : List ℕ) → map Some values ≡ history record_read s.trace → stop ≡ stops.NoMemory → text ++ more ≡ entries_text 1 values ++ (with_feed (codes "boundary 0") ++ with_feed (codes "erased none")) → Appends old new text → StopsInEnd stop s old new
-line_front stop s values old new text more are is e grown = inr (is, text, end_front s values text more are e, grown)
+pub line_front : (stop : Stop) (s : State Record) (values : List Record) (ids : List ℕ) (old new : Option (List ℕ)) (text more : List ℕ) → Ended s values ids → stop ≡ stops.NoMemory → text ++ more ≡ end_text values (boundary s.trace) ids → Appends old new text → StopsInEnd stop s old new
+line_front stop s values ids old new text more are is e grown = inr (is, text, end_front s values ids text more are e, grown)
 
 -- the lines that are kept
 

@@ -12,9 +12,15 @@ abbrev pub base_text : Option ℕ → List ℕ
 base_text None = codes "-"
 base_text (Some id) = decimal id
 
+abbrev pub write_text : Option ℕ → Record → List ℕ
+write_text base value = base_text base ++ (32 ∷ record_text value)
+
 abbrev pub call_text : Call Record → List ℕ
-call_text (calls.Write base value) = codes "write" ++ (32 ∷ (base_text base ++ (32 ∷ record_text value)))
+call_text (calls.Write base value) = codes "write" ++ (32 ∷ write_text base value)
 call_text calls.Read = codes "read"
+call_text (calls.Check id) = codes "check" ++ (32 ∷ decimal id)
+call_text (calls.Advance to) = codes "advance" ++ (32 ∷ decimal to)
+call_text (calls.Delete id) = codes "delete" ++ (32 ∷ decimal id)
 
 abbrev pub begin_text : ℕ → Call Record → List ℕ
 begin_text client call = decimal client ++ (32 ∷ call_text call)
@@ -31,9 +37,15 @@ abbrev pub BaseFits : Option ℕ → Type 0
 BaseFits None = Unit {0}
 BaseFits (Some id) = id < 2 ^ 64
 
+abbrev pub WriteFits : Option ℕ → Record → Type 0
+WriteFits base value = BaseFits base × IsNumbers value
+
 abbrev pub CallFits : Call Record → Type 0
-CallFits (calls.Write base value) = BaseFits base × IsNumbers value
+CallFits (calls.Write base value) = WriteFits base value
 CallFits calls.Read = Unit {0}
+CallFits (calls.Check id) = id < 2 ^ 64
+CallFits (calls.Advance to) = to < 2 ^ 64
+CallFits (calls.Delete id) = id < 2 ^ 64
 
 abbrev pub LineFits : Line → Type 0
 LineFits (lines.Clients count) = count < 2 ^ 64

@@ -34,6 +34,7 @@ read_text (Some found) = codes "read " ++ (decimal found.0 ++ (codes " " ++ reco
 abbrev pub answered_text : Answer Record → List ℕ
 answered_text (answers.Wrote id) = codes "wrote " ++ decimal id
 answered_text (answers.Read found) = read_text found
+answered_text answers.Done = codes "done"
 answered_text (answers.Refused number) = codes "refused " ++ (decimal number ++ (codes " " ++ refusal_name number))
 
 -- the line of an answer
@@ -44,6 +45,7 @@ answer_text op answer = codes "op " ++ (decimal op ++ (codes ": " ++ answered_te
 abbrev pub fault_text : EventFault → List ℕ
 fault_text faults.UnknownNumber = codes "fault 1 UnknownNumber"
 fault_text faults.UnknownBase = codes "fault 3 UnknownBase"
+fault_text faults.BoundaryTooHigh = codes "fault 4 BoundaryTooHigh"
 fault_text faults.NoMemory = codes "fault 7 NoMemory"
 
 -- the line of an entry of the history
@@ -54,6 +56,24 @@ entry_text n value = codes "entry " ++ (decimal n ++ (codes " " ++ record_text v
 abbrev pub entries_text : ℕ → List Record → List ℕ
 entries_text n [] = []
 entries_text n (value ∷ values) = with_feed (entry_text n value) ++ entries_text (n + 1) values
+
+-- the line of the boundary
+abbrev pub boundary_text : ℕ → List ℕ
+boundary_text boundary = codes "boundary " ++ decimal boundary
+
+-- ids, each after one space
+abbrev pub ids_text : List ℕ → List ℕ
+ids_text [] = []
+ids_text (id ∷ ids) = codes " " ++ (decimal id ++ ids_text ids)
+
+-- the line of the erased ids
+abbrev pub erased_text : List ℕ → List ℕ
+erased_text [] = codes "erased none"
+erased_text (id ∷ ids) = codes "erased" ++ ids_text (id ∷ ids)
+
+-- the end lines: the entries, the boundary and the erased ids
+abbrev pub end_text : List Record → ℕ → List ℕ → List ℕ
+end_text values boundary ids = entries_text 1 values ++ (with_feed (boundary_text boundary) ++ with_feed (erased_text ids))
 
 -- the line of a script that stops
 abbrev pub stop_text : Stop → List ℕ

@@ -1,5 +1,5 @@
 -- What a script prints, as a relation of its bytes over the world's steps.
-use Rattle.std.specs.Prelude.{◌≡◌, ℕ, zero, suc, List, [], ◌∷◌, ◌++◌, ◌+◌, ◌≤◌, ◌⊎◌, Bool, true, false, map, Option, Some, None, IfSome, length, codes}
+use Rattle.std.specs.Prelude.{◌≡◌, ℕ, zero, suc, List, [], ◌∷◌, ◌++◌, ◌+◌, ◌≤◌, ◌⊎◌, Bool, true, false, map, Option, Some, None, IfSome, length}
 use Rattle.std.specs.Io.KnownBytes.{Appends}
 use Rattle.txn_world.specs.declared.record.Record.{Record}
 use Rattle.txn_world.specs.declared.event.Event.{Event}
@@ -10,14 +10,14 @@ use Rattle.txn_world.specs.declared.event.Told.TheVariants as told
 use Rattle.txn_world.specs.Machine.{State, opening, Takes}
 use Rattle.txn_world.specs.Record.{record_text, record_read}
 use Rattle.txn_world.specs.Allowed.{fault_of}
-use Rattle.txn_world.specs.History.{history}
+use Rattle.txn_world.specs.History.{history, boundary, AreErased}
 use Rattle.txnworld_cli.specs.declared.line.Line.{Line}
 use Rattle.txnworld_cli.specs.declared.line.Line.TheVariants as lines
 use Rattle.txnworld_cli.specs.declared.stop.Stop.{Stop}
 use Rattle.txnworld_cli.specs.declared.stop.Stop.TheVariants as stops
 use Rattle.txnworld_cli.specs.Lines.{lines_of, is_skipped, kept}
 use Rattle.txnworld_cli.specs.Grammar.{Says}
-use Rattle.txnworld_cli.specs.Printed.{with_feed, answer_text, fault_text, entries_text}
+use Rattle.txnworld_cli.specs.Printed.{with_feed, answer_text, fault_text, end_text}
 
 -- what is printed of what an event was told
 abbrev pub told_text : Told Record → List ℕ
@@ -75,9 +75,13 @@ Plays old [] text new = (text ≡ []) × (new ≡ old)
 Plays old (bytes ∷ rest) text new =
     (line : Line) × (first : List ℕ) × (middle : Option (State Record)) × (more : List ℕ) × Says bytes line × MayStand old line × LineSteps old line first middle × Plays middle rest more new × (text ≡ first ++ more)
 
--- The lines that are printed at the end of a script.
-abbrev pub EndsWith : State Record → List ℕ → Type 0
-EndsWith s text = (values : List Record) × (map Some values ≡ history record_read s.trace) × (text ≡ entries_text 1 values ++ (with_feed (codes "boundary 0") ++ with_feed (codes "erased none")))
+-- The lines that are printed at the end of a script: the history, the boundary and the erased ids of its trace.
+pub record EndsWith (s : State Record) (text : List ℕ) : Type 0 where
+  pub values : List Record
+  pub ids : List ℕ
+  pub entries : map Some values ≡ history record_read s.trace
+  pub erased : AreErased s.trace ids
+  pub whole : text ≡ end_text values (boundary s.trace) ids
 
 -- What a whole script prints: what its kept lines print, and then the end lines.
 pub record Prints (input text : List ℕ) : Type 0 where

@@ -3,7 +3,7 @@
 ghost use Rattle.std.specs.Prelude.{◌≡◌, ℕ, ◌<◌, ◌^◌, IfSome, Some, Option};
 ghost use Rattle.txn_world.specs.declared.event.Call.{Call};
 ghost use Rattle.txn_world.specs.declared.record.Record.{Record};
-ghost use Rattle.txnworld_cli.specs.Grammar.{base_text, call_text, begin_text, BaseFits, CallFits, Says};
+ghost use Rattle.txnworld_cli.specs.Grammar.{base_text, write_text, call_text, begin_text, BaseFits, WriteFits, CallFits, Says};
 ghost use Rattle.txnworld_cli.specs.declared.line.Line.{Line};
 
 use txn_world::event::Call;
@@ -36,6 +36,19 @@ fn read_base(text: &str) -> Option<Option<u64>>
     Some(Some(read_decimal(text)?))
 }
 
+/// The base and the value of the write that these words say.
+fn read_write(text: &str) -> Option<(Option<u64>, Record)>
+    ensures fits { IfSome result (λ write. WriteFits write.0 write.1) }
+    ensures reads { IfSome result (λ write. text.now ≡ write_text write.0 write.1) }
+    ensures all { (base : Option ℕ) (value : Record)
+        → WriteFits base value → text.now ≡ write_text base value
+        → result ≡ Some (base, value) }
+{
+    let (base_word, value) = text.split_once(' ')?;
+    let base = read_base(base_word)?;
+    Some((base, read_record(value.as_bytes())?))
+}
+
 /// The call that these words say.
 fn read_call(text: &str) -> Option<Call<Record>>
     ensures fits { IfSome result CallFits }
@@ -49,10 +62,12 @@ fn read_call(text: &str) -> Option<Call<Record>>
     let (word, rest) = text.split_once(' ')?;
     match word {
         "write" => {
-            let (base_word, value) = rest.split_once(' ')?;
-            let base = read_base(base_word)?;
-            Some(Call::Write(base, read_record(value.as_bytes())?))
+            let (base, value) = read_write(rest)?;
+            Some(Call::Write(base, value))
         }
+        "check" => Some(Call::Check(read_decimal(rest)?)),
+        "advance" => Some(Call::Advance(read_decimal(rest)?)),
+        "delete" => Some(Call::Delete(read_decimal(rest)?)),
         _ => None,
     }
 }

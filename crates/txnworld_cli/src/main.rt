@@ -10,6 +10,8 @@ mod printer;
 mod script;
 mod stop;
 #[cfg(test)]
+mod stream_tests;
+#[cfg(test)]
 mod tests;
 
 use crate::stop::Stop;

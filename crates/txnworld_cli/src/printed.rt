@@ -1,7 +1,7 @@
 //! The printed lines.
 
 ghost use Rattle.std.specs.Prelude.{◌≡◌, Some};
-ghost use Rattle.txnworld_cli.specs.Printed.{refusal_name, answered_text, answer_text, entry_text, fault_text};
+ghost use Rattle.txnworld_cli.specs.Printed.{refusal_name, answered_text, answer_text, entry_text, boundary_text, erased_text, fault_text};
 
 use std::fmt;
 use txn_world::event::{Answer, EventFault};
@@ -38,6 +38,7 @@ impl fmt::Display for Answered {
             Answer::Wrote(id) => write!(f, "wrote {id}"),
             Answer::Read(None) => write!(f, "read none"),
             Answer::Read(Some((id, value))) => write!(f, "read {id} {value}"),
+            Answer::Done => write!(f, "done"),
             Answer::Refused(number) => {
                 let name = refusal_name(*number);
                 write!(f, "refused {number} {name}")
@@ -80,6 +81,38 @@ impl fmt::Display for EntryLine {
     }
 }
 
+/// The line of the boundary.
+#[derive(Clone, Copy, Debug)]
+pub struct BoundaryLine(pub u64);
+
+impl fmt::Display for BoundaryLine {
+    ghost output = { λ line. Some (boundary_text line.0) };
+
+    fn fmt<W: fmt::Write>(&self, f: &mut fmt::Formatter<W>) -> fmt::Result {
+        let boundary = self.0;
+        write!(f, "boundary {boundary}")
+    }
+}
+
+/// The line of the erased ids.
+#[derive(Debug, Drop)]
+pub struct ErasedLine(pub Vec<u64>);
+
+impl fmt::Display for ErasedLine {
+    ghost output = { λ line. Some (erased_text line.0.items) };
+
+    fn fmt<W: fmt::Write>(&self, f: &mut fmt::Formatter<W>) -> fmt::Result {
+        if self.0.is_empty() {
+            return write!(f, "erased none");
+        }
+        write!(f, "erased")?;
+        for id in &self.0 {
+            write!(f, " {id}")?;
+        }
+        Ok(())
+    }
+}
+
 /// The line of a refused event.
 #[derive(Clone, Copy, Debug)]
 pub struct FaultLine(pub EventFault);
@@ -91,6 +124,7 @@ impl fmt::Display for FaultLine {
         match self.0 {
             EventFault::UnknownNumber => write!(f, "fault 1 UnknownNumber"),
             EventFault::UnknownBase => write!(f, "fault 3 UnknownBase"),
+            EventFault::BoundaryTooHigh => write!(f, "fault 4 BoundaryTooHigh"),
             EventFault::NoMemory => write!(f, "fault 7 NoMemory"),
         }
     }

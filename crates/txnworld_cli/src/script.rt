@@ -10,7 +10,7 @@ ghost use Rattle.txnworld_cli.specs.Printing.{held, Gathers, IsUnchanged, StopsL
 
 use crate::line::Line;
 use crate::lines::Lines;
-use crate::printed::{AnswerLine, Answered, EntryLine, FaultLine};
+use crate::printed::{AnswerLine, Answered, BoundaryLine, EntryLine, ErasedLine, FaultLine};
 use crate::printer::Printer;
 use crate::stop::Stop;
 use std::alloc::Global;
@@ -135,9 +135,12 @@ fn print_end<W: Write>(
     let Ok(entries) = world.entries(alloc) else {
         return Err(Stop::NoMemory);
     };
+    let Ok(erased) = world.erased(alloc) else {
+        return Err(Stop::NoMemory);
+    };
     print_entries(&entries, printer, out)?;
-    printer.print_line("boundary 0")?;
-    printer.print_line("erased none")?;
+    printer.print_line(BoundaryLine(world.boundary()))?;
+    printer.print_line(ErasedLine(erased))?;
     Ok(())
 }
 

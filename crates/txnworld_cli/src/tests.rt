@@ -1,110 +1,32 @@
+//! What scripts print, line by line.
+
 use crate::asks_for_script;
 use crate::printed::{AnswerLine, Answered, FaultLine};
 use crate::script::run_script;
-use std::alloc::{AllocError, Global};
-use std::cell::Cell;
-use std::io;
-use std::io::{Read, Write};
+use std::alloc::{AllocGlobal, Global};
+use std::io::Read;
+use std::process::Abort;
 use std::test::Fail;
 use txn_world::event::{Answer, EventFault};
 
 /// What a script leaves: its status, and what it wrote.
 #[derive(Debug, Drop)]
-struct Ran {
-    status: u8,
-    out: Vec<u8>,
-    err: Vec<u8>,
+pub struct Ran {
+    pub status: u8,
+    pub out: Vec<u8>,
+    pub err: Vec<u8>,
 }
 
-fn outcome_of<R: Read + Drop>(alloc: Global, reader: R) -> Ran {
+pub fn outcome_of<R: Read + Drop>(alloc: Global, reader: R) -> Ran {
     let mut out = Vec::new(alloc);
     let mut err = Vec::new(alloc);
     let status = run_script(alloc, reader, &mut out, &mut err);
     Ran { status, out, err }
 }
 
-/// A reader whose reads fail once its bytes are read.
-#[derive(Drop)]
-struct Broken<'a>(&'a [u8]);
+pub const FIRST_RUN: &str = "clients 2\nbegin 1 write - 0:1\nrun 1\nbegin 2 read\nrun 2\n";
 
-impl Read for Broken<'_> {
-    fn read(&mut self, buf: &mut [u8]) -> io::Result<usize> {
-        if self.0.is_empty() {
-            return Err(io::Error::from(io::ErrorKind::Other));
-        }
-        self.0.read(buf)
-    }
-}
-
-/// A reader that gives one byte at a time, and is interrupted before each.
-#[derive(Drop)]
-struct Slow<'a> {
-    bytes: &'a [u8],
-    interrupted: bool,
-}
-
-impl Read for Slow<'_> {
-    fn read(&mut self, buf: &mut [u8]) -> io::Result<usize> {
-        self.interrupted = !self.interrupted;
-        if self.interrupted {
-            return Err(io::Error::from(io::ErrorKind::Interrupted));
-        }
-        if buf.is_empty() {
-            return Ok(0);
-        }
-        self.bytes.read(&mut buf[..1])
-    }
-}
-
-/// A reader of some bytes, and then of others again and again. It counts the bytes that it gave.
-#[derive(Drop)]
-struct Endless<'a> {
-    first: &'a [u8],
-    again: &'a [u8],
-    given: &'a Cell<u64>,
-}
-
-impl Read for Endless<'_> {
-    fn read(&mut self, buf: &mut [u8]) -> io::Result<usize> {
-        let mut again = self.again;
-        let count = if self.first.is_empty() {
-            again.read(buf)?
-        } else {
-            self.first.read(buf)?
-        };
-        self.given
-            .set(self.given.get().saturating_add(count as u64));
-        Ok(count)
-    }
-}
-
-/// A writer with room for so many bytes, whose writes then fail. A flush fails where it is told to.
-#[derive(Drop)]
-struct Full {
-    room: usize,
-    fails_flush: bool,
-}
-
-impl Write for Full {
-    fn write(&mut self, buf: &[u8]) -> io::Result<usize> {
-        if buf.len() > self.room {
-            return Err(io::Error::from(io::ErrorKind::Other));
-        }
-        self.room -= buf.len();
-        Ok(buf.len())
-    }
-
-    fn flush(&mut self) -> io::Result<()> {
-        if self.fails_flush {
-            return Err(io::Error::from(io::ErrorKind::Other));
-        }
-        Ok(())
-    }
-}
-
-const FIRST_RUN: &str = "clients 2\nbegin 1 write - 0:1\nrun 1\nbegin 2 read\nrun 2\n";
-
-const FIRST_PRINTED: &str =
+pub const FIRST_PRINTED: &str =
     "op 1: wrote 1\nop 2: read 1 0:1\nentry 1 0:1\nboundary 0\nerased none\n";
 
 #[test]
@@ -140,14 +62,14 @@ fn each_run_prints_its_lines(rt: HostRuntime) {
             "clients 2\nbegin 1 write - 0:1\nbegin 2 write - 0:2\nrun 2\nrun 1\nbegin 1 read\nrun 3\n",
             "op 2: wrote 1\nop 1: refused 5 ObjectVersionExists\nop 3: read 1 0:2\nentry 1 0:2\nboundary 0\nerased none\n",
         ),
-        // A write served step by step; its number ends with its answer.
+        // A write served step by step, its put and its check; its number ends with its answer.
         (
-            "clients 1\nbegin 1 write - 3:4\nserve 1\nserve 1\nbegin 1 write 1 5:6\nserve 2\n",
+            "clients 1\nbegin 1 write - 3:4\nserve 1\nserve 1\nserve 1\nbegin 1 write 1 5:6\nserve 2\nserve 2\n",
             "op 1: wrote 1\nfault 1 UnknownNumber\nop 2: wrote 2\nentry 1 3:4\nentry 2 5:6\nboundary 0\nerased none\n",
         ),
-        // A read takes two requests, of which the first prints nothing.
+        // A read takes three requests, of which the first two print nothing.
         (
-            "clients 1\nbegin 1 write - 0:1\nrun 1\nbegin 1 read\nserve 2\nserve 2\n",
+            "clients 1\nbegin 1 write - 0:1\nrun 1\nbegin 1 read\nserve 2\nserve 2\nserve 2\n",
             "op 1: wrote 1\nop 2: read 1 0:1\nentry 1 0:1\nboundary 0\nerased none\n",
         ),
         (
@@ -165,6 +87,11 @@ fn each_run_prints_its_lines(rt: HostRuntime) {
             "fault 1 UnknownNumber\nboundary 0\nerased none\n",
         ),
     ];
+    prints_each(&rt, &rows);
+}
+
+/// Each script ends well, and prints this.
+fn prints_each(rt: &(impl Abort + AllocGlobal), rows: &[(&str, &str)]) {
     for (script, want) in rows {
         let ran = outcome_of(rt.alloc(), script.as_bytes());
         assert_eq!(rt; ran.out.as_slice(), want.as_bytes(), "of {script:?}");
@@ -174,10 +101,52 @@ fn each_run_prints_its_lines(rt: HostRuntime) {
 }
 
 #[test]
+fn the_boundary_and_the_erased_ids_are_printed(rt: HostRuntime) {
+    let rows = [
+        (
+            "clients 2\nbegin 1 write - 0:1\nrun 1\nbegin 1 write 1 0:2\nrun 2\nbegin 2 advance 2\nbegin 2 advance 1\nrun 3\nbegin 2 check 1\nrun 4\nbegin 2 delete 1\nrun 5\nbegin 2 delete 2\nrun 6\nbegin 1 read\nrun 7\n",
+            "op 1: wrote 1\nop 2: wrote 2\nfault 4 BoundaryTooHigh\nop 3: done\nop 4: refused 5 ObjectVersionExists\nop 5: done\nop 6: refused 7 InvalidObjectState\nop 7: read 2 0:2\nentry 1 0:1\nentry 2 0:2\nboundary 1\nerased 1\n",
+        ),
+        // A second create of an erased name is no entry.
+        (
+            "clients 1\nbegin 1 write - 0:1\nrun 1\nbegin 1 write 1 0:2\nrun 2\nbegin 1 write 2 0:3\nrun 3\nbegin 1 advance 2\nrun 4\nbegin 1 delete 2\nrun 5\nbegin 1 write 1 0:9\nrun 6\nbegin 1 read\nrun 7\n",
+            "op 1: wrote 1\nop 2: wrote 2\nop 3: wrote 3\nop 4: done\nop 5: done\nop 6: refused 5 ObjectVersionExists\nop 7: read 3 0:3\nentry 1 0:1\nentry 2 0:2\nentry 3 0:3\nboundary 2\nerased 2\n",
+        ),
+        // A check takes one request, an advance and a delete take two, and an advance to where the
+        // boundary is takes one.
+        (
+            "clients 1\nbegin 1 write - 0:1\nrun 1\nbegin 1 write 1 0:2\nrun 2\nbegin 1 check 1\nserve 3\nbegin 1 advance 1\nserve 4\nserve 4\nbegin 1 advance 1\nserve 5\nbegin 1 delete 1\nserve 6\nserve 6\nbegin 1 check 2\nserve 7\n",
+            "op 1: wrote 1\nop 2: wrote 2\nop 3: done\nop 4: done\nop 5: done\nop 6: done\nop 7: done\nentry 1 0:1\nentry 2 0:2\nboundary 1\nerased 1\n",
+        ),
+        // Erased ids are printed in ascending order, each once.
+        (
+            "clients 1\nbegin 1 write - 0:1\nrun 1\nbegin 1 write 1 0:2\nrun 2\nbegin 1 write 2 0:3\nrun 3\nbegin 1 write 3 0:4\nrun 4\nbegin 1 write 4 0:5\nrun 5\nbegin 1 advance 4\nrun 6\nbegin 1 delete 4\nrun 7\nbegin 1 delete 3\nrun 8\nbegin 1 delete 1\nrun 9\nbegin 1 delete 3\nrun 10\n",
+            "op 1: wrote 1\nop 2: wrote 2\nop 3: wrote 3\nop 4: wrote 4\nop 5: wrote 5\nop 6: done\nop 7: done\nop 8: done\nop 9: done\nop 10: done\nentry 1 0:1\nentry 2 0:2\nentry 3 0:3\nentry 4 0:4\nentry 5 0:5\nboundary 4\nerased 1 3 4\n",
+        ),
+        // Before anything is written, and the greatest id. A refused boundary begins nothing.
+        (
+            "clients 1\nbegin 1 advance 0\nrun 1\nbegin 1 advance 1\nrun 2\nbegin 1 check 0\nrun 2\nbegin 1 check 18446744073709551615\nrun 3\nbegin 1 advance 18446744073709551615\nbegin 1 delete 18446744073709551615\nrun 4\nbegin 1 delete 0\nrun 5\nbegin 2 advance 9\n",
+            "op 1: done\nfault 4 BoundaryTooHigh\nfault 1 UnknownNumber\nop 2: refused 5 ObjectVersionExists\nop 3: done\nfault 4 BoundaryTooHigh\nop 4: refused 7 InvalidObjectState\nop 5: done\nfault 1 UnknownNumber\nboundary 0\nerased none\n",
+        ),
+    ];
+    prints_each(&rt, &rows);
+}
+
+#[test]
 fn answers_and_faults_are_printed(rt: HostRuntime) -> Result<(), Fail> {
     let answers = [
+        (Answer::Refused(1), "op 7: refused 1 IoError"),
+        (Answer::Refused(2), "op 7: refused 2 ObjectStoreError"),
+        (Answer::Refused(3), "op 7: refused 3 ObjectUpdateTimeout"),
+        (Answer::Refused(4), "op 7: refused 4 LatestRecordMissing"),
+        (Answer::Refused(5), "op 7: refused 5 ObjectVersionExists"),
+        (Answer::Refused(6), "op 7: refused 6 Fenced"),
+        (Answer::Refused(7), "op 7: refused 7 InvalidObjectState"),
+        (Answer::Refused(8), "op 7: refused 8 CallbackError"),
         (Answer::Refused(9), "op 7: refused 9 NoMemory"),
         (Answer::Refused(10), "op 7: refused 10 IdExhausted"),
+        (Answer::Refused(11), "op 7: refused 11 TurnsExhausted"),
+        (Answer::Done, "op 7: done"),
         (Answer::Wrote(u64::MAX), "op 7: wrote 18446744073709551615"),
         (Answer::Read(None), "op 7: read none"),
     ];
@@ -190,6 +159,7 @@ fn answers_and_faults_are_printed(rt: HostRuntime) -> Result<(), Fail> {
     let faults = [
         (EventFault::UnknownNumber, "fault 1 UnknownNumber"),
         (EventFault::UnknownBase, "fault 3 UnknownBase"),
+        (EventFault::BoundaryTooHigh, "fault 4 BoundaryTooHigh"),
         (EventFault::NoMemory, "fault 7 NoMemory"),
     ];
     for (fault, want) in faults {
@@ -249,6 +219,23 @@ fn bad_lines_are_named(rt: HostRuntime) -> Result<(), Fail> {
         ("clients 1\nbegin 1 write - 00:1\n", 2),
         ("clients 1\nbegin 1 write - 0:18446744073709551616\n", 2),
         ("clients 1\nbegin 1 write x 0:1\n", 2),
+        // A check, an advance and a delete have one id.
+        ("clients 1\nbegin 1 check\n", 2),
+        ("clients 1\nbegin 1 check \n", 2),
+        ("clients 1\nbegin 1 check -\n", 2),
+        ("clients 1\nbegin 1 check 1 2\n", 2),
+        ("clients 1\nbegin 1 Check 1\n", 2),
+        ("clients 1\nbegin check 1\n", 2),
+        ("clients 1\ncheck 1\n", 2),
+        ("clients 1\nbegin 1 advance -1\n", 2),
+        ("clients 1\nbegin 1 advance +1\n", 2),
+        ("clients 1\nbegin 1 advance\n", 2),
+        ("clients 1\nbegin 1 advance 18446744073709551616\n", 2),
+        ("clients 1\nbegin 1 delete 01\n", 2),
+        ("clients 1\nbegin 1 delete\n", 2),
+        ("clients 1\nbegin 1 delete  1\n", 2),
+        ("clients 1\nbegin 1 delete 1 \n", 2),
+        ("clients 1\nbegin 1 deletes 1\n", 2),
     ];
     for (script, line) in rows {
         let ran = outcome_of(rt.alloc(), script.as_bytes());
@@ -266,131 +253,4 @@ fn bad_lines_are_named(rt: HostRuntime) -> Result<(), Fail> {
     assert_eq!(rt; ran.err.as_slice(), b"line 4: bad line\n".as_slice());
     assert_eq!(rt; ran.status, 2);
     Ok(())
-}
-
-/// A first line, and then a line of this byte so many times, and a fault.
-fn long_script(alloc: Global, begin: &str, count: usize) -> Result<Vec<u8>, AllocError> {
-    let mut script = Vec::new(alloc);
-    script.extend_from_slice(b"clients 1\n".as_slice())?;
-    script.extend_from_slice(begin.as_bytes())?;
-    for _ in 0..count {
-        script.push(b'1')?;
-    }
-    script.extend_from_slice(b"\nserve 1\n".as_slice())?;
-    Ok(script)
-}
-
-#[test]
-fn long_lines_are_bad_and_long_comments_are_not(rt: HostRuntime) -> Result<(), Fail> {
-    for count in [100usize, 251, 252, 253, 10_000, 100_000] {
-        let script = long_script(rt.alloc(), "run ", count)?;
-        let ran = outcome_of(rt.alloc(), script.as_slice());
-        assert_eq!(rt; ran.err.as_slice(), b"line 2: bad line\n".as_slice());
-        assert_eq!(rt; ran.status, 2);
-        let script = long_script(rt.alloc(), "#", count)?;
-        let ran = outcome_of(rt.alloc(), script.as_slice());
-        assert_eq!(rt;
-            ran.out.as_slice(),
-            b"fault 1 UnknownNumber\nboundary 0\nerased none\n".as_slice()
-        );
-        assert_eq!(rt; ran.status, 0);
-    }
-    Ok(())
-}
-
-#[test]
-fn a_line_without_end_is_bad_at_once(rt: HostRuntime) {
-    let given = Cell::new(0);
-    let reader = Endless {
-        first: b"clients 1\nserve 1\n",
-        again: b"1",
-        given: &given,
-    };
-    let ran = outcome_of(rt.alloc(), reader);
-    assert_eq!(rt; ran.out.as_slice(), b"fault 1 UnknownNumber\n".as_slice());
-    assert_eq!(rt; ran.err.as_slice(), b"line 3: bad line\n".as_slice());
-    assert_eq!(rt; ran.status, 2);
-    // The two lines, and one byte more than a line may have.
-    assert_eq!(rt; given.get(), 18 + 257);
-}
-
-#[test]
-fn slow_readers_say_the_same(rt: HostRuntime) {
-    let reader = Slow {
-        bytes: FIRST_RUN.as_bytes(),
-        interrupted: false,
-    };
-    let ran = outcome_of(rt.alloc(), reader);
-    assert_eq!(rt; ran.out.as_slice(), FIRST_PRINTED.as_bytes());
-    assert_eq!(rt; ran.status, 0);
-    let reader = Slow {
-        bytes: b"# a comment\n\nclients 1\n# another\nserve 1 \n",
-        interrupted: false,
-    };
-    let ran = outcome_of(rt.alloc(), reader);
-    assert_eq!(rt; ran.err.as_slice(), b"line 5: bad line\n".as_slice());
-    assert_eq!(rt; ran.status, 2);
-}
-
-#[test]
-fn a_failed_read_ends_the_script(rt: HostRuntime) {
-    for script in [
-        "",
-        "# no",
-        "clients 1\nserve 1\n",
-        "clients 1\nserve 1\nser",
-        "clients 1\nserve 1\n# no",
-    ] {
-        let ran = outcome_of(rt.alloc(), Broken(script.as_bytes()));
-        assert_eq!(rt; ran.err.as_slice(), b"read failed\n".as_slice());
-        assert_eq!(rt; ran.out.is_empty(), script.len() < 5);
-        assert_eq!(rt; ran.status, 1);
-    }
-}
-
-#[test]
-fn a_failed_write_ends_the_script(rt: HostRuntime) {
-    let script = b"clients 1\nserve 1\n";
-    let all = 45usize;
-    for (room, fails_flush, want) in [
-        (all, false, 0),
-        (all - 1, false, 1),
-        (0, false, 1),
-        (all, true, 1),
-    ] {
-        let mut err = Vec::new(rt.alloc());
-        let mut out = Full { room, fails_flush };
-        let status = run_script(rt.alloc(), script.as_slice(), &mut out, &mut err);
-        assert_eq!(rt; status, want, "at room {room}");
-        let said = if want == 0 { "" } else { "write failed\n" };
-        assert_eq!(rt; err.as_slice(), said.as_bytes());
-        // A failed write of the refusal is passed over.
-        let mut deaf = Full {
-            room: 0,
-            fails_flush,
-        };
-        let mut out = Full { room, fails_flush };
-        let status = run_script(rt.alloc(), script.as_slice(), &mut out, &mut deaf);
-        assert_eq!(rt; status, want);
-    }
-}
-
-#[test]
-fn a_closed_output_ends_a_script_without_end(rt: HostRuntime) {
-    let given = Cell::new(0);
-    let reader = Endless {
-        first: b"clients 1\n",
-        again: b"serve 1\n",
-        given: &given,
-    };
-    let mut out = Full {
-        room: 0,
-        fails_flush: false,
-    };
-    let mut err = Vec::new(rt.alloc());
-    let status = run_script(rt.alloc(), reader, &mut out, &mut err);
-    assert_eq!(rt; err.as_slice(), b"write failed\n".as_slice());
-    assert_eq!(rt; status, 1);
-    // Each of the lines prints 22 bytes, and what was printed is written from 8192 on.
-    assert_eq!(rt; given.get(), 10 + 8 * 373);
 }
