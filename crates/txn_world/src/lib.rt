@@ -10,7 +10,5 @@ mod requests;
 mod tables;
 #[cfg(test)]
 mod tests;
-#[cfg(test)]
-mod tests_boundary;
 pub mod trace;
 pub mod world;
