@@ -14,6 +14,9 @@ impl Model for Unread {
     ghost also_owns = { λ _. ftrue };
 }
 
+// It owns nothing, so it may go to another thread.
+unsafe impl Send for Unread {}
+
 impl Unread {
     fn new() -> Unread
         ensures { result.value ≡ 0 }

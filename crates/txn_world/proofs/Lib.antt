@@ -20,3 +20,7 @@ pub mod Events
 pub mod Consequences
 pub mod Runs
 pub mod Entries
+pub mod Journal
+pub mod Shares
+pub mod Working
+pub mod Sends

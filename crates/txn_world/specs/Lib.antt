@@ -11,3 +11,8 @@ pub mod Doing
 pub mod Machine
 pub mod Laws
 pub mod Shown
+pub mod Kept
+pub mod KeptLends
+pub mod Finish
+pub mod Work
+pub mod Crew

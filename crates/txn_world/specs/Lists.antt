@@ -1,5 +1,5 @@
--- Lists that are counted from 1, and lists that ascend.
-use Rattle.std.specs.Prelude.{◌≡◌, nat_eq, ℕ, zero, suc, Bool, List, Option, None, slice_get}
+-- Lists that are counted from 1, lists that ascend, and lists of what a function gives.
+use Rattle.std.specs.Prelude.{◌≡◌, ◌<◌, nat_eq, ℕ, zero, suc, Bool, List, Option, Some, None, length, slice_get}
 use Rattle.std.specs.Ordering.{nat_cmp}
 use Rattle.std.specs.List.{list_any}
 use Rattle.std.specs.List.Sorted.{IsStrictlySortedBy}
@@ -13,3 +13,8 @@ numbered xs (suc n) = slice_get xs n
 pub record AreAscending (is_one : ℕ → Bool) (ns : List ℕ) : Type 0 where
   pub ascending : IsStrictlySortedBy nat_cmp ns
   pub all : (n : ℕ) → list_any (nat_eq n) ns ≡ is_one n
+
+-- so many elements: element k, counted from 0, is f k
+pub record AreEach {A : Type 0} (f : ℕ → A) (n : ℕ) (xs : List A) : Type 0 where
+  pub all : length xs ≡ n
+  pub each : (k : ℕ) → k < n → slice_get xs k ≡ Some (f k)

@@ -3,6 +3,9 @@
 
 pub mod doing;
 pub mod event;
+pub mod finish;
+pub mod gate;
+pub mod kept;
 pub mod laws;
 pub mod numerals;
 pub mod record;
@@ -11,4 +14,5 @@ mod tables;
 #[cfg(test)]
 mod tests;
 pub mod trace;
+pub mod work;
 pub mod world;

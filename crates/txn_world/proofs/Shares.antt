@@ -1,0 +1,48 @@
+-- Lists that grow as a function gives their elements, and tests that say what they are asked.
+use Rattle.std.proofs.Common.{◌≡◌, ◌≢◌, ◌↔◌, IsTrue, ℕ, zero, suc, ◌+◌, ◌<◌, ◌≤◌, List, [], ◌∷◌, ◌++◌, length, slice_get, Bool, true, false, Some, ◌⊎◌, inl, inr, refl, sym, ◌∙◌, ap, subst, arith}
+use Rattle.std.proofs.lemmas.List.{length-append}
+use Rattle.std.proofs.lemmas.Option.{same_Some}
+use Rattle.txn_world.specs.Lists.{AreEach}
+use Rattle.txn_world.proofs.Lists.{get_kept, get_last}
+
+near : (k n : ℕ) → k < n + 1 → (k < n) ⊎ (k ≡ n)
+near zero zero small = inr refl
+near zero (suc n) small = inl (omega arith)
+near (suc k) zero small = absurd (omega (arith, small))
+near (suc k) (suc n) small = elim (near k n (omega (arith, small))) [ inl below ↦ inl (omega (arith, below)) | inr at ↦ inr (ap suc at) ]
+
+pub each_none : {A : Type 0} (f : ℕ → A) → AreEach f 0 []
+each_none f = record { all = refl; each = λ k small. absurd (omega (arith, small)) }
+
+pub each_more : {A : Type 0} (f : ℕ → A) (n : ℕ) (xs : List A) (x : A) → AreEach f n xs → x ≡ f n → AreEach f (n + 1) (xs ++ x ∷ [])
+each_more f n xs x h is = record {
+    all = omega (arith, h.all, length-append xs (x ∷ []));
+    each = λ k small. elim (near k n small) [
+        inl below ↦ get_kept xs (x ∷ []) k (f k) (h.each k below)
+      | inr at ↦ subst (λ j. slice_get (xs ++ x ∷ []) j ≡ Some (f j)) (h.all ∙ sym at) (get_last xs x ∙ ap Some (is ∙ ap f (sym h.all)))
+      ];
+  }
+
+-- what holds of each number from 1 on, and of the next
+pub one_further : (f : ℕ → ℕ) (n m : ℕ) → ((k : ℕ) → 1 ≤ k → k ≤ n → f k ≡ m) → f (n + 1) ≡ m → (k : ℕ) → 1 ≤ k → k ≤ n + 1 → f k ≡ m
+one_further f n m h is k from to = elim (near k (n + 1) (omega (arith, to))) [
+    inl below ↦ h k from (omega (arith, below))
+  | inr at ↦ subst (λ j. f j ≡ m) (sym at) is
+  ]
+
+-- what holds of each element before a place, and of the one there
+pub get_further : {A : Type 0} (P : A → Type 0) (xs : List A) (n : ℕ) (x : A) → ((k : ℕ) (y : A) → k < n → slice_get xs k ≡ Some y → P y) → slice_get xs n ≡ Some x → P x → (k : ℕ) (y : A) → k < n + 1 → slice_get xs k ≡ Some y → P y
+get_further P xs n x h at is k y small e = elim (near k n small) [
+    inl below ↦ h k y below e
+  | inr here ↦ subst P (same_Some _ _ (sym at ∙ (ap (slice_get xs) (sym here) ∙ e))) is
+  ]
+
+not_both : (b : Bool) → b ≡ true → b ≡ false → ⊥
+not_both b is not = cc
+
+-- a test that says what it is asked
+pub held : (b : Bool) (P Q : Type 0) → (IsTrue b ↔ P) → b ≡ true → (P → Q) → Q
+held b P Q exact is same = same (exact.0 is)
+
+pub not_held : (b : Bool) (P Q : Type 0) → (IsTrue b ↔ P) → b ≡ false → (Q → P) → Q → ⊥
+not_held b P Q exact is same q = not_both b (exact.1 (same q)) is
