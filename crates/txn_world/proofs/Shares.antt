@@ -16,26 +16,26 @@ each_none f = record { all = refl; each = λ k small. absurd (omega (arith, smal
 
 pub each_more : {A : Type 0} (f : ℕ → A) (n : ℕ) (xs : List A) (x : A) → AreEach f n xs → x ≡ f n → AreEach f (n + 1) (xs ++ x ∷ [])
 each_more f n xs x h is = record {
-    all = omega (arith, h.all, length-append xs (x ∷ []));
-    each = λ k small. elim (near k n small) [
-        inl below ↦ get_kept xs (x ∷ []) k (f k) (h.each k below)
-      | inr at ↦ subst (λ j. slice_get (xs ++ x ∷ []) j ≡ Some (f j)) (h.all ∙ sym at) (get_last xs x ∙ ap Some (is ∙ ap f (sym h.all)))
-      ];
-  }
+  all = omega (arith, h.all, length-append xs (x ∷ []));
+  each = λ k small. elim (near k n small) [
+    | inl below ↦ get_kept xs (x ∷ []) k (f k) (h.each k below)
+    | inr at ↦ subst (λ j. slice_get (xs ++ x ∷ []) j ≡ Some (f j)) (h.all ∙ sym at) (get_last xs x ∙ ap Some (is ∙ ap f (sym h.all)))
+  ];
+}
 
 -- what holds of each number from 1 on, and of the next
 pub one_further : (f : ℕ → ℕ) (n m : ℕ) → ((k : ℕ) → 1 ≤ k → k ≤ n → f k ≡ m) → f (n + 1) ≡ m → (k : ℕ) → 1 ≤ k → k ≤ n + 1 → f k ≡ m
 one_further f n m h is k from to = elim (near k (n + 1) (omega (arith, to))) [
-    inl below ↦ h k from (omega (arith, below))
+  | inl below ↦ h k from (omega (arith, below))
   | inr at ↦ subst (λ j. f j ≡ m) (sym at) is
-  ]
+]
 
 -- what holds of each element before a place, and of the one there
 pub get_further : {A : Type 0} (P : A → Type 0) (xs : List A) (n : ℕ) (x : A) → ((k : ℕ) (y : A) → k < n → slice_get xs k ≡ Some y → P y) → slice_get xs n ≡ Some x → P x → (k : ℕ) (y : A) → k < n + 1 → slice_get xs k ≡ Some y → P y
 get_further P xs n x h at is k y small e = elim (near k n small) [
-    inl below ↦ h k y below e
+  | inl below ↦ h k y below e
   | inr here ↦ subst P (same_Some _ _ (sym at ∙ (ap (slice_get xs) (sym here) ∙ e))) is
-  ]
+]
 
 not_both : (b : Bool) → b ≡ true → b ≡ false → ⊥
 not_both b is not = cc

@@ -222,11 +222,7 @@ pub fn work_all<
     T: Clone + Send + Sync,
     C: ObjectCodec<T> + Drop + Send,
     G: Gate + Drop + Send,
->(
-    rt: &R,
-    kept: &Mutex<Kept<T, C>>,
-    workers: Vec<Worker<T, G>>,
-) -> Result<Vec<Worked>, AllocError>
+>(rt: &R, kept: &Mutex<Kept<T, C>>, workers: Vec<Worker<T, G>>) -> Result<Vec<Worked>, AllocError>
     requires { IsExactClone T.is_clone }
     ensures all { IfOk result (λ worked. vec_len worked ≡ vec_len workers) }
     ensures each { IfOk result (λ worked. EachGrows workers.items worked.items) }

@@ -11,9 +11,9 @@ returns-then-not-came_once-clause-err g c = not_held c.came_once.result _ _ c.ca
 
 pub returns-then-not-agree-clause-err : goal.returns-then-not-agree-clause-err
 returns-then-not-agree-clause-err g c = (
-    held c.came_once.result _ _ c.came_once.ensures (search rules) (λ once. search rules),
-    not_held c.agree.result _ _ c.agree.ensures (search rules) (λ agree. subst (λ (xs : List Share). Agree c.args.kept.journal xs) (sym c.deref-2.ensures.value) agree),
-  )
+  held c.came_once.result _ _ c.came_once.ensures (search rules) (λ once. search rules),
+  not_held c.agree.result _ _ c.agree.ensures (search rules) (λ agree. subst (λ (xs : List Share). Agree c.args.kept.journal xs) (sym c.deref-2.ensures.value) agree),
+)
 
 pub returns-in_err-counts-clause-err : goal.returns-in_err-counts-clause-err
 returns-in_err-counts-clause-err g c =
@@ -25,7 +25,7 @@ returns-in_err-counts-clause-err g c =
 
 pub returns-clause-ok : goal.returns-clause-ok
 returns-clause-ok g c = record {
-    once = held c.came_once.result _ _ c.came_once.ensures (search rules) (λ once. search rules);
-    agree = held c.agree.result _ _ c.agree.ensures (search rules) (λ agree. subst (λ (xs : List Share). Agree c.args.kept.journal xs) c.deref-2.ensures.value agree);
-    are_counts = search rules;
-  }
+  once = held c.came_once.result _ _ c.came_once.ensures (search rules) (λ once. search rules);
+  agree = held c.agree.result _ _ c.agree.ensures (search rules) (λ agree. subst (λ (xs : List Share). Agree c.args.kept.journal xs) c.deref-2.ensures.value agree);
+  are_counts = search rules;
+}
