@@ -23,4 +23,3 @@ pub mod Entries
 pub mod Journal
 pub mod Shares
 pub mod Working
-pub mod Sends

@@ -5,3 +5,5 @@ pub mod Pieces
 pub mod Feeds
 pub mod Skips
 pub mod Playing
+pub mod CommandWords
+pub mod Sharing

@@ -4,3 +4,6 @@ pub mod Printed
 pub mod Script
 pub mod Reading
 pub mod Printing
+pub mod Threads
+pub mod Tallies
+pub mod Commands

@@ -1,7 +1,9 @@
-//! Runs scripts of events over a world, and prints what each call answered.
+//! Runs scripts of events, or workers on threads, over a world, and prints what came of them.
 #![tactic(auto)]
 
-ghost use Rattle.std.specs.Prelude.{◌≡◌, ◌↔◌, ◌∷◌, [], IsTrue, codes, drop, map, string_bytes};
+ghost use Rattle.std.specs.Prelude.{◌≡◌, ◌↔◌, ℕ, Some, IfSome, drop, map, string_bytes};
+ghost use Rattle.txnworld_cli.specs.declared.Command.{Command};
+ghost use Rattle.txnworld_cli.specs.Commands.{command_words, IsCommand, IsCount, count_text};
 
 mod line;
 mod lines;
@@ -13,6 +15,9 @@ mod stop;
 mod stream_tests;
 #[cfg(test)]
 mod tests;
+mod threads;
+#[cfg(test)]
+mod threads_tests;
 
 use crate::stop::Stop;
 use std::io::Write;
@@ -22,13 +27,37 @@ use std::{env, io};
 /// The status of wrong arguments.
 const USAGE: u8 = 2;
 
-/// Whether the words of the command, the program's name first, ask for a script.
-fn asks_for_script(words: &[String]) -> bool
-    ensures { IsTrue result ↔ (map string_bytes (drop 1 words.now) ≡ codes "script" ∷ []) }
+/// What the words of a command ask for.
+#[derive(Clone, Copy, Debug, PartialEq, Eq)]
+pub enum Command {
+    /// `script`: to run the script on the standard input.
+    Script,
+    /// `threads N`: to run so many workers, 1 to 8.
+    Threads(u64),
+}
+
+/// The count of workers that a word is: one digit from 1 to 8.
+fn count_of(word: &str) -> Option<u64>
+    ensures some { IfSome result IsCount }
+    ensures exact { (n : ℕ) → IsCount n → (result ≡ Some n) ↔ (word.now ≡ count_text n) }
+{
+    match word.as_bytes() {
+        [digit @ b'1'..=b'8'] => Some(u64::from(digit - b'0')),
+        _ => None,
+    }
+}
+
+/// What the words of the command ask for, the program's name first, where it is something.
+fn command_of(words: &[String]) -> Option<Command>
+    ensures some { IfSome result IsCommand }
+    ensures exact { (command : Command) → IsCommand command → (result ≡ Some command) ↔ (map string_bytes (drop 1 words.now) ≡ command_words command) }
 {
     match words {
-        [_program, mode] => mode.as_str() == "script",
-        _ => false,
+        [_program, mode] if mode.as_str() == "script" => Some(Command::Script),
+        [_program, mode, count] if mode.as_str() == "threads" => {
+            Some(Command::Threads(count_of(count.as_str())?))
+        }
+        _ => None,
     }
 }
 
@@ -50,10 +79,17 @@ fn main(rt: HostRuntime) -> ExitCode {
             _ => Vec::new(rt.alloc()),
         },
     };
-    if !asks_for_script(&words) {
+    let Some(command) = command_of(&words) else {
         let _ = err.writeln("usage: txnworld script | txnworld threads N");
         return ExitCode::from(USAGE);
-    }
+    };
     let mut out = io::writer(&rt);
-    ExitCode::from(script::run_script(rt.alloc(), rt.reader(), &mut out, &mut err))
+    let alloc = rt.alloc();
+    let status = match command {
+        Command::Script => script::run_script(alloc, rt.reader(), &mut out, &mut err),
+        Command::Threads(workers) => {
+            threads::run_threads(&rt, alloc, workers, &mut out, &mut err)
+        }
+    };
+    ExitCode::from(status)
 }

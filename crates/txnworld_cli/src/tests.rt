@@ -1,8 +1,8 @@
 //! What scripts print, line by line.
 
-use crate::asks_for_script;
 use crate::printed::{AnswerLine, Answered, FaultLine};
 use crate::script::run_script;
+use crate::{Command, command_of};
 use std::alloc::{AllocGlobal, Global};
 use std::io::Read;
 use std::process::Abort;
@@ -30,20 +30,34 @@ pub const FIRST_PRINTED: &str =
     "op 1: wrote 1\nop 2: read 1 0:1\nentry 1 0:1\nboundary 0\nerased none\n";
 
 #[test]
-fn the_one_word_is_script(rt: HostRuntime) -> Result<(), Fail> {
+fn each_command_has_its_words(rt: HostRuntime) -> Result<(), Fail> {
     for (words, want) in [
-        (["txnworld", "script"].as_slice(), true),
-        (["txnworld"].as_slice(), false),
-        ([].as_slice(), false),
-        (["txnworld", "Script"].as_slice(), false),
-        (["txnworld", "threads", "2"].as_slice(), false),
-        (["txnworld", "script", "script"].as_slice(), false),
+        (["txnworld", "script"].as_slice(), Some(Command::Script)),
+        (["txnworld"].as_slice(), None),
+        ([].as_slice(), None),
+        (["txnworld", "Script"].as_slice(), None),
+        (["txnworld", "script", "script"].as_slice(), None),
+        (
+            ["txnworld", "threads", "1"].as_slice(),
+            Some(Command::Threads(1)),
+        ),
+        (
+            ["txnworld", "threads", "8"].as_slice(),
+            Some(Command::Threads(8)),
+        ),
+        (["txnworld", "threads"].as_slice(), None),
+        (["txnworld", "threads", "0"].as_slice(), None),
+        (["txnworld", "threads", "9"].as_slice(), None),
+        (["txnworld", "threads", "02"].as_slice(), None),
+        (["txnworld", "threads", ""].as_slice(), None),
+        (["txnworld", "threads", "2", "2"].as_slice(), None),
+        (["txnworld", "script", "2"].as_slice(), None),
     ] {
         let mut command = Vec::new(rt.alloc());
         for word in words {
             command.push(String::from_str(rt.alloc(), word)?)?;
         }
-        assert_eq!(rt; asks_for_script(&command), want, "of {words:?}");
+        assert_eq!(rt; command_of(&command), want, "of {words:?}");
     }
     Ok(())
 }

@@ -1,0 +1,21 @@
+use Rattle.std.proofs.Common.{rules, ◌≡◌, refl, sym, ◌∙◌, ap, length, Some}
+use Rattle.std.specs.Vec.{vec_len}
+use Rattle.std.proofs.lemmas.List.{length-map}
+use Rattle.txn_world.specs.declared.record.Record.{Record}
+use Rattle.txn_world.specs.declared.record.RecordCodec.{RecordCodec}
+use Rattle.txn_world.specs.Record.{record_read}
+use Rattle.txn_world.specs.History.{history}
+use Rattle.txn_world.specs.Machine.{WorldState}
+use Rattle.txnworld_cli.proofs.threads.tally_of.Goals as goal
+
+pub returns : goal.returns
+returns c =
+    let items : vec_len c.in-Ok.entries ≡ length c.in-Ok.entries.items = search rules in
+    record {
+      workers_are = refl;
+      calls = search rules;
+      answers = search rules;
+      entries = (c.len-history.ensures ∙ items) ∙ (sym (length-map c.in-Ok.entries.items Some) ∙ (ap length c.in-Ok.ensures ∙ ap (λ (w : WorldState Record RecordCodec). length (history record_read w.state.trace)) c.world-2.ensures.world));
+      agree = c.in_ok-agree.ensures;
+      replays = c.world.ensures.replays;
+    }
