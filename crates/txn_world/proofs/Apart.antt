@@ -2,7 +2,7 @@
 use Rattle.std.proofs.Common.{◌≡◌, ◌≢◌, nat_eq, ℕ, ◌<◌, ◌^◌, List, Bool, true, false, cond, Option, Some, None, refl, sym, ◌∙◌, ap}
 use Rattle.std.specs.Option.{option_map}
 use Rattle.std.specs.Fmt.{decimal}
-use Rattle.std.specs.Ordering.{is_eq, nat_cmp}
+use Rattle.std.specs.Ordering.{eq_by_cmp, is_eq, nat_cmp}
 use Rattle.std.specs.Cmp.Lexicographic.{pointwise, slice_cmp, lists_ties, texts_ties}
 use Rattle.std.specs.Cmp.{tied_itself}
 use Rattle.std.specs.declared.cmp.Ordering.{Ordering}
@@ -33,14 +33,17 @@ boundary_no_version = no_version (version_of world_names world_boundary) refl
 pub is_itself : is_boundary world_boundary ≡ true
 is_itself = ap is_eq (tied_itself path_cmp_total world_boundary)
 
--- a path that is tied with the boundary's is the boundary's
-tied : (path : Segments) (r : Ordering) → path_cmp path world_boundary ≡ r → is_eq r ≡ true → path ≡ world_boundary
-tied path Less e h = cc
-tied path Equal e h = path_cmp-IsAntisymmetric path world_boundary e
-tied path Greater e h = cc
+-- two paths that are tied in the order are one
+pub tied_path : (q p : Segments) → eq_by_cmp path_cmp q p ≡ true → q ≡ p
+tied_path q p h = by (path_cmp q p) refl h
+  where
+    by : (r : Ordering) → path_cmp q p ≡ r → is_eq r ≡ true → q ≡ p
+    by Less e h = cc
+    by Equal e h = path_cmp-IsAntisymmetric q p e
+    by Greater e h = cc
 
 pub is_boundary_path : (path : Segments) → is_boundary path ≡ true → path ≡ world_boundary
-is_boundary_path path h = tied path (path_cmp path world_boundary) refl h
+is_boundary_path path h = tied_path path world_boundary h
 
 other : (path : Segments) (b : Bool) → is_boundary path ≡ b → world_boundary ≢ path → b ≡ false
 other path true e h = absurd (h (sym (is_boundary_path path e)))

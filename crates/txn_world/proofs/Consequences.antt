@@ -1,6 +1,6 @@
 -- What follows of one history.
-use Rattle.std.proofs.Common.{◌≡◌, ℕ, zero, suc, ◌+◌, ◌-◌, ◌<◌, ◌≤◌, List, [], ◌∷◌, ◌++◌, length, take, slice_get, get_or, ◌==◌, Bool, true, false, cond, Option, Some, None, unwrap_or, inl, inr, refl, sym, ◌∙◌, ap, subst, arith, add-one}
-use Rattle.std.proofs.lemmas.List.{take_more, take_all}
+use Rattle.std.proofs.Common.{◌≡◌, ℕ, zero, suc, ◌+◌, ◌-◌, ◌<◌, ◌≤◌, List, [], ◌∷◌, ◌++◌, take, slice_get, ◌==◌, Bool, true, false, cond, Option, Some, None, unwrap_or, inl, inr, refl, sym, ◌∙◌, ap, subst, arith}
+use Rattle.std.proofs.lemmas.List.{take_all}
 use Rattle.std.proofs.lemmas.List.Folds.{list_any-append}
 use Rattle.std.proofs.lemmas.Bool.{both_ways, eq-eqb, cases_lt}
 use Rattle.std.proofs.lemmas.Option.{slice_get_cases, slice_get_within, get_or_from_slice_get, same_Some}
@@ -22,16 +22,12 @@ use Rattle.txn_world.specs.OneHistory.{VersionPut, BoundaryPut, VersionRemoved, 
 use Rattle.txn_world.specs.Machine.{boundary_after}
 use Rattle.txn_world.specs.Laws.{NeverFalls, KeepsAbove, HasOneWriter}
 use Rattle.txn_world.proofs.Lists.{any_true, any_last}
-use Rattle.txn_world.proofs.Rows.{row_op, versions_of-more, versions_grow}
+use Rattle.txn_world.proofs.Rows.{is_id_some, row_op, front_more, versions_of-more, versions_grow}
 use Rattle.txn_world.proofs.Apart.{boundary_no_version, raise_creates, is_boundary_path}
 use Rattle.txn_world.proofs.Indexes.{begun_reached, answered_reached, effect_reached}
-use Rattle.txn_world.proofs.Effects.{told_id}
 
 module _ {T : Type 0} where
   -- fronts of a list
-
-  front_more : (rows : List (Row T)) (k : ℕ) (row : Row T) → k < length rows → get_or rows k row ≡ row → take (suc k) rows ≡ take k rows ++ row ∷ []
-  front_more rows k row lt is = ap (λ n. take n rows) (sym (add-one k)) ∙ (take_more rows k row lt ∙ ap (λ (r : Row T). take k rows ++ r ∷ []) is)
 
   -- what each row keeps, later fronts have
   later : (P : List (Row T) → Type 0) (rows : List (Row T)) → ((k : ℕ) (row : Row T) → slice_get rows k ≡ Some row → P (take k rows) → P (take k rows ++ row ∷ [])) → (i n : ℕ) → P (take i rows) → P (take (n + i) rows)
@@ -121,7 +117,7 @@ module _ {T : Type 0} (decode : List ℕ → Option T) where
   row_removes : (rows : List (Row T)) (id : ℕ) (row : Row T) → Fits decode rows row → erases id row ≡ true → id ≤ boundary rows
   row_removes rows id (Begun op call) fits e = cc
   row_removes rows id (Answered op answer) fits e = cc
-  row_removes rows id (Effect op request) fits e = removes_below rows op id request (told_id id (removed request) e) fits
+  row_removes rows id (Effect op request) fits e = removes_below rows op id request (is_id_some id (removed request) e) fits
 
   pub keeps_above : (rows : List (Row T)) → IsOneHistory decode rows → KeepsAbove rows
   keeps_above rows good k id row e removes = row_removes (take k rows) id row (good k row e) removes

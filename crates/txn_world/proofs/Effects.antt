@@ -3,12 +3,10 @@ use Rattle.std.proofs.Common.{◌≡◌, ◌≢◌, ℕ, zero, suc, ◌+◌, ◌
 use Rattle.std.specs.Option.{option_map}
 use Rattle.std.specs.Fmt.{decimal}
 use Rattle.std.specs.FinMap.{get, insert, remove, get-insert, get-remove, same_map}
-use Rattle.std.specs.Ordering.{eq_by_cmp, is_eq}
-use Rattle.std.specs.declared.cmp.Ordering.{Ordering}
-use Rattle.std.specs.declared.cmp.Ordering.TheVariants.{Less, Equal, Greater}
+use Rattle.std.specs.Ordering.{eq_by_cmp}
 use Rattle.std.proofs.lemmas.List.{length-append}
 use Rattle.std.proofs.lemmas.List.Elements.{Contains-append_left, Contains-append_right}
-use Rattle.std.proofs.lemmas.Bool.{cases_eq, ne_eqb, eqb-true, eq-eqb, both_ways, ltb-true}
+use Rattle.std.proofs.lemmas.Bool.{cases_eq, ne_eqb, eq-eqb, both_ways, ltb-true}
 use Rattle.std.proofs.lemmas.Option.{same_Some}
 use Rattle.txn_store.specs.Paths.{Segments, path_cmp}
 use Rattle.txn_store.specs.VersionName.{version_path}
@@ -32,8 +30,8 @@ use Rattle.txn_world.specs.History.{Contents, HasContents, Version, is_id, has_i
 use Rattle.txn_world.specs.Calls.{is_above, id_told, tells, tells_above}
 use Rattle.txn_world.specs.OneHistory.{Opens, Answers, Appends, Recreates, Raises, Erases, VersionPut, BoundaryPut, VersionRemoved, Fits}
 use Rattle.txn_world.proofs.Lists.{get_more, get_last, any_true, any_more, any_last}
-use Rattle.txn_world.proofs.Rows.{versions_of-more, stored-more, boundary-same, put_count-more, newest_grows, one_history-more}
-use Rattle.txn_world.proofs.Apart.{apart, created_is, raise_creates, raised_is, removed_is}
+use Rattle.txn_world.proofs.Rows.{is_id_some, versions_of-more, stored-more, boundary-same, put_count-more, newest_grows, one_history-more}
+use Rattle.txn_world.proofs.Apart.{tied_path, apart, created_is, raise_creates, raised_is, removed_is}
 use Rattle.txn_world.proofs.Stands.{AllGiven, HistoryStands, FilesStand, KnowStands, Moves, bytes_at, create, remove_version, file_at, is_there}
 
 -- versions whose ids count up from 1
@@ -124,14 +122,6 @@ removed_other files id n fits small ne = get-remove_other files (version_path wo
 pub removed_missing : (files : Files) (path : Segments) → get files path ≡ None → remove files path ≡ files
 removed_missing files path missing = same_map path_cmp_total path_cmp-IsAntisymmetric (remove files path) files (λ q. get-remove path_cmp_total files path q ∙ at q (eq_by_cmp path_cmp q path) (tied_path q path))
   where
-    tied_path : (q p : Segments) → eq_by_cmp path_cmp q p ≡ true → q ≡ p
-    tied_path q p h = by (path_cmp q p) refl h
-      where
-        by : (r : Ordering) → path_cmp q p ≡ r → is_eq r ≡ true → q ≡ p
-        by Less e h = cc
-        by Equal e h = path_cmp-IsAntisymmetric q p e
-        by Greater e h = cc
-
     at : (q : Segments) (b : Bool) → (b ≡ true → q ≡ path) → cond b None (get files q) ≡ get files q
     at q true same = sym (ap (get files) (same refl) ∙ missing)
     at q false same = refl
@@ -160,11 +150,7 @@ given_removed path old new gone all q got e =
     by true is = cc
     by false is = all q got is
 
--- an answer that tells an id, or one above another
-
-pub told_id : (n : ℕ) (found : Option ℕ) → is_id n found ≡ true → found ≡ Some n
-told_id n None h = cc
-told_id n (Some m) h = ap Some (eqb-true m n h)
+-- an answer that tells an id above another
 
 told_above : (n : ℕ) (found : Option ℕ) → is_above n found ≡ true → (id : ℕ) × (found ≡ Some id) × (n < id)
 told_above n None h = cc
@@ -237,7 +223,7 @@ module _ {T : Type 0} (decode : List ℕ → Option T) where
       KnowStands decode (rows ++ Answered op answer ∷ []) store
   answered_more rows store op answer k fits known =
       quiet_more rows store (Answered op answer) k fits (versions_of-more rows (Answered op answer)) (stored-more rows (Answered op answer)) refl (λ n. refl)
-      (λ n e. known n (told_id n (id_told answer) e))
+      (λ n e. known n (is_id_some n (id_told answer) e))
       (λ n e. let id = told_above n (id_told answer) e in let bound = known id.0 id.1 in omega (arith, bound.1, id.2))
 
   -- no row but an effect moves the store

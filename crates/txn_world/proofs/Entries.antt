@@ -1,5 +1,5 @@
 -- The entries that the rows so far make.
-use Rattle.std.proofs.Common.{◌≡◌, ◌≢◌, ℕ, zero, suc, ◌+◌, ◌<◌, ◌≤◌, ◌==◌, List, [], ◌∷◌, ◌++◌, length, take, map, slice_get, get_or, Bool, true, false, cond, Option, Some, None, ◌⊎◌, inl, inr, refl, sym, ◌∙◌, ap, subst, arith, add-one}
+use Rattle.std.proofs.Common.{◌≡◌, ◌≢◌, ℕ, zero, suc, ◌+◌, ◌<◌, ◌≤◌, ◌==◌, List, [], ◌∷◌, ◌++◌, length, take, map, slice_get, get_or, Bool, true, false, cond, Option, Some, None, ◌⊎◌, inl, inr, refl, sym, ◌∙◌, ap, subst, arith}
 use Rattle.std.proofs.lemmas.List.{take_more, take_all, map-append, length-map, append-nil}
 use Rattle.std.proofs.lemmas.Bool.{both_ways, ne_eqb, eq-eqb, cases_lt}
 use Rattle.std.proofs.lemmas.Option.{slice_get_cases, slice_get_read, same_Some}
@@ -16,7 +16,7 @@ use Rattle.txn_world.specs.declared.trace.Row.TheVariants.{Effect, Begun, Answer
 use Rattle.txn_world.specs.History.{Version, is_boundary, bytes_as, created, created_by, has_id, with_version, versions_of, newest, history}
 use Rattle.txn_world.specs.OneHistory.{BoundaryPut, VersionPut, IsLegal, Fits, IsOneHistory}
 use Rattle.txn_world.proofs.Lists.{get_more}
-use Rattle.txn_world.proofs.Rows.{versions_of-more}
+use Rattle.txn_world.proofs.Rows.{front_more, versions_of-more}
 use Rattle.txn_world.proofs.Apart.{raise_creates, is_boundary_path}
 use Rattle.txn_world.proofs.Effects.{AreCounted, lacks_counted}
 
@@ -86,9 +86,6 @@ module _ {T : Type 0} (decode : List ℕ → Option T) where
         | inl h ↦ counted k v h
         | inr h ↦ (let same = ap (λ (w : Version). w.0) h.1 in let next = m.0 in omega (arith, same, h.0, next))
       ])
-
-  front_more : (rows : List (Row T)) (k : ℕ) (row : Row T) → k < length rows → get_or rows k row ≡ row → take (suc k) rows ≡ take k rows ++ row ∷ []
-  front_more rows k row lt is = ap (λ n. take n rows) (sym (add-one k)) ∙ (take_more rows k row lt ∙ ap (λ (r : Row T). take k rows ++ r ∷ []) is)
 
   -- at each front of one history the ids count up from 1
   pub fronts_counted : (rows : List (Row T)) (k : ℕ) → IsOneHistory decode rows → AreCounted 0 (versions_of (take k rows))

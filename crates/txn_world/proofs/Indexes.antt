@@ -6,6 +6,7 @@ use Rattle.std.specs.Ordering.{eq_by_cmp}
 use Rattle.std.specs.Cmp.{eq_by_cmp_equiv}
 use Rattle.std.proofs.lemmas.List.Folds.{list_any-append}
 use Rattle.std.proofs.lemmas.Bool.{cases_lt, lt-ltb, le-ltb}
+use Rattle.std.proofs.Math.Bool.{or-false}
 use Rattle.txn_store.specs.Paths.{Segments, path_cmp}
 use Rattle.txn_store.specs.declared.request.Request.{Request}
 use Rattle.txn_store.specs.declared.request.Request.TheVariants as requests
@@ -20,15 +21,11 @@ use Rattle.txn_world.specs.Calls.{id_told, is_above, tells, was_told, tells_abov
 use Rattle.txn_world.specs.Machine.{boundary_after}
 use Rattle.txn_world.proofs.Rows.{stored-more, boundary-same}
 
-or_false : (b : Bool) → (b || false) ≡ b
-or_false true = refl
-or_false false = refl
-
 any_one : {A : Type 0} (p : A → Bool) (xs : List A) (x : A) → list_any p (xs ++ x ∷ []) ≡ (list_any p xs || p x)
-any_one p xs x = list_any-append p xs (x ∷ []) ∙ ap (λ b. list_any p xs || b) (or_false (p x))
+any_one p xs x = list_any-append p xs (x ∷ []) ∙ ap (λ b. list_any p xs || b) (or-false (p x))
 
 any_quiet : {A : Type 0} (p : A → Bool) (xs : List A) (x : A) → p x ≡ false → list_any p (xs ++ x ∷ []) ≡ list_any p xs
-any_quiet p xs x none = any_one p xs x ∙ (ap (λ b. list_any p xs || b) none ∙ or_false (list_any p xs))
+any_quiet p xs x none = any_one p xs x ∙ (ap (λ b. list_any p xs || b) none ∙ or-false (list_any p xs))
 
 -- the boundary's path is tied with a path where that path is tied with it
 same_tie : (path : Segments) → eq_by_cmp path_cmp world_boundary path ≡ is_boundary path
@@ -43,7 +40,7 @@ said_removed true found = refl
 said_removed false found = refl
 
 pub max_above : (n a : ℕ) (id : Option ℕ) → nat_lt n (max a (unwrap_or id 0)) ≡ (nat_lt n a || is_above n id)
-max_above n a None = ap (nat_lt n) (omega arith) ∙ sym (or_false (nat_lt n a))
+max_above n a None = ap (nat_lt n) (omega arith) ∙ sym (or-false (nat_lt n a))
 max_above n a (Some m) =
     elim (cases_lt n a) [
       | inl lt ↦ rw (lt-ltb n a lt) (lt-ltb n (max a m) (omega (arith, lt)))

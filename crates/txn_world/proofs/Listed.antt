@@ -6,9 +6,7 @@ use Rattle.std.specs.Option.{option_map}
 use Rattle.std.specs.FinMap.{get, entries, contains_key-keys}
 use Rattle.std.specs.Ordering.{eq_by_cmp, is_eq}
 use Rattle.std.specs.Cmp.{tied_itself}
-use Rattle.std.specs.declared.cmp.Ordering.{Ordering}
-use Rattle.std.specs.declared.cmp.Ordering.TheVariants.{Less, Equal, Greater}
-use Rattle.std.proofs.lemmas.Bool.{cases_Bool, cases_lt, eqb-true, eq-eqb}
+use Rattle.std.proofs.lemmas.Bool.{cases_Bool, cases_lt, eq-eqb, or_cases, or_left, or_right}
 use Rattle.std.proofs.lemmas.Option.{same_Some}
 use Rattle.std.proofs.lemmas.List.Sorted.{list_any-IsPermutation}
 use Rattle.txn_store.specs.Paths.{Segments, path_cmp, is_below}
@@ -17,18 +15,16 @@ use Rattle.txn_store.specs.VersionOf.{version_of}
 use Rattle.txn_store.specs.Store.{Files, State as StoreState, meta_of, listing}
 use Rattle.txn_store.specs.declared.store.Got.{Got}
 use Rattle.txn_store.specs.declared.store.ObjectMeta.{ObjectMeta}
-use Rattle.txn_store.proofs.FileLemmas.{path_cmp_total, path_cmp-IsAntisymmetric}
+use Rattle.txn_store.proofs.FileLemmas.{path_cmp_total}
 use Rattle.txn_store.proofs.VersionOfLemmas.{version_of_path, path_of_version, version_below}
 use Rattle.txn_steps.specs.ReadSteps.{greater_of, greatest_from, greatest_listed}
 use Rattle.txn_world.specs.declared.trace.Row.{Row}
 use Rattle.txn_world.specs.Names.{world_names}
 use Rattle.txn_world.specs.History.{Version, is_id, versions_of, newest}
+use Rattle.txn_world.proofs.Rows.{is_id_some}
+use Rattle.txn_world.proofs.Apart.{tied_path}
 use Rattle.txn_world.proofs.Stands.{KnowStands, is_there}
 use Rattle.txn_world.proofs.Effects.{bytes_within, there_bytes}
-
-is_id_some : (n : ℕ) (found : Option ℕ) → is_id n found ≡ true → found ≡ Some n
-is_id_some n None h = cc
-is_id_some n (Some m) h = ap Some (eqb-true m n h)
 
 some_is_id : (n : ℕ) → is_id n (Some n) ≡ true
 some_is_id n = eq-eqb n n refl
@@ -39,18 +35,6 @@ is_listed_as n meta = is_id n (version_of world_names meta.location)
 
 abbrev pub has_listed : ℕ → List ObjectMeta → Bool
 has_listed n metas = list_any (is_listed_as n) metas
-
-or_first : (a b : Bool) → a ≡ true → (a || b) ≡ true
-or_first true b h = refl
-or_first false b h = cc
-
-or_later : (a b : Bool) → b ≡ true → (a || b) ≡ true
-or_later true b h = refl
-or_later false b h = h
-
-or_cases : (a b : Bool) → (a || b) ≡ true → (a ≡ true) ⊎ (b ≡ true)
-or_cases true b h = inl refl
-or_cases false b h = inr h
 
 -- the greater of two is one of them, and neither is above it
 
@@ -80,8 +64,8 @@ greatest_one found [] n e = inl e
 greatest_one found (meta ∷ metas) n e =
     let here = version_of world_names meta.location in
     elim (greatest_one (greater_of found here) metas n e) [
-      | inl h ↦ elim (greater_one found here n h) [ inl a ↦ inl a | inr b ↦ inr (or_first (is_listed_as n meta) (has_listed n metas) (ap (is_id n) b ∙ some_is_id n)) ]
-      | inr h ↦ inr (or_later (is_listed_as n meta) (has_listed n metas) h)
+      | inl h ↦ elim (greater_one found here n h) [ inl a ↦ inl a | inr b ↦ inr (or_left (is_listed_as n meta) (has_listed n metas) (ap (is_id n) b ∙ some_is_id n)) ]
+      | inr h ↦ inr (or_right (is_listed_as n meta) (has_listed n metas) h)
     ]
 
 greatest_most : (found : Option ℕ) (metas : List ObjectMeta) (n : ℕ) → (found ≡ Some n) ⊎ (has_listed n metas ≡ true) → (m : ℕ) × (greatest_from found world_names metas ≡ Some m) × (n ≤ m)
@@ -112,16 +96,11 @@ listed_fits (meta ∷ metas) n h =
 
 -- the listing against the files
 
-tied : (r : Ordering) → is_eq r ≡ true → r ≡ Equal
-tied Less h = cc
-tied Equal h = refl
-tied Greater h = cc
-
 itself : (path : Segments) → eq_by_cmp path_cmp path path ≡ true
 itself path = ap is_eq (tied_itself path_cmp_total path)
 
 same_path : (path : Segments) (n : ℕ) → eq_by_cmp path_cmp (version_path world_names n) path ≡ true → version_path world_names n ≡ path
-same_path path n h = path_cmp-IsAntisymmetric (version_path world_names n) path (tied (path_cmp (version_path world_names n) path) h)
+same_path path n h = tied_path (version_path world_names n) path h
 
 -- a path is read as version n exactly where it is the path of n
 same_test : (path : Segments) (n : ℕ) → n < 2 ^ 64 → is_id n (version_of world_names path) ≡ eq_by_cmp path_cmp (version_path world_names n) path

@@ -1,56 +1,15 @@
--- Lemmas on digits.
-use Rattle.std.proofs.Common.{◌≡◌, ℕ, zero, suc, ◌<◌, ◌^◌, List, [], ◌∷◌, Bool, true, false, ◌&&◌, ◌==◌, cond, length, get_or, Option, Some, None, Result, Ok, Err, refl, ap, sym, ◌∙◌, arith, rules, lit<, ◌↔◌}
-use Rattle.std.specs.Char.{is_ascii_digit}
-use Rattle.std.specs.List.{list_all}
-use Rattle.std.specs.Result.{OkIff, result_ok}
+-- Lemmas on plain decimals.
+use Rattle.std.proofs.Common.{◌≡◌, ℕ, zero, suc, ◌<◌, ◌^◌, List, [], ◌∷◌, Bool, true, false, ◌&&◌, ◌==◌, cond, length, get_or, Option, Some, None, refl, ap, sym, ◌∙◌, arith, lit<, ◌↔◌}
 use Rattle.std.specs.Fmt.{decimal}
-use Rattle.std.specs.Str.Parse.{digits_value, IsNumeral}
-use Rattle.std.proofs.lemmas.Bool.{ltb-true, ltb-false, lt-ltb, eqb-true, eq-eqb}
+use Rattle.std.proofs.lemmas.Bool.{ltb-true, ltb-false, eqb-true, eq-eqb, and_parts}
 use Rattle.std.proofs.Math.Bool.{and-true}
 use Rattle.std.specs.Prelude.{nat_lt}
-use Rattle.std.proofs.lemmas.Str.Parse.{IsNumeralModel, numerals_by_value}
 use Rattle.std.proofs.lemmas.Fmt.{decimal_is_IsNumeral, decimal_digit, first_decimal, decimal-digits_value}
-use Rattle.txn_world.specs.Numerals.{is_number, digits_read, decimal_read}
-
--- digits by test are the digits of `parse`
-pub own : IsNumeralModel (λ ds. list_all is_ascii_digit ds ≡ true) (digits_value 10)
-own = numerals_by_value _ (search rules)
-
-and_parts : (a b : Bool) → (a && b) ≡ true → (a ≡ true) × (b ≡ true)
-and_parts true b h = (refl, h)
-and_parts false b h = absurd (cc)
-
-pub number_from : (ds : List ℕ) → 0 < length ds → list_all is_ascii_digit ds ≡ true → digits_value 10 ds < 2 ^ 64 → is_number ds ≡ true
-number_from ds some all fits = rw (lt-ltb 0 (length ds) some, all, lt-ltb (digits_value 10 ds) (2 ^ 64) fits) refl
-
-pub number_parts : (ds : List ℕ) → is_number ds ≡ true → (0 < length ds) × (list_all is_ascii_digit ds ≡ true) × (digits_value 10 ds < 2 ^ 64)
-number_parts ds h =
-    let outer = and_parts _ _ h in
-    let inner = and_parts _ _ outer.0 in
-    (ltb-true _ _ inner.0, inner.1, ltb-true _ _ outer.1)
-
--- what `parse` reads
-pub read_by_parse : {E : Type 0} (ds : List ℕ) (r : Result ℕ E) → OkIff r (IsNumeral 10 ds × (digits_value 10 ds < 2 ^ 64)) (digits_value 10 ds) → result_ok r ≡ digits_read ds
-read_by_parse ds (Ok x) h = rw (number_from ds h.0.0.0 (own.from ds h.0.0.1) h.0.1, h.1) refl
-read_by_parse ds (Err e) h = elim (is_number ds) as (λ b. is_number ds ≡ b → None ≡ (cond b (Some (digits_value 10 ds)) None)) [
-  | true ↦ λ is. let p = number_parts ds is in absurd (h ((p.0, own.to ds p.1), p.2))
-  | false ↦ λ _. refl
-] refl
-
--- what is read is the number that the digits write
-pub read_number : (ds : List ℕ) (n : ℕ) → digits_read ds ≡ Some n → (is_number ds ≡ true) × (digits_value 10 ds ≡ n)
-read_number ds n h = elim (is_number ds) as (λ b. is_number ds ≡ b → cond b (Some (digits_value 10 ds)) None ≡ Some n → (is_number ds ≡ true) × (digits_value 10 ds ≡ n)) [
-  | true ↦ λ is e. (is, cc)
-  | false ↦ λ is e. absurd (cc)
-] refl h
-
-pub number_read : (ds : List ℕ) (n : ℕ) → 0 < length ds → list_all is_ascii_digit ds ≡ true → digits_value 10 ds ≡ n → n < 2 ^ 64 → digits_read ds ≡ Some n
-number_read ds n some all is fits = let small : digits_value 10 ds < 2 ^ 64 = rw is fits in rw (number_from ds some all small) (ap Some is)
+use Rattle.txn_store.specs.Digits.{digits_read}
+use Rattle.txn_store.proofs.DigitLemmas.{own, number_parts, read_number, number_read, decimal_digits}
+use Rattle.txn_world.specs.Numerals.{decimal_read}
 
 -- plain decimals
-pub decimal_digits : (n : ℕ) → n < 2 ^ 64 → list_all is_ascii_digit (decimal n) ≡ true
-decimal_digits n fits = own.from _ (decimal_is_IsNumeral n fits).0.1
-
 pub decimal_read_back : (n : ℕ) → n < 2 ^ 64 → digits_read (decimal n) ≡ Some n
 decimal_read_back n fits = let is = decimal_is_IsNumeral n fits in number_read (decimal n) n is.0.0 (decimal_digits n fits) is.1 fits
 
@@ -94,7 +53,3 @@ decimal_read_is ds n = by (nat_lt 1 (length ds) && get_or ds 0 0 == 48) refl
 
 pub is_decimal : (ds : List ℕ) (r : Option ℕ) → r ≡ decimal_read ds → (n : ℕ) → n < 2 ^ 64 → (r ≡ Some n) ↔ (ds ≡ decimal n)
 is_decimal ds r is n fits = (λ e. (decimal_read_is ds n (sym is ∙ e)).0, λ e. is ∙ ap decimal_read e ∙ decimal_reads n fits)
-
-pub read_by_digits : {E : Type 0} (ds : List ℕ) (r : Result ℕ E) → list_all is_ascii_digit ds ≡ true → OkIff r ((0 < length ds) × (digits_value 10 ds < 2 ^ 64)) (digits_value 10 ds) → result_ok r ≡ digits_read ds
-read_by_digits {E} ds (Ok x) all h = read_by_parse {E = E} ds (Ok x) (((h.0.0, own.to ds all), h.0.1), h.1)
-read_by_digits {E} ds (Err e) all h = read_by_parse ds (Err e) (λ p. h (p.0.0, p.1))

@@ -1,11 +1,10 @@
 -- Lemmas on the text of a record.
-use Rattle.std.proofs.Common.{◌≡◌, ◌≢◌, ℕ, zero, suc, ◌==◌, false, ◌<◌, ◌^◌, ◌↔◌, List, [], ◌∷◌, ◌++◌, length, get_or, Option, Some, None, Result, Ok, Err, refl, ap, sym, subst, ◌∙◌, arith, lit<}
+use Rattle.std.proofs.Common.{◌≡◌, ◌≢◌, ℕ, zero, suc, ◌==◌, false, ◌<◌, ◌^◌, ◌↔◌, List, [], ◌∷◌, ◌++◌, length, get_or, Option, Some, None, refl, ap, sym, subst, ◌∙◌, arith, lit<}
 use Rattle.std.specs.Option.{MatchOption, IfSome}
 use Rattle.std.specs.List.{All, slice_split, join_with_byte}
 use Rattle.std.proofs.lemmas.List.Splits.{slice_split_at, slice_split_none, join_with_byte-slice_split}
 use Rattle.txn_world.specs.Numerals.{decimal_read}
 use Rattle.txn_world.proofs.NumeralLemmas.{decimal_reads, decimal_read_is}
-use Rattle.std.specs.Result.{MatchResult, result_ok}
 use Rattle.std.specs.Str.{IsUtf8, IsAscii}
 use Rattle.std.specs.Str.Parse.{AllDigits, digits_value}
 use Rattle.std.specs.Fmt.{decimal}
@@ -108,12 +107,3 @@ read_by bs None fits exact = by (record_read bs) refl
     by : (o : Option Record) → record_read bs ≡ o → None ≡ o
     by None is = refl
     by (Some v) is = let read = record_read_is bs v is in (exact v read.0).1 read.1
-
--- what `from_utf8` says of what it did not give, and of what it gave
-pub at_none : {V E : Type 0} (P : V → Type 0) (Q : Type 0) (R : E → Type 0) (r : Result V E) → MatchResult r P (λ e. Q × R e) → None ≡ result_ok r → Q
-at_none P Q R (Ok x) h e = absurd (cc)
-at_none P Q R (Err d) h e = h.0
-
-pub at_some : {V E : Type 0} (P : V → Type 0) (R : E → Type 0) (r : Result V E) (x : V) → MatchResult r P R → Some x ≡ result_ok r → P x
-at_some P R (Ok y) x h e = let same : y ≡ x = cc in subst P same h
-at_some P R (Err d) x h e = absurd (cc)

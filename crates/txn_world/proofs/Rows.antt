@@ -1,9 +1,10 @@
 -- What one more row does to what a trace says.
-use Rattle.std.proofs.Common.{◌≡◌, ◌≢◌, ℕ, zero, suc, ◌+◌, ◌≤◌, List, [], ◌∷◌, ◌++◌, length, take, map, slice_get, Bool, true, false, ◌==◌, ◌||◌, cond, Option, Some, None, inl, inr, refl, sym, ◌∙◌, ap, subst, arith}
+use Rattle.std.proofs.Common.{◌≡◌, ◌≢◌, ℕ, zero, suc, ◌+◌, ◌<◌, ◌≤◌, List, [], ◌∷◌, ◌++◌, length, take, map, slice_get, get_or, Bool, true, false, ◌==◌, cond, Option, Some, None, inl, inr, refl, sym, ◌∙◌, ap, subst, arith, add-one}
 use Rattle.std.specs.List.{list_any}
 use Rattle.std.specs.FinMap.{empty, get}
-use Rattle.std.proofs.lemmas.List.{length-append, take-append-le, take_all, append-nil}
-use Rattle.std.proofs.lemmas.Bool.{ne_eqb, eq-eqb}
+use Rattle.std.proofs.lemmas.List.{length-append, take-append-le, take_more, take_all, append-nil}
+use Rattle.std.proofs.lemmas.Bool.{ne_eqb, eqb-true, eq-eqb}
+use Rattle.std.proofs.Math.Bool.{or-true}
 use Rattle.std.proofs.lemmas.Option.{slice_get_within}
 use Rattle.txn_world.specs.declared.event.Call.{Call}
 use Rattle.txn_store.specs.declared.request.Request.{Request}
@@ -11,10 +12,15 @@ use Rattle.txn_world.specs.declared.trace.Row.{Row}
 use Rattle.txn_world.specs.declared.trace.Row.TheVariants.{Effect, Begun, Answered}
 use Rattle.txn_world.specs.Lists.{numbered}
 use Rattle.txn_world.specs.Names.{world_boundary}
-use Rattle.txn_world.specs.History.{Contents, Version, created_by, has_id, with_version, versions_from, versions_of, newest, stored_with, stored_from, stored, boundary_said, boundary, put_count, IsEntry}
+use Rattle.txn_world.specs.History.{Contents, Version, is_id, created_by, has_id, with_version, versions_from, versions_of, newest, stored_with, stored_from, stored, boundary_said, boundary, put_count, IsEntry}
 use Rattle.txn_world.specs.Calls.{begins, ends, was_begun, IsCall, AtRow, begun_count}
 use Rattle.txn_world.specs.OneHistory.{Fits, IsOneHistory}
 use Rattle.txn_world.proofs.Lists.{get_more, get_kept, numbered_kept}
+
+-- an id that is found
+pub is_id_some : (n : ℕ) (found : Option ℕ) → is_id n found ≡ true → found ≡ Some n
+is_id_some n None h = cc
+is_id_some n (Some m) h = ap Some (eqb-true m n h)
 
 one_version : (versions : List Version) (o : Option Version) → (more : List Version) × (with_version versions o ≡ versions ++ more)
 one_version versions None = ([], sym (append-nil versions))
@@ -37,6 +43,10 @@ module _ {T : Type 0} where
 
   abbrev pub has_effect : List (Row T) → ℕ → Bool
   has_effect rows op = list_any (affects op) rows
+
+  -- a front that is longer by a row
+  pub front_more : (rows : List (Row T)) (k : ℕ) (row : Row T) → k < length rows → get_or rows k row ≡ row → take (suc k) rows ≡ take k rows ++ row ∷ []
+  front_more rows k row lt is = ap (λ n. take n rows) (sym (add-one k)) ∙ (take_more rows k row lt ∙ ap (λ (r : Row T). take k rows ++ r ∷ []) is)
 
   versions_from-more : (versions : List Version) (rows : List (Row T)) (row : Row T) → versions_from versions (rows ++ row ∷ []) ≡ with_version (versions_from versions rows) (created_by row)
   versions_from-more versions [] row = refl
@@ -141,11 +151,7 @@ module _ {T : Type 0} where
   pub effect_found : (rows : List (Row T)) (op k : ℕ) (request : Request) → slice_get rows k ≡ Some (Effect op request) → has_effect rows op ≡ true
   effect_found [] op k request e = cc
   effect_found (row ∷ rows) op zero request e = let same : row ≡ Effect op request = cc in rw (same, eq-eqb op op refl) refl
-  effect_found (row ∷ rows) op (suc k) request e = let rest = effect_found rows op k request e in rw rest (or_true (affects op row))
-    where
-      or_true : (b : Bool) → (b || true) ≡ true
-      or_true true = refl
-      or_true false = refl
+  effect_found (row ∷ rows) op (suc k) request e = let rest = effect_found rows op k request e in rw rest (or-true (affects op row))
 
 module _ {T : Type 0} (decode : List ℕ → Option T) where
   at_map : (versions : List Version) (n : ℕ) (version : Version) (value : T) → slice_get versions n ≡ Some version → decode version.1 ≡ Some value → slice_get (map (λ (v : Version). decode v.1) versions) n ≡ Some (Some value)

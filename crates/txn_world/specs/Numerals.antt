@@ -1,16 +1,6 @@
--- Numbers below 2 ^ 64 as digits write them.
-use Rattle.std.specs.Prelude.{ℕ, ◌^◌, Bool, ◌&&◌, List, Option, Some, None, if◌then◌else◌, length, nat_lt, ◌==◌, slice_index}
-use Rattle.std.specs.Char.{is_ascii_digit}
-use Rattle.std.specs.List.{list_all}
-use Rattle.std.specs.Str.Parse.{digits_value}
-
--- at least one digit, only digits, and a number below 2 ^ 64
-abbrev pub is_number : List ℕ → Bool
-is_number ds = nat_lt 0 (length ds) && list_all is_ascii_digit ds && nat_lt (digits_value 10 ds) (2 ^ 64)
-
--- the number that digits write
-abbrev pub digits_read : List ℕ → Option ℕ
-digits_read ds = if is_number ds then Some (digits_value 10 ds) else None
+-- Numbers below 2 ^ 64 as plain decimals write them.
+use Rattle.std.specs.Prelude.{ℕ, ◌&&◌, List, Option, None, if◌then◌else◌, length, nat_lt, ◌==◌, slice_index}
+use Rattle.txn_store.specs.Digits.{digits_read}
 
 -- the number of a plain decimal, with no leading zero but in `0` itself
 abbrev pub decimal_read : List ℕ → Option ℕ

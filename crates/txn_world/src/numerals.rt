@@ -3,7 +3,8 @@ ghost use Rattle.std.specs.Prelude.{◌≡◌, ℕ, ◌<◌, ◌^◌, ◌↔◌,
 ghost use Rattle.std.specs.Fmt.{decimal};
 ghost use Rattle.std.specs.Char.{is_ascii_digit};
 ghost use Rattle.std.specs.List.{list_all};
-ghost use Rattle.txn_world.specs.Numerals.{digits_read, decimal_read};
+ghost use Rattle.txn_store.specs.Digits.{digits_read};
+ghost use Rattle.txn_world.specs.Numerals.{decimal_read};
 
 fn has_only_digits(text: &str) -> bool
     ensures { result ≡ list_all is_ascii_digit text.now }

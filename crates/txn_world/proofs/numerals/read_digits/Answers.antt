@@ -1,7 +1,7 @@
 -- `parse` takes a `+`, which digits do not begin with.
 use Rattle.std.proofs.Common.{◌∙◌}
 use Rattle.std.proofs.lemmas.Str.Parse.{parse_digits}
-use Rattle.txn_world.proofs.NumeralLemmas.{own, read_by_digits}
+use Rattle.txn_store.proofs.DigitLemmas.{own, read_by_digits}
 use Rattle.txn_world.proofs.numerals.read_digits.Goals as goal
 
 pub returns : goal.returns

@@ -2,7 +2,8 @@
 use Rattle.std.proofs.Common.{◌≡◌, rules, List, ℕ}
 use Rattle.std.specs.Str.{IsUtf8}
 use denote.Ref.{Bor}
-use Rattle.txn_world.proofs.RecordLemmas.{at_none, at_some, not_utf8, no_colon, bad_epoch, bad_payload, reads}
+use Rattle.txn_steps.proofs.BoundaryLemmas.{at_none, at_some}
+use Rattle.txn_world.proofs.RecordLemmas.{not_utf8, no_colon, bad_epoch, bad_payload, reads}
 use Rattle.txn_world.proofs.record.read_record.Goals as goal
 
 pub returns-in_err-ok-clause-exact : goal.returns-in_err-ok-clause-exact

@@ -1,7 +1,8 @@
 use Rattle.std.proofs.Common.{◌∷◌, ◌||◌, [], ℕ, List, nat_eq, sym, ap, ◌∙◌}
 use Rattle.std.proofs.lemmas.List.{append_assoc, append-nil}
 use Rattle.std.specs.List.{list_any}
-use Rattle.txn_world.proofs.Ascending.{or_false, or_move, insert_has}
+use Rattle.std.proofs.Math.Bool.{or-false}
+use Rattle.txn_world.proofs.Ascending.{or_move, insert_has}
 use Rattle.txn_world.proofs.tables.ascending.Goals as goal
 
 pub loop-id-init : goal.loop-id-init
@@ -20,7 +21,7 @@ loop-id-2-init c =
     rw (c.new-list.ensures.items, given.0)
     (record {
       ascending = given.4;
-      all = λ n. sym (or_false (list_any (nat_eq n) c.loop-id.sorted.keys)) ∙ (ap (λ (rest : List ℕ). list_any (nat_eq n) c.loop-id.sorted.keys || list_any (nat_eq n) rest) (sym c.in-None.ensures.steps.0) ∙ c.loop-id.invariant n);
+      all = λ n. sym (or-false (list_any (nat_eq n) c.loop-id.sorted.keys)) ∙ (ap (λ (rest : List ℕ). list_any (nat_eq n) c.loop-id.sorted.keys || list_any (nat_eq n) rest) (sym c.in-None.ensures.steps.0) ∙ c.loop-id.invariant n);
     })
 
 pub loop-id-2-preserved : goal.loop-id-2-preserved
