@@ -1,5 +1,5 @@
 -- A journal with one row more replays to where its last event leads.
-use Rattle.std.proofs.Common.{◌≡◌, ℕ, List, [], ◌∷◌, ◌++◌, Option, refl, sym, ◌∙◌, ap, subst}
+use Rattle.std.proofs.Common.{◌≡◌, ℕ, List, [], ◌∷◌, ◌++◌, Option, sym, subst}
 use Rattle.std.proofs.lemmas.List.{map-append}
 use Rattle.txn_world.specs.declared.event.Event.{Event}
 use Rattle.txn_world.specs.declared.event.Told.{Told}

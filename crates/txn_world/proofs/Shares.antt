@@ -1,27 +1,12 @@
--- Lists that grow as a function gives their elements, and tests that say what they are asked.
-use Rattle.std.proofs.Common.{◌≡◌, ◌≢◌, ◌↔◌, IsTrue, ℕ, zero, suc, ◌+◌, ◌<◌, ◌≤◌, List, [], ◌∷◌, ◌++◌, length, slice_get, Bool, true, false, Some, ◌⊎◌, inl, inr, refl, sym, ◌∙◌, ap, subst, arith}
-use Rattle.std.proofs.lemmas.List.{length-append}
+-- What holds of one more element, and tests that say what they are asked.
+use Rattle.std.proofs.Common.{◌≡◌, ◌↔◌, IsTrue, ℕ, zero, suc, ◌+◌, ◌<◌, ◌≤◌, List, slice_get, Bool, true, false, Some, ◌⊎◌, inl, inr, refl, sym, ◌∙◌, ap, subst, arith}
 use Rattle.std.proofs.lemmas.Option.{same_Some}
-use Rattle.txn_world.specs.Lists.{AreEach}
-use Rattle.txn_world.proofs.Lists.{get_kept, get_last}
 
 near : (k n : ℕ) → k < n + 1 → (k < n) ⊎ (k ≡ n)
 near zero zero small = inr refl
 near zero (suc n) small = inl (omega arith)
 near (suc k) zero small = absurd (omega (arith, small))
 near (suc k) (suc n) small = elim (near k n (omega (arith, small))) [ inl below ↦ inl (omega (arith, below)) | inr at ↦ inr (ap suc at) ]
-
-pub each_none : {A : Type 0} (f : ℕ → A) → AreEach f 0 []
-each_none f = record { all = refl; each = λ k small. absurd (omega (arith, small)) }
-
-pub each_more : {A : Type 0} (f : ℕ → A) (n : ℕ) (xs : List A) (x : A) → AreEach f n xs → x ≡ f n → AreEach f (n + 1) (xs ++ x ∷ [])
-each_more f n xs x h is = record {
-  all = omega (arith, h.all, length-append xs (x ∷ []));
-  each = λ k small. elim (near k n small) [
-    | inl below ↦ get_kept xs (x ∷ []) k (f k) (h.each k below)
-    | inr at ↦ subst (λ j. slice_get (xs ++ x ∷ []) j ≡ Some (f j)) (h.all ∙ sym at) (get_last xs x ∙ ap Some (is ∙ ap f (sym h.all)))
-  ];
-}
 
 -- what holds of each number from 1 on, and of the next
 pub one_further : (f : ℕ → ℕ) (n m : ℕ) → ((k : ℕ) → 1 ≤ k → k ≤ n → f k ≡ m) → f (n + 1) ≡ m → (k : ℕ) → 1 ≤ k → k ≤ n + 1 → f k ≡ m

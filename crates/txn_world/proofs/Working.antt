@@ -1,5 +1,5 @@
 -- How a worker's share grows.
-use Rattle.std.proofs.Common.{◌≡◌, ℕ, ◌+◌, ◌-◌, ◌<◌, ◌≤◌, ◌^◌, Bool, true, false, nat_eq, if◌then◌else◌, refl, sym, ap, subst, arith}
+use Rattle.std.proofs.Common.{◌≡◌, ℕ, ◌+◌, ◌-◌, ◌^◌, Bool, true, false, nat_eq, if◌then◌else◌, refl, sym, subst, arith}
 use Rattle.txn_world.specs.declared.kept.Share.{Share}
 use Rattle.txn_world.specs.Kept.{one_more}
 use Rattle.txn_world.specs.Work.{Grows}
@@ -10,6 +10,3 @@ grows_either false worker count = record { worker = refl; from = omega arith; to
 
 pub grows_one : (old new : Share) → new ≡ one_more old → Grows old 1 new
 grows_one old new is = subst (λ (s : Share). Grows old 1 s) (sym is) (grows_either (nat_eq old.count (2 ^ 64 - 1)) old.worker old.count)
-
-pub grows_more : (old middle new : Share) (a b most : ℕ) → Grows old a middle → Grows middle b new → a + b ≤ most → Grows old most new
-grows_more old middle new a b most g h small = record { worker = rw h.worker g.worker; from = omega (arith, g.from, h.from); to = omega (arith, g.to, h.to, small) }

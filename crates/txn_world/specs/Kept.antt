@@ -1,5 +1,5 @@
 -- A world beside the journal of what its workers did, and the shares that its workers hold.
-use Rattle.std.specs.Prelude.{◌≡◌, ◌⊎◌, ◌+◌, ◌-◌, ◌^◌, ◌<◌, ◌≤◌, ◌++◌, ◌∷◌, [], ℕ, List, Option, Some, None, Result, Ok, Err, count_by, length, map, nat_eq, if◌then◌else◌, slice_get}
+use Rattle.std.specs.Prelude.{◌≡◌, ◌⊎◌, ◌+◌, ◌-◌, ◌^◌, ◌≤◌, ◌++◌, ◌∷◌, [], ℕ, List, Option, Some, None, Result, Ok, Err, count_by, length, map, nat_eq, if◌then◌else◌, slice_get}
 use Rattle.txn_world.specs.declared.event.Event.{Event}
 use Rattle.txn_world.specs.declared.event.Told.{Told}
 use Rattle.txn_world.specs.declared.event.EventFault.{EventFault}

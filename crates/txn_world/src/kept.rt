@@ -174,6 +174,13 @@ impl<T: Clone, C: ObjectCodec<T> + Drop> Kept<T, C> {
         &self.world
     }
 
+    /// What the workers did, event by event.
+    pub fn journal(&self) -> &[JournalRow<T>]
+        ensures { result.now ≡ self.now.journal }
+    {
+        self.journal.as_slice()
+    }
+
     /// How many workers it is kept for.
     pub(crate) fn workers(&self) -> u64
         ensures { result ≡ self.now.workers }

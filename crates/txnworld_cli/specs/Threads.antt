@@ -1,5 +1,5 @@
 -- What a run of workers does and prints.
-use Rattle.std.specs.Prelude.{◌≡◌, ℕ, ◌+◌, ◌*◌, List, [], ◌∷◌, ◌++◌, Bool, true, false, Option, None, Some, codes, count_by, decimal, find, map}
+use Rattle.std.specs.Prelude.{◌≡◌, ℕ, ◌+◌, ◌*◌, List, [], ◌∷◌, ◌++◌, Bool, true, false, Option, None, codes, count_by, decimal, find, map}
 use Rattle.std.specs.Option.{option_map}
 use Rattle.txn_world.specs.declared.record.Record.{Record}
 use Rattle.txn_world.specs.declared.event.Call.TheVariants as calls

@@ -54,6 +54,8 @@ fn an_event_adds_one_to_its_share(rt: HostRuntime) -> Result<(), Fail> {
     assert_eq!(rt; first.worker(), 1);
     assert_eq!(rt; first.count(), 1);
     assert_eq!(rt; kept.world().trace().len(), 1);
+    assert_eq!(rt; kept.journal().len(), 1);
+    assert_eq!(rt; kept.journal()[0].worker, 1);
     let counts = finish(rt.alloc(), kept, shares);
     assert_eq!(rt; counts, Ok(vec![in rt.alloc(); 1, 0]?));
     Ok(())

@@ -1,7 +1,7 @@
-use Rattle.std.proofs.Common.{rules, false, true, ◌≡◌, List, sym, subst}
+use Rattle.std.proofs.Common.{rules, List, sym, subst}
 use Rattle.txn_world.specs.declared.kept.Share.{Share}
 use Rattle.txn_world.specs.declared.finish.FinishFault.TheVariants as faults
-use Rattle.txn_world.specs.Kept.{CameOnce, Agree}
+use Rattle.txn_world.specs.Kept.{Agree}
 use Rattle.txn_world.specs.Finish.{IsDue}
 use Rattle.txn_world.proofs.Shares.{held, not_held}
 use Rattle.txn_world.proofs.finish.finish.Goals as goal

@@ -1,4 +1,3 @@
-use Rattle.std.proofs.Common.{◌≡◌}
 use Rattle.txnworld_cli.specs.Threads.{IsCrew}
 use Rattle.txnworld_cli.proofs.threads.crew.Given as goal
 

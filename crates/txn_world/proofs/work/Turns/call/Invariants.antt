@@ -1,4 +1,3 @@
-use Rattle.std.proofs.Common.{◌+◌}
 use Rattle.txn_world.specs.Work.{Grows}
 use Rattle.txn_world.proofs.work.Turns.call.Given as goal
 
