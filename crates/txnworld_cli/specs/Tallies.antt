@@ -1,22 +1,19 @@
 -- What the printed lines of a run of workers say of the world that they leave.
-use Rattle.std.specs.Prelude.{◌≡◌, ℕ, List, Bool, true, false, Option, length}
+use Rattle.std.specs.Prelude.{◌≡◌, ◌↔◌, ℕ, List, Bool, IsTrue, Option, length}
 use Rattle.std.specs.Io.KnownBytes.{Appends}
 use Rattle.txn_world.specs.declared.record.Record.{Record}
 use Rattle.txn_world.specs.declared.record.RecordCodec.{RecordCodec}
 use Rattle.txn_world.specs.declared.kept.Share.{Share}
-use Rattle.txn_world.specs.declared.finish.FinishFault.{FinishFault}
 use Rattle.txn_world.specs.Record.{record_text, record_read}
 use Rattle.txn_world.specs.History.{history}
-use Rattle.txn_world.specs.Kept.{KeptState, Replays}
-use Rattle.txn_world.specs.Finish.{Finished, IsDue}
+use Rattle.txn_world.specs.Kept.{KeptState, Replays, CameOnce, Agree}
 use Rattle.txnworld_cli.specs.declared.threads.Tally.{Tally}
 use Rattle.txnworld_cli.specs.Printed.{with_feed}
 use Rattle.txnworld_cli.specs.Threads.{tally_text, begun_count, answered_count}
 
--- the counts agree where the shares finish the kept world, and differ where a fault is due
+-- the counts agree exactly where each worker's share came once, with the count of its rows in the journal
 abbrev pub AgreeAs : KeptState Record RecordCodec → List Share → Bool → Type 0
-AgreeAs kept shares true = (counts : List ℕ) × Finished kept shares counts
-AgreeAs kept shares false = (fault : FinishFault) × IsDue kept shares fault
+AgreeAs kept shares agree = IsTrue agree ↔ (CameOnce kept.workers shares × Agree kept.journal shares)
 
 -- what is counted is the calls, the answers and the entries of this world, and the shares are held against its journal
 pub record Tallies (workers : ℕ) (kept : KeptState Record RecordCodec) (shares : List Share) (tally : Tally) : Type 0 where

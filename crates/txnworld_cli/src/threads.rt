@@ -1,7 +1,8 @@
 //! A run of workers on threads round one world, and what it prints.
 
-ghost use Rattle.std.specs.Prelude.{◌≡◌, ◌≤◌, All, Some, Bool, IfOk};
+ghost use Rattle.std.specs.Prelude.{◌≡◌, ◌≤◌, All, Some, Bool, IfOk, IfErr};
 ghost use Rattle.std.specs.Io.KnownBytes.{Appends};
+ghost use Rattle.txnworld_cli.specs.declared.stop.Stop.TheVariants as stops;
 ghost use Rattle.txnworld_cli.specs.Threads.{job_list, tally_text, halt_text, begun_count, answered_count, stopped_worker, share_list, IsCrew};
 ghost use Rattle.txnworld_cli.specs.Tallies.{AgreeAs, Tallies, IsTally, PrintsTally};
 
@@ -171,13 +172,14 @@ fn answered(rows: &[Row<Record>]) -> u64
         .count() as u64
 }
 
-/// Whether the shares finish the kept world.
+/// Whether the shares finish the kept world. Only a refused growth keeps it from saying so.
 fn counts_agree(
     alloc: Global,
     kept: Kept<Record, RecordCodec>,
     shares: Vec<Share>,
 ) -> Result<bool, Stop>
-    ensures { IfOk result (AgreeAs kept shares.items) }
+    ensures ok { IfOk result (AgreeAs kept shares.items) }
+    ensures err { IfErr result (λ stop. stop ≡ stops.NoMemory) }
 {
     match finish(alloc, kept, shares) {
         Ok(_) => Ok(true),
@@ -193,7 +195,8 @@ fn tally_of(
     kept: Kept<Record, RecordCodec>,
     shares: Vec<Share>,
 ) -> Result<Tally, Stop>
-    ensures { IfOk result (Tallies workers kept shares.items) }
+    ensures ok { IfOk result (Tallies workers kept shares.items) }
+    ensures err { IfErr result (λ stop. stop ≡ stops.NoMemory) }
 {
     let rows = kept.world().trace();
     let (calls, answers) = (begun(rows), answered(rows));
