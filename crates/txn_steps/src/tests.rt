@@ -3,6 +3,7 @@ ghost use Rattle.std.specs.Prelude.{◌≡◌, ◌<◌, ◌↔◌, IsTrue};
 
 mod boundaries;
 mod driven;
+mod scenario;
 mod versions;
 
 use crate::codec::{CodecFault, ObjectCodec};

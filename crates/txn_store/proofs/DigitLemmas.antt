@@ -5,7 +5,7 @@ use Rattle.std.specs.List.{list_all}
 use Rattle.std.specs.Result.{OkIff, result_ok}
 use Rattle.std.specs.Fmt.{decimal, styled_decimal, padded_integral, format_spec, char_count}
 use Rattle.std.specs.Str.Parse.{digits_value, IsNumeral}
-use Rattle.std.proofs.lemmas.Bool.{ltb-true, lt-ltb, eqb-true, eqb-false}
+use Rattle.std.proofs.lemmas.Bool.{ltb-true, lt-ltb, eqb-true, eqb-false, and_parts}
 use Rattle.std.proofs.lemmas.List.{length-replicate, append-nil}
 use Rattle.std.proofs.lemmas.Str.Parse.{IsNumeralModel, numerals_by_value}
 use Rattle.std.proofs.lemmas.Fmt.{decimal_is_IsNumeral, length-decimal-le, decimal-digits_value}
@@ -15,10 +15,6 @@ use Rattle.txn_store.specs.VersionName.{AreDigitsOf}
 -- digits by test are the digits of `parse`
 pub own : IsNumeralModel (λ ds. list_all is_ascii_digit ds ≡ true) (digits_value 10)
 own = numerals_by_value _ (search rules)
-
-and_parts : (a b : Bool) → (a && b) ≡ true → (a ≡ true) × (b ≡ true)
-and_parts true b h = (refl, h)
-and_parts false b h = absurd (cc)
 
 pub number_from : (ds : List ℕ) → 0 < length ds → list_all is_ascii_digit ds ≡ true → digits_value 10 ds < 2 ^ 64 → is_number ds ≡ true
 number_from ds some all fits = rw (lt-ltb 0 (length ds) some, all, lt-ltb (digits_value 10 ds) (2 ^ 64) fits) refl
@@ -50,6 +46,9 @@ number_read ds n some all is fits = let small : digits_value 10 ds < 2 ^ 64 = rw
 -- plain decimals
 pub decimal_digits : (n : ℕ) → n < 2 ^ 64 → list_all is_ascii_digit (decimal n) ≡ true
 decimal_digits n fits = own.from _ (decimal_is_IsNumeral n fits).0.1
+
+pub decimal_read_back : (n : ℕ) → n < 2 ^ 64 → digits_read (decimal n) ≡ Some n
+decimal_read_back n fits = let is = decimal_is_IsNumeral n fits in number_read (decimal n) n is.0.0 (decimal_digits n fits) is.1 fits
 
 -- leading zeros
 value_zeros : (k : ℕ) (ds : List ℕ) → digits_value 10 (replicate k 48 ++ ds) ≡ digits_value 10 ds

@@ -10,8 +10,8 @@ fn has_only_digits(text: &str) -> bool
     text.as_bytes().iter().all(|byte| byte.is_ascii_digit())
 }
 
-/// The number that digits write, if it is below 2^64.
-fn read_digits(text: &str) -> Option<u64>
+/// The number that digits write, where there are only digits, at least one, and it is below 2^64.
+pub fn read_digits(text: &str) -> Option<u64>
     ensures { result ≡ digits_read text.now }
 {
     if !has_only_digits(text) {

@@ -3,7 +3,7 @@
 #![tactic(auto)]
 
 mod count;
-mod digits;
+pub mod digits;
 pub mod failing;
 pub mod in_memory;
 pub mod path;

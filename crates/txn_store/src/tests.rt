@@ -1,4 +1,5 @@
 //! What no clause says: that calls succeed with ample memory, texts, worked examples, and a large store.
+use crate::digits::read_digits;
 use crate::failing::{Counts, FailingStore, When};
 use crate::in_memory::InMemory;
 use crate::path::{Path, PathFault, is_plain};
@@ -21,6 +22,22 @@ fn shows(rt: &(impl Abort + AllocGlobal), path: &Path, text: &str) -> Result<(),
     let shown = format!(in rt.alloc(); "{path}")?;
     assert_eq!(rt; shown.as_str(), text);
     Ok(())
+}
+
+#[test]
+fn digits_are_read_up_to_the_greatest_number(rt: HostRuntime) {
+    for (text, number) in [
+        ("7", Some(7)),
+        ("007", Some(7)),
+        ("18446744073709551615", Some(u64::MAX)),
+        ("18446744073709551616", None),
+        ("", None),
+        ("+7", None),
+        ("-7", None),
+        ("7 ", None),
+    ] {
+        assert_eq!(rt; read_digits(text), number, "{text}");
+    }
 }
 
 #[test]

@@ -4,15 +4,12 @@ use Rattle.std.specs.Fmt.{decimal}
 use Rattle.std.proofs.lemmas.Bool.{ltb-true, ltb-false, eqb-true, eq-eqb, and_parts}
 use Rattle.std.proofs.Math.Bool.{and-true}
 use Rattle.std.specs.Prelude.{nat_lt}
-use Rattle.std.proofs.lemmas.Fmt.{decimal_is_IsNumeral, decimal_digit, first_decimal, decimal-digits_value}
+use Rattle.std.proofs.lemmas.Fmt.{decimal_digit, first_decimal, decimal-digits_value}
 use Rattle.txn_store.specs.Digits.{digits_read}
-use Rattle.txn_store.proofs.DigitLemmas.{own, number_parts, read_number, number_read, decimal_digits}
+use Rattle.txn_store.proofs.DigitLemmas.{own, number_parts, read_number, decimal_read_back}
 use Rattle.txn_world.specs.Numerals.{decimal_read}
 
 -- plain decimals
-pub decimal_read_back : (n : ℕ) → n < 2 ^ 64 → digits_read (decimal n) ≡ Some n
-decimal_read_back n fits = let is = decimal_is_IsNumeral n fits in number_read (decimal n) n is.0.0 (decimal_digits n fits) is.1 fits
-
 pub decimal_leads : (n : ℕ) → n < 2 ^ 64 → get_or (decimal n) 0 0 ≡ 48 → length (decimal n) ≡ 1
 decimal_leads zero fits lead = ap length (decimal_digit 0 (lit< tt))
 decimal_leads (suc n) fits lead = let above : 48 < get_or (decimal (suc n)) 0 0 = first_decimal (suc n) (omega arith) fits in absurd (omega (arith, above, lead))

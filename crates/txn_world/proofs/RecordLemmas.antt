@@ -18,7 +18,7 @@ use denote.Ref.{Bor}
 use Rattle.txn_world.specs.declared.record.Record.{Record}
 use Rattle.txn_world.specs.Record.{record_text, record_read, both, of_parts, IsNumbers}
 
-own : IsNumeralModel (AllDigits 10) (digits_value 10)
+pub own : IsNumeralModel (AllDigits 10) (digits_value 10)
 own = numerals_by_value _ tells_digits
 
 no_colon_in : (n : ℕ) → n < 2 ^ 64 → (i : ℕ) → i < length (decimal n) → get_or (decimal n) i 0 ≢ 58

@@ -3,9 +3,8 @@ use Rattle.std.proofs.Common.{◌≡◌, ◌≢◌, ℕ, zero, suc, subst, ◌<�
 use Rattle.std.specs.Int.{IsInRange}
 use Rattle.std.specs.Option.{MatchOption}
 use Rattle.std.specs.List.{list_any}
-use Rattle.std.specs.Str.Parse.{AllDigits, digits_value}
 use Rattle.std.specs.Cmp.Lexicographic.{same_text}
-use Rattle.std.proofs.lemmas.Str.Parse.{IsNumeralModel, numerals_by_value, tells_digits, not_in_digits}
+use Rattle.std.proofs.lemmas.Str.Parse.{not_in_digits}
 use Rattle.std.proofs.lemmas.Str.Pattern.{IsSplitOnceResult, split_after}
 use Rattle.std.proofs.lemmas.Fmt.{digits_decimal}
 use Rattle.std.proofs.lemmas.Grind.{common_steps}
@@ -14,10 +13,8 @@ use lib.Pointwise.{pointwise}
 use Rattle.txn_world.specs.declared.event.Call.{Call}
 use Rattle.txn_world.specs.declared.record.Record.{Record}
 use Rattle.txn_world.specs.Record.{record_text}
+use Rattle.txn_world.proofs.RecordLemmas.{own}
 use Rattle.txnworld_cli.specs.Grammar.{base_text, write_text, call_text, begin_text, BaseFits}
-
-own : IsNumeralModel (AllDigits 10) (digits_value 10)
-own = numerals_by_value (AllDigits 10) tells_digits
 
 -- the bytes do not have this one among them
 abbrev pub Lacks : ℕ → List ℕ → Type 0

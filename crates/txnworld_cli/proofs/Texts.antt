@@ -1,10 +1,10 @@
 -- What the text of a line is made of: ASCII, and few bytes.
-use Rattle.std.proofs.Common.{◌≡◌, ℕ, zero, suc, ◌+◌, ◌<◌, ◌≤◌, ◌^◌, List, [], ◌∷◌, ◌++◌, Bool, true, ◌&&◌, length, Option, Some, None, Result, Ok, Err, decimal, slice_index, refl, sym, ap, subst, arith, lit<, lit≤, length-append, nat_lt, false}
+use Rattle.std.proofs.Common.{◌≡◌, ℕ, zero, suc, ◌+◌, ◌<◌, ◌≤◌, ◌^◌, List, [], ◌∷◌, ◌++◌, Bool, true, length, Option, Some, None, Result, Ok, Err, decimal, slice_index, refl, sym, ap, subst, arith, lit<, lit≤, length-append, nat_lt}
 use Rattle.std.specs.Prelude.{codes}
 use Rattle.std.specs.List.{list_all}
 use Rattle.std.specs.Result.{MatchResult, result_ok}
 use Rattle.std.specs.Str.{IsUtf8, IsAscii}
-use Rattle.std.proofs.lemmas.Bool.{ltb-true}
+use Rattle.std.proofs.lemmas.Bool.{ltb-true, and_parts}
 use Rattle.std.proofs.lemmas.Fmt.{length-decimal-le, IsAscii-decimal}
 use Rattle.std.proofs.lemmas.Str.{IsUtf8-from_ascii, IsAscii-append}
 use Rattle.txn_world.specs.declared.event.Call.{Call}
@@ -15,10 +15,6 @@ use Rattle.txnworld_cli.specs.declared.line.Line.{Line}
 use Rattle.txnworld_cli.specs.declared.line.Line.TheVariants as lines
 use Rattle.txnworld_cli.specs.declared.lines.TheConstants.{MOST_BYTES}
 use Rattle.txnworld_cli.specs.Grammar.{base_text, write_text, call_text, begin_text, line_text, BaseFits, WriteFits, CallFits, LineFits, Says}
-
-and_parts : (a b : Bool) → (a && b) ≡ true → (a ≡ true) × (b ≡ true)
-and_parts true b h = (refl, h)
-and_parts false b h = absurd (cc)
 
 -- words that are written out
 ascii_of : (xs : List ℕ) → list_all (λ b. nat_lt b 128) xs ≡ true → IsAscii xs

@@ -1,10 +1,11 @@
 //! The boundary's text, and checks, advances and deletes over a store.
-use super::driven::{
-    Answered, Did, a_layout, advance, check, delete, end_advance, has_boundary, put_boundary,
-    stands, turn_advance, write,
-};
+use super::driven::{Answered, Did, a_layout, advance, end_advance, turn_advance};
+use super::scenario::Said::{Answers, Is, Wrote};
+use super::scenario::Step::{Advance, Check, Delete, Holds, Put, Stands, Write};
+use super::scenario::{plays, plays_in_memory};
 use crate::advance::AdvanceOp;
 use crate::boundary::{boundary_bytes, known_boundary, read_boundary};
+use crate::error::TransactionalObjectError;
 use crate::id::MonotonicId;
 use crate::layout::Layout;
 use crate::test_utils::NumberCodec;
@@ -13,7 +14,10 @@ use std::alloc::Global;
 use std::test::Fail;
 use txn_store::failing::{Counts, FailingStore, When};
 use txn_store::in_memory::InMemory;
-use txn_store::store::{ObjectStore, StoreError};
+use txn_store::path::Path;
+use txn_store::store::{ObjectStore, StoreError, Token};
+
+const BOUNDARY: &str = "root/gc/test.boundary";
 
 #[test]
 fn texts_that_say_a_boundary(rt: HostRuntime) {
@@ -52,76 +56,98 @@ fn a_boundary_is_written_plainly(rt: HostRuntime) -> Result<(), Fail> {
     Ok(())
 }
 
+/// What a get of the boundary's file makes known.
+fn known(
+    alloc: Global,
+    store: &mut InMemory,
+) -> Result<(u64, Option<Token>), TransactionalObjectError> {
+    let path = Path::from_text(alloc, BOUNDARY).or(Err(TransactionalObjectError::IoError))?;
+    known_boundary(store.get(&path, None))
+}
+
 #[test]
 fn a_get_makes_the_boundary_known(rt: HostRuntime) -> Result<(), Fail> {
-    let layout = a_layout(rt.alloc())?;
     let mut store = InMemory::new(rt.alloc());
-    let known = known_boundary(store.get(&layout.boundary, None))?;
-    assert_eq!(rt; known, (0, None));
-    assert_eq!(rt; advance(rt.alloc(), &mut store, &layout, 3)?, Ok(()));
-    let got = store.get(&layout.boundary, None)?;
-    let token = got.token;
-    let known = known_boundary(Ok(got))?;
-    assert_eq!(rt; known, (3, Some(token)));
-    match known_boundary(Err(StoreError::Failed)) {
-        Err(error) => assert_eq!(rt; error.number(), 2),
-        Ok(known) => assert!(rt; false, "{known:?}"),
-    }
+    let steps = [(Advance(3), Answers(Ok(())))];
+    assert!(rt; matches!(known(rt.alloc(), &mut store), Ok((0, None))));
+    assert_eq!(rt; plays(rt.alloc(), &mut store, &steps)?, None);
+    assert!(rt; matches!(known(rt.alloc(), &mut store), Ok((3, Some(_)))));
+    let failed = known_boundary(Err(StoreError::Failed));
+    assert!(rt; failed.is_err_and(|error| error.number() == 2));
     Ok(())
 }
 
 #[test]
 fn ids_above_the_boundary_are_accepted(rt: HostRuntime) -> Result<(), Fail> {
-    let layout = a_layout(rt.alloc())?;
-    let mut store = InMemory::new(rt.alloc());
-    for (id, answer) in [(0, Err(5)), (1, Ok(()))] {
-        assert_eq!(rt; check(rt.alloc(), &mut store, &layout, id)?, answer, "{id}");
-    }
-    assert_eq!(rt; advance(rt.alloc(), &mut store, &layout, 7)?, Ok(()));
-    for (id, answer) in [(6, Err(5)), (7, Err(5)), (8, Ok(()))] {
-        assert_eq!(rt; check(rt.alloc(), &mut store, &layout, id)?, answer, "{id}");
-    }
+    let other = plays_in_memory(
+        rt.alloc(),
+        &[
+            (Check(0), Answers(Err(5))),
+            (Check(1), Answers(Ok(()))),
+            (Advance(7), Answers(Ok(()))),
+            (Check(6), Answers(Err(5))),
+            (Check(7), Answers(Err(5))),
+            (Check(8), Answers(Ok(()))),
+        ],
+    )?;
+    assert_eq!(rt; other, None);
     Ok(())
 }
 
 #[test]
 fn a_bad_boundary_is_an_unexpected_state(rt: HostRuntime) -> Result<(), Fail> {
-    let layout = a_layout(rt.alloc())?;
-    let mut store = InMemory::new(rt.alloc());
-    put_boundary(&mut store, &layout, b"seven")?;
-    assert_eq!(rt; check(rt.alloc(), &mut store, &layout, 8)?, Err(7));
-    assert_eq!(rt; advance(rt.alloc(), &mut store, &layout, 8)?, Err(7));
-    assert_eq!(rt; delete(rt.alloc(), &mut store, &layout, 8)?, Err(7));
-    assert_eq!(rt; write(rt.alloc(), &mut store, &layout, 7, 40)?, Err(7));
-    assert!(rt; stands(rt.alloc(), &mut store, &layout, 8)?);
+    let other = plays_in_memory(
+        rt.alloc(),
+        &[
+            (Put(BOUNDARY, b"seven"), Is(true)),
+            (Check(8), Answers(Err(7))),
+            (Advance(8), Answers(Err(7))),
+            (Delete(8), Answers(Err(7))),
+            (Write(7, 40), Wrote(Err(7))),
+            (Stands(8), Is(true)),
+            (Holds(BOUNDARY, b"seven"), Is(true)),
+        ],
+    )?;
+    assert_eq!(rt; other, None);
+    Ok(())
+}
+
+#[test]
+fn an_advance_never_lowers_the_boundary(rt: HostRuntime) -> Result<(), Fail> {
+    let other = plays_in_memory(
+        rt.alloc(),
+        &[
+            (Advance(0), Answers(Ok(()))),
+            (Holds(BOUNDARY, b"0"), Is(false)),
+            (Advance(3), Answers(Ok(()))),
+            (Holds(BOUNDARY, b"3"), Is(true)),
+            (Advance(5), Answers(Ok(()))),
+            (Holds(BOUNDARY, b"5"), Is(true)),
+            (Advance(4), Answers(Ok(()))),
+            (Holds(BOUNDARY, b"5"), Is(true)),
+        ],
+    )?;
+    assert_eq!(rt; other, None);
     Ok(())
 }
 
 #[test]
 fn an_advance_puts_only_what_raises(rt: HostRuntime) -> Result<(), Fail> {
-    let layout = a_layout(rt.alloc())?;
     let mut store = FailingStore::new(InMemory::new(rt.alloc()), 0, When::Before);
-    for (target, boundary, puts) in [(0, 0, 0), (3, 3, 1), (5, 5, 2), (5, 5, 2), (4, 5, 2)] {
-        assert_eq!(rt;
-            advance(rt.alloc(), &mut store, &layout, target)?,
-            Ok(()),
-            "{target}"
-        );
-        assert_eq!(rt; store.counts().puts, puts, "{target}");
-        if puts > 0 {
-            assert!(rt;
-                has_boundary(rt.alloc(), &mut store, &layout, boundary)?,
-                "{target}"
-            );
-        }
+    for (gets, (target, puts)) in [(0, 0), (3, 1), (5, 2), (5, 2), (4, 2)]
+        .into_iter()
+        .enumerate()
+    {
+        let steps = [(Advance(target), Answers(Ok(())))];
+        let other = plays(rt.alloc(), &mut store, &steps)?;
+        let counts = Counts {
+            puts,
+            gets: gets as u64 + 1,
+            lists: 0,
+            deletes: 0,
+        };
+        assert_eq!(rt; (other, store.counts()), (None, counts), "{target}");
     }
-    let counts = Counts {
-        puts: 2,
-        gets: 9,
-        lists: 0,
-        deletes: 0,
-    };
-    assert_eq!(rt; store.counts(), counts);
     Ok(())
 }
 
@@ -147,65 +173,58 @@ fn is_overtaken(
 fn overtaken(
     alloc: Global,
     store: &mut InMemory,
-    layout: &Layout<NumberCodec>,
     target: u64,
     between: u64,
 ) -> Result<Answered<()>, Fail> {
-    let mut op = AdvanceOp::start(layout, MonotonicId::new(target))?;
-    if !is_overtaken(alloc, store, layout, &mut op, between)? {
+    let layout = a_layout(alloc)?;
+    let mut op = AdvanceOp::start(&layout, MonotonicId::new(target))?;
+    if !is_overtaken(alloc, store, &layout, &mut op, between)? {
         return Err("it was not overtaken")?;
     }
-    end_advance(alloc, store, layout, &mut op)
+    end_advance(alloc, store, &layout, &mut op)
 }
 
 #[test]
 fn an_advance_that_came_second_reads_again(rt: HostRuntime) -> Result<(), Fail> {
-    let layout = a_layout(rt.alloc())?;
     let mut store = InMemory::new(rt.alloc());
-    // First there is no file when it is read, and then one with another token.
-    for (target, between) in [(3, 2), (6, 4)] {
-        let answer = overtaken(rt.alloc(), &mut store, &layout, target, between)?;
-        assert_eq!(rt; answer, Ok(()));
-        assert!(rt; has_boundary(rt.alloc(), &mut store, &layout, target)?);
+    // First there is no file when it is read, then one with another token, and then one that has
+    // reached the target.
+    for (target, between, text) in [(3, 2, b"3".as_slice()), (6, 4, b"6"), (8, 9, b"9")] {
+        let answer = overtaken(rt.alloc(), &mut store, target, between)?;
+        assert_eq!(rt; answer, Ok(()), "{target}");
+        let other = plays(rt.alloc(), &mut store, &[(Holds(BOUNDARY, text), Is(true))])?;
+        assert_eq!(rt; other, None, "{target}");
     }
-    // And then one that has reached the target.
-    let answer = overtaken(rt.alloc(), &mut store, &layout, 8, 9)?;
-    assert_eq!(rt; answer, Ok(()));
-    assert!(rt; has_boundary(rt.alloc(), &mut store, &layout, 9)?);
     Ok(())
 }
 
 #[test]
 fn a_delete_removes_what_the_boundary_has_reached(rt: HostRuntime) -> Result<(), Fail> {
-    let layout = a_layout(rt.alloc())?;
-    let mut store = InMemory::new(rt.alloc());
-    for base in 0..3 {
-        let answer = write(rt.alloc(), &mut store, &layout, base, 40)?;
-        assert_eq!(rt; answer, Ok(base + 1));
-    }
-    assert_eq!(rt; delete(rt.alloc(), &mut store, &layout, 1)?, Err(7));
-    assert!(rt; stands(rt.alloc(), &mut store, &layout, 1)?);
-    assert_eq!(rt; advance(rt.alloc(), &mut store, &layout, 2)?, Ok(()));
-    // The third call finds that version gone.
-    for (id, answer, left) in [
-        (1, Ok(()), false),
-        (2, Ok(()), false),
-        (2, Ok(()), false),
-        (3, Err(7), true),
-    ] {
-        assert_eq!(rt;
-            delete(rt.alloc(), &mut store, &layout, id)?,
-            answer,
-            "{id}"
-        );
-        assert_eq!(rt; stands(rt.alloc(), &mut store, &layout, id)?, left, "{id}");
-    }
+    let other = plays_in_memory(
+        rt.alloc(),
+        &[
+            (Write(0, 40), Wrote(Ok(1))),
+            (Write(1, 40), Wrote(Ok(2))),
+            (Write(2, 40), Wrote(Ok(3))),
+            (Delete(1), Answers(Err(7))),
+            (Stands(1), Is(true)),
+            (Advance(2), Answers(Ok(()))),
+            (Delete(1), Answers(Ok(()))),
+            (Stands(1), Is(false)),
+            (Delete(2), Answers(Ok(()))),
+            (Stands(2), Is(false)),
+            // That version is gone.
+            (Delete(2), Answers(Ok(()))),
+            (Delete(3), Answers(Err(7))),
+            (Stands(3), Is(true)),
+        ],
+    )?;
+    assert_eq!(rt; other, None);
     Ok(())
 }
 
 #[test]
 fn a_failing_store_ends_an_advance_and_a_delete(rt: HostRuntime) -> Result<(), Fail> {
-    let layout = a_layout(rt.alloc())?;
     for (nth, advanced, deleted) in [
         (1, Err(2), Err(7)),
         (2, Err(2), Err(7)),
@@ -214,10 +233,12 @@ fn a_failing_store_ends_an_advance_and_a_delete(rt: HostRuntime) -> Result<(), F
         (0, Ok(()), Ok(())),
     ] {
         let mut store = FailingStore::new(InMemory::new(rt.alloc()), nth, When::Before);
-        let answer = advance(rt.alloc(), &mut store, &layout, 3)?;
-        assert_eq!(rt; answer, advanced, "call {nth}");
-        let answer = delete(rt.alloc(), &mut store, &layout, 3)?;
-        assert_eq!(rt; answer, deleted, "call {nth}");
+        let steps = [
+            (Advance(3), Answers(advanced)),
+            (Delete(3), Answers(deleted)),
+        ];
+        let other = plays(rt.alloc(), &mut store, &steps)?;
+        assert_eq!(rt; other, None, "call {nth}");
     }
     Ok(())
 }

@@ -220,29 +220,6 @@ pub(crate) fn delete<S: ObjectStore>(
     Err("a delete goes on")?
 }
 
-/// Writes the boundary file by hand.
-pub(crate) fn put_boundary<S: ObjectStore>(
-    store: &mut S,
-    layout: &Layout<NumberCodec>,
-    text: &'static [u8],
-) -> Result<(), Fail> {
-    let bytes = Bytes::from_static(text);
-    let _ = store.put(&layout.boundary, &bytes, &PutMode::Overwrite)?;
-    Ok(())
-}
-
-/// Whether the boundary file stands and has the text of this boundary.
-pub(crate) fn has_boundary<S: ObjectStore>(
-    alloc: Global,
-    store: &mut S,
-    layout: &Layout<NumberCodec>,
-    boundary: u64,
-) -> Result<bool, Fail> {
-    let text = boundary_bytes(alloc, boundary)?;
-    let got = store.get(&layout.boundary, None)?;
-    Ok(got.bytes.as_slice() == text.as_slice())
-}
-
 /// Whether the version of this id stands.
 pub(crate) fn stands<S: ObjectStore>(
     alloc: Global,

@@ -1,21 +1,21 @@
 //! Writes and reads over a store.
-use super::driven::{
-    a_layout, advance, end_read, read, reads_on, stands, turn_read, turn_write, write,
-};
+use super::driven::{Answered, a_layout, end_read, reads_on, turn_read};
+use super::scenario::Said::{Answers, Found, Is, Wrote};
+use super::scenario::Step::{Advance, Holds, Put, Read, Remove, Stands, Write};
+use super::scenario::{Said, Step, plays, plays_in_memory};
 use crate::error::TransactionalObjectError;
-use crate::id::MonotonicId;
 use crate::layout::Layout;
 use crate::read::ReadOp;
 use crate::test_utils::NumberCodec;
 use crate::turned::Turned;
-use crate::write::WriteOp;
-use bytes::Bytes;
+use std::alloc::Global;
 use std::test::Fail;
 use txn_store::failing::{FailingStore, When};
 use txn_store::in_memory::InMemory;
 use txn_store::path::{Path, PathFault};
-use txn_store::request::Request;
-use txn_store::store::{ObjectStore, PutMode, StoreError};
+use txn_store::store::StoreError;
+
+const SEVENTH: &str = "root/test/00000000000000000007.val";
 
 #[test]
 fn a_layout_is_of_plain_names(rt: HostRuntime) -> Result<(), Fail> {
@@ -42,158 +42,198 @@ fn a_layout_is_of_plain_names(rt: HostRuntime) -> Result<(), Fail> {
 
 #[test]
 fn a_write_creates_the_version_after_its_base(rt: HostRuntime) -> Result<(), Fail> {
-    let layout = a_layout(rt.alloc())?;
-    let base = Some(MonotonicId::new(6));
-    let mut op = WriteOp::start(rt.alloc(), &layout, base, &258)?;
-    assert_eq!(rt; op.check.id, MonotonicId::new(7));
-    let Request::Put { path, bytes, mode } = op.ask() else {
-        return Err("no put")?;
-    };
-    let shown = format!(in rt.alloc(); "{path}")?;
-    assert_eq!(rt; shown.as_str(), "root/test/00000000000000000007.val");
-    assert_eq!(rt; bytes.as_slice(), [0, 0, 0, 0, 0, 0, 1, 2].as_slice());
-    assert_eq!(rt; *mode, PutMode::Create);
-    let mut store = InMemory::new(rt.alloc());
-    assert!(rt; matches!(turn_write(rt.alloc(), &mut store, &mut op)?, Turned::Goes));
-    let Request::Get { path, .. } = op.ask() else {
-        return Err("no check")?;
-    };
-    let shown = format!(in rt.alloc(); "{path}")?;
-    assert_eq!(rt; shown.as_str(), "root/gc/test.boundary");
-    match turn_write(rt.alloc(), &mut store, &mut op)? {
-        Turned::Done(Ok(id)) => assert_eq!(rt; id, MonotonicId::new(7)),
-        _ => assert!(rt; false, "no id"),
-    }
+    let other = plays_in_memory(
+        rt.alloc(),
+        &[
+            (Write(6, 258), Wrote(Ok(7))),
+            (Holds(SEVENTH, &[0, 0, 0, 0, 0, 0, 1, 2]), Is(true)),
+            (Write(6, 259), Wrote(Err(5))),
+            (Holds(SEVENTH, &[0, 0, 0, 0, 0, 0, 1, 2]), Is(true)),
+        ],
+    )?;
+    assert_eq!(rt; other, None);
     Ok(())
 }
 
 #[test]
 fn the_second_write_on_a_base_conflicts(rt: HostRuntime) -> Result<(), Fail> {
-    let layout = a_layout(rt.alloc())?;
-    let mut store = InMemory::new(rt.alloc());
-    assert_eq!(rt; write(rt.alloc(), &mut store, &layout, 0, 40)?, Ok(1));
-    for (base, second) in [(0, Err(5)), (1, Ok(2))] {
-        assert_eq!(rt; write(rt.alloc(), &mut store, &layout, base, 41)?, second);
-        assert_eq!(rt; write(rt.alloc(), &mut store, &layout, base, 42)?, Err(5));
-    }
-    assert_eq!(rt; read(rt.alloc(), &mut store, &layout)?, Ok(Some((2, 41))));
+    let other = plays_in_memory(
+        rt.alloc(),
+        &[
+            (Write(0, 40), Wrote(Ok(1))),
+            (Write(0, 41), Wrote(Err(5))),
+            (Write(1, 41), Wrote(Ok(2))),
+            (Write(1, 42), Wrote(Err(5))),
+            (Read, Found(Ok(Some((2, 41))))),
+        ],
+    )?;
+    assert_eq!(rt; other, None);
     Ok(())
 }
 
 #[test]
 fn a_write_under_the_boundary_conflicts_and_stays(rt: HostRuntime) -> Result<(), Fail> {
-    let layout = a_layout(rt.alloc())?;
-    let mut store = InMemory::new(rt.alloc());
-    assert_eq!(rt; advance(rt.alloc(), &mut store, &layout, 2)?, Ok(()));
-    for (base, answer) in [(0, Err(5)), (1, Err(5)), (2, Ok(3))] {
-        assert_eq!(rt;
-            write(rt.alloc(), &mut store, &layout, base, 40)?,
-            answer,
-            "{base}"
-        );
-        assert!(rt;
-            stands(rt.alloc(), &mut store, &layout, base + 1)?,
-            "{base}"
-        );
-    }
+    let other = plays_in_memory(
+        rt.alloc(),
+        &[
+            (Advance(2), Answers(Ok(()))),
+            (Write(0, 40), Wrote(Err(5))),
+            (Stands(1), Is(true)),
+            (Write(1, 40), Wrote(Err(5))),
+            (Stands(2), Is(true)),
+            (Write(2, 40), Wrote(Ok(3))),
+            (Stands(3), Is(true)),
+        ],
+    )?;
+    assert_eq!(rt; other, None);
     Ok(())
 }
 
 #[test]
 fn no_id_is_after_the_greatest(rt: HostRuntime) -> Result<(), Fail> {
-    let layout = a_layout(rt.alloc())?;
-    let mut store = InMemory::new(rt.alloc());
-    for (base, answer) in [(u64::MAX, Err(10)), (u64::MAX - 1, Ok(u64::MAX))] {
-        assert_eq!(rt; write(rt.alloc(), &mut store, &layout, base, 7)?, answer);
-    }
-    assert_eq!(rt;
-        read(rt.alloc(), &mut store, &layout)?,
-        Ok(Some((u64::MAX, 7)))
-    );
+    let other = plays_in_memory(
+        rt.alloc(),
+        &[
+            (Write(u64::MAX, 7), Wrote(Err(10))),
+            (Write(u64::MAX - 1, 7), Wrote(Ok(u64::MAX))),
+            (Read, Found(Ok(Some((u64::MAX, 7))))),
+        ],
+    )?;
+    assert_eq!(rt; other, None);
     Ok(())
 }
 
 #[test]
 fn a_read_finds_the_newest_version_alone(rt: HostRuntime) -> Result<(), Fail> {
-    let layout = a_layout(rt.alloc())?;
-    let mut store = InMemory::new(rt.alloc());
-    assert_eq!(rt; read(rt.alloc(), &mut store, &layout)?, Ok(None));
-    let bytes = Bytes::from_static(b"8 bytes!");
-    for text in [
+    let other = plays_in_memory(
+        rt.alloc(),
+        &[
+            (Read, Found(Ok(None))),
+            (Write(0, 40), Wrote(Ok(1))),
+            (Read, Found(Ok(Some((1, 40))))),
+            (Write(1, 30), Wrote(Ok(2))),
+            (Read, Found(Ok(Some((2, 30))))),
+        ],
+    )?;
+    assert_eq!(rt; other, None);
+    Ok(())
+}
+
+#[test]
+fn a_read_passes_over_what_is_no_version(rt: HostRuntime) -> Result<(), Fail> {
+    for path in [
         "root/test/00000000000000000009.vat",
         "root/test/9.val",
         "root/test/notes.txt",
         "root/test/a/00000000000000000009.val",
         "root/00000000000000000009.val",
     ] {
-        let path = Path::from_text(rt.alloc(), text)?;
-        let _ = store.put(&path, &bytes, &PutMode::Create)?;
-        assert_eq!(rt; read(rt.alloc(), &mut store, &layout)?, Ok(None), "{text}");
+        let other = plays_in_memory(
+            rt.alloc(),
+            &[
+                (Put(path, b"8 bytes!"), Is(true)),
+                (Read, Found(Ok(None))),
+                (Write(0, 40), Wrote(Ok(1))),
+                (Read, Found(Ok(Some((1, 40))))),
+            ],
+        )?;
+        assert_eq!(rt; other, None, "{path}");
     }
-    assert_eq!(rt; write(rt.alloc(), &mut store, &layout, 0, 40)?, Ok(1));
-    assert_eq!(rt; read(rt.alloc(), &mut store, &layout)?, Ok(Some((1, 40))));
-    assert_eq!(rt; write(rt.alloc(), &mut store, &layout, 1, 30)?, Ok(2));
-    assert_eq!(rt; read(rt.alloc(), &mut store, &layout)?, Ok(Some((2, 30))));
     Ok(())
+}
+
+/// Whether a read goes on for so many turns, takes these steps as they say, goes on for so many turns
+/// more, and lists then.
+fn lists_across(
+    alloc: Global,
+    store: &mut InMemory,
+    op: &mut ReadOp<u64>,
+    layout: &Layout<NumberCodec>,
+    (turns, more): (u64, u64),
+    steps: &[(Step, Said)],
+) -> Result<bool, Fail> {
+    let goes = reads_on(alloc, store, layout, op, turns)?;
+    let played = plays(alloc, store, steps)?.is_none();
+    let lists = reads_on(alloc, store, layout, op, more)? && matches!(op, ReadOp::Lists(_));
+    Ok(goes && played && lists)
+}
+
+/// What such a read answers in the end.
+fn read_across(
+    alloc: Global,
+    store: &mut InMemory,
+    turns: (u64, u64),
+    steps: &[(Step, Said)],
+) -> Result<Answered<Option<(u64, u64)>>, Fail> {
+    let layout = a_layout(alloc)?;
+    let mut op = ReadOp::start(&layout)?;
+    if !lists_across(alloc, store, &mut op, &layout, turns, steps)? {
+        return Err("it does not list")?;
+    }
+    end_read(alloc, store, &layout, &mut op)
 }
 
 #[test]
 fn a_read_whose_version_is_gone_lists_again(rt: HostRuntime) -> Result<(), Fail> {
-    let layout = a_layout(rt.alloc())?;
     let mut store = InMemory::new(rt.alloc());
-    for base in 0..2 {
-        let _ = write(rt.alloc(), &mut store, &layout, base, 40 + base)?;
-    }
-    let mut op = ReadOp::start(&layout)?;
-    assert!(rt; reads_on(rt.alloc(), &mut store, &layout, &mut op, 1)?);
-    let path = layout.names.path_for(rt.alloc(), 2)?;
-    assert_eq!(rt; store.delete(&path), Ok(()));
-    assert!(rt; reads_on(rt.alloc(), &mut store, &layout, &mut op, 1)?);
-    assert!(rt; matches!(op.ask(), Request::List { .. }));
-    let found = end_read(rt.alloc(), &mut store, &layout, &mut op)?;
-    assert_eq!(rt; found, Ok(Some((1, 40))));
+    let steps = [(Write(0, 40), Wrote(Ok(1))), (Write(1, 41), Wrote(Ok(2)))];
+    let other = plays(rt.alloc(), &mut store, &steps)?;
+    assert_eq!(rt; other, None);
+    let gone = [(Remove("root/test/00000000000000000002.val"), Is(true))];
+    let read = read_across(rt.alloc(), &mut store, (1, 1), &gone)?;
+    assert_eq!(rt; read, Ok(Some((1, 40))));
     Ok(())
 }
 
 #[test]
 fn a_read_under_the_boundary_lists_again(rt: HostRuntime) -> Result<(), Fail> {
-    let layout = a_layout(rt.alloc())?;
     let mut store = InMemory::new(rt.alloc());
-    let _ = write(rt.alloc(), &mut store, &layout, 0, 40)?;
-    let _ = advance(rt.alloc(), &mut store, &layout, 1)?;
-    let mut op = ReadOp::start(&layout)?;
-    assert!(rt; reads_on(rt.alloc(), &mut store, &layout, &mut op, 6)?);
-    assert!(rt; matches!(op.ask(), Request::List { .. }));
-    let _ = write(rt.alloc(), &mut store, &layout, 1, 41)?;
-    let found = end_read(rt.alloc(), &mut store, &layout, &mut op)?;
-    assert_eq!(rt; found, Ok(Some((2, 41))));
+    let steps = [(Write(0, 40), Wrote(Ok(1))), (Advance(1), Answers(Ok(())))];
+    let other = plays(rt.alloc(), &mut store, &steps)?;
+    assert_eq!(rt; other, None);
+    let newer = [(Write(1, 41), Wrote(Ok(2)))];
+    let read = read_across(rt.alloc(), &mut store, (6, 0), &newer)?;
+    assert_eq!(rt; read, Ok(Some((2, 41))));
     Ok(())
+}
+
+/// Whether a read's second reply ends it with the codec's refusal, in these words.
+fn is_refused(alloc: Global, store: &mut InMemory, words: &str) -> Result<bool, Fail> {
+    let layout = a_layout(alloc)?;
+    let mut op = ReadOp::start(&layout)?;
+    if !reads_on(alloc, store, &layout, &mut op, 1)? {
+        return Ok(false);
+    }
+    match turn_read(alloc, store, &layout, &mut op)? {
+        Turned::Done(Err(TransactionalObjectError::CallbackError(kept))) => {
+            Ok(format!(in alloc; "{kept}")?.as_str() == words)
+        }
+        _ => Ok(false),
+    }
 }
 
 #[test]
 fn refused_bytes_end_a_read(rt: HostRuntime) -> Result<(), Fail> {
-    let layout = a_layout(rt.alloc())?;
     let mut store = InMemory::new(rt.alloc());
-    assert_eq!(rt; write(rt.alloc(), &mut store, &layout, 0, 40)?, Ok(1));
-    let path = layout.names.path_for(rt.alloc(), 2)?;
-    let bytes = Bytes::from_static(b"7 bytes");
-    let _ = store.put(&path, &bytes, &PutMode::Create)?;
-    assert_eq!(rt; read(rt.alloc(), &mut store, &layout)?, Err(8));
-    let mut op = ReadOp::start(&layout)?;
-    let _ = turn_read(rt.alloc(), &mut store, &layout, &mut op)?;
-    match turn_read(rt.alloc(), &mut store, &layout, &mut op)? {
-        Turned::Done(Err(TransactionalObjectError::CallbackError(kept))) => {
-            let shown = format!(in rt.alloc(); "{kept}")?;
-            assert_eq!(rt; shown.as_str(), "not eight bytes");
-        }
-        _ => assert!(rt; false, "another answer"),
-    }
+    let other = plays(
+        rt.alloc(),
+        &mut store,
+        &[
+            (Write(0, 40), Wrote(Ok(1))),
+            (
+                Put("root/test/00000000000000000002.val", b"7 bytes"),
+                Is(true),
+            ),
+            (Read, Found(Err(8))),
+        ],
+    )?;
+    assert_eq!(rt; other, None);
+    assert!(rt; is_refused(rt.alloc(), &mut store, "not eight bytes")?);
     Ok(())
 }
 
 #[test]
 fn a_failing_store_ends_an_operation(rt: HostRuntime) -> Result<(), Fail> {
-    let layout = a_layout(rt.alloc())?;
     for (nth, wrote, found) in [
         (1, Err(2), Ok(None)),
         (2, Err(2), Ok(Some((1, 40)))),
@@ -203,24 +243,30 @@ fn a_failing_store_ends_an_operation(rt: HostRuntime) -> Result<(), Fail> {
         (0, Ok(1), Ok(Some((1, 40)))),
     ] {
         let mut store = FailingStore::new(InMemory::new(rt.alloc()), nth, When::Before);
-        let answer = write(rt.alloc(), &mut store, &layout, 0, 40)?;
-        assert_eq!(rt; answer, wrote, "call {nth}");
-        let answer = read(rt.alloc(), &mut store, &layout)?;
-        assert_eq!(rt; answer, found, "call {nth}");
+        let steps = [(Write(0, 40), Wrote(wrote)), (Read, Found(found))];
+        let other = plays(rt.alloc(), &mut store, &steps)?;
+        assert_eq!(rt; other, None, "call {nth}");
     }
     Ok(())
 }
 
+/// The store's error with which a read's first reply ends it, where it does.
+fn first_error(
+    alloc: Global,
+    store: &mut FailingStore<InMemory>,
+) -> Result<Option<StoreError>, Fail> {
+    let layout = a_layout(alloc)?;
+    let mut op = ReadOp::start(&layout)?;
+    match turn_read(alloc, store, &layout, &mut op)? {
+        Turned::Done(Err(TransactionalObjectError::ObjectStoreError(kept))) => Ok(Some(kept)),
+        _ => Ok(None),
+    }
+}
+
 #[test]
 fn the_error_of_the_store_is_told(rt: HostRuntime) -> Result<(), Fail> {
-    let layout = a_layout(rt.alloc())?;
     let mut store = FailingStore::new(InMemory::new(rt.alloc()), 1, When::Before);
-    let mut op = ReadOp::start(&layout)?;
-    match turn_read(rt.alloc(), &mut store, &layout, &mut op)? {
-        Turned::Done(Err(TransactionalObjectError::ObjectStoreError(kept))) => {
-            assert_eq!(rt; kept, StoreError::Failed);
-        }
-        _ => assert!(rt; false, "another answer"),
-    }
+    let told = first_error(rt.alloc(), &mut store)?;
+    assert_eq!(rt; told, Some(StoreError::Failed));
     Ok(())
 }
