@@ -11,11 +11,14 @@ use Rattle.txnworld_cli.proofs.threads.tally_of.Goals as goal
 pub returns : goal.returns
 returns c =
     let items : vec_len c.in-Ok.entries ≡ length c.in-Ok.entries.items = search rules in
-    record { ok = record {
-      workers_are = refl;
-      calls = search rules;
-      answers = search rules;
-      entries = (c.len-history.ensures ∙ items) ∙ (sym (length-map c.in-Ok.entries.items Some) ∙ (ap length c.in-Ok.ensures ∙ ap (λ (w : WorldState Record RecordCodec). length (history record_read w.state.trace)) c.world-2.ensures.world));
-      agree = c.in_ok-agree.ensures.ok;
-      replays = c.world.ensures.replays;
-    }; err = search rules }
+    record {
+      ok = record {
+        workers_are = refl;
+        calls = search rules;
+        answers = search rules;
+        entries = (c.len-history.ensures ∙ items) ∙ (sym (length-map c.in-Ok.entries.items Some) ∙ (ap length c.in-Ok.ensures ∙ ap (λ (w : WorldState Record RecordCodec). length (history record_read w.state.trace)) c.world-2.ensures.world));
+        agree = c.in_ok-agree.ensures.ok;
+        replays = c.world.ensures.replays;
+      };
+      err = search rules;
+    }
