@@ -2,10 +2,9 @@
 use super::driven::{Answered, Did, a_layout, advance, end_advance, turn_advance};
 use super::scenario::Said::{Answers, Is, Wrote};
 use super::scenario::Step::{Advance, Check, Delete, Holds, Put, Stands, Write};
-use super::scenario::{plays, plays_in_memory};
+use super::scenario::{Said, Step, plays, plays_in_memory};
 use crate::advance::AdvanceOp;
-use crate::boundary::{boundary_bytes, known_boundary, read_boundary};
-use crate::error::TransactionalObjectError;
+use crate::boundary::{Known, boundary_bytes, known_boundary, read_boundary};
 use crate::id::MonotonicId;
 use crate::layout::Layout;
 use crate::test_utils::NumberCodec;
@@ -20,30 +19,26 @@ use txn_store::store::{ObjectStore, StoreError, Token};
 const BOUNDARY: &str = "root/gc/test.boundary";
 
 #[test]
-fn texts_that_say_a_boundary(rt: HostRuntime) {
-    assert_eq!(rt; read_boundary(b"007"), Some(7));
-    assert_eq!(rt; read_boundary(b"+7"), Some(7));
-    assert_eq!(rt; read_boundary(b" +7\n"), Some(7));
-    assert_eq!(rt; read_boundary(b"\xc2\xa07"), Some(7));
-    assert_eq!(rt; read_boundary(b"0"), Some(0));
-    assert_eq!(rt; read_boundary(b"18446744073709551615"), Some(u64::MAX));
-}
-
-#[test]
-fn texts_that_say_none(rt: HostRuntime) {
-    for bytes in [
-        b"+".as_slice(),
-        b"-0",
-        b"7 8",
-        b"++7",
-        b"+ 7",
-        b"\xff",
-        b"",
-        b" \n",
-        b"seven",
-        b"18446744073709551616",
+fn a_boundary_is_read_from_its_text_alone(rt: HostRuntime) {
+    for (bytes, boundary) in [
+        (b"007".as_slice(), Some(7)),
+        (b"+7", Some(7)),
+        (b" +7\n", Some(7)),
+        (b"\xc2\xa07", Some(7)),
+        (b"0", Some(0)),
+        (b"18446744073709551615", Some(u64::MAX)),
+        (b"18446744073709551616", None),
+        (b"+", None),
+        (b"-0", None),
+        (b"7 8", None),
+        (b"++7", None),
+        (b"+ 7", None),
+        (b"\xff", None),
+        (b"", None),
+        (b" \n", None),
+        (b"seven", None),
     ] {
-        assert_eq!(rt; read_boundary(bytes), None, "{bytes:?}");
+        assert_eq!(rt; read_boundary(bytes), boundary, "{bytes:?}");
     }
 }
 
@@ -56,22 +51,28 @@ fn a_boundary_is_written_plainly(rt: HostRuntime) -> Result<(), Fail> {
     Ok(())
 }
 
-/// What a get of the boundary's file makes known.
-fn known(
-    alloc: Global,
-    store: &mut InMemory,
-) -> Result<(u64, Option<Token>), TransactionalObjectError> {
-    let path = Path::from_text(alloc, BOUNDARY).or(Err(TransactionalObjectError::IoError))?;
-    known_boundary(store.get(&path, None))
+/// What a get of the boundary's file makes known after these steps, and that file's token.
+fn known_after(alloc: Global, steps: &[(Step, Said)]) -> Result<(Known, Option<Token>), Fail> {
+    let mut store = InMemory::new(alloc);
+    if plays(alloc, &mut store, steps)?.is_some() {
+        return Err("a step says something else")?;
+    }
+    let path = Path::from_text(alloc, BOUNDARY)?;
+    let answer = store.get(&path, None);
+    let token = match &answer {
+        Ok(got) => Some(got.token),
+        Err(_) => None,
+    };
+    Ok((known_boundary(answer)?, token))
 }
 
 #[test]
 fn a_get_makes_the_boundary_known(rt: HostRuntime) -> Result<(), Fail> {
-    let mut store = InMemory::new(rt.alloc());
-    let steps = [(Advance(3), Answers(Ok(())))];
-    assert!(rt; matches!(known(rt.alloc(), &mut store), Ok((0, None))));
-    assert_eq!(rt; plays(rt.alloc(), &mut store, &steps)?, None);
-    assert!(rt; matches!(known(rt.alloc(), &mut store), Ok((3, Some(_)))));
+    let known = known_after(rt.alloc(), &[])?;
+    assert_eq!(rt; known, ((0, None), None));
+    let (known, token) = known_after(rt.alloc(), &[(Advance(3), Answers(Ok(())))])?;
+    assert!(rt; token.is_some());
+    assert_eq!(rt; known, (3, token));
     let failed = known_boundary(Err(StoreError::Failed));
     assert!(rt; failed.is_err_and(|error| error.number() == 2));
     Ok(())

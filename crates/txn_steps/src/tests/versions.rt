@@ -1,21 +1,27 @@
 //! Writes and reads over a store.
-use super::driven::{Answered, a_layout, end_read, reads_on, turn_read};
+use super::driven::{Answered, a_layout, end_read, reads_on, turn_read, turn_write};
 use super::scenario::Said::{Answers, Found, Is, Wrote};
 use super::scenario::Step::{Advance, Holds, Put, Read, Remove, Stands, Write};
 use super::scenario::{Said, Step, plays, plays_in_memory};
 use crate::error::TransactionalObjectError;
+use crate::id::MonotonicId;
 use crate::layout::Layout;
 use crate::read::ReadOp;
 use crate::test_utils::NumberCodec;
 use crate::turned::Turned;
+use crate::write::WriteOp;
 use std::alloc::Global;
 use std::test::Fail;
 use txn_store::failing::{FailingStore, When};
 use txn_store::in_memory::InMemory;
 use txn_store::path::{Path, PathFault};
-use txn_store::store::StoreError;
+use txn_store::request::Request;
+use txn_store::store::{PutMode, StoreError};
 
 const SEVENTH: &str = "root/test/00000000000000000007.val";
+
+/// Eight bytes, which a number's codec reads.
+const NOTES: &[u8] = b"8 bytes!";
 
 #[test]
 fn a_layout_is_of_plain_names(rt: HostRuntime) -> Result<(), Fail> {
@@ -37,6 +43,65 @@ fn a_layout_is_of_plain_names(rt: HostRuntime) -> Result<(), Fail> {
             Ok(_) => assert!(rt; false, "{subdir:?} {suffix:?}"),
         }
     }
+    Ok(())
+}
+
+/// A write of 258 on the version 6.
+fn a_write(alloc: Global) -> Result<WriteOp, Fail> {
+    let layout = a_layout(alloc)?;
+    let base = Some(MonotonicId::new(6));
+    Ok(WriteOp::start(alloc, &layout, base, &258)?)
+}
+
+/// That write, when its version is created.
+fn a_write_that_put(alloc: Global) -> Result<WriteOp, Fail> {
+    let mut op = a_write(alloc)?;
+    match turn_write(alloc, &mut InMemory::new(alloc), &mut op)? {
+        Turned::Goes => Ok(op),
+        Turned::Done(_) => Err("a put ends a write")?,
+    }
+}
+
+/// The id that its check holds.
+fn checked(op: &WriteOp) -> u64 {
+    op.check.id.id()
+}
+
+/// Whether it asks for the create of a file at this path, of these bytes.
+fn creates(alloc: Global, op: &WriteOp, text: &str, wanted: &[u8]) -> Result<bool, Fail> {
+    let Request::Put { path, bytes, mode } = op.ask() else {
+        return Ok(false);
+    };
+    let shown = format!(in alloc; "{path}")?;
+    Ok(shown.as_str() == text && bytes.as_slice() == wanted && *mode == PutMode::Create)
+}
+
+/// Whether it asks for the file at this path, whatever its token.
+fn gets(alloc: Global, op: &WriteOp, text: &str) -> Result<bool, Fail> {
+    let Request::Get {
+        path,
+        if_none_match: None,
+    } = op.ask()
+    else {
+        return Ok(false);
+    };
+    Ok(format!(in alloc; "{path}")?.as_str() == text)
+}
+
+#[test]
+fn a_write_asks_first_for_its_create(rt: HostRuntime) -> Result<(), Fail> {
+    let op = a_write(rt.alloc())?;
+    assert_eq!(rt; checked(&op), 7);
+    let bytes = [0, 0, 0, 0, 0, 0, 1, 2];
+    assert!(rt; creates(rt.alloc(), &op, SEVENTH, &bytes)?);
+    Ok(())
+}
+
+#[test]
+fn a_write_asks_then_for_the_boundary(rt: HostRuntime) -> Result<(), Fail> {
+    let op = a_write_that_put(rt.alloc())?;
+    assert_eq!(rt; checked(&op), 7);
+    assert!(rt; gets(rt.alloc(), &op, "root/gc/test.boundary")?);
     Ok(())
 }
 
@@ -121,24 +186,26 @@ fn a_read_finds_the_newest_version_alone(rt: HostRuntime) -> Result<(), Fail> {
 
 #[test]
 fn a_read_passes_over_what_is_no_version(rt: HostRuntime) -> Result<(), Fail> {
-    for path in [
-        "root/test/00000000000000000009.vat",
-        "root/test/9.val",
-        "root/test/notes.txt",
-        "root/test/a/00000000000000000009.val",
-        "root/00000000000000000009.val",
-    ] {
-        let other = plays_in_memory(
-            rt.alloc(),
-            &[
-                (Put(path, b"8 bytes!"), Is(true)),
-                (Read, Found(Ok(None))),
-                (Write(0, 40), Wrote(Ok(1))),
-                (Read, Found(Ok(Some((1, 40))))),
-            ],
-        )?;
-        assert_eq!(rt; other, None, "{path}");
-    }
+    let other = plays_in_memory(
+        rt.alloc(),
+        &[
+            (Put("root/test/00000000000000000009.vat", NOTES), Is(true)),
+            (Read, Found(Ok(None))),
+            (Put("root/test/9.val", NOTES), Is(true)),
+            (Read, Found(Ok(None))),
+            (Put("root/test/notes.txt", NOTES), Is(true)),
+            (Read, Found(Ok(None))),
+            (Put("root/test/a/00000000000000000009.val", NOTES), Is(true)),
+            (Read, Found(Ok(None))),
+            (Put("root/00000000000000000009.val", NOTES), Is(true)),
+            (Read, Found(Ok(None))),
+            (Write(0, 40), Wrote(Ok(1))),
+            (Read, Found(Ok(Some((1, 40))))),
+            (Write(1, 30), Wrote(Ok(2))),
+            (Read, Found(Ok(Some((2, 30))))),
+        ],
+    )?;
+    assert_eq!(rt; other, None);
     Ok(())
 }
 
