@@ -1,7 +1,3 @@
-pub mod Errors
-pub mod Refusal
-pub mod NumberBytes
-pub mod BoundaryText
 pub mod Steps
 pub mod CheckSteps
 pub mod WriteSteps

@@ -1,5 +1,4 @@
-//! What every operation on a transactional object speaks of: ids of versions, errors, and values as bytes, and
-//! the operations themselves, each as a state that asks one request of the store at a time.
+//! The operations on a transactional object, each as a state that asks one request of the store at a time.
 //!
 //! An object is kept as numbered versions, each one file of a store. A client reads the newest version, makes a
 //! candidate from it, and writes the candidate as the version after it, which succeeds for one writer alone. The
@@ -7,36 +6,18 @@
 //! that finds one starts again.
 //!
 //! ## Core types
-//! - `MonotonicId`: the id of a version. The first is 1, and each later one is the one before plus 1.
-//! - `DirtyObject<T, Id>`: a local candidate `{ id, value }`, with the id of the version that it is made from.
-//! - `ObjectCodec<T>`: how values are written as bytes and read back. What it writes, it reads as the same value.
-//! - `TransactionalObjectError`: the error of every call, of eleven kinds with stated numbers.
-//! - `Layout<C>`: where the versions and the boundary file of an object lie, and the codec of its values.
 //! - `WriteOp`, `ReadOp<T>`, `CheckOp`, `AdvanceOp`, `DeleteOp`: the operations. `ask` is the request that is due,
 //!   and `take` takes the store's reply to it and says by `Turned` whether the operation goes on or is done.
+//! - `Turned<A>`: that an operation goes on, or its answer.
+//! - `Known`: what a get of the boundary file makes known.
 //!
-//! ## Error semantics
-//! - `ObjectVersionExists` is a conflict: another writer created the version first, or the created version was
-//!   overtaken by the boundary. The caller refreshes and tries again; `is_sequenced_write_conflict` asks for it.
-//! - `Fenced` tells a client that a newer one has claimed the object.
-//! - `InvalidObjectState` is answered where a file is missing that has to be there, or is not what it has to be.
-//! - `ObjectStoreError` holds the store's error. The store's want of memory becomes `NoMemory` instead.
-//! - `CallbackError` holds what a codec, an invariant or a mutator refused with.
-//! - `NoMemory`, `IdExhausted` and `TurnsExhausted` say what ran out, and never change an answer.
+//! Ids, errors, codecs and layouts are those of `txn_types`, whose page has the error semantics.
 #![tactic(auto)]
 
 pub mod advance;
-pub mod boundary;
 pub mod check;
-pub mod codec;
 pub mod delete;
-pub mod dirty;
-pub mod error;
-pub mod id;
-pub mod layout;
+pub mod known;
 pub mod read;
-pub mod test_utils;
-#[cfg(test)]
-mod tests;
 pub mod turned;
 pub mod write;

@@ -6,15 +6,15 @@ ghost use Rattle.txn_steps.specs.Steps.{turned_by_number, lacks_memory, error_in
 ghost use Rattle.txn_steps.specs.ReadSteps.{greater_of, greatest_listed, read_started, getting, holding, listed_turned, got_turned, read_or_lacks};
 
 use crate::check::CheckOp;
-use crate::codec::ObjectCodec;
-use crate::error::TransactionalObjectError;
-use crate::id::MonotonicId;
-use crate::layout::Layout;
 use crate::turned::{self, Turned, goes_as, taken};
 use std::alloc::{AllocError, Global};
 use txn_store::request::{Listing, Reply, Request};
 use txn_store::store::{Got, ObjectMeta, StoreError};
 use txn_store::version_names::VersionNames;
+use txn_types::codec::ObjectCodec;
+use txn_types::error::TransactionalObjectError;
+use txn_types::id::MonotonicId;
+use txn_types::layout::Layout;
 
 /// A read of the newest version: a listing, the get of the greatest listed id, and the check of that id.
 #[derive(Drop)]

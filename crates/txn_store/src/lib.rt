@@ -9,6 +9,4 @@ pub mod in_memory;
 pub mod path;
 pub mod request;
 pub mod store;
-#[cfg(test)]
-mod tests;
 pub mod version_names;

@@ -7,18 +7,18 @@ use Rattle.anyhow.specs.declared.error.Error.{Error}
 use Rattle.txn_store.specs.declared.store.PutMode.{PutMode}
 use Rattle.txn_store.specs.declared.request.Request.{Request}
 use Rattle.txn_store.specs.declared.request.Request.TheVariants as requests
-use Rattle.txn_steps.specs.declared.codec.CodecFault.{CodecFault}
-use Rattle.txn_steps.specs.declared.codec.CodecFault.TheVariants.{Refused}
-use Rattle.txn_steps.specs.Refusal.{OnRefused}
-use Rattle.txn_steps.specs.BoundaryText.{boundary_read}
-use Rattle.txn_world.specs.declared.trace.Row.{Row}
-use Rattle.txn_world.specs.declared.trace.Row.TheVariants.{Effect, Begun, Answered}
-use Rattle.txn_world.specs.History.{Version, is_boundary, bytes_as, created, created_by, has_id, with_version, versions_of, newest, history}
-use Rattle.txn_world.specs.OneHistory.{BoundaryPut, VersionPut, IsLegal, Fits, IsOneHistory}
-use Rattle.txn_world.proofs.Lists.{get_more}
-use Rattle.txn_world.proofs.Rows.{front_more, versions_of-more}
-use Rattle.txn_world.proofs.Apart.{raise_creates, is_boundary_path}
-use Rattle.txn_world.proofs.Effects.{AreCounted, lacks_counted}
+use Rattle.txn_types.specs.declared.codec.CodecFault.{CodecFault}
+use Rattle.txn_types.specs.declared.codec.CodecFault.TheVariants.{Refused}
+use Rattle.txn_types.specs.Refusal.{OnRefused}
+use Rattle.txn_types.specs.BoundaryText.{boundary_read}
+use Rattle.txn_model.specs.declared.trace.Row.{Row}
+use Rattle.txn_model.specs.declared.trace.Row.TheVariants.{Effect, Begun, Answered}
+use Rattle.txn_model.specs.History.{Version, is_boundary, bytes_as, created, created_by, has_id, with_version, versions_of, newest, history}
+use Rattle.txn_model.specs.OneHistory.{BoundaryPut, VersionPut, IsLegal, Fits, IsOneHistory}
+use Rattle.txn_model.proofs.Lists.{get_more}
+use Rattle.txn_model.proofs.Rows.{front_more, versions_of-more}
+use Rattle.txn_model.proofs.Apart.{raise_creates, is_boundary_path}
+use Rattle.txn_model.proofs.Effects.{AreCounted, lacks_counted}
 
 module _ {T : Type 0} (decode : List ℕ → Option T) where
   -- a legal effect that creates a version is an append or a re-creation

@@ -18,17 +18,17 @@ use Rattle.txn_steps.specs.declared.delete.DeleteOp.{DeleteOp}
 use Rattle.txn_steps.specs.Steps.{IsPutReply, IsGetReply, IsListReply, IsDeleteReply}
 use Rattle.txn_steps.specs.WriteSteps.{write_asked_at, write_asked, IsWriteReplyAt}
 use Rattle.txn_steps.specs.DeleteSteps.{delete_asked_at, delete_asked, IsDeleteOpReplyAt}
-use Rattle.txn_world.specs.declared.doing.Doing.{Doing}
-use Rattle.txn_world.specs.declared.doing.Doing.TheVariants.{Write, Read, Check, Advance, Delete, Ended}
-use Rattle.txn_world.specs.declared.doing.Operation.{Operation}
-use Rattle.txn_world.specs.declared.event.Answer.{Answer}
-use Rattle.txn_world.specs.declared.event.Event.TheVariants as events
-use Rattle.txn_world.specs.declared.event.Told.{Told}
-use Rattle.txn_world.specs.declared.event.Told.TheVariants as told
-use Rattle.txn_world.specs.declared.trace.Row.{Row}
-use Rattle.txn_world.specs.Lists.{numbered}
-use Rattle.txn_world.specs.Doing.{asked, IsPut, IsGet, IsList, IsDelete, WriteInKind, DeleteInKind, AsksInKind, IsReply, Turns}
-use Rattle.txn_world.specs.Machine.{State, AskInKind, IsReplyBy, with_doing, asked_of, asked_by, took, may_change, effect_of, effect_rows, answer_rows, told_of, refusal_of, AdvancesAt, Advances, Served, Takes}
+use Rattle.txn_model.specs.declared.doing.Doing.{Doing}
+use Rattle.txn_model.specs.declared.doing.Doing.TheVariants.{Write, Read, Check, Advance, Delete, Ended}
+use Rattle.txn_model.specs.declared.doing.Operation.{Operation}
+use Rattle.txn_model.specs.declared.event.Answer.{Answer}
+use Rattle.txn_model.specs.declared.event.Event.TheVariants as events
+use Rattle.txn_model.specs.declared.event.Told.{Told}
+use Rattle.txn_model.specs.declared.event.Told.TheVariants as told
+use Rattle.txn_model.specs.declared.trace.Row.{Row}
+use Rattle.txn_model.specs.Lists.{numbered}
+use Rattle.txn_model.specs.Doing.{asked, IsPut, IsGet, IsList, IsDelete, WriteInKind, DeleteInKind, AsksInKind, IsReply, Turns}
+use Rattle.txn_model.specs.Machine.{State, AskInKind, IsReplyBy, with_doing, asked_of, asked_by, took, may_change, effect_of, effect_rows, answer_rows, told_of, refusal_of, AdvancesAt, Advances, Served, Takes}
 
 module _ {T : Type 0} where
   -- the operation that a reply is handed to

@@ -2,15 +2,15 @@
 ghost use Rattle.std.specs.Prelude.{◌≡◌};
 ghost use Rattle.std.specs.Option.{option_map};
 ghost use Rattle.txn_store.specs.VersionOf.{version_of};
-ghost use Rattle.txn_world.specs.Names.{world_names, world_boundary};
-ghost use Rattle.txn_world.specs.History.{created, removed};
-ghost use Rattle.txn_world.specs.Machine.{boundary_after};
+ghost use Rattle.txn_model.specs.Names.{world_names, world_boundary};
+ghost use Rattle.txn_model.specs.History.{created, removed};
+ghost use Rattle.txn_model.specs.Machine.{boundary_after};
 
 use bytes::Bytes;
-use txn_steps::boundary::read_boundary;
 use txn_store::path::Path;
 use txn_store::request::Request;
 use txn_store::version_names::VersionNames;
+use txn_types::boundary::read_boundary;
 
 /// The id of the version that a path is.
 fn version_of(names: &VersionNames, path: &Path) -> Option<u64>

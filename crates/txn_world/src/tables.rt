@@ -2,33 +2,24 @@
 ghost use Rattle.std.specs.Prelude.{◌≡◌, ◌++◌, ◌≤◌, ◌<◌, ◌+◌, IfOk, IfSome, OnErr, IsSome, None, if◌then◌else◌, nat_eq, vec_len, vec_capacity};
 ghost use Rattle.std.specs.HashSet.{contains, spare};
 ghost use Rattle.std.specs.Option.{ForSome, option_copied};
-ghost use Rattle.txn_world.specs.Lists.{numbered, AreAscending};
+ghost use Rattle.txn_model.specs.Lists.{numbered, AreAscending};
 ghost use Rattle.txn_store.specs.Memory.{state_of};
-ghost use Rattle.txn_world.specs.Names.{world_names, world_boundary};
-ghost use Rattle.txn_world.specs.Doing.{IsExactClone, first_of, refusal_of_number};
-ghost use Rattle.txn_world.specs.Machine.{told_of, answer_rows, asked_by, may_change, took, Advances, IsReplyBy};
+ghost use Rattle.txn_model.specs.Names.{world_names, world_boundary};
+ghost use Rattle.txn_model.specs.Doing.{IsExactClone, first_of, refusal_of_number};
+ghost use Rattle.txn_model.specs.Machine.{told_of, answer_rows, asked_by, may_change, took, Advances, IsReplyBy};
 
-use crate::doing::{Doing, Operation, start};
-use crate::event::{Answer, Call, Event, EventFault, Told};
-use crate::trace::{Row, Trace, push_within};
+use crate::trace::Trace;
 use std::alloc::{AllocError, Global};
 use std::collections::{BTreeSet, HashSet};
-use txn_steps::codec::ObjectCodec;
-use txn_steps::layout::Layout;
+use txn_model::doing::{Doing, Operation, start};
+use txn_model::event::{Answer, Call, Event, EventFault, Told};
+use txn_model::trace::Row;
 use txn_store::in_memory::InMemory;
 use txn_store::path::{Path, PathFault};
 use txn_store::request::{Reply, Request, serve};
-
-impl From<AllocError> for EventFault {
-    ghost use Rattle.std.specs.Prelude.{◌≡◌};
-    ghost use Rattle.txn_world.specs.declared.event.EventFault.TheVariants.{NoMemory};
-
-    ghost from_gives = { λ _ fault. fault ≡ NoMemory };
-
-    fn from(_error: AllocError) -> EventFault {
-        EventFault::NoMemory
-    }
-}
+use txn_types::codec::ObjectCodec;
+use txn_types::layout::Layout;
+use txn_types::room::push_within;
 
 /// Adds the row of an answer, where there is one, and says what is told.
 fn tell<T: Drop>(
@@ -167,12 +158,12 @@ pub(crate) struct Tables<T: Drop, C> {
 
 impl<T: Clone, C: ObjectCodec<T> + Drop> Tables<T, C> {
     ghost use Rattle.std.specs.Prelude.{◌≡◌, ◌<◌, ◌≤◌, ◌+◌, IfOk, OnOk, OnErr, vec_len, vec_capacity};
-    ghost use Rattle.txn_world.specs.Doing.{IsExactClone};
-    ghost use Rattle.txn_world.specs.OneHistory.{has_known_base, has_low_boundary};
-    ghost use Rattle.txn_world.specs.History.{boundary, AreErased};
+    ghost use Rattle.txn_model.specs.Doing.{IsExactClone};
+    ghost use Rattle.txn_model.specs.OneHistory.{has_known_base, has_low_boundary};
+    ghost use Rattle.txn_model.specs.History.{boundary, AreErased};
     ghost use Rattle.std.specs.HashSet.{spare};
-    ghost use Rattle.txn_world.specs.Doing.{refusal_of_number};
-    ghost use Rattle.txn_world.specs.Machine.{Takes, AskInKind, opening, refusal_of, fault_met, begun_as};
+    ghost use Rattle.txn_model.specs.Doing.{refusal_of_number};
+    ghost use Rattle.txn_model.specs.Machine.{Takes, AskInKind, opening, refusal_of, fault_met, begun_as};
     ghost use Rattle.txn_world.specs.Shown.{shown};
     ghost use Rattle.std.specs.Result.{result_err};
 

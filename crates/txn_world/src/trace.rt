@@ -1,26 +1,17 @@
-//! What happened, row by row.
+//! The rows so far, with what is looked up in them.
 ghost use Rattle.std.specs.Prelude.{◌≡◌, ◌||◌, ◌++◌, ◌∷◌, [], ◌<◌, ◌≤◌, ◌+◌, ℕ, nat_eq, nat_lt, vec_len, vec_capacity};
 ghost use Rattle.std.specs.HashSet.{contains, spare};
-ghost use Rattle.txn_world.specs.History.{is_id, boundary, was_erased};
-ghost use Rattle.txn_world.specs.Calls.{was_told, is_below_told, id_told};
+ghost use Rattle.txn_model.specs.History.{is_id, boundary, was_erased};
+ghost use Rattle.txn_model.specs.Calls.{was_told, is_below_told, id_told};
 
-use crate::event::{Answer, Call};
 use crate::requests::{boundary_after, removed_id};
 use std::alloc::{AllocError, Global};
 use std::collections::HashSet;
-use txn_steps::layout::Layout;
+use txn_model::event::{Answer, Call};
+use txn_model::trace::Row;
 use txn_store::request::Request;
-
-/// One row of a trace. Each names its operation.
-#[derive(Drop)]
-pub enum Row<T> {
-    /// The operation's request changed the store.
-    Effect(u64, Request),
-    /// The operation began as this call.
-    Begun(u64, Call<T>),
-    /// The operation was answered.
-    Answered(u64, Answer<T>),
-}
+use txn_types::layout::Layout;
+use txn_types::room::push_within;
 
 /// The rows so far. What they told, reached and erased stands beside them, so that it is looked up and
 /// not searched for.
@@ -44,9 +35,9 @@ pub(crate) struct Trace<T> {
 impl<T: Drop> Trace<T> {
     ghost use Rattle.std.specs.Prelude.{◌≡◌, ◌++◌, ◌∷◌, [], ◌<◌, ◌≤◌, ◌+◌, OnOk, vec_len, vec_capacity};
     ghost use Rattle.std.specs.HashSet.{spare};
-    ghost use Rattle.txn_world.specs.Names.{world_names, world_boundary};
-    ghost use Rattle.txn_world.specs.Calls.{was_told, is_below_told};
-    ghost use Rattle.txn_world.specs.Machine.{effect_rows};
+    ghost use Rattle.txn_model.specs.Names.{world_names, world_boundary};
+    ghost use Rattle.txn_model.specs.Calls.{was_told, is_below_told};
+    ghost use Rattle.txn_model.specs.Machine.{effect_rows};
 
     pub fn new(alloc: Global) -> Trace<T>
         ensures { result.rows.items ≡ [] }
@@ -149,18 +140,5 @@ fn insert_within(ids: &mut HashSet<u64>, id: Option<u64>)
             Ok(_) => {}
             Err(_) => unreachable!(),
         }
-    }
-}
-
-/// Pushes where there is room.
-pub(crate) fn push_within<T: Drop>(items: &mut Vec<T>, item: T)
-    requires { vec_len items.old < vec_capacity items.old }
-    ensures items { items.new.items ≡ items.old.items ++ item ∷ [] }
-    ensures len { vec_len items.new ≡ vec_len items.old + 1 }
-    ensures capacity { vec_capacity items.old ≤ vec_capacity items.new }
-{
-    match items.push(item) {
-        Ok(()) => {}
-        Err(_) => unreachable!(),
     }
 }

@@ -1,25 +1,23 @@
 //! Clients over one store, one event at a time.
-ghost use Rattle.std.specs.Prelude.{◌≡◌, ◌≤◌, List, map, IfOk, OnErr, Some};
+ghost use Rattle.std.specs.Prelude.{◌≡◌, ◌≤◌, map, IfOk, OnErr, Some};
 ghost use Rattle.std.specs.Option.{option_copied};
-ghost use Rattle.txn_world.specs.Names.{world_names};
-ghost use Rattle.txn_world.specs.Doing.{IsExactClone};
-ghost use Rattle.txn_world.specs.History.{HasContents, created_by, bytes_as, history, stored, boundary, AreErased};
-ghost use Rattle.txn_world.specs.OneHistory.{IsOneHistory};
-ghost use Rattle.txn_world.specs.Allowed.{fault_of, AddsRows};
-ghost use Rattle.txn_world.specs.Machine.{State, opening, fault_met, Takes, RunsPast, Runs};
-ghost use Rattle.txn_world.specs.declared.event.Event.{Event};
-ghost use Rattle.txn_world.specs.declared.event.Told.{Told};
+ghost use Rattle.txn_model.specs.Names.{world_names};
+ghost use Rattle.txn_model.specs.Doing.{IsExactClone};
+ghost use Rattle.txn_model.specs.History.{HasContents, created_by, bytes_as, history, stored, boundary, AreErased};
+ghost use Rattle.txn_model.specs.OneHistory.{IsOneHistory};
+ghost use Rattle.txn_model.specs.Allowed.{fault_of, AddsRows};
+ghost use Rattle.txn_model.specs.Machine.{opening, fault_met, Takes, RunsPast};
 
-use crate::event::{Event, EventFault, Told};
 use crate::requests::created_version;
 use crate::tables::Tables;
-use crate::trace::Row;
 use bytes::Bytes;
 use std::alloc::{AllocError, Global};
 use std::marker::Model;
-use txn_steps::codec::{CodecFault, ObjectCodec};
-use txn_steps::layout::Layout;
+use txn_model::event::{Event, EventFault, Told};
+use txn_model::trace::Row;
 use txn_store::version_names::VersionNames;
+use txn_types::codec::{CodecFault, ObjectCodec};
+use txn_types::layout::Layout;
 
 /// Clients over one store. Contracts see its codec, and the state that its events lead to.
 #[derive(Drop)]
@@ -28,7 +26,7 @@ pub struct World<T: Clone, C: ObjectCodec<T> + Drop> {
 }
 
 impl<T: Clone, C: ObjectCodec<T> + Drop> Model for World<T, C> {
-    ghost use Rattle.txn_world.specs.Machine.{WorldState, IsReached};
+    ghost use Rattle.txn_model.specs.Machine.{WorldState, IsReached};
 
     ghost Value = { WorldState T C };
 
@@ -161,8 +159,3 @@ impl<T: Clone, C: ObjectCodec<T> + Drop> World<T, C> {
         self.tables.erased(alloc)
     }
 }
-
-/// The law of the world: whatever events are taken, in whatever order, the trace is one history.
-pub fn one_history<T: Drop, C: ObjectCodec<T>>(_codec: &C)
-    ensures { (clients : _) (taken : List (Event T × Told T)) (state : State T) → Runs (C.encoded _codec.now) (C.decoded _codec.now) (opening clients) taken state → IsOneHistory (C.decoded _codec.now) state.trace }
-{}

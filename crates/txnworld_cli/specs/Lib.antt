@@ -1,9 +1,3 @@
-pub mod Lines
-pub mod Grammar
-pub mod Printed
-pub mod Script
-pub mod Reading
-pub mod Printing
 pub mod Threads
 pub mod Tallies
 pub mod Commands

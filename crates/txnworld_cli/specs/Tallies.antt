@@ -1,14 +1,14 @@
 -- What the printed lines of a run of workers say of the world that they leave.
 use Rattle.std.specs.Prelude.{◌≡◌, ◌↔◌, ℕ, List, Bool, IsTrue, Option, length}
 use Rattle.std.specs.Io.KnownBytes.{Appends}
-use Rattle.txn_world.specs.declared.record.Record.{Record}
-use Rattle.txn_world.specs.declared.record.RecordCodec.{RecordCodec}
-use Rattle.txn_world.specs.declared.kept.Share.{Share}
-use Rattle.txn_world.specs.Record.{record_text, record_read}
-use Rattle.txn_world.specs.History.{history}
-use Rattle.txn_world.specs.Kept.{KeptState, Replays, CameOnce, Agree}
+use Rattle.txn_script.specs.declared.record.Record.{Record}
+use Rattle.txn_script.specs.declared.record.RecordCodec.{RecordCodec}
+use Rattle.txn_threads.specs.declared.kept.Share.{Share}
+use Rattle.txn_script.specs.Record.{record_text, record_read}
+use Rattle.txn_model.specs.History.{history}
+use Rattle.txn_threads.specs.Kept.{KeptState, Replays, CameOnce, Agree}
 use Rattle.txnworld_cli.specs.declared.threads.Tally.{Tally}
-use Rattle.txnworld_cli.specs.Printed.{with_feed}
+use Rattle.txn_script.specs.Printed.{with_feed}
 use Rattle.txnworld_cli.specs.Threads.{tally_text, begun_count, answered_count}
 
 -- the counts agree exactly where each worker's share came once, with the count of its rows in the journal

@@ -5,24 +5,15 @@ ghost use Rattle.std.specs.Prelude.{◌≡◌, ◌↔◌, ℕ, Some, IfSome, dro
 ghost use Rattle.txnworld_cli.specs.declared.Command.{Command};
 ghost use Rattle.txnworld_cli.specs.Commands.{command_words, IsCommand, IsCount, count_text};
 
-mod line;
-mod lines;
-mod printed;
-mod printer;
-mod script;
-mod stop;
-#[cfg(test)]
-mod stream_tests;
 #[cfg(test)]
 mod tests;
 mod threads;
-#[cfg(test)]
-mod threads_tests;
 
-use crate::stop::Stop;
 use std::io::Write;
 use std::process::ExitCode;
 use std::{env, io};
+use txn_script::script::run_script;
+use txn_script::stop::Stop;
 
 /// The status of wrong arguments.
 const USAGE: u8 = 2;
@@ -86,7 +77,7 @@ fn main(rt: HostRuntime) -> ExitCode {
     let mut out = io::writer(&rt);
     let alloc = rt.alloc();
     let status = match command {
-        Command::Script => script::run_script(alloc, rt.reader(), &mut out, &mut err),
+        Command::Script => run_script(alloc, rt.reader(), &mut out, &mut err),
         Command::Threads(workers) => {
             threads::run_threads(&rt, alloc, workers, &mut out, &mut err)
         }

@@ -2,24 +2,24 @@
 
 ghost use Rattle.std.specs.Prelude.{◌≡◌, ◌≤◌, All, Some, Bool, IfOk, IfErr};
 ghost use Rattle.std.specs.Io.KnownBytes.{Appends};
-ghost use Rattle.txnworld_cli.specs.declared.stop.Stop.TheVariants as stops;
+ghost use Rattle.txn_script.specs.declared.stop.Stop.TheVariants as stops;
 ghost use Rattle.txnworld_cli.specs.Threads.{job_list, tally_text, halt_text, begun_count, answered_count, stopped_worker, share_list, IsCrew};
 ghost use Rattle.txnworld_cli.specs.Tallies.{AgreeAs, Tallies, IsTally, PrintsTally};
 
-use crate::printer::Printer;
-use crate::stop::Stop;
 use std::alloc::{AllocError, Global};
 use std::fmt;
 use std::io::Write;
 use std::sync::{Mutex, Wait};
 use std::thread::Threads;
-use txn_world::event::Call;
-use txn_world::finish::{FinishFault, finish};
-use txn_world::gate::FreeGate;
-use txn_world::kept::{Kept, Share};
-use txn_world::record::{Record, RecordCodec};
-use txn_world::trace::Row;
-use txn_world::work::{End, Job, Worked, Worker, work_all};
+use txn_model::event::Call;
+use txn_model::trace::Row;
+use txn_script::printer::Printer;
+use txn_script::record::{Record, RecordCodec};
+use txn_script::stop::Stop;
+use txn_threads::finish::{FinishFault, finish};
+use txn_threads::gate::FreeGate;
+use txn_threads::kept::{Kept, Share};
+use txn_threads::work::{End, Job, Worked, Worker, work_all};
 use txn_world::world::World;
 
 /// What a run of workers left.
@@ -78,7 +78,7 @@ impl fmt::Display for Halt {
 
 impl From<AllocError> for Halt {
     ghost use Rattle.std.specs.Prelude.{◌≡◌};
-    ghost use Rattle.txnworld_cli.specs.declared.stop.Stop.TheVariants as stops;
+    ghost use Rattle.txn_script.specs.declared.stop.Stop.TheVariants as stops;
     ghost use Rattle.txnworld_cli.specs.declared.threads.Halt.TheVariants as halts;
 
     ghost from_gives = { λ _ halt. halt ≡ halts.Stop stops.NoMemory };

@@ -1,7 +1,7 @@
 use Rattle.std.proofs.Common.{◌≡◌, ◌++◌, ◌||◌, ℕ, nat_eq}
 use Rattle.std.specs.List.{list_any}
 use Rattle.std.specs.HashSet.{contains}
-use Rattle.txn_world.specs.Lists.{AreAscending}
+use Rattle.txn_model.specs.Lists.{AreAscending}
 use Rattle.txn_world.proofs.tables.ascending.Given as goal
 
 -- the ids so far and those that are left are those of the set

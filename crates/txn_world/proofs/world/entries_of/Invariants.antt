@@ -1,5 +1,5 @@
 use Rattle.std.proofs.Common.{◌≡◌, map, take, Some}
-use Rattle.txn_world.specs.History.{history}
+use Rattle.txn_model.specs.History.{history}
 use Rattle.txn_world.proofs.world.entries_of.Given as goal
 
 -- the entries of the rows so far

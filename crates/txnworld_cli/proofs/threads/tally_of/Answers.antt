@@ -1,11 +1,11 @@
 use Rattle.std.proofs.Common.{rules, ◌≡◌, refl, sym, ◌∙◌, ap, length, Some}
 use Rattle.std.specs.Vec.{vec_len}
 use Rattle.std.proofs.lemmas.List.{length-map}
-use Rattle.txn_world.specs.declared.record.Record.{Record}
-use Rattle.txn_world.specs.declared.record.RecordCodec.{RecordCodec}
-use Rattle.txn_world.specs.Record.{record_read}
-use Rattle.txn_world.specs.History.{history}
-use Rattle.txn_world.specs.Machine.{WorldState}
+use Rattle.txn_script.specs.declared.record.Record.{Record}
+use Rattle.txn_script.specs.declared.record.RecordCodec.{RecordCodec}
+use Rattle.txn_script.specs.Record.{record_read}
+use Rattle.txn_model.specs.History.{history}
+use Rattle.txn_model.specs.Machine.{WorldState}
 use Rattle.txnworld_cli.proofs.threads.tally_of.Goals as goal
 
 pub returns : goal.returns

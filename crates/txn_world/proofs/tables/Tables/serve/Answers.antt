@@ -1,7 +1,7 @@
 use Rattle.std.proofs.Common.{refl, ap, ◌∙◌, ◌++◌}
 use Rattle.txn_store.specs.Memory.{state_of}
-use Rattle.txn_world.specs.Doing.{first_of}
-use Rattle.txn_world.specs.Machine.{asked_by, effect_rows}
+use Rattle.txn_model.specs.Doing.{first_of}
+use Rattle.txn_model.specs.Machine.{asked_by, effect_rows}
 use Rattle.txn_world.specs.Shown.{shown}
 use Rattle.txn_world.proofs.Serving.{served_takes, replies_in_kind}
 use Rattle.txn_world.proofs.tables.Tables.serve.Goals as goal

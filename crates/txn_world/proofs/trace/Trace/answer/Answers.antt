@@ -1,7 +1,7 @@
 use Rattle.std.proofs.Common.{sym, ◌∙◌, ap, ◌||◌}
-use Rattle.txn_world.specs.History.{is_id}
-use Rattle.txn_world.specs.Calls.{is_above, was_told, is_below_told}
-use Rattle.txn_world.proofs.Indexes.{max_above, answered_told, answered_below, answered_reached, answered_erased}
+use Rattle.txn_model.specs.History.{is_id}
+use Rattle.txn_model.specs.Calls.{is_above, was_told, is_below_told}
+use Rattle.txn_model.proofs.Indexes.{max_above, answered_told, answered_below, answered_reached, answered_erased}
 use Rattle.txn_world.proofs.trace.Trace.answer.Goals as goal
 
 pub invariant_of-self : goal.invariant_of-self

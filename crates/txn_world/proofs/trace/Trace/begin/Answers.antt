@@ -1,5 +1,5 @@
 use Rattle.std.proofs.Common.{sym, ◌∙◌}
-use Rattle.txn_world.proofs.Indexes.{begun_told, begun_below, begun_reached, begun_erased}
+use Rattle.txn_model.proofs.Indexes.{begun_told, begun_below, begun_reached, begun_erased}
 use Rattle.txn_world.proofs.trace.Trace.begin.Goals as goal
 
 pub invariant_of-self : goal.invariant_of-self

@@ -1,7 +1,7 @@
 use Rattle.std.proofs.Common.{sym, ◌∙◌, ap, ◌||◌}
-use Rattle.txn_world.specs.History.{is_id, was_erased}
-use Rattle.txn_world.specs.Machine.{boundary_after}
-use Rattle.txn_world.proofs.Indexes.{effect_told, effect_below, effect_reached, effect_erased}
+use Rattle.txn_model.specs.History.{is_id, was_erased}
+use Rattle.txn_model.specs.Machine.{boundary_after}
+use Rattle.txn_model.proofs.Indexes.{effect_told, effect_below, effect_reached, effect_erased}
 use Rattle.txn_world.proofs.trace.Trace.effect.Goals as goal
 
 pub invariant_of-self : goal.invariant_of-self

@@ -1,6 +1,6 @@
 use Rattle.std.proofs.Common.{sym, arith}
 use Rattle.std.proofs.lemmas.Bool.{le-ltb}
-use Rattle.txn_world.proofs.Indexes.{none_reached, none_kept}
+use Rattle.txn_model.proofs.Indexes.{none_reached, none_kept}
 use Rattle.txn_world.proofs.trace.Trace.new.Goals as goal
 
 pub invariant_of-result : goal.invariant_of-result

@@ -1,6 +1,6 @@
 use Rattle.std.proofs.Common.{rules, ◌<◌, ◌^◌, ◌+◌, length, refl, ◌∙◌, arith}
-use Rattle.txn_world.proofs.Lists.{one_taken, one_longer, taken_below}
-use Rattle.txn_world.proofs.Runs.{err_state, runs_past_more}
+use Rattle.txn_model.proofs.Lists.{one_taken, one_longer, taken_below}
+use Rattle.txn_model.proofs.Runs.{err_state, runs_past_more}
 use Rattle.txn_world.proofs.world.World.run.Goals as goal
 
 pub overflow_add-count : goal.overflow_add-count

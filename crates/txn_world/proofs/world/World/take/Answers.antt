@@ -1,6 +1,6 @@
 use Rattle.std.proofs.Common.{◌∙◌}
 use Rattle.txn_world.specs.Shown.{shown}
-use Rattle.txn_world.proofs.Runs.{reached_after, reached_asks, refusal_lem, added_rows}
+use Rattle.txn_model.proofs.Runs.{reached_after, reached_asks, refusal_lem, added_rows}
 use Rattle.txn_world.proofs.world.World.take.Goals as goal
 
 pub invariant_of-self : goal.invariant_of-self

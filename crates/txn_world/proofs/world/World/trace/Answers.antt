@@ -1,5 +1,5 @@
 use Rattle.txn_world.specs.Shown.{shown}
-use Rattle.txn_world.proofs.Runs.{reached_history, reached_stored}
+use Rattle.txn_model.proofs.Runs.{reached_history, reached_stored}
 use Rattle.txn_world.proofs.world.World.trace.Goals as goal
 
 pub returns-clause-one_history : goal.returns-clause-one_history

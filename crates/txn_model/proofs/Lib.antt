@@ -1,0 +1,17 @@
+pub mod Lists
+pub mod Turning
+pub mod Apart
+pub mod Indexes
+pub mod Rows
+pub mod Stands
+pub mod Effects
+pub mod Listed
+pub mod Checks
+pub mod PutFaults
+pub mod WriteServes
+pub mod ReadServes
+pub mod BoundServes
+pub mod Serves
+pub mod Events
+pub mod Consequences
+pub mod Runs

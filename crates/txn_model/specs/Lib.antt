@@ -1,0 +1,9 @@
+pub mod Lists
+pub mod Names
+pub mod History
+pub mod Calls
+pub mod OneHistory
+pub mod Allowed
+pub mod Doing
+pub mod Machine
+pub mod Laws

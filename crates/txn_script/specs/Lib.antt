@@ -1,0 +1,9 @@
+pub mod Numerals
+pub mod Refusal
+pub mod Record
+pub mod Lines
+pub mod Grammar
+pub mod Printed
+pub mod Script
+pub mod Reading
+pub mod Printing

@@ -1,0 +1,47 @@
+-- How lines are printed and a run stops, for the functions that print them.
+use Rattle.std.specs.Prelude.{◌≡◌, ℕ, List, [], ◌++◌, ◌⊎◌, Option, Some}
+use Rattle.std.specs.Io.KnownBytes.{Appends, append_known}
+use Rattle.txn_script.specs.declared.record.Record.{Record}
+use Rattle.txn_model.specs.Machine.{State}
+use Rattle.txn_script.specs.declared.line.Line.{Line}
+use Rattle.txn_script.specs.declared.line.Line.TheVariants as lines
+use Rattle.txn_script.specs.declared.printer.Printer.{Printer}
+use Rattle.txn_script.specs.declared.stop.Stop.{Stop}
+use Rattle.txn_script.specs.declared.stop.Stop.TheVariants as stops
+use Rattle.txn_script.specs.Printed.{entries_text}
+use Rattle.txn_script.specs.Script.{IsEndFront}
+
+-- what a printer has not written yet
+abbrev pub unwritten : Printer → List ℕ
+unwritten printer = printer.text.items
+
+-- It printed this text.
+abbrev pub Gathers : Printer → Printer → List ℕ → Type 0
+Gathers old new text = unwritten new ≡ unwritten old ++ text
+
+-- It printed nothing, and wrote nothing.
+abbrev pub IsUnchanged : Printer → Printer → Type 0
+IsUnchanged old new = unwritten new ≡ unwritten old
+
+-- the bytes of a writer, and after them what is not written yet
+abbrev pub held : Option (List ℕ) → Printer → Option (List ℕ)
+held written printer = append_known written (unwritten printer)
+
+-- the line may not follow the first one
+abbrev pub Misplaced : Line → Type 0
+Misplaced (lines.Clients count) = Unit {0}
+Misplaced (lines.Begin client call) = ⊥
+Misplaced (lines.Serve op) = ⊥
+Misplaced (lines.Run op) = ⊥
+
+-- A stop in the end lines, some of which were printed.
+abbrev pub StopsInEnd : Stop → State Record → Option (List ℕ) → Option (List ℕ) → Type 0
+StopsInEnd stop s old new = (stop ≡ stops.WriteFailed) ⊎ ((stop ≡ stops.NoMemory) × (text : List ℕ) × IsEndFront (Some s) [] text × Appends old new text)
+
+-- A stop in the lines of the entries, some of which were printed.
+abbrev pub StopsInEntries : Stop → List Record → Option (List ℕ) → Option (List ℕ) → Type 0
+StopsInEntries stop entries old new = (stop ≡ stops.WriteFailed) ⊎ ((stop ≡ stops.NoMemory) × (text : List ℕ) × (more : List ℕ) × (text ++ more ≡ entries_text 1 entries) × Appends old new text)
+
+-- A line took no effect on what is printed: it may not stand there, or memory was wanting.
+abbrev pub StopsLine : Stop → Stop → Line → Type 0
+StopsLine stop bad line = (stop ≡ stops.NoMemory) ⊎ (Misplaced line × (stop ≡ bad))

@@ -1,0 +1,151 @@
+-- What a script prints, as a relation of its bytes over the world's steps.
+use Rattle.std.specs.Prelude.{◌≡◌, ℕ, zero, suc, List, [], ◌∷◌, ◌++◌, ◌+◌, ◌≤◌, ◌⊎◌, Bool, true, false, map, Option, Some, None, IfSome, length}
+use Rattle.std.specs.Io.KnownBytes.{Appends}
+use Rattle.txn_script.specs.declared.record.Record.{Record}
+use Rattle.txn_model.specs.declared.event.Event.{Event}
+use Rattle.txn_model.specs.declared.event.Event.TheVariants as events
+use Rattle.txn_model.specs.declared.event.EventFault.{EventFault}
+use Rattle.txn_model.specs.declared.event.Told.{Told}
+use Rattle.txn_model.specs.declared.event.Told.TheVariants as told
+use Rattle.txn_model.specs.Machine.{State, opening, Takes}
+use Rattle.txn_script.specs.Record.{record_text, record_read}
+use Rattle.txn_model.specs.Allowed.{fault_of}
+use Rattle.txn_model.specs.History.{history, boundary, AreErased}
+use Rattle.txn_script.specs.declared.line.Line.{Line}
+use Rattle.txn_script.specs.declared.line.Line.TheVariants as lines
+use Rattle.txn_script.specs.declared.stop.Stop.{Stop}
+use Rattle.txn_script.specs.declared.stop.Stop.TheVariants as stops
+use Rattle.txn_script.specs.Lines.{lines_of, is_skipped, kept}
+use Rattle.txn_script.specs.Grammar.{Says}
+use Rattle.txn_script.specs.Printed.{with_feed, answer_text, fault_text, end_text}
+
+-- what is printed of what an event was told
+abbrev pub told_text : Told Record → List ℕ
+told_text (told.Answered op answer) = with_feed (answer_text op answer)
+told_text (told.Began op) = []
+told_text (told.Went op) = []
+
+abbrev pub goes_on : Told Record → Bool
+goes_on (told.Answered op answer) = false
+goes_on (told.Began op) = false
+goes_on (told.Went op) = true
+
+-- An event is taken, or is due its fault: whether its operation goes on, what it prints, and the state after it.
+abbrev pub Steps : State Record → Event Record → Bool → List ℕ → State Record → Type 0
+Steps old event going text new =
+    ((t : Told Record) × Takes record_text record_read old event t new × (going ≡ goes_on t) × (text ≡ told_text t))
+    ⊎ ((fault : EventFault) × (fault_of old.clients old.trace event ≡ Some fault) × (new ≡ old) × (going ≡ false) × (text ≡ with_feed (fault_text fault)))
+
+-- Serves an operation while it goes on, at most n times. It is no abbreviation, so that `Serves 100` stays as it is.
+unfoldable pub Serves : ℕ → State Record → ℕ → List ℕ → State Record → Type 0
+Serves zero old op text new = (text ≡ []) × (new ≡ old)
+Serves (suc n) old op text new =
+    Steps old (events.Serve op) false text new
+    ⊎ ((first : List ℕ) × (middle : State Record) × (rest : List ℕ) × Steps old (events.Serve op) true first middle × Serves n middle op rest new × (text ≡ first ++ rest))
+
+-- What a line of events prints, and the state after it.
+abbrev pub EventSteps : State Record → Line → List ℕ → State Record → Type 0
+EventSteps old (lines.Clients count) text new = ⊥
+EventSteps old (lines.Begin client call) text new = (going : Bool) × Steps old (events.Begin client call) going text new
+EventSteps old (lines.Serve op) text new = (going : Bool) × Steps old (events.Serve op) going text new
+EventSteps old (lines.Run op) text new = Serves 100 old op text new
+
+-- A line may stand at a stage of the script: `clients N` with N from 1 to 64 before there is a world, and each other line after it.
+abbrev pub MayStand : Option (State Record) → Line → Type 0
+MayStand None (lines.Clients count) = (1 ≤ count) × (count ≤ 64)
+MayStand None (lines.Begin client call) = ⊥
+MayStand None (lines.Serve op) = ⊥
+MayStand None (lines.Run op) = ⊥
+MayStand (Some state) (lines.Clients count) = ⊥
+MayStand (Some state) (lines.Begin client call) = Unit {0}
+MayStand (Some state) (lines.Serve op) = Unit {0}
+MayStand (Some state) (lines.Run op) = Unit {0}
+
+-- What a line prints, and the stage after it.
+abbrev pub LineSteps : Option (State Record) → Line → List ℕ → Option (State Record) → Type 0
+LineSteps None (lines.Clients count) text new = (text ≡ []) × (new ≡ Some (opening count))
+LineSteps None (lines.Begin client call) text new = ⊥
+LineSteps None (lines.Serve op) text new = ⊥
+LineSteps None (lines.Run op) text new = ⊥
+LineSteps (Some old) line text new = (state : State Record) × (new ≡ Some state) × EventSteps old line text state
+
+-- What lines print, one after another, and the stage after them.
+abbrev pub Plays : Option (State Record) → List (List ℕ) → List ℕ → Option (State Record) → Type 0
+Plays old [] text new = (text ≡ []) × (new ≡ old)
+Plays old (bytes ∷ rest) text new =
+    (line : Line) × (first : List ℕ) × (middle : Option (State Record)) × (more : List ℕ) × Says bytes line × MayStand old line × LineSteps old line first middle × Plays middle rest more new × (text ≡ first ++ more)
+
+-- The lines that are printed at the end of a script: the history, the boundary and the erased ids of its trace.
+pub record EndsWith (s : State Record) (text : List ℕ) : Type 0 where
+  pub values : List Record
+  pub ids : List ℕ
+  pub entries : map Some values ≡ history record_read s.trace
+  pub erased : AreErased s.trace ids
+  pub whole : text ≡ end_text values (boundary s.trace) ids
+
+-- What a whole script prints: what its kept lines print, and then the end lines.
+pub record Prints (input text : List ℕ) : Type 0 where
+  pub printed : List ℕ
+  pub state : State Record
+  pub ending : List ℕ
+  pub plays : Plays None (kept (lines_of input)) printed (Some state)
+  pub ends : EndsWith state ending
+  pub whole : text ≡ printed ++ ending
+
+-- The first of these lines may not stand at this stage; or no line is left, and there is no world yet.
+abbrev pub IsBadNext : Option (State Record) → List (List ℕ) → Type 0
+IsBadNext stage [] = stage ≡ None
+IsBadNext stage (bytes ∷ rest) = (is_skipped bytes ≡ false) × ((line : Line) → Says bytes line → ¬ (MayStand stage line))
+
+-- Line n of the input, counted from 1 over all lines, is bad, and this is what the kept lines before it print.
+pub record IsBadLine (input : List ℕ) (n : ℕ) (text : List ℕ) : Type 0 where
+  pub before : List (List ℕ)
+  pub left : List (List ℕ)
+  pub stage : Option (State Record)
+  pub lines : lines_of input ≡ before ++ left
+  pub number : n ≡ length before + 1
+  pub plays : Plays None (kept before) text stage
+  pub bad : IsBadNext stage left
+
+-- The first of the end lines, or none of them: none while lines are left, or where there is no world.
+abbrev pub IsEndFront : Option (State Record) → List (List ℕ) → List ℕ → Type 0
+IsEndFront None left text = text ≡ []
+IsEndFront (Some s) (line ∷ rest) text = text ≡ []
+IsEndFront (Some s) [] text = (text ≡ []) ⊎ ((more : List ℕ) × EndsWith s (text ++ more))
+
+-- What the first so many lines of the input print, and after the last of them perhaps the first of the end lines.
+pub record IsFront (input text : List ℕ) : Type 0 where
+  pub before : List (List ℕ)
+  pub left : List (List ℕ)
+  pub stage : Option (State Record)
+  pub printed : List ℕ
+  pub ending : List ℕ
+  pub lines : lines_of input ≡ before ++ left
+  pub plays : Plays None (kept before) printed stage
+  pub ends : IsEndFront stage left ending
+  pub whole : text ≡ printed ++ ending
+
+-- What a whole script wrote, where the bytes that were read are known: a writer's bytes before it and after it.
+abbrev pub IsPrinted : Option (List ℕ) → Option (List ℕ) → Option (List ℕ) → Type 0
+IsPrinted input old new = IfSome input (λ bytes. (text : List ℕ) × Prints bytes text × Appends old new text)
+
+-- The same where line n is bad, and where a read failed or memory was wanting.
+abbrev pub IsPrintedBefore : ℕ → Option (List ℕ) → Option (List ℕ) → Option (List ℕ) → Type 0
+IsPrintedBefore n input old new = IfSome input (λ bytes. (text : List ℕ) × IsBadLine bytes n text × Appends old new text)
+
+abbrev pub IsFrontPrinted : Option (List ℕ) → Option (List ℕ) → Option (List ℕ) → Type 0
+IsFrontPrinted input old new = IfSome input (λ bytes. (text : List ℕ) × IsFront bytes text × Appends old new text)
+
+-- What is known where a script stops. After a failed write it is nothing.
+abbrev pub StopsAfter : Stop → Option (List ℕ) → Option (List ℕ) → Option (List ℕ) → Type 0
+StopsAfter (stops.BadLine n) input old new = IsPrintedBefore n input old new
+StopsAfter stops.ReadFailed input old new = IsFrontPrinted input old new
+StopsAfter stops.NoMemory input old new = IsFrontPrinted input old new
+StopsAfter stops.WriteFailed input old new = Unit {0}
+
+-- the exit status of a script that stops
+abbrev pub status_of : Stop → ℕ
+status_of (stops.BadLine n) = 2
+status_of stops.ReadFailed = 1
+status_of stops.WriteFailed = 1
+status_of stops.NoMemory = 1

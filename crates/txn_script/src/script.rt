@@ -1,0 +1,252 @@
+//! The run of a script: each line in its turn, what it prints, and the end lines.
+
+ghost use Rattle.std.specs.Prelude.{◌≡◌, ℕ, ◌≤◌, ◌++◌, ◌∷◌, [], List, Some, None, IfOk, IfErr, IfSome, IfNone, OnOk};
+ghost use Rattle.std.specs.Io.KnownBytes.{Appends};
+ghost use Rattle.txn_model.specs.Machine.{opening};
+ghost use Rattle.txn_script.specs.Printed.{with_feed, entries_text};
+ghost use Rattle.txn_script.specs.Script.{Steps, Serves, EventSteps, MayStand, EndsWith, IsPrinted, IsPrintedBefore, StopsAfter};
+ghost use Rattle.txn_script.specs.Reading.{OnBadLine, Opens, OpensBad};
+ghost use Rattle.txn_script.specs.Printing.{held, Gathers, IsUnchanged, StopsLine, StopsInEntries, StopsInEnd};
+
+use crate::line::Line;
+use crate::lines::Lines;
+use crate::printed::{AnswerLine, Answered, BoundaryLine, EntryLine, ErasedLine, FaultLine};
+use crate::printer::Printer;
+use crate::record::{Record, RecordCodec};
+use crate::stop::Stop;
+use std::alloc::Global;
+use std::io::{BufRead, BufReader, Read, Write};
+use txn_model::event::{Event, EventFault, Told};
+use txn_world::world::World;
+
+/// The most clients that a script may have.
+const MOST_CLIENTS: u64 = 64;
+
+/// How many events a `run` makes at most.
+const MOST_TURNS: u64 = 100;
+
+/// Takes an event and prints what it is told, where that is printed. True where its operation goes on.
+fn take_event(
+    world: &mut World<Record, RecordCodec>,
+    event: Event<Record>,
+    printer: &mut Printer,
+) -> Result<bool, Stop>
+    ensures ok { IfOk result (λ going. (text : List ℕ)
+        × Steps world.old.state event going text world.new.state
+        × Gathers printer.old printer.new text) }
+    ensures err { IfErr result
+        (λ stop. (stop ≡ Stop.NoMemory) × IsUnchanged printer.old printer.new) }
+{
+    match world.take(event) {
+        Ok(Told::Answered(op, answer)) => {
+            let answered = Answered(answer);
+            printer.print_line(AnswerLine { op, answered })?;
+            Ok(false)
+        }
+        Ok(Told::Began(_)) => Ok(false),
+        Ok(Told::Went(_)) => Ok(true),
+        Err(EventFault::NoMemory) => Err(Stop::NoMemory),
+        Err(fault) => {
+            printer.print_line(FaultLine(fault))?;
+            Ok(false)
+        }
+    }
+}
+
+/// Serves an operation until it is answered.
+fn run_operation(
+    world: &mut World<Record, RecordCodec>,
+    op: u64,
+    printer: &mut Printer,
+) -> Result<(), Stop>
+    ensures ok { OnOk result ((text : List ℕ)
+        × Serves 100 world.old.state op text world.new.state
+        × Gathers printer.old printer.new text) }
+    ensures err { IfErr result
+        (λ stop. (stop ≡ Stop.NoMemory) × IsUnchanged printer.old printer.new) }
+{
+    for _turn in 0..MOST_TURNS {
+        if !take_event(world, Event::Serve(op), printer)? {
+            return Ok(());
+        }
+    }
+    Ok(())
+}
+
+/// Takes what a line says. `bad` is its refusal where it may not stand there.
+fn take_line(
+    world: &mut World<Record, RecordCodec>,
+    line: Line,
+    bad: Stop,
+    printer: &mut Printer,
+) -> Result<(), Stop>
+    ensures ok { OnOk result ((text : List ℕ)
+        × EventSteps world.old.state line text world.new.state
+        × Gathers printer.old printer.new text) }
+    ensures err { IfErr result
+        (λ stop. StopsLine stop bad line × IsUnchanged printer.old printer.new) }
+{
+    match line {
+        Line::Clients(_) => return Err(bad),
+        Line::Begin(client, call) => {
+            take_event(world, Event::Begin(client, call), printer)?;
+        }
+        Line::Serve(op) => {
+            take_event(world, Event::Serve(op), printer)?;
+        }
+        Line::Run(op) => run_operation(world, op, printer)?,
+    }
+    Ok(())
+}
+
+/// Prints the entries, numbered from 1.
+fn print_entries<W: Write>(
+    entries: &[Record],
+    printer: &mut Printer,
+    out: &mut W,
+) -> Result<(), Stop>
+    ensures ok { OnOk result
+        (Appends (held (W.contents out.old) printer.old) (held (W.contents out.new) printer.new)
+        (entries_text 1 entries.now)) }
+    ensures err { IfErr result (λ stop. StopsInEntries stop entries.now
+        (held (W.contents out.old) printer.old) (held (W.contents out.new) printer.new)) }
+{
+    for (index, entry) in entries.iter().enumerate() {
+        let number = index + 1;
+        let value = *entry;
+        printer.print_line(EntryLine { number, value })?;
+        printer.write_full(out)?;
+    }
+    Ok(())
+}
+
+/// Prints what is left at the end.
+fn print_end<W: Write>(
+    alloc: Global,
+    world: &World<Record, RecordCodec>,
+    printer: &mut Printer,
+    out: &mut W,
+) -> Result<(), Stop>
+    ensures ok { OnOk result ((text : List ℕ) × EndsWith world.now.state text
+        × Appends (held (W.contents out.old) printer.old) (held (W.contents out.new) printer.new) text) }
+    ensures err { IfErr result (λ stop. StopsInEnd stop world.now.state
+        (held (W.contents out.old) printer.old) (held (W.contents out.new) printer.new)) }
+{
+    let Ok(entries) = world.entries(alloc) else {
+        return Err(Stop::NoMemory);
+    };
+    let Ok(erased) = world.erased(alloc) else {
+        return Err(Stop::NoMemory);
+    };
+    print_entries(&entries, printer, out)?;
+    printer.print_line(BoundaryLine(world.boundary()))?;
+    printer.print_line(ErasedLine(erased))?;
+    Ok(())
+}
+
+/// For how many clients a line opens a script, if it may stand first.
+fn clients_of(line: Option<Line>) -> Option<u64>
+    ensures some { IfSome result (λ clients.
+        (line ≡ Some (Line.Clients clients)) × (1 ≤ clients) × (clients ≤ 64)) }
+    ensures none { IfNone result (IfSome line (λ said. ¬ (MayStand None said))) }
+{
+    match line {
+        Some(Line::Clients(clients)) if 1 <= clients && clients <= MOST_CLIENTS => Some(clients),
+        _ => None,
+    }
+}
+
+/// The world that the first line opens.
+fn open<R: BufRead>(alloc: Global, lines: &mut Lines<R>) -> Result<World<Record, RecordCodec>, Stop>
+    ensures ok { IfOk result (λ world. Opens (R.remaining lines.old.reader) lines.old.number
+        (R.remaining lines.new.reader) lines.new.number world.state) }
+    ensures bad { IfErr result (λ stop. OnBadLine stop
+        (OpensBad (R.remaining lines.old.reader) lines.old.number)) }
+{
+    let Some(clients) = clients_of(lines.next_line()?) else {
+        return Err(lines.bad());
+    };
+    match World::new(alloc, RecordCodec, clients) {
+        Ok(world) => Ok(world),
+        Err(_) => Err(Stop::NoMemory),
+    }
+}
+
+/// Takes each line of a script, and prints what it is told and what is left.
+fn play<R: BufRead, W: Write>(
+    alloc: Global,
+    lines: &mut Lines<R>,
+    printer: &mut Printer,
+    out: &mut W,
+) -> Result<(), Stop>
+    requires { lines.old.number ≡ 0 }
+    ensures ok { OnOk result (IsPrinted (R.remaining lines.old.reader)
+        (held (W.contents out.old) printer.old) (held (W.contents out.new) printer.new)) }
+    ensures stop { IfErr result (λ stop. StopsAfter stop (R.remaining lines.old.reader)
+        (held (W.contents out.old) printer.old) (held (W.contents out.new) printer.new)) }
+{
+    let mut world = open(alloc, lines)?;
+    for _line in 0..u64::MAX {
+        let Some(line) = lines.next_line()? else {
+            return print_end(alloc, &world, printer, out);
+        };
+        let bad = lines.bad();
+        take_line(&mut world, line, bad, printer)?;
+        printer.write_full(out)?;
+    }
+    Err(Stop::ReadFailed)
+}
+
+/// Reads a script and prints what it does, both through buffers. `BadLine` comes only where that line
+/// may not stand there, and leaves what the lines before it print. The other stops are a failed read,
+/// a failed write and want of memory.
+pub fn print_script<R: Read + Drop, W: Write>(
+    alloc: Global,
+    reader: R,
+    out: &mut W,
+) -> Result<(), Stop>
+    // What is written is what the script prints, and nothing else.
+    ensures ok { OnOk result
+        (IsPrinted (R.remaining reader) (W.contents out.old) (W.contents out.new)) }
+    ensures stop { IfErr result
+        (λ stop. StopsAfter stop (R.remaining reader) (W.contents out.old) (W.contents out.new)) }
+{
+    let Ok(reader) = BufReader::new(alloc, reader) else {
+        return Err(Stop::NoMemory);
+    };
+    let mut lines = Lines::new(alloc, reader);
+    let mut printer = Printer::new(alloc);
+    let ended = play(alloc, &mut lines, &mut printer, out);
+    // What was printed stands, however the script ended.
+    printer.write_out(out)?;
+    let Ok(()) = out.flush() else {
+        return Err(Stop::WriteFailed);
+    };
+    ended
+}
+
+/// Runs a script, and gives the exit status: 0, 2 for a bad line, 1 for another fault, which is named
+/// on `err`.
+pub fn run_script<R: Read + Drop, W: Write, E: Write>(
+    alloc: Global,
+    reader: R,
+    out: &mut W,
+    err: &mut E,
+) -> u8
+    ensures status { result ≤ 2 }
+    // Nothing is said where nothing went wrong.
+    ensures silent { result ≡ 0 → err.new ≡ err.old }
+    ensures done { result ≡ 0
+        → IsPrinted (R.remaining reader) (W.contents out.old) (W.contents out.new) }
+    ensures bad_line { result ≡ 2 → (n : ℕ)
+        × IsPrintedBefore n (R.remaining reader) (W.contents out.old) (W.contents out.new) }
+{
+    match print_script(alloc, reader, out) {
+        Ok(()) => 0,
+        Err(stop) => {
+            // Nothing is left to tell a failure to.
+            let _ = err.writeln(stop);
+            stop.status()
+        }
+    }
+}

@@ -1,0 +1,230 @@
+//! Operations over a store, each through to its answer.
+use std::alloc::Global;
+use std::test::Fail;
+use txn_steps::advance::AdvanceOp;
+use txn_steps::check::CheckOp;
+use txn_steps::delete::{DeleteOp, DeleteStep};
+use txn_steps::read::{ReadAnswer, ReadOp};
+use txn_steps::turned::Turned;
+use txn_steps::write::{WriteOp, WriteStep};
+use txn_store::path::{Path, PathFault};
+use txn_store::request::{Reply, serve};
+use txn_store::store::ObjectStore;
+use txn_types::error::TransactionalObjectError;
+use txn_types::id::MonotonicId;
+use txn_types::layout::Layout;
+use txn_types::test_utils::NumberCodec;
+
+pub(crate) fn a_layout(alloc: Global) -> Result<Layout<NumberCodec>, PathFault> {
+    let root = Path::from_text(alloc, "root")?;
+    Layout::new(alloc, &root, "test", "val", NumberCodec)
+}
+
+/// What a call answers, an error as its number.
+pub(crate) type Answered<A> = Result<A, u8>;
+
+fn numbered<A: Drop>(answer: Result<A, TransactionalObjectError>) -> Answered<A> {
+    match answer {
+        Ok(answer) => Ok(answer),
+        Err(error) => Err(error.number()),
+    }
+}
+
+/// What a write says.
+pub(crate) type Wrote = Turned<Result<MonotonicId, TransactionalObjectError>>;
+
+/// What an advance, a check or a delete says.
+pub(crate) type Did = Turned<Result<(), TransactionalObjectError>>;
+
+pub(crate) fn turn_write<S: ObjectStore>(
+    alloc: Global,
+    store: &mut S,
+    op: &mut WriteOp,
+) -> Result<Wrote, Fail> {
+    let reply = serve(alloc, store, op.ask());
+    match (op.step, reply) {
+        (WriteStep::Puts, Reply::Put(answer)) => Ok(op.take(Reply::Put(answer))),
+        (WriteStep::Checks, Reply::Get(answer)) => Ok(op.take(Reply::Get(answer))),
+        _ => Err("a reply of another kind")?,
+    }
+}
+
+pub(crate) fn write<S: ObjectStore>(
+    alloc: Global,
+    store: &mut S,
+    layout: &Layout<NumberCodec>,
+    base: u64,
+    value: u64,
+) -> Result<Answered<u64>, Fail> {
+    let base = if base == 0 {
+        None
+    } else {
+        Some(MonotonicId::new(base))
+    };
+    let mut op = match WriteOp::start(alloc, layout, base, &value) {
+        Ok(op) => op,
+        Err(error) => return Ok(Err(error.number())),
+    };
+    for _ in 0..2 {
+        if let Turned::Done(answer) = turn_write(alloc, store, &mut op)? {
+            return Ok(numbered(answer).map(|id| id.id()));
+        }
+    }
+    Err("a write goes on")?
+}
+
+pub(crate) fn turn_read<S: ObjectStore>(
+    alloc: Global,
+    store: &mut S,
+    layout: &Layout<NumberCodec>,
+    op: &mut ReadOp<u64>,
+) -> Result<Turned<ReadAnswer<u64>>, Fail> {
+    let reply = serve(alloc, store, op.ask());
+    match (&*op, reply) {
+        (ReadOp::Lists(_), Reply::List(answer)) => Ok(op.take(alloc, layout, Reply::List(answer))),
+        (ReadOp::Gets(..), Reply::Get(answer)) => Ok(op.take(alloc, layout, Reply::Get(answer))),
+        (ReadOp::Checks(_, Some(_), _), Reply::Get(answer)) => {
+            Ok(op.take(alloc, layout, Reply::Get(answer)))
+        }
+        _ => Err("a reply of another kind")?,
+    }
+}
+
+/// Whether a read goes on for so many turns.
+pub(crate) fn reads_on<S: ObjectStore>(
+    alloc: Global,
+    store: &mut S,
+    layout: &Layout<NumberCodec>,
+    op: &mut ReadOp<u64>,
+    turns: u64,
+) -> Result<bool, Fail> {
+    for _ in 0..turns {
+        if let Turned::Done(_) = turn_read(alloc, store, layout, op)? {
+            return Ok(false);
+        }
+    }
+    Ok(true)
+}
+
+/// Ends a read that lists no more than once.
+pub(crate) fn end_read<S: ObjectStore>(
+    alloc: Global,
+    store: &mut S,
+    layout: &Layout<NumberCodec>,
+    op: &mut ReadOp<u64>,
+) -> Result<Answered<Option<(u64, u64)>>, Fail> {
+    for _ in 0..3 {
+        if let Turned::Done(answer) = turn_read(alloc, store, layout, op)? {
+            return Ok(match answer {
+                Ok(found) => Ok(found.map(|(id, value)| (id.id(), value))),
+                Err(error) => Err(error.number()),
+            });
+        }
+    }
+    Err("a read goes on")?
+}
+
+/// A read that lists once.
+pub(crate) fn read<S: ObjectStore>(
+    alloc: Global,
+    store: &mut S,
+    layout: &Layout<NumberCodec>,
+) -> Result<Answered<Option<(u64, u64)>>, Fail> {
+    let mut op = ReadOp::start(layout)?;
+    end_read(alloc, store, layout, &mut op)
+}
+
+pub(crate) fn check<S: ObjectStore>(
+    alloc: Global,
+    store: &mut S,
+    layout: &Layout<NumberCodec>,
+    id: u64,
+) -> Result<Answered<()>, Fail> {
+    let mut op = CheckOp::start(layout, MonotonicId::new(id))?;
+    let Reply::Get(answer) = serve(alloc, store, op.ask()) else {
+        return Err("a reply of another kind")?;
+    };
+    match op.take(Reply::Get(answer)) {
+        Turned::Done(answer) => Ok(numbered(answer)),
+        Turned::Goes => Err("a check goes on")?,
+    }
+}
+
+pub(crate) fn turn_advance<S: ObjectStore>(
+    alloc: Global,
+    store: &mut S,
+    layout: &Layout<NumberCodec>,
+    op: &mut AdvanceOp,
+) -> Result<Did, Fail> {
+    let reply = serve(alloc, store, op.ask());
+    match (&*op, reply) {
+        (AdvanceOp::Gets(..), Reply::Get(answer)) => Ok(op.take(alloc, layout, Reply::Get(answer))),
+        (AdvanceOp::Puts(..), Reply::Put(answer)) => Ok(op.take(alloc, layout, Reply::Put(answer))),
+        _ => Err("a reply of another kind")?,
+    }
+}
+
+/// Ends an advance that gets no more than once.
+pub(crate) fn end_advance<S: ObjectStore>(
+    alloc: Global,
+    store: &mut S,
+    layout: &Layout<NumberCodec>,
+    op: &mut AdvanceOp,
+) -> Result<Answered<()>, Fail> {
+    for _ in 0..2 {
+        if let Turned::Done(answer) = turn_advance(alloc, store, layout, op)? {
+            return Ok(numbered(answer));
+        }
+    }
+    Err("an advance goes on")?
+}
+
+/// An advance that gets once.
+pub(crate) fn advance<S: ObjectStore>(
+    alloc: Global,
+    store: &mut S,
+    layout: &Layout<NumberCodec>,
+    target: u64,
+) -> Result<Answered<()>, Fail> {
+    let mut op = AdvanceOp::start(layout, MonotonicId::new(target))?;
+    end_advance(alloc, store, layout, &mut op)
+}
+
+fn turn_delete<S: ObjectStore>(
+    alloc: Global,
+    store: &mut S,
+    op: &mut DeleteOp,
+) -> Result<Did, Fail> {
+    let reply = serve(alloc, store, op.ask());
+    match (op.step, reply) {
+        (DeleteStep::Checks, Reply::Get(answer)) => Ok(op.take(Reply::Get(answer))),
+        (DeleteStep::Removes, Reply::Delete(answer)) => Ok(op.take(Reply::Delete(answer))),
+        _ => Err("a reply of another kind")?,
+    }
+}
+
+pub(crate) fn delete<S: ObjectStore>(
+    alloc: Global,
+    store: &mut S,
+    layout: &Layout<NumberCodec>,
+    id: u64,
+) -> Result<Answered<()>, Fail> {
+    let mut op = DeleteOp::start(alloc, layout, MonotonicId::new(id))?;
+    for _ in 0..2 {
+        if let Turned::Done(answer) = turn_delete(alloc, store, &mut op)? {
+            return Ok(numbered(answer));
+        }
+    }
+    Err("a delete goes on")?
+}
+
+/// Whether the version of this id stands.
+pub(crate) fn stands<S: ObjectStore>(
+    alloc: Global,
+    store: &mut S,
+    layout: &Layout<NumberCodec>,
+    id: u64,
+) -> Result<bool, Fail> {
+    let path = layout.names.path_for(alloc, id)?;
+    Ok(store.get(&path, None).is_ok())
+}

@@ -1,0 +1,3 @@
+pub mod Journal
+pub mod Shares
+pub mod Working

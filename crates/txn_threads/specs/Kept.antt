@@ -1,0 +1,78 @@
+-- A world beside the journal of what its workers did, and the shares that its workers hold.
+use Rattle.std.specs.Prelude.{◌≡◌, ◌⊎◌, ◌+◌, ◌-◌, ◌^◌, ◌≤◌, ◌++◌, ◌∷◌, [], ℕ, List, Option, Some, None, Result, Ok, Err, count_by, length, map, nat_eq, if◌then◌else◌, slice_get}
+use Rattle.txn_model.specs.declared.event.Event.{Event}
+use Rattle.txn_model.specs.declared.event.Told.{Told}
+use Rattle.txn_model.specs.declared.event.EventFault.{EventFault}
+use Rattle.txn_model.specs.declared.event.EventFault.TheVariants as faults
+use Rattle.txn_threads.specs.declared.kept.JournalRow.{JournalRow}
+use Rattle.txn_threads.specs.declared.kept.Share.{Share}
+use Rattle.txn_model.specs.Lists.{AreEach}
+use Rattle.txn_model.specs.Allowed.{fault_of}
+use Rattle.txn_model.specs.Machine.{State, WorldState, opening, Takes, Runs}
+
+-- a world, how many workers it has, and what they did
+pub record KeptState (T C : Type 0) : Type 0 where
+  pub world : WorldState T C
+  pub workers : ℕ
+  pub journal : List (JournalRow T)
+
+module _ {T : Type 0} where
+  -- the events of a journal, each with what it told
+  abbrev pub taken_of : List (JournalRow T) → List (Event T × Told T)
+  taken_of journal = map (λ row. (row.event, row.told)) journal
+
+  -- how many rows of a journal are this worker's
+  abbrev pub rows_of : List (JournalRow T) → ℕ → ℕ
+  rows_of journal worker = count_by (λ row. nat_eq row.worker worker) journal
+
+  -- what the last row of a journal tells
+  abbrev pub IsLastTold : List (JournalRow T) → Told T → Type 0
+  IsLastTold journal told = (rows : List (JournalRow T)) × (row : JournalRow T) × (journal ≡ rows ++ row ∷ []) × (row.told ≡ told)
+
+  -- why this world refuses the event, where it does
+  abbrev pub due_fault : {C : Type 0} → WorldState T C → Event T → Option EventFault
+  due_fault world event = fault_of world.state.clients world.state.trace event
+
+-- An event that is due this fault, where it is due one, is refused with it, or for want of memory.
+abbrev pub IsRefusedAs : {A : Type 0} → Option EventFault → Result A EventFault → Type 0
+IsRefusedAs due (Ok told) = due ≡ None
+IsRefusedAs due (Err fault) = (fault ≡ faults.NoMemory) ⊎ (due ≡ Some fault)
+
+-- the shares of so many workers, worker 1 first, each with no event
+abbrev pub AreFirst : ℕ → List Share → Type 0
+AreFirst workers shares = AreEach (λ k. record { worker = k + 1; count = 0 }) workers shares
+
+-- a share after one more event; the greatest count stays
+abbrev pub one_more : Share → Share
+one_more share = record { worker = share.worker; count = if nat_eq share.count (2 ^ 64 - 1) then share.count else share.count + 1 }
+
+module _ {T : Type 0} (encode : T → List ℕ) (decode : List ℕ → Option T) where
+  -- Taking the journal's events in order, from a world in which nothing has happened, tells what the
+  -- journal says and ends here.
+  abbrev pub Replays : List (JournalRow T) → State T → Type 0
+  Replays journal state = Runs encode decode (opening state.clients) (taken_of journal) state
+
+  -- One row more, of this worker, event and what the world told of it; and the world took the event.
+  pub record AddsJournalRow {C : Type 0} (old new : KeptState T C) (worker : ℕ) (event : Event T) (told : Told T) : Type 0 where
+    pub row : new.journal ≡ old.journal ++ record { worker = worker; event = event; told = told } ∷ []
+    pub step : Takes encode decode old.world.state event told new.world.state
+    pub codec : new.world.codec ≡ old.world.codec
+    pub workers : new.workers ≡ old.workers
+
+-- how many of the shares are this worker's
+abbrev pub shares_of : List Share → ℕ → ℕ
+shares_of shares worker = count_by (λ share. nat_eq share.worker worker) shares
+
+-- each worker's share once, and no others
+pub record CameOnce (workers : ℕ) (shares : List Share) : Type 0 where
+  pub all : length shares ≡ workers
+  pub once : (worker : ℕ) → 1 ≤ worker → worker ≤ workers → shares_of shares worker ≡ 1
+
+module _ {T : Type 0} where
+  -- each share has the count of its worker's rows
+  abbrev pub Agree : List (JournalRow T) → List Share → Type 0
+  Agree journal shares = (k : ℕ) (share : Share) → slice_get shares k ≡ Some share → share.count ≡ rows_of journal share.worker
+
+  -- the count of each worker's rows, worker 1 first
+  abbrev pub AreCounts : ℕ → List (JournalRow T) → List ℕ → Type 0
+  AreCounts workers journal counts = AreEach (λ k. rows_of journal (k + 1)) workers counts

@@ -1,0 +1,5 @@
+pub mod Kept
+pub mod KeptLends
+pub mod Finish
+pub mod Work
+pub mod Crew

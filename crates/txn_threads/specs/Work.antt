@@ -1,0 +1,31 @@
+-- What a worker hears of its events, and how far its share may grow.
+use Rattle.std.specs.Prelude.{ℕ, ◌≡◌, ◌+◌, ◌≤◌, Option, Some, None}
+use Rattle.txn_model.specs.declared.event.Answer.{Answer}
+use Rattle.txn_model.specs.declared.event.Answer.TheVariants as answers
+use Rattle.txn_model.specs.declared.event.Told.{Told}
+use Rattle.txn_model.specs.declared.event.Told.TheVariants as told
+use Rattle.txn_threads.specs.declared.kept.Share.{Share}
+use Rattle.txn_threads.specs.declared.work.Heard.{Heard}
+use Rattle.txn_threads.specs.declared.work.Heard.TheVariants.{Goes, Ended}
+
+module _ {T : Type 0} where
+  -- The base that a call's answer gives for a write: the id that a read found, or that it found none.
+  -- Another answer gives none.
+  abbrev pub base_read : Answer T → Option (Option ℕ)
+  base_read (answers.Read None) = Some None
+  base_read (answers.Read (Some found)) = Some (Some found.0)
+  base_read (answers.Wrote id) = None
+  base_read answers.Done = None
+  base_read (answers.Refused number) = None
+
+  -- whether the operation goes on or has ended, and with which base
+  abbrev pub heard_of : Told T → Heard
+  heard_of (told.Began op) = Goes op
+  heard_of (told.Went op) = Goes op
+  heard_of (told.Answered op answer) = Ended (base_read answer)
+
+-- the same worker's share, after so many more events at most
+pub record Grows (old : Share) (most : ℕ) (new : Share) : Type 0 where
+  pub worker : new.worker ≡ old.worker
+  pub from : old.count ≤ new.count
+  pub to : new.count ≤ old.count + most

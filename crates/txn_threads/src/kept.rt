@@ -1,0 +1,200 @@
+//! A world beside the journal of what its workers did, to be kept under a lock.
+ghost use Rattle.std.specs.Prelude.{◌≡◌, ◌≤◌, ◌<◌, [], IfOk, IfErr, Some, slice_get};
+ghost use Rattle.txn_model.specs.Doing.{IsExactClone};
+ghost use Rattle.txn_model.specs.Machine.{opening};
+ghost use Rattle.txn_threads.specs.Kept.{one_more, AreFirst};
+
+use std::alloc::{AllocError, Global};
+use std::marker::Model;
+use txn_model::event::{Event, EventFault, Told};
+use txn_types::codec::ObjectCodec;
+use txn_types::room::push_within;
+use txn_world::world::World;
+
+/// One event that a worker took, and what it told.
+#[derive(Debug, Drop)]
+pub struct JournalRow<T> {
+    pub worker: u64,
+    pub event: Event<T>,
+    pub told: Told<T>,
+}
+
+/// A worker's own count of the events that it took. Workers are numbered from 1. It is made by
+/// [`Kept::new`] and given back to [`finish`](crate::finish::finish), and cannot be copied.
+#[derive(Debug, Drop, PartialEq, Eq)]
+pub struct Share {
+    worker: u64,
+    count: u64,
+}
+
+impl Share {
+    ghost use Rattle.std.specs.Prelude.{◌≡◌};
+
+    /// The worker's number.
+    pub fn worker(&self) -> u64
+        ensures { result ≡ self.now.worker }
+    {
+        self.worker
+    }
+
+    /// How many events it took, at most 2^64 - 1.
+    pub fn count(&self) -> u64
+        ensures { result ≡ self.now.count }
+    {
+        self.count
+    }
+}
+
+/// A world beside the journal of its events. Its type keeps that taking the journal's events in order,
+/// from a world in which nothing has happened, tells what the journal says and ends in this world. So
+/// whatever threads do to it, it is the world of one client after another.
+#[derive(Drop)]
+pub struct Kept<T: Clone, C: ObjectCodec<T> + Drop> {
+    world: World<T, C>,
+    workers: u64,
+    journal: Vec<JournalRow<T>>,
+}
+
+impl<T: Clone, C: ObjectCodec<T> + Drop> Model for Kept<T, C> {
+    ghost use Rattle.txn_threads.specs.Kept.{KeptState, Replays};
+
+    ghost Value = { KeptState T C };
+
+    ghost use Rattle.std.specs.Coded.{codes};
+    ghost use Rattle.txn_store.specs.Memory.{files_code};
+
+    ghost coded = { Prim.hlevel (codes, files_code) };
+
+    ghost view = { λ kept. record { world = kept.world; workers = kept.workers; journal = kept.journal.items } };
+
+    ghost invariant = { λ kept. Replays (C.encoded kept.world.codec) (C.decoded kept.world.codec) kept.journal.items kept.world.state };
+}
+
+/// The shares of workers 1 to `workers`, each with no event.
+fn first_shares(alloc: Global, workers: u64) -> Result<Vec<Share>, AllocError>
+    ensures { IfOk result (λ shares. AreFirst workers shares.items) }
+{
+    let mut shares = Vec::new(alloc);
+    for before in 0..workers {
+        shares.push(Share {
+            worker: before + 1,
+            count: 0,
+        })?;
+    }
+    Ok(shares)
+}
+
+impl<T: Clone, C: ObjectCodec<T> + Drop> Kept<T, C> {
+    ghost use Rattle.std.specs.Prelude.{◌≡◌, ◌<◌, ◌≤◌, [], IfOk, OnOk, OnErr, MatchResult, length};
+    ghost use Rattle.std.specs.Borrow.{sem};
+    ghost use Rattle.txn_model.specs.Doing.{IsExactClone};
+    ghost use Rattle.txn_model.specs.Machine.{opening};
+    ghost use Rattle.txn_model.specs.declared.event.Told.{Told};
+    ghost use Rattle.txn_threads.specs.Kept.{IsRefusedAs, due_fault, one_more, AreFirst, AddsJournalRow, IsLastTold, Replays, rows_of};
+    ghost use Rattle.txn_threads.specs.KeptLends.{ends_taken};
+
+    /// Keeps a world in which nothing has happened, for workers 1 to `workers`, of which there are as
+    /// many as clients at most; and a share for each worker, worker 1 first. The only error is want of
+    /// memory, and then the world is gone.
+    pub fn new(
+        alloc: Global,
+        world: World<T, C>,
+        workers: u64,
+    ) -> Result<(Kept<T, C>, Vec<Share>), AllocError>
+        requires opening { world.state ≡ opening world.state.clients }
+        requires some { 1 ≤ workers }
+        requires few { workers ≤ world.state.clients }
+        ensures kept { IfOk result (λ made. made.0 ≡ record { world = world; workers = workers; journal = [] }) }
+        ensures shares { IfOk result (λ made. AreFirst workers made.1.items) }
+    {
+        let shares = first_shares(alloc, workers)?;
+        let kept = Kept {
+            world,
+            workers,
+            journal: Vec::new(alloc),
+        };
+        Ok((kept, shares))
+    }
+
+    /// Takes an event of a worker and adds its row. Room and the row's copy of the event are made before
+    /// the world takes it.
+    fn add(&mut self, worker: u64, event: Event<T>) -> Result<(), EventFault>
+        requires { IsExactClone T.is_clone }
+        ensures ok { OnOk result ((told : Told T) × AddsJournalRow (C.encoded self.old.world.codec) (C.decoded self.old.world.codec) self.old self.new worker event told) }
+        ensures refused { IsRefusedAs (due_fault self.old.world event) result }
+        ensures err { OnErr result (self.new ≡ self.old) }
+    {
+        self.journal.reserve(1)?;
+        let copy = event.try_clone()?;
+        let told = self.world.take(event)?;
+        push_within(
+            &mut self.journal,
+            JournalRow {
+                worker,
+                event: copy,
+                told,
+            },
+        );
+        Ok(())
+    }
+
+    /// What the last row of the journal tells.
+    fn last_told(&self) -> &Told<T>
+        requires { 0 < length self.now.journal }
+        ensures { IsLastTold self.now.journal result.now }
+    {
+        &self.journal[self.journal.len() - 1].told
+    }
+
+    /// Takes one event of the share's worker and lends what it told: the journal gains one row, and the
+    /// share one event. A refused event changes neither. It is refused as [`World::take`] refuses it, or
+    /// with [`EventFault::NoMemory`] where a growth was refused, which may stand in the place of another
+    /// fault, since room is made first.
+    pub fn take<'a>(
+        &'a mut self,
+        share: &mut Share,
+        event: Event<T>,
+    ) -> Result<&'a Told<T>, EventFault>
+        requires { IsExactClone T.is_clone }
+        ensures refused { IsRefusedAs (due_fault self.old.world event) result }
+        ensures share { MatchResult result (λ _. share.new ≡ one_more share.old) (λ _. share.new ≡ share.old) }
+        ensures* after { sem 𝓛 (ends_taken T.row C.row T.Clone C.ObjectCodec self.entry share.old.worker event result) }
+    {
+        self.add(share.worker, event)?;
+        share.count = share.count.saturating_add(1);
+        Ok(self.last_told())
+    }
+
+    /// The world.
+    pub fn world(&self) -> &World<T, C>
+        ensures world { result.now ≡ self.now.world }
+        // It is where the journal's events lead.
+        ensures replays { Replays (C.encoded self.now.world.codec) (C.decoded self.now.world.codec) self.now.journal self.now.world.state }
+    {
+        &self.world
+    }
+
+    /// What the workers did, event by event.
+    pub fn journal(&self) -> &[JournalRow<T>]
+        ensures { result.now ≡ self.now.journal }
+    {
+        self.journal.as_slice()
+    }
+
+    /// How many workers it is kept for.
+    pub(crate) fn workers(&self) -> u64
+        ensures { result ≡ self.now.workers }
+    {
+        self.workers
+    }
+
+    /// How many rows of the journal are this worker's.
+    pub(crate) fn rows_of(&self, worker: u64) -> u64
+        ensures { result ≡ rows_of self.now.journal worker }
+    {
+        self.journal
+            .iter()
+            .filter(|row| row.worker == worker)
+            .count() as u64
+    }
+}

@@ -1,0 +1,4 @@
+pub mod Errors
+pub mod Refusal
+pub mod NumberBytes
+pub mod BoundaryText

@@ -1,0 +1,28 @@
+//! What every operation on a transactional object speaks of: ids of versions, errors, values as bytes, and where the
+//! files of an object lie.
+//!
+//! ## Core types
+//! - `MonotonicId`: the id of a version. The first is 1, and each later one is the one before plus 1.
+//! - `DirtyObject<T, Id>`: a local candidate `{ id, value }`, with the id of the version that it is made from.
+//! - `ObjectCodec<T>`: how values are written as bytes and read back. What it writes, it reads as the same value.
+//! - `TransactionalObjectError`: the error of every call, of eleven kinds with stated numbers.
+//! - `Layout<C>`: where the versions and the boundary file of an object lie, and the codec of its values.
+//!
+//! ## Error semantics
+//! - `ObjectVersionExists` is a conflict: another writer created the version first, or the created version was
+//!   overtaken by the boundary. The caller refreshes and tries again; `is_sequenced_write_conflict` asks for it.
+//! - `Fenced` tells a client that a newer one has claimed the object.
+//! - `InvalidObjectState` is answered where a file is missing that has to be there, or is not what it has to be.
+//! - `ObjectStoreError` holds the store's error. The store's want of memory becomes `NoMemory` instead.
+//! - `CallbackError` holds what a codec, an invariant or a mutator refused with.
+//! - `NoMemory`, `IdExhausted` and `TurnsExhausted` say what ran out, and never change an answer.
+#![tactic(auto)]
+
+pub mod boundary;
+pub mod codec;
+pub mod dirty;
+pub mod error;
+pub mod id;
+pub mod layout;
+pub mod room;
+pub mod test_utils;

@@ -1,0 +1,142 @@
+"""Copies of a repository's crates in a temporary folder, and the checks that run in them.
+
+Each crate has copies of its own, with the libraries below it, since `rt` lets only one run at a time work in a
+crate or in a library that it uses. A copy takes what earlier checks of the checkout kept, and leaves the checkout as
+it is."""
+from __future__ import annotations
+
+import fcntl
+import os
+import re
+import shutil
+import subprocess
+import threading
+
+PARTS = ("src", "specs", "proofs")
+
+
+def crates_listed(root):
+    """The crates of crates.txt, each with the crates of the repository that it uses, those below first."""
+    uses = {}
+    with open(f"{root}/crates.txt", encoding="utf-8") as lines:
+        for line in lines:
+            head, _, libraries = line.partition("#")[0].partition(":")
+            if head.split():
+                uses[head.split()[0]] = re.findall(r"[\w-]+", libraries)
+    uses = {name: [it for it in libraries if it in uses] for name, libraries in uses.items()}
+    return {name: uses[name] for name in sorted(uses, key=lambda it: (len(all_below(it, uses)), it))}
+
+
+def all_below(name, uses):
+    """The crates that this one uses, and those that they use."""
+    found = set()
+    for it in uses[name]:
+        found |= {it} | all_below(it, uses)
+    return found
+
+
+def texts_of(crate):
+    """The texts of a crate's src/ by path."""
+    texts = {}
+    for folder, folders, names in os.walk(f"{crate}/src"):
+        folders.sort()
+        for name in sorted(names):
+            if name.endswith(".rt"):
+                with open(f"{folder}/{name}", encoding="utf-8") as file:
+                    texts[os.path.relpath(f"{folder}/{name}", crate)] = file.read()
+    return texts
+
+
+class Commands:
+    """Runs commands and counts the processor time of each with all that it started."""
+
+    def __init__(self):
+        self.running, self.lock = set(), threading.Lock()
+
+    def run(self, words, folder):
+        """Returns a command's status, its output, and its seconds of processor time."""
+        how = {"stdin": subprocess.DEVNULL, "stdout": subprocess.PIPE, "stderr": subprocess.STDOUT}
+        process = subprocess.Popen(words, cwd=folder, text=True, errors="replace", **how)
+        with self.lock:
+            self.running.add(process)
+        try:
+            said = process.stdout.read()
+            _, status, used = os.wait4(process.pid, 0)
+            process.returncode = os.WEXITSTATUS(status) if os.WIFEXITED(status) else -os.WTERMSIG(status)
+        finally:
+            process.stdout.close()
+            with self.lock:
+                self.running.discard(process)
+        return process.returncode, said, used.ru_utime + used.ru_stime
+
+    def stop(self):
+        """Ends what still runs."""
+        with self.lock:
+            for process in self.running:
+                process.terminate()
+
+
+class Copies:
+    """The copies of one crate: `new` makes one, with the crate's own text, for one check at a time."""
+
+    def __init__(self, root, room, name, uses, commands):
+        self.root, self.room, self.name, self.uses, self.commands = root, room, name, uses, commands
+        self.below = sorted(all_below(name, uses))
+        self.texts = texts_of(f"{root}/crates/{name}")
+        self.free, self.made, self.lock, self.seconds = [], 0, threading.Lock(), 0.0
+
+    def new(self, kept_by, libraries):
+        """Makes a copy over the work that `kept_by`, a crate's folder, kept, and over these crates' folders as libraries."""
+        with self.lock:
+            self.made += 1
+            top = f"{self.room}/{self.name}-{self.made}"
+        os.makedirs(top)
+        shutil.copyfile(f"{self.root}/crates.txt", f"{top}/crates.txt")
+        self.copy_parts(f"{self.root}/crates/{self.name}", f"{top}/crates/{self.name}", PARTS)
+        self.copy_parts(kept_by, f"{top}/crates/{self.name}", ["out/incremental", "out/rlib"])
+        for name in self.below:
+            self.copy_parts(f"{self.root}/crates/{name}", f"{top}/crates/{name}", PARTS)
+            self.copy_parts(libraries[name], f"{top}/crates/{name}", ["out/rlib"])
+        self.copy_lines_of_crates(top)
+        return f"{top}/crates/{self.name}"
+
+    def remove_but_library(self, prepared):
+        """Removes the copies but what the crates above still need: the library of the first."""
+        for copy in self.free:
+            shutil.rmtree(os.path.dirname(os.path.dirname(copy)))
+        self.free = []
+        shutil.rmtree(f"{prepared}/out/incremental", ignore_errors=True)
+
+    def copy_lines_of_crates(self, top):
+        """Keeps of the copy's crates.txt the lines of the crates that stand there."""
+        names = {self.name, *self.below}
+        with open(f"{top}/crates.txt", encoding="utf-8") as file:
+            lines = [it for it in file if (it.partition("#")[0].partition(":")[0].split() or [""])[0] in names]
+        with open(f"{top}/crates.txt", "w", encoding="utf-8") as file:
+            file.writelines(lines)
+
+    @staticmethod
+    def copy_parts(crate, to, parts):
+        """Copies parts of a crate's folder while no `rt` works in it."""
+        held = os.open(crate, os.O_RDONLY)
+        try:
+            fcntl.flock(held, fcntl.LOCK_EX)
+            for part in parts:
+                if os.path.isdir(f"{crate}/{part}"):
+                    shutil.copytree(f"{crate}/{part}", f"{to}/{part}", symlinks=True)
+        finally:
+            os.close(held)
+
+    def run(self, copy, *words):
+        """Runs `rt` in a copy, and returns its status and output."""
+        status, said, seconds = self.commands.run(["rt", *words, "--jobs", "1"], copy)
+        with self.lock:
+            self.seconds += seconds
+        return status, said
+
+    def check_in(self, copy, changed):
+        """The log of a check of a copy with these texts in place of the crate's own."""
+        for path, text in {**self.texts, **changed}.items():
+            with open(f"{copy}/{path}", "w", encoding="utf-8") as file:
+                file.write(text)
+        return self.run(copy, "check")

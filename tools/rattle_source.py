@@ -1,0 +1,197 @@
+"""Reads from the text of a Rattle file which functions it has, and finds the function that a check's log names."""
+from __future__ import annotations
+
+import re
+from dataclasses import dataclass
+
+# Comments, strings and characters, in which a brace or a word is no part of the code.
+NOT_CODE = re.compile(
+    r'//[^\n]*|/\*.*?\*/|(?<!\w)[bc]?r(#*)".*?"\1|(?<!\w)[bc]?"(?:[^"\\]|\\.)*"'
+    r"|'(?:\\(?:u\{[^}\n]*\}|x..|.)|[^'\\\n])'",
+    re.S,
+)
+ITEM = re.compile(
+    r"^[ \t]*(?:pub(?:\([^)]*\))?[ \t]+)?(?:(?:const|unsafe|final|default)[ \t]+)*(fn|impl|trait|mod)\b", re.M
+)
+NAME = re.compile(r"\s+(?:r#)?([A-Za-z_]\w*)")
+CLAUSE = re.compile(r"\b(?:requires|ensures|ghost)\b")
+
+
+@dataclass(frozen=True)
+class Owner:
+    """The block that a method stands in: an impl of a type, an impl of a trait for a type, or a trait."""
+
+    type_name: str
+    type_arguments: tuple = ()
+    trait_name: str = ""
+    trait_arguments: tuple = ()
+
+    @property
+    def label(self):
+        return "".join([self.type_name, *self.type_arguments, self.trait_name, *self.trait_arguments])
+
+    def fit(self, segment):
+        """How many letters of a log's name of such a block this owner explains, 0 where it is not this owner."""
+        if not self.trait_name:
+            whole = "".join([self.type_name, *self.type_arguments])
+            return len(segment) if segment in (self.type_name, whole) else 0
+        arguments = "".join(f"(?:{it})?" for it in self.type_arguments)
+        found = re.match(f"{self.type_name}{arguments}{self.trait_name}", segment)
+        if not found:
+            return 0
+        at = found.end()
+        for word in self.trait_arguments:
+            if segment.startswith(word, at):
+                at += len(word)
+        return at
+
+
+@dataclass(frozen=True)
+class Function:
+    """A function by the names that a log gives it."""
+
+    module: str
+    owner: "Owner | None"
+    name: str
+
+    @property
+    def label(self):
+        return "::".join(it for it in (self.module, self.owner.label if self.owner else "", self.name) if it)
+
+
+@dataclass(frozen=True)
+class Place:
+    """Where a function stands in a text: from `start` its signature and contract, from `body` to `end` its body."""
+
+    function: Function
+    start: int
+    body: int
+    end: int
+
+
+def code_of(text):
+    """The text with blanks in place of comments, strings and characters, each letter where it was."""
+    return NOT_CODE.sub(lambda found: re.sub(r"[^\n]", " ", found[0]), text)
+
+
+def after_block(code, brace):
+    """Where the block ends that opens at `brace`."""
+    depth = 0
+    for sign in re.compile(r"[{}]").finditer(code, brace):
+        depth += 1 if sign[0] == "{" else -1
+        if depth == 0:
+            return sign.end()
+    return len(code)
+
+
+def body_of(code, at):
+    """Where the body of the function whose name ends at `at` opens, or the semicolon of one without a body."""
+    since, depth = at, 0
+    while True:
+        sign = re.compile(r"[()\[\]{};]").search(code, at)
+        if not sign:
+            return len(code)
+        at = sign.end()
+        if sign[0] in "([":
+            depth += 1
+        elif sign[0] in ")]":
+            depth -= 1
+        elif depth == 0 and sign[0] in "{;":
+            if sign[0] == ";" or not CLAUSE.search(code, since, sign.start()):
+                return sign.start()
+            at = since = after_block(code, sign.start())
+
+
+def without_parameters(head):
+    """An impl's head without the parameters that it begins with, and the names of those."""
+    head = head.strip()
+    if not head.startswith("<"):
+        return head, set()
+    depth = 0
+    for at, sign in enumerate(head):
+        depth += (sign == "<") - (sign == ">" and head[at - 1] != "-")
+        if depth == 0:
+            names = re.findall(r"(?:^|,)\s*(?:const\s+)?'?(\w+)", head[1:at])
+            return head[at + 1 :], set(names)
+    return head, set()
+
+
+def words_of_type(text, parameters):
+    """The names in a type as a log joins them: without paths, lifetimes and parameters, each with a capital."""
+    text = re.sub(r"'\w+|\w+\s*::\s*|\b(?:dyn|mut|const)\b", " ", text)
+    kind = "Array" if re.match(r"\s*\[.*;", text, re.S) else "Slice" if re.match(r"\s*\[", text) else ""
+    words = [it for it in re.findall(r"[A-Za-z_]\w*", text) if it not in parameters]
+    words = [it[0].upper() + it[1:] for it in words] or [""]
+    return [kind + words[0], *words[1:]]
+
+
+def owner_of_impl(head):
+    """The owner that the text between `impl` and its brace names."""
+    head, parameters = without_parameters(head)
+    head = re.split(r"\bwhere\b", head)[0]
+    trait, between, owner = head.rpartition(" for ")
+    words = words_of_type(owner if between else head, parameters)
+    of_trait = words_of_type(trait, parameters) if between else [""]
+    return Owner(words[0], tuple(words[1:]), of_trait[0], tuple(of_trait[1:]))
+
+
+def places_in(text, module):
+    """The functions of a file of this module, in their order."""
+    code = code_of(text)
+    return list(items(code, 0, len(code), module, None))
+
+
+def items(code, at, end, module, owner):
+    """The functions between two places of the code, which stand in this module and block."""
+    while True:
+        item = ITEM.search(code, at, end)
+        if not item:
+            return
+        at, kind, name = item.end(), item[1], NAME.match(code, item.end())
+        if kind == "fn":
+            if not name:
+                continue
+            body = body_of(code, name.end())
+            at = after_block(code, body) if code[body : body + 1] == "{" else body + 1
+            yield Place(Function(module, owner, name[1]), item.start(), body, at)
+            continue
+        opens = re.compile(r"[{;]").search(code, at, end)
+        if not opens or opens[0] == ";" or kind != "impl" and not name:
+            continue
+        inside, at = opens.end(), after_block(code, opens.start())
+        if kind == "mod":
+            yield from items(code, inside, at, f"{module}::{name[1]}".lstrip(":"), None)
+        else:
+            block = Owner(name[1]) if kind == "trait" else owner_of_impl(code[item.end() : opens.start()])
+            yield from items(code, inside, at, module, block)
+
+
+def module_of(path):
+    """The module that a file below src/ holds, "" for the crate's root."""
+    inside = re.sub(r"^src/|\.rt$", "", path)
+    if inside in ("lib", "main"):
+        return ""
+    return re.sub(r"(^|/)mod$", "", inside).replace("/", "::")
+
+
+def named_in_log(path, functions):
+    """The functions that a log's name, without its crate, can stand for: one, or several that it does not tell apart.
+
+    A log names a function m::f, a method m::Type::f or m::TypeTrait::f, and what stands in its body
+    m::fn::f::rest or m::fn::Type::f::rest."""
+    module, inside, rest = f"::{path}".partition("::fn::")
+    segments = path.split("::")
+    found = []
+    for it in functions:
+        if inside:
+            fits_module, segment, name = it.module == module.lstrip(":"), rest.split("::")[0], rest.split("::")[:1]
+            if it.owner:
+                name = rest.split("::")[1:2]
+        elif it.owner:
+            fits_module, segment, name = it.module == "::".join(segments[:-2]), (segments[-2:-1] or [""])[0], segments[-1:]
+        else:
+            fits_module, segment, name = it.module == "::".join(segments[:-1]), "", segments[-1:]
+        if fits_module and name == [it.name]:
+            found.append((it.owner.fit(segment) if it.owner else 1, it))
+    best = max((rank for rank, _ in found), default=0)
+    return {it for rank, it in found if rank == best and best}

@@ -1,0 +1,246 @@
+"""Which wrong bodies a check refuses: the edits, what goes into one check, and what its log says of each edit.
+
+A check proves each function by itself, from the contracts of what it calls. So edits of different bodies do not
+disturb one another, and the log of one check says for each function whether its own body was refused, or whether it
+only waits for a function that it calls. Nothing here runs a check: see crate_copies.py."""
+from __future__ import annotations
+
+import os
+import re
+from dataclasses import dataclass, field
+
+from rattle_source import module_of, named_in_log, places_in
+
+MOST_IN_A_CHECK = 24
+# (an own reason, as "expected answers", stands before these)
+WAITING = re.compile(r"no proof: it (?:calls|passes|waits for|drops|uses) ")
+FUNCTION_LINE = re.compile(r"^fn (\w+)::(\S+): (.*)$", re.M)
+VERDICT_LINE = re.compile(r"^logic=(\S+)", re.M)
+ERROR_LINE = re.compile(r"^(?:\./)?(\S+?):\d+:\d+: error: (?:`[^`]*`: )?(.*)$", re.M)
+GOAL_LINE = re.compile(r": error: `[^`]*`: ")
+UNREADABLE = re.compile(
+    r"is not in scope|has no field|is no name|operand is missing|expected the end|cannot continue"
+)
+
+
+class BadEdit(Exception):
+    """Why an edit cannot be tried."""
+
+
+@dataclass
+class Edit:
+    """An edit file: its pairs of an old and a new text by the path of the file that they change."""
+
+    name: str
+    pairs: list
+    functions: set = field(default_factory=set)
+    modules: set = field(default_factory=set)
+    # Whether it changes only bodies of functions, so that a check can try other edits beside it.
+    is_of_bodies: bool = True
+
+
+@dataclass
+class Outcome:
+    """What became of an edit: a reason where it was not refused."""
+
+    edit: str
+    reason: str = ""
+    was_alone: bool = False
+
+
+@dataclass
+class Log:
+    """What the log of a check says: its verdict ("" where it broke off), the names of functions that it proved, refused
+    for their own body, could not decide, and left since they wait for others; and the first line by which it could not
+    read the text."""
+
+    verdict: str
+    proved: set
+    refused: set
+    undecided: set
+    waiting: set
+    unread: str
+    first_lines: str
+
+    @property
+    def is_of_functions(self):
+        return bool(self.proved or self.refused or self.undecided or self.waiting)
+
+    @property
+    def is_refusal(self):
+        """Whether it says of functions that they are refused, of a text that could be read."""
+        return self.verdict == "not-proved" and self.is_of_functions and not self.unread
+
+
+def pairs_of(text):
+    """The pairs of an edit file: (path, old text, new text)."""
+    path, old, found = "", None, []
+    for line in text.split("\n"):
+        if line.startswith("file: "):
+            path = line[len("file: ") :].strip()
+            if os.path.normpath(path) != path or not path.startswith("src/"):
+                raise BadEdit(f"it changes {path}, which is no file of src/, so it changes no body")
+        elif line.startswith("old: "):
+            if old is not None:
+                raise BadEdit("an 'old:' line has no 'new:' line")
+            old = line[len("old: ") :]
+        elif line.startswith("new:"):
+            if not path or not old:
+                raise BadEdit("a 'new:' line stands before any 'file:' or 'old:' line")
+            found.append((path, old, re.sub(r"\A ", "", line[len("new:") :])))
+            old = None
+    if old is not None:
+        raise BadEdit("an 'old:' line has no 'new:' line")
+    if not found:
+        raise BadEdit("it has no 'old:' and 'new:' pair")
+    return found
+
+
+def applied(texts, pairs):
+    """The texts by path with these pairs applied in turn."""
+    texts = dict(texts)
+    for path, old, new in pairs:
+        if path not in texts:
+            raise BadEdit(f"there is no file {path}")
+        found = texts[path].count(old)
+        if found != 1:
+            raise BadEdit(f"an 'old:' text is in {path} {found} times, and not once")
+        texts[path] = texts[path].replace(old, new)
+    return texts
+
+
+def read_edit(name, text, texts):
+    """The edit of this text, with the functions that it changes in the crate's texts."""
+    edit = Edit(name, pairs_of(text))
+    for pair in edit.pairs:
+        path, old, _ = pair
+        changed = applied(texts, [pair])
+        start = texts[path].index(old)
+        end = start + len(old)
+        inside = [it for it in places_in(texts[path], module_of(path)) if it.start <= start and end <= it.end]
+        edit.functions.update(it.function for it in inside[-1:])
+        edit.modules.add(module_of(path))
+        edit.is_of_bodies &= bool(inside) and inside[-1].body < start
+        texts = changed
+    return edit
+
+
+def functions_in(texts):
+    """The functions of a crate's texts by path."""
+    return {it.function for path, text in texts.items() for it in places_in(text, module_of(path))}
+
+
+def batches(texts, edits, most=MOST_IN_A_CHECK):
+    """Splits the edits into those of one check each: each function at most once, each text still once in its file.
+    What changes more than bodies, as a constant, stands alone, since it can change what others are proved from."""
+    rest, found = list(edits), []
+    while rest:
+        batch, taken, later, changed = [], set(), [], texts
+        for edit in rest:
+            labels = {it.label for it in edit.functions}
+            is_alone = bool(batch) and not (edit.is_of_bodies and batch[0].is_of_bodies)
+            if is_alone or labels & taken or len(batch) >= most:
+                later.append(edit)
+                continue
+            try:
+                changed = applied(changed, edit.pairs)
+            except BadEdit:
+                later.append(edit)
+                continue
+            batch.append(edit)
+            taken |= labels
+        found.append(batch)
+        rest = later
+    return found
+
+
+def unread_line(text, changed):
+    """The first line of a log by which the check could not read a text of the crate, as `rt ci` decides it."""
+    for found in ERROR_LINE.finditer(text):
+        if found[1].startswith(("src/", "specs/")) or found[1] in changed:
+            said = re.sub(r"`[^`]*`", "", found[2])
+            if not GOAL_LINE.search(found[0]) or UNREADABLE.search(said):
+                return found[0]
+    return ""
+
+
+def read_log(crate, text, changed=()):
+    """Reads the log of a check of this crate in which the files `changed` were edited."""
+    verdict = (VERDICT_LINE.findall(text) or [""])[-1]
+    first_lines = " | ".join(text.strip().split("\n")[:6])
+    log = Log(verdict, set(), set(), set(), set(), unread_line(text, changed), first_lines)
+    for name, path, said in FUNCTION_LINE.findall(text):
+        if name != crate:
+            continue
+        if said == "proved":
+            log.proved.add(path)
+        elif WAITING.match(said):
+            log.waiting.add(path)
+        elif said.startswith(("not proved", "no proof")):
+            log.refused.add(path)
+        else:
+            log.undecided.add(path)
+    return log
+
+
+def refused_for_sure(log, functions):
+    """The functions that the log names as refused where the name can stand for no other function."""
+    named = [named_in_log(path, functions) for path in log.refused]
+    return {next(iter(it)).label for it in named if len({function.label for function in it}) == 1}
+
+
+def is_refused_alone(edit, log, functions):
+    """Whether the log of a check with this edit alone refuses what the edit changes."""
+    if edit.functions:
+        labels = {it.label for it in edit.functions}
+        named = {it.label for path in log.refused for it in named_in_log(path, functions)}
+        return bool(labels & named)
+    return any(not module or path.startswith(f"{module}::") for module in edit.modules for path in log.refused)
+
+
+def why_not_refused(edit, log):
+    """Why an edit that was tried alone counts as not refused."""
+    names = ", ".join(sorted(it.label for it in edit.functions)) or "any function of its module"
+    if log.unread or not log.is_of_functions:
+        return f"BAD EDIT: the edited text cannot be read, so no contract was tried: {(log.unread or log.first_lines)[:300]}"
+    if not log.verdict:
+        return f"NOT REFUSED: the check broke off: {log.first_lines[:300]}"
+    if log.refused:
+        others = ", ".join(sorted(log.refused)[:3])
+        return f"NOT REFUSED: the check refused {others}, and not {names}, which the edit changes"
+    if log.undecided:
+        return f"NOT REFUSED: the check could not tell of {', '.join(sorted(log.undecided)[:3])}"
+    if log.waiting:
+        return f"NOT REFUSED: functions only wait for others, as {sorted(log.waiting)[0]}"
+    return "NOT REFUSED: the crate is still proved with this edit"
+
+
+class Trial:
+    """Tries edits of one crate. `check` takes the crate's changed texts by path and gives the log of their check."""
+
+    def __init__(self, crate, texts, check):
+        self.crate, self.texts, self.check = crate, texts, check
+        self.functions = functions_in(texts)
+
+    def log_of(self, edits):
+        texts = self.texts
+        for edit in edits:
+            texts = applied(texts, edit.pairs)
+        changed = {path: text for path, text in texts.items() if text != self.texts[path]}
+        return read_log(self.crate, self.check(changed), changed)
+
+    def together(self, batch):
+        """Tries a batch in one check. Returns the outcomes of the edits that it refuses, and the edits to try alone."""
+        if len(batch) == 1:
+            return [self.alone(batch[0])], []
+        log = self.log_of(batch)
+        refused = refused_for_sure(log, self.functions) if log.is_refusal else set()
+        well = [it for it in batch if refused & {function.label for function in it.functions}]
+        return [Outcome(it.name) for it in well], [it for it in batch if it not in well]
+
+    def alone(self, edit):
+        """Tries one edit in a check of its own."""
+        log = self.log_of([edit])
+        if log.is_refusal and is_refused_alone(edit, log, self.functions):
+            return Outcome(edit.name, was_alone=True)
+        return Outcome(edit.name, why_not_refused(edit, log), was_alone=True)

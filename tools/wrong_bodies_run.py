@@ -1,0 +1,249 @@
+"""The command tools/wrong-bodies: reads the edits of the crates, and tries them on copies, side by side."""
+from __future__ import annotations
+
+import argparse
+import os
+import sys
+import tempfile
+import traceback
+from concurrent.futures import FIRST_COMPLETED, ThreadPoolExecutor, wait
+
+from crate_copies import Commands, Copies, all_below, crates_listed
+from wrong_bodies import BadEdit, Outcome, Trial, batches, read_edit
+
+
+def say(text):
+    print(text, flush=True)
+
+
+def edit_files(crate, folders):
+    """The edit files of a crate's folder, and what lies there and is no edit."""
+    files, strange = [], []
+    for folder in folders:
+        for name in sorted(os.listdir(f"{crate}/{folder}")) if os.path.isdir(f"{crate}/{folder}") else []:
+            path = f"{crate}/{folder}/{name}"
+            if name.endswith(".edit") and os.path.isfile(path):
+                files.append(path)
+            elif not name.endswith(".md"):
+                strange.append(path)
+    return files, strange
+
+
+class CrateRun:
+    """The edits of one crate and what became of them."""
+
+    def __init__(self, copies, folders, only):
+        self.copies, self.name = copies, copies.name
+        self.edits, self.failed = [], []
+        self.passed = self.checks = self.alone = self.left = 0
+        self.is_proved = False
+        crate = f"{copies.root}/crates/{self.name}"
+        files, strange = edit_files(crate, folders)
+        for path in strange:
+            self.failed.append(Outcome(os.path.relpath(path, crate), "BAD EDIT: it is no .edit file"))
+        for path in files:
+            name = os.path.relpath(path, crate)
+            if only not in os.path.basename(path):
+                continue
+            try:
+                with open(path, encoding="utf-8") as file:
+                    self.edits.append(read_edit(name, file.read(), copies.texts))
+            except (BadEdit, UnicodeDecodeError) as error:
+                self.failed.append(Outcome(name, f"BAD EDIT: {error}"))
+        self.batches = batches(copies.texts, self.edits)
+
+    def listed(self):
+        """The batches and the functions that each edit changes, as lines."""
+        for number, batch in enumerate(self.batches, 1):
+            yield f"{self.name}: check {number}, {len(batch)} edits"
+            for edit in batch:
+                names = sorted(it.label for it in edit.functions) or [f"no function, module {sorted(edit.modules)[0] or self.name}"]
+                yield f"  {edit.name}: {', '.join(names)}{'' if edit.is_of_bodies else ' (more than bodies: alone)'}"
+
+    def take(self, outcome):
+        """Counts an outcome and says it where it is no plain refusal in a shared check."""
+        if outcome.reason:
+            self.failed.append(outcome)
+            say(f"{self.name}/{outcome.edit}: {outcome.reason}")
+        else:
+            self.passed += 1
+            if outcome.was_alone:
+                say(f"{self.name}/{outcome.edit}: refused, tried alone")
+        self.alone += outcome.was_alone
+
+    def give_up(self, why, edits):
+        """Counts this many edits, or the crate where it has none, as failed."""
+        say(f"{self.name}: {why}")
+        self.failed += [Outcome(self.name, why)] * max(1, edits)
+
+
+class Run:
+    """Prepares the crates, those below first, and tries the batches of all in a pool."""
+
+    def __init__(self, crates, uses, jobs, commands):
+        self.crates, self.uses, self.jobs, self.commands = crates, uses, jobs, commands
+        self.folders, self.running, self.waiting = {}, {}, []
+
+    def above(self, crate):
+        """How many crates use this one."""
+        return sum(crate.name in all_below(it, self.uses) for it in self.crates)
+
+    def rank(self, task):
+        """What runs first: the crates that most others wait for, then the edits of the crate with the most left."""
+        kind, crate = task[0], task[1]
+        return (0, -self.above(crate)) if kind == "prepare" else (1, -crate.left)
+
+    def is_ready(self, task):
+        return task[0] != "prepare" or all(it in self.folders for it in task[1].copies.below)
+
+    def all(self):
+        """Runs each task as soon as it can and a worker is free."""
+        self.waiting = [("prepare", it) for it in self.crates.values()]
+        with ThreadPoolExecutor(self.jobs) as pool:
+            try:
+                while self.waiting or self.running:
+                    self.start_and_end_tasks(pool)
+            except BaseException:
+                self.commands.stop()
+                raise
+
+    def start_and_end_tasks(self, pool):
+        """Starts what has a free worker, and takes what a task that ended gave. The methods of a task NAME are NAME,
+        which a worker runs, and NAME_ended."""
+        ready = sorted(filter(self.is_ready, self.waiting), key=self.rank)
+        for task in ready[: self.jobs - len(self.running)]:
+            self.waiting.remove(task)
+            self.running[pool.submit(getattr(self, task[0]), *task[1:])] = task
+        for future in wait(self.running, return_when=FIRST_COMPLETED).done:
+            task = self.running.pop(future)
+            getattr(self, f"{task[0]}_ended")(*task[1:], future.result())
+
+    def prepare(self, crate):
+        """Checks a crate without edits, and builds it for the crates above. Returns its copy and why it failed."""
+        copies = crate.copies
+        lacking = [it for it in copies.below if not self.crates[it].is_proved]
+        if lacking:
+            return "", f"NOT TRIED: its library {lacking[0]} is not proved"
+        copy = copies.new(f"{copies.root}/crates/{crate.name}", self.folders)
+        status, said = copies.run(copy, "check")
+        if not status and self.above(crate):
+            status, said = copies.run(copy, "lib")
+        return copy, "" if not status else f"NOT PROVED without an edit:\n{said[-2000:]}"
+
+    def prepare_ended(self, crate, result):
+        copy, why = result
+        crate.is_proved, self.folders[crate.name] = not why, copy
+        if why:
+            crate.give_up(why, len(crate.edits))
+            return
+        for batch in crate.batches:
+            self.add(crate, batch)
+
+    def add(self, crate, batch):
+        crate.left += 1
+        self.waiting.append(("attempt", crate, batch))
+
+    def attempt(self, crate, batch):
+        """Tries a batch in a free copy of the crate, or in a new one over what the first check kept."""
+        copies = crate.copies
+        with copies.lock:
+            copy = copies.free.pop() if copies.free else None
+        copy = copy or copies.new(self.folders[crate.name], self.folders)
+        trial = Trial(crate.name, copies.texts, lambda changed: copies.check_in(copy, changed)[1])
+        outcomes, alone = trial.together(batch)
+        with copies.lock:
+            copies.free.append(copy)
+        return outcomes, alone
+
+    def attempt_ended(self, crate, batch, result):
+        outcomes, alone = result
+        crate.left -= 1
+        crate.checks += 1
+        for outcome in outcomes:
+            crate.take(outcome)
+        for edit in alone:
+            self.add(crate, [edit])
+        if not crate.left:
+            self.waiting.append(("recheck", crate))
+
+    def recheck(self, crate):
+        """Checks the crate without edits over what the checks of its edits kept, so that none was refused for that."""
+        why = ""
+        for copy in crate.copies.free:
+            status, said = crate.copies.check_in(copy, {})
+            if status:
+                why = f"NOT PROVED over what the checks of its edits kept, so no refusal counts:\n{said[-2000:]}"
+        crate.copies.remove_but_library(self.folders[crate.name])
+        return why
+
+    def recheck_ended(self, crate, why):
+        if why:
+            crate.give_up(why, crate.passed)
+            crate.passed = 0
+        say(
+            f"{crate.name}: {len(crate.edits)} edits in {crate.checks} checks, {crate.alone} tried alone, "
+            f"{len(crate.failed)} failed, {crate.copies.seconds:.0f} s of processor time"
+        )
+
+
+def arguments_of(words, usage):
+    parser = argparse.ArgumentParser(prog="tools/wrong-bodies", description=usage, formatter_class=argparse.RawDescriptionHelpFormatter)
+    parser.add_argument("crates", nargs="*", metavar="CRATE", help="only these crates")
+    parser.add_argument("--list", action="store_true", help="list the checks and the functions that each edit changes, and check nothing")
+    parser.add_argument("--only", default="", metavar="NAME", help="only edits whose file name contains NAME")
+    parser.add_argument("--must-fail", action="store_true", help="the edits of must-fail/ too, which rt ci tries itself")
+    parser.add_argument("--jobs", type=int, default=len(os.sched_getaffinity(0)), metavar="N", help="checks side by side")
+    return parser.parse_args(words)
+
+
+def with_libraries(runs, uses):
+    """The crates that have edits and those below them."""
+    wanted = {name for name, it in runs.items() if it.edits}
+    wanted |= {below for name in wanted for below in all_below(name, uses)}
+    return {name: it for name, it in runs.items() if name in wanted}
+
+
+def main(words, usage=""):
+    """Tries the edits and returns the exit status."""
+    given = arguments_of(words, usage)
+    root = os.path.dirname(os.path.dirname(os.path.realpath(__file__)))
+    uses = crates_listed(root)
+    unlisted = sorted({*given.crates, *folders_with_edits(root)} - {*uses})
+    if unlisted:
+        say(f"crates.txt names no crate {', '.join(unlisted)}")
+        say(f"0 passed, {len(unlisted)} failed")
+        return 1
+    folders = ["wrong-bodies"] + ["must-fail"] * given.must_fail
+    commands = Commands()
+    with tempfile.TemporaryDirectory(prefix="wrong-bodies-") as room:
+        runs = {}
+        for name in uses:
+            is_wanted = not given.crates or name in given.crates
+            copies = Copies(root, room, name, uses, commands)
+            runs[name] = CrateRun(copies, folders if is_wanted else [], given.only)
+        for crate in runs.values():
+            for outcome in crate.failed:
+                say(f"{crate.name}/{outcome.edit}: {outcome.reason}")
+            for line in crate.listed() if given.list else []:
+                say(line)
+        try:
+            if not given.list:
+                Run(with_libraries(runs, uses), uses, max(1, given.jobs), commands).all()
+        except BaseException:
+            traceback.print_exc()
+            say("0 passed, 1 failed")
+            return 1
+    passed, failed = sum(it.passed for it in runs.values()), sum(len(it.failed) for it in runs.values())
+    if given.list:
+        return 1 if failed else 0
+    say(f"{passed} passed, {failed} failed")
+    return 1 if failed else 0
+
+
+def folders_with_edits(root):
+    """The folders of crates/ that hold wrong bodies."""
+    return [it for it in os.listdir(f"{root}/crates") if os.path.isdir(f"{root}/crates/{it}/wrong-bodies")]
+
+
+if __name__ == "__main__":
+    sys.exit(main(sys.argv[1:]))
