@@ -2,7 +2,6 @@
 use Rattle.std.proofs.Common.{◌≡◌, ℕ, zero, suc, ◌+◌, ◌<◌, ◌≤◌, ◌^◌, List, [], ◌∷◌, ◌++◌, true, length, Option, Some, None, Result, Ok, Err, decimal, slice_index, refl, sym, ap, subst, arith, lit<, lit≤, length-append, nat_lt}
 use Rattle.std.specs.Prelude.{codes}
 use Rattle.std.specs.List.{list_all}
-use Rattle.std.specs.Result.{MatchResult, result_ok}
 use Rattle.std.specs.Str.{IsUtf8, IsAscii}
 use Rattle.std.proofs.lemmas.Bool.{ltb-true, and_parts}
 use Rattle.std.proofs.lemmas.Fmt.{length-decimal-le, IsAscii-decimal}
@@ -56,15 +55,6 @@ line_ascii (lines.Run op) fits = word_ascii (codes "run") op refl fits
 -- what says a line is text
 pub not_text : (bs : List ℕ) → ¬ (IsUtf8 bs) → (line : Line) → ¬ (Says bs line)
 not_text bs other line says = other (subst IsUtf8 (sym says.words) (IsUtf8-from_ascii (line_text line) (line_ascii line says.numbers)))
-
--- what `from_utf8` says of what it gave, and of what it did not give
-pub at_some : {V E : Type 0} (P : V → Type 0) (R : E → Type 0) (r : Result V E) (x : V) → MatchResult r P R → Some x ≡ result_ok r → P x
-at_some P R (Ok y) x h e = let same : y ≡ x = cc in subst P same h
-at_some P R (Err d) x h e = absurd (cc)
-
-pub at_none : {V E : Type 0} (P : V → Type 0) (Q : Type 0) (R : E → Type 0) (r : Result V E) → MatchResult r P (λ e. Q × R e) → None ≡ result_ok r → Q
-at_none P Q R (Ok x) h e = absurd (cc)
-at_none P Q R (Err d) h e = h.0
 
 -- a number has at most twenty digits
 digits : (n : ℕ) → n < 2 ^ 64 → length (decimal n) ≤ 20

@@ -1,4 +1,8 @@
 //! Errors: their numbers and texts, and what they become.
+use TransactionalObjectError::{
+    CallbackError, Fenced, IdExhausted, InvalidObjectState, IoError, LatestRecordMissing,
+    ObjectStoreError, ObjectUpdateTimeout, ObjectVersionExists, TurnsExhausted,
+};
 use anyhow::anyhow;
 use std::alloc::{AllocError, Global};
 use std::fmt::Display;
@@ -9,10 +13,6 @@ use txn_store::store::StoreError;
 use txn_threads::finish::FinishFault;
 use txn_types::codec::CodecFault;
 use txn_types::error::TransactionalObjectError;
-use TransactionalObjectError::{
-    CallbackError, Fenced, IdExhausted, InvalidObjectState, IoError, LatestRecordMissing,
-    ObjectStoreError, ObjectUpdateTimeout, ObjectVersionExists, TurnsExhausted,
-};
 
 const STORE_ERRORS: [(StoreError, &str); 7] = [
     (StoreError::NotFound, "not found"),
@@ -58,6 +58,15 @@ fn is_told(
     Ok(shown && error.number() == number && is_conflict == (number == 5))
 }
 
+/// Whether an error shows what it holds in this way.
+fn is_debugged(
+    alloc: Global,
+    error: &TransactionalObjectError,
+    text: &str,
+) -> Result<bool, AllocError> {
+    Ok(format!(in alloc; "{error:?}")?.as_str() == text)
+}
+
 #[test]
 fn errors_have_their_numbers_and_texts(rt: HostRuntime) -> Result<(), Fail> {
     for (error, text) in STORE_ERRORS {
@@ -74,12 +83,24 @@ fn errors_have_their_numbers_and_texts(rt: HostRuntime) -> Result<(), Fail> {
     }
     for (error, number, text) in [
         (IoError, 1, "io error"),
-        (ObjectStoreError(StoreError::Failed), 2, "object store error"),
-        (ObjectUpdateTimeout { timeout: 1500 }, 3, "object update timed out"),
+        (
+            ObjectStoreError(StoreError::Failed),
+            2,
+            "object store error",
+        ),
+        (
+            ObjectUpdateTimeout { timeout: 1500 },
+            3,
+            "object update timed out",
+        ),
         (LatestRecordMissing, 4, "failed to find latest record"),
         (ObjectVersionExists, 5, "object version exists"),
         (Fenced, 6, "detected newer client"),
-        (InvalidObjectState, 7, "object in store is in an unexpected state"),
+        (
+            InvalidObjectState,
+            7,
+            "object in store is in an unexpected state",
+        ),
         (CallbackError(anyhow!("bad bytes")), 8, "callback error"),
         (TransactionalObjectError::NoMemory, 9, "no memory"),
         (IdExhausted, 10, "id exhausted"),
@@ -87,17 +108,18 @@ fn errors_have_their_numbers_and_texts(rt: HostRuntime) -> Result<(), Fail> {
     ] {
         assert!(rt; is_told(rt.alloc(), &error, number, text)?, "{text}");
     }
-    Ok(())
-}
-
-#[test]
-fn errors_show_what_they_hold(rt: HostRuntime) -> Result<(), Fail> {
-    let timeout = ObjectUpdateTimeout { timeout: 1500 };
-    let shown = format!(in rt.alloc(); "{timeout:?}")?;
-    assert_eq!(rt; shown.as_str(), "ObjectUpdateTimeout { timeout: 1500 }");
-    let store = ObjectStoreError(StoreError::Failed);
-    let shown = format!(in rt.alloc(); "{store:?}")?;
-    assert_eq!(rt; shown.as_str(), "ObjectStoreError(Failed)");
+    for (error, text) in [
+        (
+            ObjectUpdateTimeout { timeout: 1500 },
+            "ObjectUpdateTimeout { timeout: 1500 }",
+        ),
+        (
+            ObjectStoreError(StoreError::Failed),
+            "ObjectStoreError(Failed)",
+        ),
+    ] {
+        assert!(rt; is_debugged(rt.alloc(), &error, text)?, "{text}");
+    }
     Ok(())
 }
 

@@ -22,6 +22,8 @@ mod requests;
 #[cfg(test)]
 mod scenario;
 #[cfg(test)]
+mod schedules;
+#[cfg(test)]
 mod stores;
 #[cfg(test)]
 mod streams;

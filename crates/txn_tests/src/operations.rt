@@ -161,11 +161,42 @@ const REFUSED: &[Heard] = &[
     (Read, Found(Err(8))),
 ];
 
+/// What a read answers to its nth reply, where it goes on until then.
+fn read_answer<S: ObjectStore>(
+    alloc: Global,
+    store: &mut S,
+    nth: u64,
+) -> Result<Option<ReadAnswer<u64>>, Fail> {
+    let layout = a_layout(alloc)?;
+    let mut op = ReadOp::start(&layout)?;
+    for turn in 0..nth {
+        if let Turned::Done(answer) = turn_read(alloc, store, &layout, &mut op)? {
+            return Ok(if turn + 1 == nth { Some(answer) } else { None });
+        }
+    }
+    Ok(None)
+}
+
+/// Whether a read's second reply ends it with the codec's refusal, in these words.
+fn is_refused(alloc: Global, words: &str) -> Result<bool, Fail> {
+    let mut store = InMemory::new(alloc);
+    if plays(alloc, &mut store, REFUSED)?.is_some() {
+        return Err("a step says something else")?;
+    }
+    Ok(match read_answer(alloc, &mut store, 2)? {
+        Some(Err(TransactionalObjectError::CallbackError(kept))) => {
+            format!(in alloc; "{kept}")?.as_str() == words
+        }
+        _ => false,
+    })
+}
+
 #[test]
 fn operations_answer_as_they_should(rt: HostRuntime) -> Result<(), Fail> {
     for (name, steps) in SCENARIOS {
         assert_eq!(rt; plays_in_memory(rt.alloc(), steps)?, None, "{name}");
     }
+    assert!(rt; is_refused(rt.alloc(), "not eight bytes")?);
     Ok(())
 }
 
@@ -191,38 +222,23 @@ const FAILING: &[(u64, &[Heard])] = &[
     ),
     (
         1,
-        &[
-            (Advance(3), Answers(Err(2))),
-            (Delete(3), Answers(Err(7))),
-        ],
+        &[(Advance(3), Answers(Err(2))), (Delete(3), Answers(Err(7)))],
     ),
     (
         2,
-        &[
-            (Advance(3), Answers(Err(2))),
-            (Delete(3), Answers(Err(7))),
-        ],
+        &[(Advance(3), Answers(Err(2))), (Delete(3), Answers(Err(7)))],
     ),
     (
         3,
-        &[
-            (Advance(3), Answers(Ok(()))),
-            (Delete(3), Answers(Err(2))),
-        ],
+        &[(Advance(3), Answers(Ok(()))), (Delete(3), Answers(Err(2)))],
     ),
     (
         4,
-        &[
-            (Advance(3), Answers(Ok(()))),
-            (Delete(3), Answers(Err(2))),
-        ],
+        &[(Advance(3), Answers(Ok(()))), (Delete(3), Answers(Err(2)))],
     ),
     (
         0,
-        &[
-            (Advance(3), Answers(Ok(()))),
-            (Delete(3), Answers(Ok(()))),
-        ],
+        &[(Advance(3), Answers(Ok(()))), (Delete(3), Answers(Ok(())))],
     ),
 ];
 
@@ -262,6 +278,15 @@ fn other_advance(alloc: Global) -> Result<Option<u64>, Fail> {
     Ok(None)
 }
 
+/// The store's error with which a read's first reply ends it, where it does.
+fn first_error(alloc: Global) -> Result<Option<StoreError>, Fail> {
+    let mut store = FailingStore::new(InMemory::new(alloc), 1, When::Before);
+    Ok(match read_answer(alloc, &mut store, 1)? {
+        Some(Err(TransactionalObjectError::ObjectStoreError(kept))) => Some(kept),
+        _ => None,
+    })
+}
+
 #[test]
 fn a_failing_store_ends_an_operation(rt: HostRuntime) -> Result<(), Fail> {
     for (nth, steps) in FAILING {
@@ -269,6 +294,7 @@ fn a_failing_store_ends_an_operation(rt: HostRuntime) -> Result<(), Fail> {
     }
     // An advance puts only what raises the boundary.
     assert_eq!(rt; other_advance(rt.alloc())?, None);
+    assert_eq!(rt; first_error(rt.alloc())?, Some(StoreError::Failed));
     Ok(())
 }
 
@@ -296,51 +322,5 @@ fn a_get_makes_the_boundary_known(rt: HostRuntime) -> Result<(), Fail> {
     assert_eq!(rt; known, (3, token));
     let failed = known_boundary(Err(StoreError::Failed));
     assert!(rt; failed.is_err_and(|error| error.number() == 2));
-    Ok(())
-}
-
-/// What a read answers to its nth reply, where it goes on until then.
-fn read_answer<S: ObjectStore>(
-    alloc: Global,
-    store: &mut S,
-    nth: u64,
-) -> Result<Option<ReadAnswer<u64>>, Fail> {
-    let layout = a_layout(alloc)?;
-    let mut op = ReadOp::start(&layout)?;
-    for turn in 0..nth {
-        if let Turned::Done(answer) = turn_read(alloc, store, &layout, &mut op)? {
-            return Ok(if turn + 1 == nth { Some(answer) } else { None });
-        }
-    }
-    Ok(None)
-}
-
-/// Whether a read's second reply ends it with the codec's refusal, in these words.
-fn is_refused(alloc: Global, words: &str) -> Result<bool, Fail> {
-    let mut store = InMemory::new(alloc);
-    if plays(alloc, &mut store, REFUSED)?.is_some() {
-        return Err("a step says something else")?;
-    }
-    Ok(match read_answer(alloc, &mut store, 2)? {
-        Some(Err(TransactionalObjectError::CallbackError(kept))) => {
-            format!(in alloc; "{kept}")?.as_str() == words
-        }
-        _ => false,
-    })
-}
-
-/// The store's error with which a read's first reply ends it, where it does.
-fn first_error(alloc: Global) -> Result<Option<StoreError>, Fail> {
-    let mut store = FailingStore::new(InMemory::new(alloc), 1, When::Before);
-    Ok(match read_answer(alloc, &mut store, 1)? {
-        Some(Err(TransactionalObjectError::ObjectStoreError(kept))) => Some(kept),
-        _ => None,
-    })
-}
-
-#[test]
-fn the_error_of_the_codec_or_the_store_is_told(rt: HostRuntime) -> Result<(), Fail> {
-    assert!(rt; is_refused(rt.alloc(), "not eight bytes")?);
-    assert_eq!(rt; first_error(rt.alloc())?, Some(StoreError::Failed));
     Ok(())
 }

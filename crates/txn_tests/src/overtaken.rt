@@ -65,13 +65,15 @@ fn gets(alloc: Global, op: &WriteOp, text: &str) -> Result<bool, Fail> {
 /// Whether the write of version 7 asks first for its create, and its check holds that id.
 fn asks_first(alloc: Global) -> Result<bool, Fail> {
     let op = a_write(alloc)?;
-    Ok(op.check.id.id() == 7 && creates(alloc, &op, SEVENTH, BYTES)?)
+    let id = op.check.id.id();
+    Ok(id == 7 && creates(alloc, &op, SEVENTH, BYTES)?)
 }
 
 /// Whether it asks then for the boundary, and its check holds that id.
 fn asks_then(alloc: Global) -> Result<bool, Fail> {
     let op = a_write_that_put(alloc)?;
-    Ok(op.check.id.id() == 7 && gets(alloc, &op, BOUNDARY)?)
+    let id = op.check.id.id();
+    Ok(id == 7 && gets(alloc, &op, BOUNDARY)?)
 }
 
 #[test]
@@ -142,7 +144,7 @@ struct ReadRow {
     found: (u64, u64),
 }
 
-const READS: [ReadRow; 2] = [
+const READS: &[ReadRow] = &[
     // Its version is gone.
     ReadRow {
         before: &[(Write(0, 40), Wrote(Ok(1))), (Write(1, 41), Wrote(Ok(2)))],
@@ -193,7 +195,7 @@ fn read_across(alloc: Global, row: &ReadRow) -> Result<Answered<Option<(u64, u64
 fn an_overtaken_operation_looks_again(rt: HostRuntime) -> Result<(), Fail> {
     assert_eq!(rt; other_advance(rt.alloc())?, None);
     for row in READS {
-        assert_eq!(rt; read_across(rt.alloc(), &row)?, Ok(Some(row.found)));
+        assert_eq!(rt; read_across(rt.alloc(), row)?, Ok(Some(row.found)));
     }
     Ok(())
 }

@@ -89,8 +89,19 @@ fn lies_at(alloc: Global, folder: &str, boundary: &str) -> Result<bool, PathFaul
     Ok(is_below && is_shown(alloc, &layout.boundary, boundary, name)?)
 }
 
+/// Whether `a/z` comes before `a-b` and after `a`, and `a/z` alone is below `a`.
+fn are_ordered(alloc: Global) -> Result<bool, PathFault> {
+    let short = Path::from_text(alloc, "a/z")?;
+    let long = Path::from_text(alloc, "a-b")?;
+    let above = Path::from_text(alloc, "a")?;
+    let same = short.try_clone()?;
+    let ordered = short < long && short == same && short != long && above < short;
+    let below = short.is_below(&above) && !long.is_below(&above) && !above.is_below(&above);
+    Ok(ordered && below)
+}
+
 #[test]
-fn paths_are_shown(rt: HostRuntime) -> Result<(), Fail> {
+fn paths_are_shown_and_ordered(rt: HostRuntime) -> Result<(), Fail> {
     for (text, shown, filename) in [
         ("/root//test/", "root/test", Some("test")),
         ("a", "a", Some("a")),
@@ -103,6 +114,7 @@ fn paths_are_shown(rt: HostRuntime) -> Result<(), Fail> {
     let joined = Path::from_text(rt.alloc(), "root")?.join("a-_.9")?;
     assert!(rt; is_shown(rt.alloc(), &joined, "root/a-_.9", Some("a-_.9"))?);
     assert!(rt; lies_at(rt.alloc(), "root/test", "root/gc/test.boundary")?);
+    assert!(rt; are_ordered(rt.alloc())?);
     Ok(())
 }
 
@@ -151,19 +163,6 @@ fn bad_segments_are_refused(rt: HostRuntime) -> Result<(), Fail> {
         let made = Layout::new(alloc, &root, subdir, suffix, NumberCodec);
         assert!(rt; is_bad(made), "{subdir:?} {suffix:?}");
     }
-    Ok(())
-}
-
-#[test]
-fn paths_are_ordered_by_segments(rt: HostRuntime) -> Result<(), Fail> {
-    let short = Path::from_text(rt.alloc(), "a/z")?;
-    let long = Path::from_text(rt.alloc(), "a-b")?;
-    let above = Path::from_text(rt.alloc(), "a")?;
-    let same = short.try_clone()?;
-    let ordered = short < long && short == same && short != long && above < short;
-    assert!(rt; ordered);
-    let below = short.is_below(&above) && !long.is_below(&above) && !above.is_below(&above);
-    assert!(rt; below);
     Ok(())
 }
 

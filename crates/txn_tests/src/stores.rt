@@ -24,6 +24,7 @@ enum Step {
     List(&'static str, Result<&'static [(&'static str, u64)], StoreError>),
     Delete(&'static str, Result<(), StoreError>),
 }
+
 use Step::{Create, Delete, Get, GetNewer, List, Overwrite, Update};
 
 fn puts<S: ObjectStore>(
@@ -270,6 +271,7 @@ const EACH_KIND: Counts = Counts {
 
 /// What is got and listed of a file `a`.
 const FOUND: (&[u8], u64) = (b"x", 1);
+
 const LISTED: &[(&str, u64)] = &[("a", 1)];
 
 /// The first fails after its effect. The others are a put, a get, a listing, a delete and a get.

@@ -48,7 +48,10 @@ fn ids_compare_and_add_as_numbers(rt: HostRuntime) -> Result<(), Fail> {
     let (one, two) = (MonotonicId::new(1), MonotonicId::new(2));
     assert!(rt; first.is(1) && !first.is(2));
     assert_eq!(rt; (first, first.next()), (one, two));
-    assert_eq!(rt; ((first + 6).id(), (first + (u64::MAX - 1)).id()), (7, u64::MAX));
+    assert_eq!(rt;
+        ((first + 6).id(), (first + (u64::MAX - 1)).id()),
+        (7, u64::MAX)
+    );
     assert!(rt; is_same(first, one) && !is_same(first, first.next()));
     assert!(rt; is_below(first, first.next()) && !is_below(first.next(), first));
     assert!(rt; MonotonicId::new(9) < MonotonicId::new(10));
@@ -85,8 +88,20 @@ const NO_NUMBERS: &[&[u8]] = &[b"", b"7 bytes", b"9 bytes!!"];
 
 /// Records, and their texts.
 const RECORDS: &[(Record, &[u8])] = &[
-    (Record { epoch: 0, payload: 1 }, b"0:1"),
-    (Record { epoch: 70, payload: u64::MAX }, b"70:18446744073709551615"),
+    (
+        Record {
+            epoch: 0,
+            payload: 1,
+        },
+        b"0:1",
+    ),
+    (
+        Record {
+            epoch: 70,
+            payload: u64::MAX,
+        },
+        b"70:18446744073709551615",
+    ),
 ];
 
 /// Texts that are no record.
@@ -144,7 +159,10 @@ fn is_refused<T: Drop, C: ObjectCodec<T>>(
 #[test]
 fn codecs_read_what_they_write(rt: HostRuntime) -> Result<(), Fail> {
     for (number, bytes) in NUMBERS {
-        assert!(rt; is_written(&NumberCodec, rt.alloc(), number, bytes)?, "{number}");
+        assert!(rt;
+            is_written(&NumberCodec, rt.alloc(), number, bytes)?,
+            "{number}"
+        );
     }
     assert!(rt; refusal(&NumberCodec, rt.alloc(), b"8 bytes!")?.is_none());
     for bytes in NO_NUMBERS {
@@ -152,7 +170,10 @@ fn codecs_read_what_they_write(rt: HostRuntime) -> Result<(), Fail> {
         assert!(rt; refused, "{bytes:?}");
     }
     for (record, bytes) in RECORDS {
-        assert!(rt; is_written(&RecordCodec, rt.alloc(), record, bytes)?, "{record}");
+        assert!(rt;
+            is_written(&RecordCodec, rt.alloc(), record, bytes)?,
+            "{record}"
+        );
         assert_eq!(rt; read_record(bytes), Some(*record));
     }
     for bytes in NO_RECORDS {

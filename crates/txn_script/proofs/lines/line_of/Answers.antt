@@ -2,7 +2,8 @@ use Rattle.std.proofs.Common.{◌≡◌, ℕ, List, sym, subst}
 use Rattle.std.specs.Str.{IsUtf8}
 use denote.Ref.{Bor}
 use Rattle.txn_script.specs.Grammar.{Says}
-use Rattle.txn_script.proofs.Texts.{not_text, at_none, at_some}
+use Rattle.txn_types.proofs.BoundaryLemmas.{at_none, at_some}
+use Rattle.txn_script.proofs.Texts.{not_text}
 use Rattle.txn_script.proofs.lines.line_of.Goals as goal
 
 pub returns-in_err-ok-clause-all : goal.returns-in_err-ok-clause-all
