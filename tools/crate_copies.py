@@ -36,14 +36,15 @@ def all_below(name, uses):
 
 
 def texts_of(crate):
-    """The texts of a crate's src/ by path."""
+    """The texts of a crate by path."""
     texts = {}
-    for folder, folders, names in os.walk(f"{crate}/src"):
-        folders.sort()
-        for name in sorted(names):
-            if name.endswith(".rt"):
-                with open(f"{folder}/{name}", encoding="utf-8") as file:
-                    texts[os.path.relpath(f"{folder}/{name}", crate)] = file.read()
+    for part in PARTS:
+        for folder, folders, names in os.walk(f"{crate}/{part}"):
+            folders.sort()
+            for name in sorted(names):
+                if name.endswith((".rt", ".antt")):
+                    with open(f"{folder}/{name}", encoding="utf-8") as file:
+                        texts[os.path.relpath(f"{folder}/{name}", crate)] = file.read()
     return texts
 
 
@@ -85,19 +86,16 @@ class Copies:
         self.texts = texts_of(f"{root}/crates/{name}")
         self.free, self.made, self.lock, self.seconds = [], 0, threading.Lock(), 0.0
 
-    def new(self, kept_by, libraries):
-        """Makes a copy over the work that `kept_by`, a crate's folder, kept, and over these crates' folders as libraries."""
+    def new(self, source, libraries):
+        """Makes a copy of the crate's folder `source` with what was kept there, and of its libraries' folders."""
         with self.lock:
             self.made += 1
             top = f"{self.room}/{self.name}-{self.made}"
         os.makedirs(top)
-        shutil.copyfile(f"{self.root}/crates.txt", f"{top}/crates.txt")
-        self.copy_parts(f"{self.root}/crates/{self.name}", f"{top}/crates/{self.name}", PARTS)
-        self.copy_parts(kept_by, f"{top}/crates/{self.name}", ["out/incremental", "out/rlib"])
+        self.write_list_of_crates(f"{top}/crates.txt")
+        self.copy_parts(source, f"{top}/crates/{self.name}", [*PARTS, "out/incremental", "out/rlib"])
         for name in self.below:
-            self.copy_parts(f"{self.root}/crates/{name}", f"{top}/crates/{name}", PARTS)
-            self.copy_parts(libraries[name], f"{top}/crates/{name}", ["out/rlib"])
-        self.copy_lines_of_crates(top)
+            self.copy_parts(libraries[name], f"{top}/crates/{name}", [*PARTS, "out/rlib"])
         return f"{top}/crates/{self.name}"
 
     def remove_but_library(self, prepared):
@@ -107,13 +105,11 @@ class Copies:
         self.free = []
         shutil.rmtree(f"{prepared}/out/incremental", ignore_errors=True)
 
-    def copy_lines_of_crates(self, top):
-        """Keeps of the copy's crates.txt the lines of the crates that stand there."""
+    def write_list_of_crates(self, path):
+        """Writes a crates.txt with the lines of this crate and of those below it."""
         names = {self.name, *self.below}
-        with open(f"{top}/crates.txt", encoding="utf-8") as file:
-            lines = [it for it in file if (it.partition("#")[0].partition(":")[0].split() or [""])[0] in names]
-        with open(f"{top}/crates.txt", "w", encoding="utf-8") as file:
-            file.writelines(lines)
+        with open(f"{self.root}/crates.txt", encoding="utf-8") as lines, open(path, "w", encoding="utf-8") as file:
+            file.writelines(it for it in lines if (it.partition("#")[0].partition(":")[0].split() or [""])[0] in names)
 
     @staticmethod
     def copy_parts(crate, to, parts):

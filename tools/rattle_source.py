@@ -179,19 +179,22 @@ def named_in_log(path, functions):
 
     A log names a function m::f, a method m::Type::f or m::TypeTrait::f, and what stands in its body
     m::fn::f::rest or m::fn::Type::f::rest."""
-    module, inside, rest = f"::{path}".partition("::fn::")
-    segments = path.split("::")
-    found = []
-    for it in functions:
-        if inside:
-            fits_module, segment, name = it.module == module.lstrip(":"), rest.split("::")[0], rest.split("::")[:1]
-            if it.owner:
-                name = rest.split("::")[1:2]
-        elif it.owner:
-            fits_module, segment, name = it.module == "::".join(segments[:-2]), (segments[-2:-1] or [""])[0], segments[-1:]
-        else:
-            fits_module, segment, name = it.module == "::".join(segments[:-1]), "", segments[-1:]
-        if fits_module and name == [it.name]:
-            found.append((it.owner.fit(segment) if it.owner else 1, it))
-    best = max((rank for rank, _ in found), default=0)
-    return {it for rank, it in found if rank == best and best}
+    ranks = {it: rank_of_name(path, it) for it in functions}
+    best = max(ranks.values(), default=0)
+    return {it for it, rank in ranks.items() if rank == best and best}
+
+
+def rank_of_name(path, function):
+    """How well a log's name fits a function: 0 where it is no name of it."""
+    front, inside, rest = f"::{path}".partition("::fn::")
+    if inside:
+        module, segments = front[len("::") :], rest.split("::")[: 2 if function.owner else 1]
+    else:
+        segments = path.split("::")
+        at = max(0, len(segments) - (2 if function.owner else 1))
+        module, segments = "::".join(segments[:at]), segments[at:]
+    if module != function.module or segments[-1] != function.name:
+        return 0
+    if not function.owner:
+        return 1
+    return function.owner.fit(segments[0]) if len(segments) == 2 else 0

@@ -78,8 +78,8 @@ def pairs_of(text):
     for line in text.split("\n"):
         if line.startswith("file: "):
             path = line[len("file: ") :].strip()
-            if os.path.normpath(path) != path or not path.startswith("src/"):
-                raise BadEdit(f"it changes {path}, which is no file of src/, so it changes no body")
+            if os.path.normpath(path) != path or not path.startswith(("src/", "specs/", "proofs/")):
+                raise BadEdit(f"{path} is no file below src/, specs/ or proofs/")
         elif line.startswith("old: "):
             if old is not None:
                 raise BadEdit("an 'old:' line has no 'new:' line")
@@ -93,6 +93,8 @@ def pairs_of(text):
         raise BadEdit("an 'old:' line has no 'new:' line")
     if not found:
         raise BadEdit("it has no 'old:' and 'new:' pair")
+    if not any(path.startswith("src/") for path, _, _ in found):
+        raise BadEdit("it changes no file of src/, so it changes no body")
     return found
 
 
@@ -113,21 +115,30 @@ def read_edit(name, text, texts):
     """The edit of this text, with the functions that it changes in the crate's texts."""
     edit = Edit(name, pairs_of(text))
     for pair in edit.pairs:
-        path, old, _ = pair
         changed = applied(texts, [pair])
-        start = texts[path].index(old)
-        end = start + len(old)
-        inside = [it for it in places_in(texts[path], module_of(path)) if it.start <= start and end <= it.end]
-        edit.functions.update(it.function for it in inside[-1:])
-        edit.modules.add(module_of(path))
-        edit.is_of_bodies &= bool(inside) and inside[-1].body < start
+        if pair[0].startswith("src/"):
+            add_place(edit, pair, texts[pair[0]])
+        else:
+            edit.is_of_bodies = False
         texts = changed
     return edit
 
 
+def add_place(edit, pair, text):
+    """Adds to an edit the function and the module of a pair that changes this text of src/."""
+    path, old, _ = pair
+    start = text.index(old)
+    end = start + len(old)
+    inside = [it for it in places_in(text, module_of(path)) if it.start <= start and end <= it.end]
+    edit.functions.update(it.function for it in inside[-1:])
+    edit.modules.add(module_of(path))
+    edit.is_of_bodies &= bool(inside) and inside[-1].body < start
+
+
 def functions_in(texts):
     """The functions of a crate's texts by path."""
-    return {it.function for path, text in texts.items() for it in places_in(text, module_of(path))}
+    sources = {path: text for path, text in texts.items() if path.startswith("src/")}
+    return {it.function for path, text in sources.items() for it in places_in(text, module_of(path))}
 
 
 def batches(texts, edits, most=MOST_IN_A_CHECK):
@@ -202,7 +213,8 @@ def why_not_refused(edit, log):
     """Why an edit that was tried alone counts as not refused."""
     names = ", ".join(sorted(it.label for it in edit.functions)) or "any function of its module"
     if log.unread or not log.is_of_functions:
-        return f"BAD EDIT: the edited text cannot be read, so no contract was tried: {(log.unread or log.first_lines)[:300]}"
+        said = (log.unread or log.first_lines)[:300]
+        return f"BAD EDIT: the edited text cannot be read, so no contract was tried: {said}"
     if not log.verdict:
         return f"NOT REFUSED: the check broke off: {log.first_lines[:300]}"
     if log.refused:

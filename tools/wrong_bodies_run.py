@@ -57,8 +57,9 @@ class CrateRun:
         for number, batch in enumerate(self.batches, 1):
             yield f"{self.name}: check {number}, {len(batch)} edits"
             for edit in batch:
-                names = sorted(it.label for it in edit.functions) or [f"no function, module {sorted(edit.modules)[0] or self.name}"]
-                yield f"  {edit.name}: {', '.join(names)}{'' if edit.is_of_bodies else ' (more than bodies: alone)'}"
+                modules = ", ".join(it or self.name for it in sorted(edit.modules))
+                changed = ", ".join(sorted(it.label for it in edit.functions)) or f"no function, module {modules}"
+                yield f"  {edit.name}: {changed}{'' if edit.is_of_bodies else ' (more than bodies: alone)'}"
 
     def take(self, outcome):
         """Counts an outcome and says it where it is no plain refusal in a shared check."""
@@ -187,12 +188,14 @@ class Run:
 
 
 def arguments_of(words, usage):
-    parser = argparse.ArgumentParser(prog="tools/wrong-bodies", description=usage, formatter_class=argparse.RawDescriptionHelpFormatter)
+    form = argparse.RawDescriptionHelpFormatter
+    parser = argparse.ArgumentParser(prog="tools/wrong-bodies", description=usage, formatter_class=form)
     parser.add_argument("crates", nargs="*", metavar="CRATE", help="only these crates")
-    parser.add_argument("--list", action="store_true", help="list the checks and the functions that each edit changes, and check nothing")
+    parser.add_argument("--list", action="store_true", help="list what each check tries, and check nothing")
     parser.add_argument("--only", default="", metavar="NAME", help="only edits whose file name contains NAME")
-    parser.add_argument("--must-fail", action="store_true", help="the edits of must-fail/ too, which rt ci tries itself")
-    parser.add_argument("--jobs", type=int, default=len(os.sched_getaffinity(0)), metavar="N", help="checks side by side")
+    parser.add_argument("--must-fail", action="store_true", help="the edits of must-fail/ too, which rt ci tries")
+    processors = len(os.sched_getaffinity(0))
+    parser.add_argument("--jobs", type=int, default=processors, metavar="N", help="how many checks run side by side")
     return parser.parse_args(words)
 
 
@@ -203,10 +206,9 @@ def with_libraries(runs, uses):
     return {name: it for name, it in runs.items() if name in wanted}
 
 
-def main(words, usage=""):
-    """Tries the edits and returns the exit status."""
+def main(words, usage="", root=os.path.dirname(os.path.dirname(os.path.realpath(__file__)))):
+    """Tries the edits of the repository and returns the exit status."""
     given = arguments_of(words, usage)
-    root = os.path.dirname(os.path.dirname(os.path.realpath(__file__)))
     uses = crates_listed(root)
     unlisted = sorted({*given.crates, *folders_with_edits(root)} - {*uses})
     if unlisted:
@@ -236,6 +238,9 @@ def main(words, usage=""):
     passed, failed = sum(it.passed for it in runs.values()), sum(len(it.failed) for it in runs.values())
     if given.list:
         return 1 if failed else 0
+    if (given.crates or given.only) and not passed and not failed:
+        say("there is no such edit")
+        failed = 1
     say(f"{passed} passed, {failed} failed")
     return 1 if failed else 0
 

@@ -1,0 +1,128 @@
+"""The command tools/replay-cases: runs programs on the cases of folders and compares what they write."""
+from __future__ import annotations
+
+import argparse
+import difflib
+import os
+import subprocess
+import sys
+
+SECONDS = 60
+LINES_SHOWN = 20
+ENDINGS = (".stdout", ".stderr", ".status", ".args")
+
+
+class BadCase(Exception):
+    """Why the files of a case are no case."""
+
+
+def say(text):
+    print(text, flush=True)
+
+
+def bytes_of(path, without):
+    """What a file holds, or a default where there is no such file."""
+    if not os.path.isfile(path):
+        return without
+    with open(path, "rb") as file:
+        return file.read()
+
+
+class Case:
+    """A script and what a program has to answer to it."""
+
+    def __init__(self, stem):
+        self.stem = stem
+        self.given = bytes_of(f"{stem}.txt", b"")
+        self.arguments = os.fsdecode(bytes_of(f"{stem}.args", b"script\n")).splitlines()
+        status = bytes_of(f"{stem}.status", b"0").strip()
+        if not status.isdigit() or int(status) > 255:
+            raise BadCase("its .status is no number from 0 to 255")
+        self.wanted = {
+            "standard output": bytes_of(f"{stem}.stdout", b""),
+            "standard error": bytes_of(f"{stem}.stderr", b""),
+            "exit status": b"%d\n" % int(status),
+        }
+
+    def run(self, program):
+        """What a program answers, in the form of `wanted`."""
+        ran = subprocess.run([program, *self.arguments], input=self.given, capture_output=True, timeout=SECONDS)
+        return {"standard output": ran.stdout, "standard error": ran.stderr, "exit status": b"%d\n" % ran.returncode}
+
+    def faults(self, program):
+        """How a program's answer differs from what is wanted, as lines."""
+        try:
+            written = self.run(program)
+        except subprocess.TimeoutExpired:
+            return [f"it had not ended after {SECONDS} seconds"]
+        except OSError as error:
+            return [f"it cannot be run: {error.strerror}"]
+        return [line for what, wanted in self.wanted.items() for line in difference(what, wanted, written[what])]
+
+
+def difference(what, wanted, written):
+    """A short diff of two texts as lines, none where they are the same bytes."""
+    if wanted == written:
+        return []
+    # (line by line as Python writes bytes, so that each byte that differs is seen)
+    lines = [[repr(it)[2:-1] for it in text.splitlines(keepends=True)] for text in (wanted, written)]
+    shown = list(difflib.unified_diff(*lines, "wanted", "written", lineterm="", n=1))
+    more = [f".. {len(shown) - LINES_SHOWN} more lines"] if len(shown) > LINES_SHOWN else []
+    return [f"{what}:", *shown[:LINES_SHOWN], *more]
+
+
+def stems_in(folder):
+    """The cases below a folder by their paths without an ending, and what makes the folder wrong, as lines."""
+    stems, wrong, paths = [], [], set()
+    for at, folders, names in os.walk(folder):
+        folders.sort()
+        paths.update(f"{at}/{it}" for it in names)
+    for path in sorted(paths):
+        stem, ending = os.path.splitext(path)
+        if ending == ".txt":
+            stems.append(stem)
+            if f"{stem}.stdout" not in paths:
+                wrong.append(f"{path} has no .stdout beside it")
+        elif ending in ENDINGS and f"{stem}.txt" not in paths:
+            wrong.append(f"{path} has no .txt beside it")
+    if not stems:
+        wrong.append(f"{folder} has no case")
+    return [it for it in stems if f"{it}.stdout" in paths], wrong
+
+
+def replay(programs, folders):
+    """Runs each case on each program. Returns how many passed and how many failed."""
+    passed = failed = 0
+    for folder in folders:
+        stems, wrong = stems_in(folder)
+        for line in wrong:
+            say(f"FAILED: {line}")
+        failed += len(wrong)
+        for stem in stems:
+            for program in programs:
+                try:
+                    faults = Case(stem).faults(program)
+                except BadCase as error:
+                    faults = [str(error)]
+                passed, failed = passed + (not faults), failed + bool(faults)
+                if faults:
+                    say("\n  ".join([f"FAILED: {stem}.txt on {os.path.basename(program)}", *faults]))
+    return passed, failed
+
+
+def main(words, usage=""):
+    """Replays the cases and returns the exit status."""
+    form = argparse.RawDescriptionHelpFormatter
+    parser = argparse.ArgumentParser(prog="tools/replay-cases", description=usage, formatter_class=form)
+    parser.add_argument("programs", nargs="+", metavar="PROGRAM")
+    parser.add_argument("--folder", nargs="+", metavar="FOLDER", help="replay these folders")
+    given = parser.parse_args(words)
+    top = os.path.dirname(os.path.dirname(os.path.realpath(__file__)))
+    folders = given.folder or [f"{top}/cases", f"{top}/examples"]
+    passed, failed = replay([os.path.abspath(it) for it in given.programs], folders)
+    say(f"{passed} passed, {failed} failed")
+    return 1 if failed or not passed else 0
+
+
+if __name__ == "__main__":
+    sys.exit(main(sys.argv[1:]))

@@ -1,0 +1,105 @@
+"""Tests of how the gate counts what its steps write."""
+import contextlib
+import io
+import os
+import sys
+import tempfile
+import unittest
+
+sys.dont_write_bytecode = True
+sys.path.insert(0, os.path.dirname(os.path.dirname(os.path.realpath(__file__))))
+
+import gate_steps  # noqa: E402
+from gate_steps import Step, case_steps, count_of_ci, count_of_last_line, count_of_unittest, step, table  # noqa: E402
+
+CI = """\
+== low
+fn low::echo: proved
+rt: low proved
+must-fail low/halved.edit: refused, as it must be
+tests: 2
+test clock::pads ... ok
+test result: ok. 2 passed; 0 failed
+
+rt: app: its tests passed
+test result: FAILED. 1 passed; 1 failed
+rt: FAILED: other (tests)
+3 passed, 1 failed
+"""
+
+
+def silently(call, *given):
+    said = io.StringIO()
+    said.buffer = io.BytesIO()
+    with contextlib.redirect_stdout(said):
+        return call(*given)
+
+
+class Counts(unittest.TestCase):
+    def test_last_line(self):
+        self.assertEqual(count_of_last_line("1 passed, 7 failed\nmore\n12 passed, 3 failed\n"), (12, 3))
+        self.assertEqual(count_of_last_line("12 passed, 3 failed\nbroken off\n"), (0, 1))
+        self.assertEqual(count_of_last_line("rt: 12 passed, 3 failed\n"), (0, 1))
+        self.assertEqual(count_of_last_line(""), (0, 1))
+
+    def test_unittest(self):
+        self.assertEqual(count_of_unittest("....\n---\nRan 34 tests in 0.3s\n\nOK\n"), (34, 0))
+        self.assertEqual(count_of_unittest("Ran 1 test in 0.3s\n\nOK (skipped=1)\n"), (1, 0))
+        self.assertEqual(count_of_unittest("Ran 34 tests in 0.3s\n\nFAILED (failures=2, errors=1)\n"), (31, 3))
+        self.assertEqual(count_of_unittest("Ran 0 tests in 0.0s\n\nOK\n"), (0, 1))
+        self.assertEqual(count_of_unittest("Traceback\n"), (0, 1))
+
+    def test_ci(self):
+        self.assertEqual(count_of_ci(CI), ((3, 1), (3, 1)))
+
+    def test_a_status_alone_is_a_failure(self):
+        self.assertEqual(Step("a", 3, 0, 2).failed, 1)
+        self.assertEqual(Step("a", 3, 2, 1).failed, 2)
+        self.assertEqual(Step("a", 3, 0, 0).failed, 0)
+
+
+class Steps(unittest.TestCase):
+    def setUp(self):
+        room = tempfile.TemporaryDirectory()
+        self.addCleanup(room.cleanup)
+        self.room = room.name
+
+    def file(self, path, text="", mode=0o644):
+        path = f"{self.room}/{path}"
+        os.makedirs(os.path.dirname(path), exist_ok=True)
+        with open(path, "w", encoding="utf-8") as file:
+            file.write(text)
+        os.chmod(path, mode)
+        return path
+
+    def test_a_step(self):
+        found = silently(step, "a", ["sh", "-c", "echo here; echo '4 passed, 0 failed'"], self.room)
+        self.assertEqual((found.passed, found.failed, found.status), (4, 0, 0))
+        found = silently(step, "a", ["sh", "-c", "echo '4 passed, 0 failed'; exit 3"], self.room)
+        self.assertEqual((found.passed, found.failed, found.status), (4, 1, 3))
+        found = silently(step, "a", [f"{self.room}/none"], self.room)
+        self.assertEqual((found.passed, found.failed, found.status), (0, 1, 127))
+
+    def test_cases_on_both_builds(self):
+        self.file("crates/low/src/lib.rt")
+        self.file("crates/app/src/main.rt")
+        self.file("tools/replay-cases", "#!/bin/sh\necho \"$# passed, 0 failed\"\n", 0o755)
+        steps = silently(lambda: list(case_steps(self.room)))
+        self.assertEqual([(it.passed, it.failed) for it in steps], [(0, 2)])
+        self.file("crates/app/out/app")
+        steps = silently(lambda: list(case_steps(self.room)))
+        self.assertEqual([(it.passed, it.failed) for it in steps], [(0, 1), (1, 0)])
+        self.file("crates/app/out/app.by-rattle")
+        steps = silently(lambda: list(case_steps(self.room)))
+        self.assertEqual([(it.passed, it.failed) for it in steps], [(2, 0)])
+        gate_steps.remove_builds(self.room)
+        self.assertEqual(os.listdir(f"{self.room}/crates/app/out"), [])
+
+    def test_table(self):
+        lines = list(table([Step("proofs", 20, 0, 0, 61.4, 200.6), Step("cases", 3, 1)]))
+        self.assertEqual(lines[1], "proofs      20       0      61s       201s")
+        self.assertEqual(len({len(it) for it in lines}), 1)
+
+
+if __name__ == "__main__":
+    unittest.main()

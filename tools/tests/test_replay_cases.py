@@ -1,0 +1,96 @@
+"""Tests of the replay of cases, with small shell scripts for programs."""
+import contextlib
+import io
+import os
+import sys
+import tempfile
+import unittest
+
+sys.dont_write_bytecode = True
+sys.path.insert(0, os.path.dirname(os.path.dirname(os.path.realpath(__file__))))
+
+import replay_cases  # noqa: E402
+
+
+class Replays(unittest.TestCase):
+    def setUp(self):
+        room = tempfile.TemporaryDirectory()
+        self.addCleanup(room.cleanup)
+        self.room = room.name
+        os.makedirs(f"{self.room}/cases/topic")
+        self.program = self.script("echoes", 'echo "$*"; cat')
+
+    def script(self, name, text):
+        path = f"{self.room}/{name}"
+        with open(path, "w", encoding="utf-8") as file:
+            file.write(f"#!/bin/sh\n{text}\n")
+        os.chmod(path, 0o755)
+        return path
+
+    def case(self, name, **files):
+        for ending, text in files.items():
+            with open(f"{self.room}/cases/topic/{name}.{ending}", "wb") as file:
+                file.write(text)
+
+    def replay(self, *programs):
+        said = io.StringIO()
+        with contextlib.redirect_stdout(said):
+            status = replay_cases.main([*(programs or [self.program]), "--folder", f"{self.room}/cases"])
+        lines = said.getvalue().splitlines()
+        return status, lines[-1], "\n".join(lines[:-1])
+
+    def test_output_and_words(self):
+        self.case("one", txt=b"a\n", stdout=b"script\na\n")
+        self.case("two", txt=b"b\n", stdout=b"serve it\nb\n", args=b"serve\nit\n")
+        self.assertEqual(self.replay(), (0, "2 passed, 0 failed", ""))
+
+    def test_each_program(self):
+        self.case("one", txt=b"a\n", stdout=b"script\na\n")
+        status, last, said = self.replay(self.program, self.script("silent", ":"))
+        self.assertEqual((status, last), (1, "1 passed, 1 failed"))
+        self.assertIn("topic/one.txt on silent", said)
+        self.assertIn("-script\\n", said)
+
+    def test_bytes_are_compared(self):
+        self.case("one", txt=b"a", stdout=b"script\na\n")
+        status, last, said = self.replay()
+        self.assertEqual(last, "0 passed, 1 failed")
+        self.assertIn("-a\\n", said)
+        self.assertIn("+a", said)
+
+    def test_status_and_standard_error(self):
+        program = self.script("refuses", "echo no >&2; exit 3")
+        self.case("one", txt=b"", stdout=b"", stderr=b"no\n", status=b"3\n")
+        self.assertEqual(self.replay(program)[:2], (0, "1 passed, 0 failed"))
+        self.case("two", txt=b"", stdout=b"")
+        status, last, said = self.replay(program)
+        self.assertEqual(last, "1 passed, 1 failed")
+        self.assertIn("standard error:", said)
+        self.assertIn("exit status:", said)
+        self.case("two", txt=b"", stdout=b"", status=b"three")
+        self.assertIn("no number", self.replay(program)[2])
+
+    def test_files_without_the_other(self):
+        self.case("one", txt=b"a\n", stdout=b"script\na\n")
+        self.case("two", txt=b"a\n")
+        self.case("three", stdout=b"a\n")
+        status, last, said = self.replay()
+        self.assertEqual((status, last), (1, "1 passed, 2 failed"))
+        self.assertIn("two.txt has no .stdout", said)
+        self.assertIn("three.stdout has no .txt", said)
+
+    def test_no_case(self):
+        self.assertEqual(self.replay()[:2], (1, "0 passed, 1 failed"))
+
+    def test_a_program_that_does_not_end_or_is_not_there(self):
+        self.case("one", txt=b"", stdout=b"")
+        limit, replay_cases.SECONDS = replay_cases.SECONDS, 0.2
+        try:
+            self.assertIn("had not ended", self.replay(self.script("sleeps", "exec sleep 5"))[2])
+        finally:
+            replay_cases.SECONDS = limit
+        self.assertIn("cannot be run", self.replay(f"{self.room}/none")[2])
+
+
+if __name__ == "__main__":
+    unittest.main()

@@ -1,0 +1,306 @@
+"""Tests of the trial of wrong bodies, on small texts and with a made-up check."""
+import os
+import sys
+import unittest
+
+sys.dont_write_bytecode = True
+sys.path.insert(0, os.path.dirname(os.path.dirname(os.path.realpath(__file__))))
+
+from rattle_source import module_of, named_in_log, owner_of_impl, places_in  # noqa: E402
+from wrong_bodies import BadEdit, Trial, applied, batches, functions_in, pairs_of, read_edit, read_log  # noqa: E402
+
+PATHS = """\
+const MOST: usize = 9;
+
+/// A fn in a comment { and a brace.
+fn is_dots(text: &str) -> bool
+    ensures { result ≡ is_dots text.now }
+{
+    text == "." || text == "{.."
+}
+
+pub struct Path {
+    text: String,
+}
+
+impl Path {
+    pub fn join(&self, bytes: [u8; 4]) -> Result<Path, Fault>
+        requires room { IfOk result (λ path. path ≡ 1) }
+        ensures { IfOk result (λ path. path ≡ self.now) }
+    {
+        if !is_dots("a") {
+            return Err(Fault::Bad);
+        }
+        Ok(one)
+    }
+
+    pub fn fmt(&self) -> u8 {
+        b'{'
+    }
+}
+
+impl fmt::Display for Path {
+    fn fmt<W: fmt::Write>(&self, f: &mut fmt::Formatter<W>) -> fmt::Result {
+        write!(f, "path")
+    }
+}
+
+impl From<AllocError> for Fault {
+    fn from(_e: AllocError) -> Fault {
+        Fault::First
+    }
+}
+
+impl<T: Drop, F: Fn(u8) -> u8> From<AllocFailed<T>> for Fault {
+    fn from(_e: AllocFailed<T>) -> Fault {
+        Fault::Second
+    }
+}
+
+mod inner {
+    fn deep() {
+        let x = 1;
+    }
+}
+"""
+TEXTS = {"src/lib.rt": "mod path;\n\nfn top() -> u8 {\n    7\n}\n", "src/path.rt": PATHS}
+
+
+def edit_text(*pairs, path="src/path.rt"):
+    return f"file: {path}\n" + "".join(f"old: {old}\nnew: {new}\n" for old, new in pairs)
+
+
+def edit(name, *pairs, path="src/path.rt"):
+    return read_edit(name, edit_text(*pairs, path=path), TEXTS)
+
+
+def labels(given):
+    return {it.label for it in given.functions}
+
+
+def log_text(*lines, verdict="not-proved"):
+    return "\n".join([*(f"fn made::{it}" for it in lines), f"logic={verdict} functions=1", ""])
+
+
+DOTS = ('text == "."', 'text != "."')
+JOIN = ("Ok(one)", "Err(Fault::Bad)")
+DISPLAY = ('write!(f, "path")', "Ok(())")
+FIRST = ("Fault::First", "Fault::Second")
+SECOND = ("        Fault::Second", "        Fault::First")
+
+
+class Reading(unittest.TestCase):
+    def test_pairs(self):
+        text = "a note\nfile: src/a.rt\nold: one\nnew: two\nold:   three\nnew:\nfile: src/b.rt\nold: x\nnew:  y\n"
+        found = pairs_of(text)
+        self.assertEqual(found, [("src/a.rt", "one", "two"), ("src/a.rt", "  three", ""), ("src/b.rt", "x", " y")])
+
+    def test_edits_that_are_none(self):
+        for text in ("", "file: src/a.rt\nold: x\n", "old: x\nnew: y\n", "file: src/a.rt\nold: x\nold: y\nnew: z\n",
+                     "file: specs/A.antt\nold: x\nnew: y\n", "file: src/../a.rt\nold: x\nnew: y\n"):
+            with self.assertRaises(BadEdit, msg=text):
+                pairs_of(text)
+
+    def test_old_text_must_stand_once(self):
+        with self.assertRaises(BadEdit):
+            applied(TEXTS, [("src/path.rt", "Fault::Second", "x"), ("src/path.rt", "Fault::Second", "y")])
+        with self.assertRaises(BadEdit):
+            applied(TEXTS, [("src/path.rt", "Fault", "x")])
+        with self.assertRaises(BadEdit):
+            applied(TEXTS, [("src/none.rt", "x", "y")])
+
+    def test_modules(self):
+        paths = ["src/lib.rt", "src/main.rt", "src/a.rt", "src/a/b.rt", "src/a/mod.rt"]
+        self.assertEqual([module_of(it) for it in paths], ["", "", "a", "a::b", "a"])
+
+    def test_functions_of_a_file(self):
+        found = [it.function.label for it in places_in(PATHS, "path")]
+        wanted = ["path::is_dots", "path::Path::join", "path::Path::fmt", "path::PathDisplay::fmt",
+                  "path::FaultFromAllocError::from", "path::FaultFromAllocFailed::from", "path::inner::deep"]
+        self.assertEqual(found, wanted)
+
+    def test_names_of_blocks(self):
+        heads = {" Path ": "Path", "<T> Share<T> ": "Share", " From<Id> for u64 ": "U64FromId",
+                 " Add<u64> for Id ": "IdAddU64", "<const N: usize> FromHex for [u8; N] ": "ArrayU8FromHex",
+                 " Read for Broken<'_> ": "BrokenRead",
+                 "<T: Clone, C: Codec<T> + Drop> Model for Kept<T, C> ": "KeptModel",
+                 "<C> Codec<Record> for R<C> where C: Copy ": "RCodecRecord"}
+        for head, label in heads.items():
+            self.assertEqual(owner_of_impl(head).label, label)
+
+
+class Places(unittest.TestCase):
+    def test_body_of_a_function_and_of_a_method(self):
+        self.assertEqual(labels(edit("a", DOTS)), {"path::is_dots"})
+        self.assertEqual(labels(edit("a", JOIN)), {"path::Path::join"})
+        self.assertEqual(labels(edit("a", DISPLAY)), {"path::PathDisplay::fmt"})
+        self.assertEqual(labels(edit("a", ("    7", "    8"), path="src/lib.rt")), {"top"})
+        self.assertTrue(edit("a", DOTS).is_of_bodies)
+
+    def test_several_pairs(self):
+        found = edit("a", DOTS, ("Ok(one)", "is_dots(two)"), ("is_dots(two)", "Ok(two)"))
+        self.assertEqual(labels(found), {"path::is_dots", "path::Path::join"})
+
+    def test_definition_beside_a_body(self):
+        texts = {**TEXTS, "specs/A.antt": "a : b\n"}
+        text = edit_text(DOTS) + edit_text(("a : b", "a : c"), path="specs/A.antt")
+        found = read_edit("a", text, texts)
+        self.assertEqual((labels(found), found.modules, found.is_of_bodies), ({"path::is_dots"}, {"path"}, False))
+        self.assertEqual(len(functions_in(texts)), 8)
+
+    def test_constant_and_signature_are_more_than_bodies(self):
+        constant = edit("a", ("usize = 9", "usize = 8"))
+        self.assertEqual((labels(constant), constant.is_of_bodies), (set(), False))
+        self.assertEqual(constant.modules, {"path"})
+        contract = edit("a", ("result ≡ is_dots text.now", "1 ≡ 1"))
+        self.assertEqual((labels(contract), contract.is_of_bodies), ({"path::is_dots"}, False))
+
+
+class Batches(unittest.TestCase):
+    def names(self, edits, **how):
+        return [[it.name for it in batch] for batch in batches(TEXTS, edits, **how)]
+
+    def test_each_function_once(self):
+        edits = [edit("a", DOTS), edit("b", JOIN), edit("c", ("Ok(one)", "Ok(two)")), edit("d", DISPLAY)]
+        self.assertEqual(self.names(edits), [["a", "b", "d"], ["c"]])
+        self.assertEqual(self.names(edits, most=2), [["a", "b"], ["c", "d"]])
+
+    def test_old_texts_still_once(self):
+        edits = [edit("a", ("b'{'", "Fault::First")), edit("b", FIRST)]
+        self.assertEqual(self.names(edits), [["a"], ["b"]])
+
+    def test_methods_of_one_name(self):
+        self.assertEqual(self.names([edit("a", FIRST), edit("b", SECOND)]), [["a"], ["b"]])
+        second = edit("b", ("        Fault::Second", "        Fault::Third"))
+        self.assertEqual(self.names([second, edit("a", FIRST)]), [["b", "a"]])
+
+    def test_constants_alone(self):
+        edits = [edit("a", ("usize = 9", "usize = 8")), edit("b", DOTS), edit("c", JOIN)]
+        self.assertEqual(self.names(edits), [["a"], ["b", "c"]])
+
+
+class Logs(unittest.TestCase):
+    def test_lines(self):
+        log = read_log("made", log_text(
+            "a: proved", "b: not proved",
+            "c: no proof: expected answers in ./proofs/c/Answers.antt; `search` did not prove `returns`; it calls `made::b`, "
+            "which is not proved",
+            "d: no proof: it calls `made::b`, which is not proved; it passes the block `made::B`, which is not proved",
+            "e: no proof: it passes the block `made::B`, which is not proved", "f: could not tell",
+            "g: not proved; it calls `made::b`, which is not proved",
+            "h: no proof: a cycle of calls"))
+        self.assertEqual(log.proved, {"a"})
+        self.assertEqual(log.refused, {"b", "c", "g", "h"})
+        self.assertEqual(log.waiting, {"d", "e"})
+        self.assertEqual(log.undecided, {"f"})
+        self.assertTrue(log.is_refusal)
+
+    def test_other_crates_and_no_verdict(self):
+        log = read_log("made", "fn other::a: not proved\n")
+        self.assertEqual((log.refused, log.verdict, log.is_refusal), (set(), "", False))
+
+    def test_unread_text(self):
+        bad = log_text("a: not proved")
+        self.assertTrue(read_log("made", f"src/path.rt:3:1: error: expected a type\n{bad}").unread)
+        self.assertTrue(read_log("made", f"src/path.rt:3:1: error: `goal`: `x` is not in scope\n{bad}").unread)
+        self.assertFalse(read_log("made", f"src/path.rt:3:1: error: `goal`: the two types differ\n{bad}").unread)
+        self.assertFalse(read_log("made", f"./proofs/a/Answers.antt:3:1: error: no proof was found\n{bad}").unread)
+
+    def test_methods_of_one_name_in_two_impls(self):
+        functions = functions_in(TEXTS)
+        named = lambda path: {it.label for it in named_in_log(path, functions)}
+        for path in ("path::is_dots", "path::Path::fmt", "path::PathDisplay::fmt", "top"):
+            self.assertEqual(named(path), {path})
+        self.assertEqual(named("path::FaultFromAllocError::from"), {"path::FaultFromAllocError::from"})
+        self.assertEqual(named("path::FaultFromAllocFailedT::from"), {"path::FaultFromAllocFailed::from"})
+        self.assertEqual(named("path::PathDebug::fmt"), set())
+        both = {"path::FaultFromAllocError::from", "path::FaultFromAllocFailed::from"}
+        self.assertEqual(named("path::FaultFrom::from"), both)
+        self.assertEqual(named("is_dots"), set())
+
+    def test_names_inside_a_function(self):
+        functions = functions_in(TEXTS)
+        named = lambda path: {it.label for it in named_in_log(path, functions)}
+        self.assertEqual(named("path::fn::is_dots::all+FnMut::call_mut"), {"path::is_dots"})
+        self.assertEqual(named("path::fn::Path::join::map"), {"path::Path::join"})
+        self.assertEqual(named("fn::top::all"), {"top"})
+
+
+class FakeCheck:
+    """A check whose log says of each function the line that `says` gives by what stands in the changed texts."""
+
+    def __init__(self, says):
+        self.says, self.runs = says, []
+
+    def __call__(self, changed):
+        self.runs.append(changed)
+        return self.says("\n".join(changed.values()))
+
+
+class Trials(unittest.TestCase):
+    def trial(self, says):
+        check = FakeCheck(says)
+        return Trial("made", TEXTS, check), check
+
+    def test_all_refused_together(self):
+        lines = ["path::is_dots: not proved", "path::Path::join: no proof: expected answers in a"]
+        trial, check = self.trial(lambda text: log_text(*lines))
+        outcomes, alone = trial.together([edit("a", DOTS), edit("b", JOIN)])
+        self.assertEqual([(it.edit, it.reason, it.was_alone) for it in outcomes], [("a", "", False), ("b", "", False)])
+        self.assertEqual((alone, len(check.runs)), ([], 1))
+        self.assertIn('text != "."', check.runs[0]["src/path.rt"])
+
+    def test_what_only_waits_is_tried_alone(self):
+        waits = "path::Path::join: no proof: it calls `made::path::is_dots`, which is not proved"
+        trial, _ = self.trial(lambda text: log_text("path::is_dots: not proved", waits))
+        outcomes, alone = trial.together([edit("a", DOTS), edit("b", JOIN)])
+        self.assertEqual([it.edit for it in outcomes], ["a"])
+        self.assertEqual([it.name for it in alone], ["b"])
+
+    def test_still_proved(self):
+        trial, _ = self.trial(lambda text: log_text("path::is_dots: proved", verdict="proved"))
+        self.assertIn("still proved", trial.alone(edit("a", DOTS)).reason)
+
+    def test_refusal_of_another_function_does_not_count(self):
+        trial, _ = self.trial(lambda text: log_text("path::is_dots: proved", "path::Path::join: not proved"))
+        self.assertIn("path::Path::join", trial.alone(edit("a", DOTS)).reason)
+
+    def test_alone_but_only_waiting(self):
+        trial, _ = self.trial(lambda text: log_text("path::is_dots: no proof: it calls `made::x`, which is not proved"))
+        self.assertIn("only wait", trial.alone(edit("a", DOTS)).reason)
+
+    def test_undecided_or_broken_off(self):
+        trial, _ = self.trial(lambda text: log_text("path::is_dots: could not tell", verdict="unsure"))
+        self.assertIn("could not tell", trial.alone(edit("a", DOTS)).reason)
+        trial, _ = self.trial(lambda text: "fn made::path::is_dots: not proved\n")
+        self.assertIn("broke off", trial.alone(edit("a", DOTS)).reason)
+
+    def test_a_text_that_cannot_be_read(self):
+        error = "src/path.rt:7:1: error: expected `}`\n"
+        is_bad = lambda text: "Err(Fault::Bad)\n    }" in text
+        trial, check = self.trial(lambda text: error if is_bad(text) else log_text("path::is_dots: not proved"))
+        outcomes, alone = trial.together([edit("a", DOTS), edit("b", JOIN)])
+        self.assertEqual((outcomes, [it.name for it in alone]), ([], ["a", "b"]))
+        self.assertEqual([trial.alone(it).reason.partition(":")[0] for it in alone], ["", "BAD EDIT"])
+        self.assertEqual(len(check.runs), 3)
+
+    def test_methods_of_one_name(self):
+        second = edit("b", ("        Fault::Second", "        Fault::Third"))
+        trial, _ = self.trial(lambda text: log_text("path::FaultFromAllocError::from: not proved"))
+        outcomes, alone = trial.together([second, edit("a", FIRST)])
+        self.assertEqual(([it.edit for it in outcomes], [it.name for it in alone]), (["a"], ["b"]))
+        trial, _ = self.trial(lambda text: log_text("path::FaultFrom::from: not proved"))
+        outcomes, alone = trial.together([second, edit("a", FIRST)])
+        self.assertEqual((outcomes, len(alone)), ([], 2))
+        self.assertEqual(trial.alone(second).reason, "")
+
+    def test_constant(self):
+        constant = edit("a", ("usize = 9", "usize = 8"))
+        trial, _ = self.trial(lambda text: log_text("path::inner::deep: not proved"))
+        self.assertEqual(trial.together([constant])[0][0].reason, "")
+        trial, _ = self.trial(lambda text: log_text("top: not proved", "paths::x: not proved"))
+        self.assertIn("NOT REFUSED", trial.alone(constant).reason)
+
+
+if __name__ == "__main__":
+    unittest.main()

@@ -1,0 +1,129 @@
+"""Tests of the command tools/wrong-bodies on a small repository, with a shell script in place of `rt`."""
+import contextlib
+import io
+import os
+import sys
+import tempfile
+import unittest
+from unittest import mock
+
+sys.dont_write_bytecode = True
+sys.path.insert(0, os.path.dirname(os.path.dirname(os.path.realpath(__file__))))
+
+from crate_copies import all_below, crates_listed  # noqa: E402
+import wrong_bodies_run  # noqa: E402
+
+# It refuses first where src/ has WRONG_FIRST, second where it has WRONG_SECOND, and a text with UNREAD before all.
+RT = """\
+#!/bin/sh
+name=$(basename "$PWD")
+echo "$name $1" >> "$CALLS"
+grep -q UNREAD src/lib.rt && echo "src/lib.rt:1:1: error: expected a word" && exit 1
+status=0
+for it in first second; do
+  said=proved
+  grep -q "WRONG_$it" src/lib.rt && said="not proved" && status=1
+  echo "fn $name::$it: $said"
+done
+[ $status = 0 ] && echo "logic=proved" || echo "logic=not-proved"
+[ "$1" = lib ] && mkdir -p "out/rlib" && touch "out/rlib/$name"
+[ "$name" = low ] || [ -e ../low/out/rlib/low ] || exit 2
+exit $status
+"""
+SOURCE = "fn first() -> u8 {\n    1\n}\n\nfn second() -> u8 {\n    2\n}\n"
+
+
+class Runs(unittest.TestCase):
+    def setUp(self):
+        room = tempfile.TemporaryDirectory()
+        self.addCleanup(room.cleanup)
+        self.room = room.name
+        self.file("bin/rt", RT, 0o755)
+        self.file("repository/crates.txt", "# The crates.\nhigh: low bytes\nlow:\n")
+        for crate in ("low", "high"):
+            self.file(f"repository/crates/{crate}/src/lib.rt", SOURCE)
+            self.edit(crate, "first", "    1", "    WRONG_first")
+            self.edit(crate, "second", "    2", "    WRONG_second")
+
+    def file(self, path, text, mode=0o644):
+        path = f"{self.room}/{path}"
+        os.makedirs(os.path.dirname(path), exist_ok=True)
+        with open(path, "w", encoding="utf-8") as file:
+            file.write(text)
+        os.chmod(path, mode)
+
+    def edit(self, crate, name, old, new):
+        self.file(f"repository/crates/{crate}/wrong-bodies/{name}.edit", f"file: src/lib.rt\nold: {old}\nnew: {new}\n")
+
+    def files(self):
+        return sorted(f"{at}/{it}" for at, _, names in os.walk(f"{self.room}/repository") for it in names)
+
+    def run_command(self, *words):
+        """The status, the last line, the other lines and the calls of `rt`."""
+        said, before = io.StringIO(), self.files()
+        calls = f"{self.room}/calls"
+        open(calls, "w").close()
+        path = f"{self.room}/bin{os.pathsep}{os.environ['PATH']}"
+        with mock.patch.dict(os.environ, PATH=path, CALLS=calls), contextlib.redirect_stdout(said):
+            status = wrong_bodies_run.main(["--jobs", "2", *words], root=f"{self.room}/repository")
+        self.assertEqual(self.files(), before)
+        lines = said.getvalue().splitlines()
+        with open(calls, encoding="utf-8") as file:
+            return status, lines[-1], "\n".join(lines[:-1]), file.read().split("\n")[:-1]
+
+    def test_crates(self):
+        uses = crates_listed(f"{self.room}/repository")
+        self.assertEqual(uses, {"low": [], "high": ["low"]})
+        self.assertEqual(all_below("high", uses), {"low"})
+
+    def test_all_refused_in_one_check_a_crate(self):
+        status, last, said, calls = self.run_command()
+        self.assertEqual((status, last), (0, "4 passed, 0 failed"))
+        self.assertIn("high: 2 edits in 1 checks, 0 tried alone, 0 failed", said)
+        # each crate without edits, with its batch, and without edits over what that kept; and the library for high
+        self.assertEqual(sorted(calls), ["high check"] * 3 + ["low check"] * 3 + ["low lib"])
+
+    def test_one_crate_and_one_name(self):
+        status, last, said, calls = self.run_command("high", "--only", "sec")
+        self.assertEqual((status, last), (0, "1 passed, 0 failed"))
+        self.assertEqual(calls.count("low check"), 1)
+        self.assertEqual(self.run_command("--only", "none")[:2], (1, "0 passed, 1 failed"))
+        self.assertEqual(self.run_command("other")[:2], (1, "0 passed, 1 failed"))
+
+    def test_list_checks_nothing(self):
+        status, last, said, calls = self.run_command("--list")
+        self.assertEqual((status, calls), (0, []))
+        self.assertIn("low: check 1, 2 edits\n  wrong-bodies/first.edit: first\n", said)
+
+    def test_edits_that_fail(self):
+        self.edit("low", "proved", "fn second() -> u8 {", "fn second() -> u8 { 0;")
+        self.edit("low", "unread", "    2", "    UNREAD")
+        self.edit("low", "absent", "    3", "    4")
+        self.file("repository/crates/low/wrong-bodies/strange.txt", "")
+        status, last, said, _ = self.run_command("low")
+        self.assertEqual((status, last), (1, "2 passed, 4 failed"))
+        self.assertIn("low/wrong-bodies/proved.edit: NOT REFUSED", said)
+        self.assertIn("low/wrong-bodies/unread.edit: BAD EDIT: the edited text cannot be read", said)
+        self.assertIn("low/wrong-bodies/absent.edit: BAD EDIT: an 'old:' text is in src/lib.rt 0 times", said)
+        self.assertIn("low/wrong-bodies/strange.txt: BAD EDIT", said)
+
+    def test_a_crate_that_is_not_proved(self):
+        self.file("repository/crates/low/src/lib.rt", SOURCE.replace("    2", "    WRONG_second + 2"))
+        self.edit("low", "second", "+ 2", "+ 3")
+        status, last, said, _ = self.run_command()
+        self.assertEqual((status, last), (1, "0 passed, 4 failed"))
+        self.assertIn("low: NOT PROVED without an edit", said)
+        self.assertIn("high: NOT TRIED: its library low is not proved", said)
+
+    def test_must_fail_edits_too(self):
+        os.rename(f"{self.room}/repository/crates/low/wrong-bodies", f"{self.room}/repository/crates/low/must-fail")
+        self.assertEqual(self.run_command()[:2], (0, "2 passed, 0 failed"))
+        self.assertEqual(self.run_command("--must-fail")[:2], (0, "4 passed, 0 failed"))
+
+    def test_wrong_bodies_of_no_listed_crate(self):
+        self.edit("lost", "first", "    1", "    2")
+        self.assertEqual(self.run_command()[:2], (1, "0 passed, 1 failed"))
+
+
+if __name__ == "__main__":
+    unittest.main()
