@@ -62,18 +62,23 @@ fn gets(alloc: Global, op: &WriteOp, text: &str) -> Result<bool, Fail> {
     Ok(format!(in alloc; "{path}")?.as_str() == text)
 }
 
+/// The id that its check holds.
+fn checked(op: &WriteOp) -> u64 {
+    op.check.id.id()
+}
+
 /// Whether the write of version 7 asks first for its create, and its check holds that id.
 fn asks_first(alloc: Global) -> Result<bool, Fail> {
     let op = a_write(alloc)?;
-    let id = op.check.id.id();
-    Ok(id == 7 && creates(alloc, &op, SEVENTH, BYTES)?)
+    let creates = creates(alloc, &op, SEVENTH, BYTES)?;
+    Ok(creates && checked(&op) == 7)
 }
 
 /// Whether it asks then for the boundary, and its check holds that id.
 fn asks_then(alloc: Global) -> Result<bool, Fail> {
     let op = a_write_that_put(alloc)?;
-    let id = op.check.id.id();
-    Ok(id == 7 && gets(alloc, &op, BOUNDARY)?)
+    let gets = gets(alloc, &op, BOUNDARY)?;
+    Ok(gets && checked(&op) == 7)
 }
 
 #[test]
