@@ -183,7 +183,7 @@ def read_log(crate, text, changed=()):
     for name, path, said in FUNCTION_LINE.findall(text):
         if name != crate:
             continue
-        if said == "proved":
+        if said.startswith("proved"):
             log.proved.add(path)
         elif WAITING.match(said):
             log.waiting.add(path)
