@@ -6,6 +6,7 @@ ghost use Rattle.txn_model.specs.Doing.{started, write_answer, read_answer, done
 
 use crate::event::{Answer, Call};
 use std::alloc::{AllocError, Global};
+use std::mem;
 use txn_steps::advance::AdvanceOp;
 use txn_steps::check::CheckOp;
 use txn_steps::delete::DeleteOp;
@@ -108,10 +109,10 @@ impl<T: Drop> Doing<T> {
         ensures next { (self.new, first_of result) ≡ next_of self.old (first_of answers) }
         ensures answers { result ≡ answers }
     {
-        if answers.is_some() {
-            *self = Doing::Ended;
-        }
-        answers
+        let pair = answers?;
+        // By a call: in place, the proof would follow each state that may be dropped here.
+        drop(mem::replace(self, Doing::Ended));
+        Some(pair)
     }
 }
 

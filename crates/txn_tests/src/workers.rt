@@ -60,7 +60,7 @@ fn an_event_adds_one_to_its_share(rt: HostRuntime) -> Result<(), Fail> {
     assert_eq!(rt; (first.worker(), first.count()), (1, 1));
     assert_eq!(rt; (kept.world().trace().len(), kept.journal().len()), (1, 1));
     assert_eq!(rt; kept.journal()[0].worker, 1);
-    let counts = finish(rt.alloc(), kept, shares);
+    let counts = finish(kept, shares);
     assert_eq!(rt; counts, Ok(vec![in rt.alloc(); 1, 0]?));
     Ok(())
 }
@@ -125,7 +125,7 @@ fn left_by(rt: &(impl Wait + AllocGlobal), row: &JobsRow) -> Result<Left, Fail> 
     let kept = kept.into_inner();
     let rows = kept.world().trace().len();
     let entries = kept.world().entries(rt.alloc())?.as_slice() == row.entries;
-    let counts = finish(rt.alloc(), kept, shares);
+    let counts = finish(kept, shares);
     Ok(Left {
         end: worked.end,
         count,
@@ -154,7 +154,7 @@ fn a_worker_alone_does_its_jobs_in_order(rt: HostRuntime) -> Result<(), Fail> {
 fn with_a_share_lost(alloc: Global) -> Result<Result<Vec<u64>, FinishFault>, AllocError> {
     let (kept, mut shares) = kept_by(alloc, 2)?;
     let _lost = shares.pop();
-    Ok(finish(alloc, kept, shares))
+    Ok(finish(kept, shares))
 }
 
 /// What it gives with two shares of worker 1, and none of worker 2.
@@ -165,7 +165,7 @@ fn with_a_share_twice(alloc: Global) -> Result<Result<Vec<u64>, FinishFault>, Al
     if let Some(other) = others.pop() {
         shares.push(other)?;
     }
-    Ok(finish(alloc, kept, shares))
+    Ok(finish(kept, shares))
 }
 
 /// What it gives where a fresh world was put in the place of one in which a worker began a read.
@@ -179,7 +179,7 @@ fn in_anothers_place(alloc: Global) -> Result<Result<Vec<u64>, FinishFault>, Fai
     }
     let (fresh, _) = kept_by(alloc, 1)?;
     kept = fresh;
-    Ok(finish(alloc, kept, shares))
+    Ok(finish(kept, shares))
 }
 
 #[test]
@@ -263,7 +263,7 @@ fn ends_on_threads(
         ends.push(one.end)?;
         shares.push(one.share)?;
     }
-    let finished = finish(rt.alloc(), kept.into_inner(), shares).is_ok();
+    let finished = finish(kept.into_inner(), shares).is_ok();
     Ok((ends, finished))
 }
 

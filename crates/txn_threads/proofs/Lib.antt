@@ -1,3 +1,6 @@
+pub mod Agreeing
+pub mod Counting
 pub mod Journal
+pub mod Once
 pub mod Shares
 pub mod Working

@@ -1,5 +1,5 @@
 -- A world beside the journal of what its workers did, and the shares that its workers hold.
-use Rattle.std.specs.Prelude.{◌≡◌, ◌⊎◌, ◌+◌, ◌-◌, ◌^◌, ◌≤◌, ◌++◌, ◌∷◌, [], ℕ, List, Option, Some, None, Result, Ok, Err, count_by, length, map, nat_eq, if◌then◌else◌, slice_get}
+use Rattle.std.specs.Prelude.{◌≡◌, ◌⊎◌, ◌+◌, ◌-◌, ◌^◌, ◌≤◌, ◌++◌, ◌∷◌, [], ℕ, List, Option, Some, None, Result, Ok, Err, All, count_by, length, map, nat_eq, if◌then◌else◌, slice_get, slice_index}
 use Rattle.txn_model.specs.declared.event.Event.{Event}
 use Rattle.txn_model.specs.declared.event.Told.{Told}
 use Rattle.txn_model.specs.declared.event.EventFault.{EventFault}
@@ -42,6 +42,10 @@ IsRefusedAs due (Err fault) = (fault ≡ faults.NoMemory) ⊎ (due ≡ Some faul
 abbrev pub AreFirst : ℕ → List Share → Type 0
 AreFirst workers shares = AreEach (λ k. record { worker = k + 1; count = 0 }) workers shares
 
+-- a 0 for each of so many workers
+abbrev pub AreZeros : ℕ → List ℕ → Type 0
+AreZeros workers counts = AreEach (λ _. 0) workers counts
+
 -- a share after one more event; the greatest count stays
 abbrev pub one_more : Share → Share
 one_more share = record { worker = share.worker; count = if nat_eq share.count (2 ^ 64 - 1) then share.count else share.count + 1 }
@@ -62,6 +66,14 @@ module _ {T : Type 0} (encode : T → List ℕ) (decode : List ℕ → Option T)
 -- how many of the shares are this worker's
 abbrev pub shares_of : List Share → ℕ → ℕ
 shares_of shares worker = count_by (λ share. nat_eq share.worker worker) shares
+
+-- each share is that of one of so many workers
+abbrev pub AreAmong : ℕ → List Share → Type 0
+AreAmong workers shares = All (λ share. (1 ≤ share.worker) × (share.worker ≤ workers)) shares
+
+-- each share has the count that stands at its worker's place
+abbrev pub AreCounted : List ℕ → List Share → Type 0
+AreCounted counts shares = All (λ share. share.count ≡ slice_index counts (share.worker - 1)) shares
 
 -- each worker's share once, and no others
 pub record CameOnce (workers : ℕ) (shares : List Share) : Type 0 where

@@ -1,10 +1,10 @@
 //! Whether the shares of all workers agree with the journal.
-ghost use Rattle.std.specs.Prelude.{◌≡◌, ◌↔◌, IsTrue, IfOk, IfErr};
-ghost use Rattle.txn_threads.specs.Kept.{CameOnce, Agree, AreCounts, shares_of};
+ghost use Rattle.std.specs.Prelude.{◌≡◌, ◌≢◌, ◌↔◌, IsTrue, IfOk, IfErr, length};
+ghost use Rattle.txn_threads.specs.declared.finish.FinishFault.TheVariants as faults;
+ghost use Rattle.txn_threads.specs.Kept.{CameOnce, AreAmong, AreCounted, shares_of};
 ghost use Rattle.txn_threads.specs.Finish.{Finished, IsDue};
 
 use crate::kept::{Kept, Share};
-use std::alloc::{AllocError, Global};
 use txn_types::codec::ObjectCodec;
 
 /// Why the shares do not agree with the journal.
@@ -14,7 +14,8 @@ pub enum FinishFault {
     ShareMissing,
     /// A share's count is not how many rows of the journal are its worker's.
     CountsDiffer,
-    /// A growth was refused.
+    /// A growth was refused. [`finish`] never answers it, since the room for the counts is made with the
+    /// kept world; it stands here so that the faults keep their numbers.
     NoMemory,
 }
 
@@ -31,17 +32,6 @@ impl FinishFault {
             FinishFault::CountsDiffer => 2,
             FinishFault::NoMemory => 3,
         }
-    }
-}
-
-impl From<AllocError> for FinishFault {
-    ghost use Rattle.std.specs.Prelude.{◌≡◌};
-    ghost use Rattle.txn_threads.specs.declared.finish.FinishFault.TheVariants.{NoMemory};
-
-    ghost from_gives = { λ _ fault. fault ≡ NoMemory };
-
-    fn from(_error: AllocError) -> FinishFault {
-        FinishFault::NoMemory
     }
 }
 
@@ -70,50 +60,32 @@ fn came_once(workers: u64, shares: &[Share]) -> bool
     true
 }
 
-/// Whether each share has the count of its worker's rows.
-fn agree<T: Clone, C: ObjectCodec<T> + Drop>(kept: &Kept<T, C>, shares: &[Share]) -> bool
-    ensures { IsTrue result ↔ Agree kept.now.journal shares.now }
+/// Whether each share has the count that stands for its worker.
+fn agree(shares: &[Share], counts: &[u64]) -> bool
+    requires { AreAmong (length counts.now) shares.now }
+    ensures { IsTrue result ↔ AreCounted counts.now shares.now }
 {
-    for share in shares {
-        if share.count() != kept.rows_of(share.worker()) {
-            return false;
-        }
-    }
-    true
-}
-
-/// The count of each worker's rows, worker 1 first.
-fn counts<T: Clone, C: ObjectCodec<T> + Drop>(
-    alloc: Global,
-    kept: &Kept<T, C>,
-) -> Result<Vec<u64>, AllocError>
-    ensures { IfOk result (λ counts. AreCounts kept.now.workers kept.now.journal counts.items) }
-{
-    let mut counts = Vec::new(alloc);
-    for before in 0..kept.workers() {
-        counts.push(kept.rows_of(before + 1))?;
-    }
-    Ok(counts)
+    shares.iter().all(|share| share.count() == counts[(share.worker() - 1) as usize])
 }
 
 /// Ends the keeping of a world: how many events each worker took, worker 1 first, where each worker's
 /// share came once, in any order, with the count of its rows in the journal. The faults are tested in the
-/// order [`FinishFault::ShareMissing`], [`FinishFault::CountsDiffer`], [`FinishFault::NoMemory`].
-///
-/// It looks through the journal for each worker, once at the end of a run.
+/// order [`FinishFault::ShareMissing`], [`FinishFault::CountsDiffer`]. It goes over the journal once.
 pub fn finish<T: Clone, C: ObjectCodec<T> + Drop>(
-    alloc: Global,
     kept: Kept<T, C>,
     shares: Vec<Share>,
 ) -> Result<Vec<u64>, FinishFault>
     ensures ok { IfOk result (λ counts. Finished kept shares.items counts.items) }
     ensures err { IfErr result (IsDue kept shares.items) }
+    // It asks for no memory.
+    ensures memory { IfErr result (λ fault. fault ≢ faults.NoMemory) }
 {
     if !came_once(kept.workers(), &shares) {
         return Err(FinishFault::ShareMissing);
     }
-    if !agree(&kept, &shares) {
+    let counts = kept.into_counts();
+    if !agree(&shares, &counts) {
         return Err(FinishFault::CountsDiffer);
     }
-    Ok(counts(alloc, &kept)?)
+    Ok(counts)
 }

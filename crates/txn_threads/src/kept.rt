@@ -1,8 +1,9 @@
 //! A world beside the journal of what its workers did, to be kept under a lock.
-ghost use Rattle.std.specs.Prelude.{◌≡◌, ◌≤◌, ◌<◌, [], IfOk, IfErr, Some, slice_get};
+ghost use Rattle.std.specs.Prelude.{◌≡◌, ◌≤◌, ◌<◌, ◌+◌, ◌-◌, ◌^◌, [], IfOk, IfErr, All, Some, length, nat_eq, if◌then◌else◌, slice_get, slice_index};
 ghost use Rattle.txn_model.specs.Doing.{IsExactClone};
+ghost use Rattle.txn_model.specs.Lists.{AreEach};
 ghost use Rattle.txn_model.specs.Machine.{opening};
-ghost use Rattle.txn_threads.specs.Kept.{one_more, AreFirst};
+ghost use Rattle.txn_threads.specs.Kept.{one_more, AreCounts, AreFirst, AreZeros};
 
 use std::alloc::{AllocError, Global};
 use std::marker::Model;
@@ -53,10 +54,12 @@ pub struct Kept<T: Clone, C: ObjectCodec<T> + Drop> {
     world: World<T, C>,
     workers: u64,
     journal: Vec<JournalRow<T>>,
+    /// Room for the count of each worker's rows: all 0 until the end of the run.
+    counts: Vec<u64>,
 }
 
 impl<T: Clone, C: ObjectCodec<T> + Drop> Model for Kept<T, C> {
-    ghost use Rattle.txn_threads.specs.Kept.{KeptState, Replays};
+    ghost use Rattle.txn_threads.specs.Kept.{KeptState, Replays, AreZeros};
 
     ghost Value = { KeptState T C };
 
@@ -67,7 +70,7 @@ impl<T: Clone, C: ObjectCodec<T> + Drop> Model for Kept<T, C> {
 
     ghost view = { λ kept. record { world = kept.world; workers = kept.workers; journal = kept.journal.items } };
 
-    ghost invariant = { λ kept. Replays (C.encoded kept.world.codec) (C.decoded kept.world.codec) kept.journal.items kept.world.state };
+    ghost invariant = { λ kept. Replays (C.encoded kept.world.codec) (C.decoded kept.world.codec) kept.journal.items kept.world.state × AreZeros kept.workers kept.counts.items };
 }
 
 /// The shares of workers 1 to `workers`, each with no event.
@@ -84,13 +87,36 @@ fn first_shares(alloc: Global, workers: u64) -> Result<Vec<Share>, AllocError>
     Ok(shares)
 }
 
+/// Counts a row of this worker. Where the worker has no count, the row counts for nobody.
+fn count_row(counts: &mut [u64], worker: u64)
+    requires { All (λ count. count < 2 ^ 64 - 1) counts.old }
+    ensures { AreEach (λ k. slice_index counts.old k + (if nat_eq worker (k + 1) then 1 else 0)) (length counts.old) counts.new }
+{
+    let Some(place) = worker.checked_sub(1) else {
+        return;
+    };
+    if place < counts.len() as u64 {
+        counts[place as usize] += 1;
+    }
+}
+
+/// Counts the rows of each worker, where nothing is counted yet.
+fn count_rows<T>(counts: &mut [u64], journal: &[JournalRow<T>])
+    requires { AreZeros (length counts.old) counts.old }
+    ensures { AreCounts (length counts.old) journal.now counts.new }
+{
+    for row in journal {
+        count_row(counts, row.worker);
+    }
+}
+
 impl<T: Clone, C: ObjectCodec<T> + Drop> Kept<T, C> {
     ghost use Rattle.std.specs.Prelude.{◌≡◌, ◌<◌, ◌≤◌, [], IfOk, OnOk, OnErr, MatchResult, length};
     ghost use Rattle.std.specs.Borrow.{sem};
     ghost use Rattle.txn_model.specs.Doing.{IsExactClone};
     ghost use Rattle.txn_model.specs.Machine.{opening};
     ghost use Rattle.txn_model.specs.declared.event.Told.{Told};
-    ghost use Rattle.txn_threads.specs.Kept.{IsRefusedAs, due_fault, one_more, AreFirst, AddsJournalRow, IsLastTold, Replays, rows_of};
+    ghost use Rattle.txn_threads.specs.Kept.{IsRefusedAs, due_fault, one_more, AreFirst, AddsJournalRow, IsLastTold, Replays, AreCounts};
     ghost use Rattle.txn_threads.specs.KeptLends.{ends_taken};
 
     /// Keeps a world in which nothing has happened, for workers 1 to `workers`, of which there are as
@@ -112,6 +138,7 @@ impl<T: Clone, C: ObjectCodec<T> + Drop> Kept<T, C> {
             world,
             workers,
             journal: Vec::new(alloc),
+            counts: vec![in alloc; 0; workers as usize]?,
         };
         Ok((kept, shares))
     }
@@ -188,13 +215,16 @@ impl<T: Clone, C: ObjectCodec<T> + Drop> Kept<T, C> {
         self.workers
     }
 
-    /// How many rows of the journal are this worker's.
-    pub(crate) fn rows_of(&self, worker: u64) -> u64
-        ensures { result ≡ rows_of self.now.journal worker }
+    /// The count of each worker's rows, worker 1 first. It goes over the journal once.
+    pub(crate) fn into_counts(self) -> Vec<u64>
+        ensures { AreCounts self.workers self.journal result.items }
     {
-        self.journal
-            .iter()
-            .filter(|row| row.worker == worker)
-            .count() as u64
+        let Kept {
+            journal,
+            mut counts,
+            ..
+        } = self;
+        count_rows(&mut counts, &journal);
+        counts
     }
 }

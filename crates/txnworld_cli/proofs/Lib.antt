@@ -1,2 +1,3 @@
 pub mod CommandWords
+pub mod Finishing
 pub mod Sharing

@@ -1,5 +1,5 @@
 -- What the printed lines of a run of workers say of the world that they leave.
-use Rattle.std.specs.Prelude.{◌≡◌, ◌↔◌, ℕ, List, Bool, IsTrue, Option, length}
+use Rattle.std.specs.Prelude.{◌≡◌, ◌≤◌, ◌↔◌, ◌⊎◌, ℕ, List, Bool, IsTrue, Option, length}
 use Rattle.std.specs.Io.KnownBytes.{Appends}
 use Rattle.txn_script.specs.declared.record.Record.{Record}
 use Rattle.txn_script.specs.declared.record.RecordCodec.{RecordCodec}
@@ -7,9 +7,12 @@ use Rattle.txn_threads.specs.declared.kept.Share.{Share}
 use Rattle.txn_script.specs.Record.{record_text, record_read}
 use Rattle.txn_model.specs.History.{history}
 use Rattle.txn_threads.specs.Kept.{KeptState, Replays, CameOnce, Agree}
+use Rattle.txn_script.specs.declared.stop.Stop.TheVariants as stops
 use Rattle.txnworld_cli.specs.declared.threads.Tally.{Tally}
+use Rattle.txnworld_cli.specs.declared.threads.Halt.{Halt}
+use Rattle.txnworld_cli.specs.declared.threads.Halt.TheVariants as halts
 use Rattle.txn_script.specs.Printed.{with_feed}
-use Rattle.txnworld_cli.specs.Threads.{tally_text, begun_count, answered_count}
+use Rattle.txnworld_cli.specs.Threads.{tally_text, halt_text, begun_count, answered_count}
 
 -- the counts agree exactly where each worker's share came once, with the count of its rows in the journal
 abbrev pub AgreeAs : KeptState Record RecordCodec → List Share → Bool → Type 0
@@ -31,3 +34,16 @@ IsTally workers tally = (kept : KeptState Record RecordCodec) × (shares : List 
 -- the lines of such a run are printed, and nothing else
 abbrev pub PrintsTally : ℕ → Bool → Option (List ℕ) → Option (List ℕ) → Type 0
 PrintsTally workers agree old new = (tally : Tally) × IsTally workers tally × (tally.agree ≡ agree) × Appends old new (with_feed (tally_text tally))
+
+-- what halts a run of so many workers before it prints: one of them left a job undone, or memory was wanting
+abbrev pub IsHaltOf : ℕ → Halt → Type 0
+IsHaltOf workers (halts.Worker number) = (1 ≤ number) × (number ≤ workers)
+IsHaltOf workers (halts.Stop stop) = stop ≡ stops.NoMemory
+
+-- a run halts before it prints, and leaves its writer as it was; or its writer failed
+abbrev pub Halts : {W : Type 0} → ℕ → Halt → W → W → Type 0
+Halts workers halt old new = (IsHaltOf workers halt × (new ≡ old)) ⊎ (halt ≡ halts.Stop stops.WriteFailed)
+
+-- a run halts, and the line of what halted it is written, and nothing else
+abbrev pub NamesHalt : {W : Type 0} → ℕ → W → W → Option (List ℕ) → Option (List ℕ) → Type 0
+NamesHalt workers old new old_named new_named = (halt : Halt) × Halts workers halt old new × Appends old_named new_named (with_feed (halt_text halt))

@@ -1,22 +1,22 @@
 //! A run of workers on threads round one world, and what it prints.
 
-ghost use Rattle.std.specs.Prelude.{◌≡◌, ◌≤◌, All, Some, Bool, IfOk, IfErr};
+ghost use Rattle.std.specs.Prelude.{◌≡◌, ◌≤◌, ◌⊎◌, All, Some, Bool, IfOk, IfErr};
 ghost use Rattle.std.specs.Io.KnownBytes.{Appends};
 ghost use Rattle.txn_script.specs.declared.stop.Stop.TheVariants as stops;
 ghost use Rattle.txnworld_cli.specs.Threads.{job_list, tally_text, halt_text, begun_count, answered_count, stopped_worker, share_list, IsCrew};
-ghost use Rattle.txnworld_cli.specs.Tallies.{AgreeAs, Tallies, IsTally, PrintsTally};
+ghost use Rattle.txnworld_cli.specs.Tallies.{AgreeAs, Tallies, IsTally, PrintsTally, Halts, IsHaltOf, NamesHalt};
 
 use std::alloc::{AllocError, Global};
-use std::fmt;
 use std::io::Write;
 use std::sync::{Mutex, Wait};
 use std::thread::Threads;
+use std::{fmt, io};
 use txn_model::event::Call;
 use txn_model::trace::Row;
 use txn_script::printer::Printer;
 use txn_script::record::{Record, RecordCodec};
 use txn_script::stop::Stop;
-use txn_threads::finish::{FinishFault, finish};
+use txn_threads::finish::finish;
 use txn_threads::gate::FreeGate;
 use txn_threads::kept::{Kept, Share};
 use txn_threads::work::{End, Job, Worked, Worker, work_all};
@@ -172,20 +172,11 @@ fn answered(rows: &[Row<Record>]) -> u64
         .count() as u64
 }
 
-/// Whether the shares finish the kept world. Only a refused growth keeps it from saying so.
-fn counts_agree(
-    alloc: Global,
-    kept: Kept<Record, RecordCodec>,
-    shares: Vec<Share>,
-) -> Result<bool, Stop>
-    ensures ok { IfOk result (AgreeAs kept shares.items) }
-    ensures err { IfErr result (λ stop. stop ≡ stops.NoMemory) }
+/// Whether the shares finish the kept world.
+fn counts_agree(kept: Kept<Record, RecordCodec>, shares: Vec<Share>) -> bool
+    ensures { AgreeAs kept shares.items result }
 {
-    match finish(alloc, kept, shares) {
-        Ok(_) => Ok(true),
-        Err(FinishFault::NoMemory) => Err(Stop::NoMemory),
-        Err(_) => Ok(false),
-    }
+    finish(kept, shares).is_ok()
 }
 
 /// What the workers of these shares left.
@@ -204,7 +195,7 @@ fn tally_of(
         return Err(Stop::NoMemory);
     };
     let history = entries.len() as u64;
-    let agree = counts_agree(alloc, kept, shares)?;
+    let agree = counts_agree(kept, shares);
     Ok(Tally {
         workers,
         calls,
@@ -218,7 +209,8 @@ fn tally_of(
 fn run_workers<R: Threads + Wait + Sync>(rt: &R, alloc: Global, workers: u64) -> Result<Tally, Halt>
     requires some { 1 ≤ workers }
     requires few { workers ≤ 64 }
-    ensures { IfOk result (IsTally workers) }
+    ensures tally { IfOk result (IsTally workers) }
+    ensures halt { IfErr result (IsHaltOf workers) }
 {
     let world = World::new(alloc, RecordCodec, workers)?;
     let (kept, shares) = Kept::new(alloc, world, workers)?;
@@ -240,7 +232,8 @@ fn print_threads<R: Threads + Wait + Sync, W: Write>(
 ) -> Result<bool, Halt>
     requires some { 1 ≤ workers }
     requires few { workers ≤ 64 }
-    ensures { IfOk result (λ agree. PrintsTally workers agree (W.contents out.old) (W.contents out.new)) }
+    ensures printed { IfOk result (λ agree. PrintsTally workers agree (W.contents out.old) (W.contents out.new)) }
+    ensures halt { IfErr result (λ halt. Halts workers halt out.old out.new) }
 {
     let tally = run_workers(rt, alloc, workers)?;
     let mut printer = Printer::new(alloc);
@@ -249,6 +242,36 @@ fn print_threads<R: Threads + Wait + Sync, W: Write>(
     match out.flush() {
         Ok(()) => Ok(tally.agree),
         Err(_) => Err(Halt::Stop(Stop::WriteFailed)),
+    }
+}
+
+/// Runs the workers and prints what they left, or names on `err` what halted them, and gives the exit
+/// status. The only error is that of `err`.
+fn run_or_name<R: Threads + Wait + Sync, W: Write, E: Write>(
+    rt: &R,
+    alloc: Global,
+    workers: u64,
+    out: &mut W,
+    err: &mut E,
+) -> io::Result<u8>
+    requires some { 1 ≤ workers }
+    requires few { workers ≤ 64 }
+    ensures status { IfOk result (λ status. status ≤ 1) }
+    ensures silent { IfOk result (λ status. status ≡ 0 → err.new ≡ err.old) }
+    ensures done { IfOk result (λ status. status ≡ 0
+        → PrintsTally workers Bool.true (W.contents out.old) (W.contents out.new)) }
+    // The counts differ, or what halted the run is named.
+    ensures failed { IfOk result (λ status. status ≡ 1
+        → PrintsTally workers Bool.false (W.contents out.old) (W.contents out.new)
+        ⊎ NamesHalt workers out.old out.new (E.contents err.old) (E.contents err.new)) }
+{
+    match print_threads(rt, alloc, workers, out) {
+        Ok(true) => Ok(0),
+        Ok(false) => Ok(1),
+        Err(halt) => {
+            err.writeln(halt)?;
+            Ok(1)
+        }
     }
 }
 
@@ -270,13 +293,6 @@ pub fn run_threads<R: Threads + Wait + Sync, W: Write, E: Write>(
     // What is written is what a run of one client after another leaves, and its counts agree.
     ensures done { result ≡ 0 → PrintsTally workers Bool.true (W.contents out.old) (W.contents out.new) }
 {
-    match print_threads(rt, alloc, workers, out) {
-        Ok(true) => 0,
-        Ok(false) => 1,
-        Err(halt) => {
-            // Nothing is left to tell a failure to.
-            let _ = err.writeln(halt);
-            1
-        }
-    }
+    // Nothing is left to tell a failure of `err` to.
+    run_or_name(rt, alloc, workers, out, err).unwrap_or(1)
 }

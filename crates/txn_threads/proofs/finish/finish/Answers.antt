@@ -1,31 +1,26 @@
-use Rattle.std.proofs.Common.{rules, List, sym, subst}
-use Rattle.txn_threads.specs.declared.kept.Share.{Share}
-use Rattle.txn_threads.specs.declared.finish.FinishFault.TheVariants as faults
-use Rattle.txn_threads.specs.Kept.{Agree}
-use Rattle.txn_threads.specs.Finish.{IsDue}
+use Rattle.std.proofs.Common.{rules, refl, ◌∙◌, ap, length}
+use Rattle.txn_threads.specs.Kept.{CameOnce}
+use Rattle.txn_threads.proofs.Agreeing.{exactly}
+use Rattle.txn_threads.proofs.Once.{all_among}
 use Rattle.txn_threads.proofs.Shares.{held, not_held}
 use Rattle.txn_threads.proofs.finish.finish.Goals as goal
+
+pub agree-requires : goal.agree-requires
+agree-requires g c =
+    let once : CameOnce c.args.kept.workers c.args.shares.items = held c.came_once.result _ _ c.came_once.ensures (search rules) (λ once. search rules) in
+    all_among c.args.kept.workers (length c.deref-3.result.now) c.args.shares.items c.deref-2.result.now once (ap length c.deref-3.ensures.value ∙ c.into_counts-counts.ensures.all) c.deref-2.ensures.value
 
 pub returns-then-not-came_once-clause-err : goal.returns-then-not-came_once-clause-err
 returns-then-not-came_once-clause-err g c = not_held c.came_once.result _ _ c.came_once.ensures (search rules) (λ once. search rules)
 
 pub returns-then-not-agree-clause-err : goal.returns-then-not-agree-clause-err
-returns-then-not-agree-clause-err g c = (
-  held c.came_once.result _ _ c.came_once.ensures (search rules) (λ once. search rules),
-  not_held c.agree.result _ _ c.agree.ensures (search rules) (λ agree. subst (λ (xs : List Share). Agree c.args.kept.journal xs) (sym c.deref-2.ensures.value) agree),
-)
-
-pub returns-in_err-counts-clause-err : goal.returns-in_err-counts-clause-err
-returns-in_err-counts-clause-err g c =
-    let due : IsDue c.args.kept c.args.shares.items faults.NoMemory = (
-      held c.came_once.result _ _ c.came_once.ensures (search rules) (λ once. search rules),
-      held c.agree.result _ _ c.agree.ensures (search rules) (λ agree. subst (λ (xs : List Share). Agree c.args.kept.journal xs) c.deref-2.ensures.value agree),
-    ) in
-    search (rules, due)
+returns-then-not-agree-clause-err g c =
+    let once : CameOnce c.args.kept.workers c.args.shares.items = held c.came_once.result _ _ c.came_once.ensures (search rules) (λ once. search rules) in
+    let exact = exactly c.args.kept.workers c.args.kept.journal c.args.shares.items c.deref-2.result.now c.into_counts-counts.result.items c.deref-3.result.now (all_among c.args.kept.workers c.args.kept.workers c.args.shares.items c.args.shares.items once refl refl) c.into_counts-counts.ensures c.deref-2.ensures.value c.deref-3.ensures.value in
+    (once, not_held c.agree.result _ _ c.agree.ensures (search rules) exact.1)
 
 pub returns-clause-ok : goal.returns-clause-ok
-returns-clause-ok g c = record {
-  once = held c.came_once.result _ _ c.came_once.ensures (search rules) (λ once. search rules);
-  agree = held c.agree.result _ _ c.agree.ensures (search rules) (λ agree. subst (λ (xs : List Share). Agree c.args.kept.journal xs) c.deref-2.ensures.value agree);
-  are_counts = search rules;
-}
+returns-clause-ok g c =
+    let once : CameOnce c.args.kept.workers c.args.shares.items = held c.came_once.result _ _ c.came_once.ensures (search rules) (λ once. search rules) in
+    let exact = exactly c.args.kept.workers c.args.kept.journal c.args.shares.items c.deref-2.result.now c.into_counts-counts.result.items c.deref-3.result.now (all_among c.args.kept.workers c.args.kept.workers c.args.shares.items c.args.shares.items once refl refl) c.into_counts-counts.ensures c.deref-2.ensures.value c.deref-3.ensures.value in
+    record { once = once; agree = held c.agree.result _ _ c.agree.ensures (search rules) exact.0; are_counts = c.into_counts-counts.ensures }

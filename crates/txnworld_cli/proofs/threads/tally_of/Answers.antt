@@ -17,7 +17,7 @@ returns c =
         calls = search rules;
         answers = search rules;
         entries = (c.len-history.ensures ∙ items) ∙ (sym (length-map c.in-Ok.entries.items Some) ∙ (ap length c.in-Ok.ensures ∙ ap (λ (w : WorldState Record RecordCodec). length (history record_read w.state.trace)) c.world-2.ensures.world));
-        agree = c.in_ok-agree.ensures.ok;
+        agree = c.counts_agree-agree.ensures;
         replays = c.world.ensures.replays;
       };
       err = search rules;

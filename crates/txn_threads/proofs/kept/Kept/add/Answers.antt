@@ -3,10 +3,18 @@ use Rattle.txn_threads.proofs.Journal.{replays_push}
 use Rattle.txn_threads.proofs.kept.Kept.add.Goals as goal
 
 pub invariant_of-self-2 : goal.invariant_of-self-2
-invariant_of-self-2 g c =
-    rw c.in_ok-told.ensures.codec
-    (replays_push (g.C.ObjectCodec.encoded c.self.inside.world.codec) (g.C.ObjectCodec.decoded c.self.inside.world.codec) c.self.inside.journal.items c.push_within.new.items.items c.self.inside.world.state c.take.new.self.state c.args.worker c.args.event c.in_ok-copy.copy c.in_ok-told.told
-    c.self.invariant c.in_ok-told.ensures.ok c.in_ok-copy.ensures (search rules))
+invariant_of-self-2 g c = (
+  rw c.in_ok-told.ensures.codec
+      (replays_push (g.C.ObjectCodec.encoded c.self.inside.world.codec) (g.C.ObjectCodec.decoded c.self.inside.world.codec) c.self.inside.journal.items c.push_within.new.items.items c.self.inside.world.state c.take.new.self.state c.args.worker c.args.event c.in_ok-copy.copy c.in_ok-told.told
+      c.self.invariant.0 c.in_ok-told.ensures.ok c.in_ok-copy.ensures (search rules)),
+  c.self.invariant.1,
+)
 
 pub returns-clause-ok : goal.returns-clause-ok
 returns-clause-ok g c = (c.in_ok-told.told, rw (← c.self.view_is) (record { row = search rules; step = c.in_ok-told.ensures.ok; codec = c.in_ok-told.ensures.codec; workers = refl }))
+
+pub returns-in_err-told-clause-refused : goal.returns-in_err-told-clause-refused
+returns-in_err-told-clause-refused g c = rw (← c.self.view_is) (search rules)
+
+pub returns-clause-refused : goal.returns-clause-refused
+returns-clause-refused g c = rw (← c.self.view_is) (search rules)
