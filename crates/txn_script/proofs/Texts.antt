@@ -1,5 +1,5 @@
 -- What the text of a line is made of: ASCII, and few bytes.
-use Rattle.std.proofs.Common.{◌≡◌, ℕ, zero, suc, ◌+◌, ◌<◌, ◌≤◌, ◌^◌, List, [], ◌∷◌, ◌++◌, true, length, Option, Some, None, Result, Ok, Err, decimal, slice_index, refl, sym, ap, subst, arith, lit<, lit≤, length-append, nat_lt}
+use Rattle.std.proofs.Common.{◌≡◌, ℕ, zero, suc, ◌+◌, ◌<◌, ◌≤◌, ◌^◌, List, [], ◌∷◌, ◌++◌, true, length, Option, Some, None, decimal, slice_index, refl, sym, ap, subst, arith, lit<, lit≤, length-append, nat_lt}
 use Rattle.std.specs.Prelude.{codes}
 use Rattle.std.specs.List.{list_all}
 use Rattle.std.specs.Str.{IsUtf8, IsAscii}
