@@ -2,8 +2,8 @@
 #![tactic(auto)]
 
 pub mod line;
-pub mod lines;
-pub mod numerals;
+mod lines;
+mod numerals;
 pub mod printed;
 pub mod printer;
 pub mod record;

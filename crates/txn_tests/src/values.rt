@@ -9,6 +9,7 @@ use txn_script::record::{Record, RecordCodec, read_record};
 use txn_types::codec::{CodecFault, ObjectCodec};
 use txn_types::dirty::DirtyObject;
 use txn_types::id::MonotonicId;
+use txn_types::room::push_within;
 use txn_types::test_utils::{NumberCodec, new_dirty_object, round_trip};
 
 /// Ids are equal where their numbers are.
@@ -180,5 +181,13 @@ fn codecs_read_what_they_write(rt: HostRuntime) -> Result<(), Fail> {
         let refused = is_refused(&RecordCodec, rt.alloc(), bytes, "bad record")?;
         assert!(rt; refused, "{bytes:?}");
     }
+    Ok(())
+}
+
+#[test]
+fn a_push_takes_the_room_that_was_made(rt: HostRuntime) -> Result<(), Fail> {
+    let mut items = Vec::with_capacity(rt.alloc(), 1)?;
+    push_within(&mut items, 7);
+    assert_eq!(rt; items.as_slice(), [7].as_slice());
     Ok(())
 }
