@@ -105,6 +105,7 @@ impl<T: Drop> Doing<T> {
     }
 
     /// An answer ends the operation.
+    #[inline(always)]
     fn end_where(&mut self, answers: Twice<T>) -> Twice<T>
         ensures next { (self.new, first_of result) ≡ next_of self.old (first_of answers) }
         ensures answers { result ≡ answers }

@@ -148,6 +148,7 @@ impl Reply {
 }
 
 /// Makes the call that a request stands for.
+#[inline(always)]
 pub fn serve<S: ObjectStore>(alloc: Global, store: &mut S, request: &Request) -> Reply
     ensures { Serves request.now (S.state store.old) result (S.state store.new) }
 {

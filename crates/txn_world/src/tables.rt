@@ -66,6 +66,7 @@ fn asked<T: Drop>(operations: &[Operation<T>], op: u64) -> Option<&Request>
 
 /// A copy of a request that changes the store where it is done, for the trace: of a put, or of the
 /// removal of a file that is there.
+#[inline(always)]
 fn copy_of(store: &InMemory, request: &Request) -> Result<Option<Request>, AllocError>
     ensures { IfOk result (λ copy. copy ≡ may_change (state_of store.now).files request.now) }
 {
@@ -84,6 +85,7 @@ fn took(reply: &Reply) -> bool
 }
 
 /// The request that changed the store, by its reply. A copy of it was made before.
+#[inline(always)]
 fn effect_of(reply: &Reply, copy: Option<Request>) -> Option<Request>
     ensures { result ≡ (if took reply.now then copy else None) }
 {
