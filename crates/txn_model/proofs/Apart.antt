@@ -7,7 +7,7 @@ use Rattle.std.specs.Cmp.Lexicographic.{pointwise, slice_cmp, lists_ties, texts_
 use Rattle.std.specs.Cmp.{tied_itself}
 use Rattle.std.specs.declared.cmp.Ordering.{Ordering}
 use Rattle.std.specs.declared.cmp.Ordering.TheVariants.{Less, Equal, Greater}
-use Rattle.txn_store.specs.Paths.{Segments, path_cmp}
+use Rattle.txn_store.specs.Paths.{Segments, path_cmp, is_below}
 use Rattle.txn_store.specs.VersionName.{version_path}
 use Rattle.txn_store.specs.VersionOf.{version_of}
 use Rattle.txn_store.specs.declared.store.PutMode.{PutMode}
@@ -22,6 +22,11 @@ use Rattle.txn_model.specs.History.{is_boundary, created, raised, removed}
 pub apart : (n : ℕ) → world_boundary ≢ version_path world_names n
 unfolding world_names world_boundary
 apart n e = cc
+
+-- the boundary's file is not below the versions' folder
+pub boundary_outside : is_below world_names.dir world_boundary ≡ false
+unfolding world_names world_boundary
+boundary_outside = refl
 
 no_version : (found : Option ℕ) → version_of world_names world_boundary ≡ found → found ≡ None
 no_version None e = refl

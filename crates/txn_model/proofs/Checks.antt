@@ -7,8 +7,8 @@ use Rattle.std.proofs.lemmas.Bool.{cases_Bool, ltb-true, ltb-false}
 use Rattle.std.proofs.lemmas.Option.{same_Some}
 use Rattle.txn_store.specs.Paths.{Segments}
 use Rattle.txn_store.specs.Store.{State as StoreState, Kept, Gets, Lists, get_fault}
+use Rattle.txn_store.specs.declared.page.Page.{Page}
 use Rattle.txn_store.specs.declared.store.Got.{Got}
-use Rattle.txn_store.specs.declared.store.ObjectMeta.{ObjectMeta}
 use Rattle.txn_store.specs.declared.store.StoreError.{StoreError}
 use Rattle.txn_store.specs.declared.store.StoreError.TheVariants as errors
 use Rattle.txn_store.specs.declared.request.Request.{Request}
@@ -56,15 +56,15 @@ get_kept path old new (Err errors.AlreadyExists) g honest = g.err.1
 get_kept path old new (Err errors.Precondition) g honest = g.err.1
 get_kept path old new (Err errors.NotModified) g honest = g.err.1
 
-pub list_kept : (prefix : Segments) (old new : StoreState) (answer : Result (List ObjectMeta) StoreError) → Lists prefix old answer new → new.failures ≡ 0 → Kept old new
-list_kept prefix old new (Ok metas) l honest = l.kept
-list_kept prefix old new (Err errors.NoMemory) l honest = l.err.1
-list_kept prefix old new (Err errors.Failed) l honest = failed old new honest l.err.0
-list_kept prefix old new (Err errors.TokensExhausted) l honest = absurd l.err
-list_kept prefix old new (Err errors.NotFound) l honest = l.err.1
-list_kept prefix old new (Err errors.AlreadyExists) l honest = l.err.1
-list_kept prefix old new (Err errors.Precondition) l honest = l.err.1
-list_kept prefix old new (Err errors.NotModified) l honest = l.err.1
+pub list_kept : (prefix : Segments) (after : Option Segments) (limit : ℕ) (old new : StoreState) (answer : Result Page StoreError) → Lists prefix after limit old answer new → new.failures ≡ 0 → Kept old new
+list_kept prefix after limit old new (Ok page) l honest = l.kept
+list_kept prefix after limit old new (Err errors.NoMemory) l honest = l.err.1
+list_kept prefix after limit old new (Err errors.Failed) l honest = failed old new honest l.err.0
+list_kept prefix after limit old new (Err errors.TokensExhausted) l honest = absurd l.err
+list_kept prefix after limit old new (Err errors.NotFound) l honest = l.err.1
+list_kept prefix after limit old new (Err errors.AlreadyExists) l honest = l.err.1
+list_kept prefix after limit old new (Err errors.Precondition) l honest = l.err.1
+list_kept prefix after limit old new (Err errors.NotModified) l honest = l.err.1
 
 module _ {T : Type 0} (decode : List ℕ → Option T) where
   -- what an effect, or none, leaves of the other operations

@@ -92,7 +92,7 @@ module _ {T : Type 0} (decode : List ℕ → Option T) where
   effect_rises : (rows : List (Row T)) (op : ℕ) (request : Request) → IsLegal decode rows op request → boundary rows ≤ boundary_after (boundary rows) request
   effect_rises rows op (requests.Put path bytes mode) legal = put_rises rows op path bytes mode (is_boundary path) refl legal
   effect_rises rows op (requests.Get path known) legal = omega arith
-  effect_rises rows op (requests.List prefix) legal = omega arith
+  effect_rises rows op (requests.List prefix after limit) legal = omega arith
   effect_rises rows op (requests.Delete path) legal = delete_keeps rows op path (is_boundary path) refl legal
 
   row_rises : (rows : List (Row T)) (row : Row T) → Fits decode rows row → boundary rows ≤ boundary (rows ++ row ∷ [])
@@ -109,7 +109,7 @@ module _ {T : Type 0} (decode : List ℕ → Option T) where
   removes_below : (rows : List (Row T)) (op id : ℕ) (request : Request) → removed request ≡ Some id → IsLegal decode rows op request → id ≤ boundary rows
   removes_below rows op id (requests.Put path bytes mode) e legal = cc
   removes_below rows op id (requests.Get path known) e legal = cc
-  removes_below rows op id (requests.List prefix) e legal = cc
+  removes_below rows op id (requests.List prefix after limit) e legal = cc
   removes_below rows op id (requests.Delete path) e (inl put) = absurd put
   removes_below rows op id (requests.Delete path) e (inr (inl put)) = absurd put
   removes_below rows op id (requests.Delete path) e (inr (inr gone)) = (subst (VersionRemoved rows op) e gone).below

@@ -8,7 +8,7 @@ use Rattle.std.proofs.lemmas.List.{length-append}
 use Rattle.std.proofs.lemmas.List.Elements.{Contains-append_left, Contains-append_right}
 use Rattle.std.proofs.lemmas.Bool.{cases_eq, ne_eqb, eq-eqb, both_ways, ltb-true}
 use Rattle.std.proofs.lemmas.Option.{same_Some}
-use Rattle.txn_store.specs.Paths.{Segments, path_cmp}
+use Rattle.txn_store.specs.Paths.{Segments, path_cmp, is_below}
 use Rattle.txn_store.specs.VersionName.{version_path}
 use Rattle.txn_store.specs.Store.{Files, State as StoreState, Kept, Placed, Removed}
 use Rattle.txn_store.specs.declared.store.Got.{Got}
@@ -31,8 +31,8 @@ use Rattle.txn_model.specs.Calls.{is_above, id_told, tells, tells_above}
 use Rattle.txn_model.specs.OneHistory.{Opens, Answers, Appends, Recreates, Raises, Erases, VersionPut, BoundaryPut, VersionRemoved, Fits}
 use Rattle.txn_model.proofs.Lists.{get_more, get_last, any_true, any_more, any_last}
 use Rattle.txn_model.proofs.Rows.{is_id_some, versions_of-more, stored-more, boundary-same, put_count-more, newest_grows, one_history-more}
-use Rattle.txn_model.proofs.Apart.{tied_path, apart, created_is, raise_creates, raised_is, removed_is}
-use Rattle.txn_model.proofs.Stands.{AllGiven, HistoryStands, FilesStand, KnowStands, Moves, bytes_at, create, remove_version, file_at, is_there}
+use Rattle.txn_model.proofs.Apart.{tied_path, apart, boundary_outside, created_is, raise_creates, raised_is, removed_is}
+use Rattle.txn_model.proofs.Stands.{AllGiven, IsVersionPath, AllVersions, HistoryStands, FilesStand, KnowStands, Moves, bytes_at, create, remove_version, file_at, is_there}
 
 -- versions whose ids count up from 1
 
@@ -150,6 +150,27 @@ given_removed path old new gone all q got e =
     by true is = cc
     by false is = all q got is
 
+-- each file below the folder is a version, after a put and after a removal
+
+versions_put : (path : Segments) (bytes : List ℕ) (token : ℕ) (old new : StoreState) → Placed path bytes token old new → (is_below world_names.dir path ≡ true → IsVersionPath path) → AllVersions old.files → AllVersions new.files
+versions_put path bytes token old new placed is all q got below e =
+    let file : Got = record { bytes = bytes; token = token } in
+    let found : cond (eq_by_cmp path_cmp q path) (Some file) (get old.files q) ≡ Some got = sym (ap (λ (files : Files). get files q) placed.files ∙ get-insert path_cmp_total old.files path file q) ∙ e in
+    by (eq_by_cmp path_cmp q path) (tied_path q path) found
+  where
+    by : (b : Bool) → (b ≡ true → q ≡ path) → cond b (Some (record { bytes = bytes; token = token })) (get old.files q) ≡ Some got → IsVersionPath q
+    by true same h = subst IsVersionPath (sym (same refl)) (is (subst (λ (p : Segments). is_below world_names.dir p ≡ true) (same refl) below))
+    by false same h = all q got below h
+
+versions_removed : (path : Segments) (old new : StoreState) → Removed path old new → AllVersions old.files → AllVersions new.files
+versions_removed path old new gone all q got below e =
+    let found : cond (eq_by_cmp path_cmp q path) None (get old.files q) ≡ Some got = sym (ap (λ (files : Files). get files q) gone.files ∙ get-remove path_cmp_total old.files path q) ∙ e in
+    by (eq_by_cmp path_cmp q path) found
+  where
+    by : (b : Bool) → cond b None (get old.files q) ≡ Some got → IsVersionPath q
+    by true h = cc
+    by false h = all q got below h
+
 -- an answer that tells an id above another
 
 told_above : (n : ℕ) (found : Option ℕ) → is_above n found ≡ true → (id : ℕ) × (found ≡ Some id) × (n < id)
@@ -170,6 +191,7 @@ module _ {T : Type 0} (decode : List ℕ → Option T) where
               gone = k.files.gone;
               says = k.files.says;
               given = λ path got e. subst (λ (given : List ℕ). Contains given got.token) (sym same.given) (k.files.given path got e);
+              versions = k.files.versions;
               kept = k.files.kept;
               left = ap (λ n. n + put_count rows) same.left ∙ k.files.left;
               honest = honest;
@@ -210,6 +232,7 @@ module _ {T : Type 0} (decode : List ℕ → Option T) where
           gone = λ n some most e. any_true (erases n) rows row (f.gone n some (subst (λ (vs : List Version). n ≤ length vs) same most) e);
           says = λ got e. f.says got e ∙ ap Some (sym at);
           given = f.given;
+          versions = f.versions;
           kept = subst (λ (contents : Contents). HasContents store.files contents) (sym kept) f.kept;
           left = let count = put_count-more rows row in let left = f.left in omega (arith, count, none, left);
           honest = f.honest;
@@ -311,6 +334,7 @@ module _ {T : Type 0} (decode : List ℕ → Option T) where
         ];
         says = λ got e. f.says got (sym file ∙ e) ∙ ap Some (sym at);
         given = given_put (version_path world_names id) bytes token old new c.placed f.given;
+        versions = versions_put (version_path world_names id) bytes token old new c.placed (λ below. (id, c.fits, refl)) f.versions;
         kept = subst (λ (files : Files). HasContents files (stored (rows ++ row ∷ []))) (sym c.placed.files)
             (subst (λ (contents : Contents). HasContents (insert old.files (version_path world_names id) (record { bytes = bytes; token = token })) contents) (sym (stored-more rows row)) (contents_put old.files (stored rows) (version_path world_names id) bytes token f.kept));
         left = let count = put_count-more rows row in let left = f.left in let taken = c.placed.left in omega (arith, count, taken, left);
@@ -429,6 +453,7 @@ module _ {T : Type 0} (decode : List ℕ → Option T) where
           gone = λ n some most e. any_true (erases n) rows row (f.gone n some (subst (λ (vs : List Version). n ≤ length vs) same most) (sym (ap is_some (other n)) ∙ e));
           says = λ got e. ap (λ (g : Got). boundary_read g.bytes) (same_Some got (record { bytes = decimal to; token = token }) (sym e ∙ own)) ∙ (read_decimal_text to fits ∙ ap Some (sym at));
           given = given_put world_boundary (decimal to) token old new placed f.given;
+          versions = versions_put world_boundary (decimal to) token old new placed (λ below. absurd (both_ways _ boundary_outside below)) f.versions;
           kept = subst (λ (files : Files). HasContents files (stored (rows ++ row ∷ []))) (sym placed.files)
               (subst (λ (contents : Contents). HasContents (insert old.files world_boundary (record { bytes = decimal to; token = token })) contents) (sym (stored-more rows row)) (contents_put old.files (stored rows) world_boundary (decimal to) token f.kept));
           left = let count = put_count-more rows row in let left = f.left in let taken = placed.left in omega (arith, count, taken, left);
@@ -495,6 +520,7 @@ module _ {T : Type 0} (decode : List ℕ → Option T) where
               ];
           says = λ got e. f.says got (sym file ∙ e) ∙ ap Some (sym at);
           given = given_removed (version_path world_names id) old new gone f.given;
+          versions = versions_removed (version_path world_names id) old new gone f.versions;
           kept = subst (λ (files : Files). HasContents files (stored (rows ++ row ∷ []))) (sym gone.files)
               (subst (λ (contents : Contents). HasContents (remove old.files (version_path world_names id)) contents) (sym (stored-more rows row)) (contents_removed old.files (stored rows) (version_path world_names id) f.kept));
           left = let count = put_count-more rows row in let left = f.left in let taken = gone.left in omega (arith, count, taken, left);

@@ -43,7 +43,7 @@ use Rattle.txn_model.specs.Doing.{started, asked, ReadsBack}
 use Rattle.txn_model.specs.Machine.{State, opening, with_doing, answer_rows, effect_of, effect_rows, next_op, begun_as, Served, Takes, Runs, IsReached}
 use Rattle.txn_model.proofs.Lists.{get_more, get_kept, get_last, numbered_more, numbered_set, any_false, any_true, any_last}
 use Rattle.txn_model.proofs.Rows.{row_op, affects, has_effect, is_begun, no_begin, begins_other, ends_other, affects_other, begun_count-more, begun_count-begun, AtRow-more, IsCall-more, newest_grows, version_kept, stored-more}
-use Rattle.txn_model.proofs.Stands.{KnowStands, PuttingStands, CreatedStands, WritingStands, FoundStands, ReadingStands, Fit, Room, ReadBelow, AdvancingStands, Reached, DoingStands, RunStands, EndStands, OpStands, TurnOf, TurnStands, Fresh, Moves, StandsBut, Stands}
+use Rattle.txn_model.proofs.Stands.{KnowStands, PuttingStands, CreatedStands, WritingStands, ListingStands, first_page, FoundStands, ReadingStands, Fit, Room, ReadBelow, AdvancingStands, Reached, DoingStands, RunStands, EndStands, OpStands, TurnOf, TurnStands, Fresh, Moves, StandsBut, Stands}
 use Rattle.txn_model.proofs.Effects.{begun_more, answered_more, quiet_moves}
 use Rattle.txn_model.proofs.Checks.{Framed}
 use Rattle.txn_model.proofs.Serves.{after_serve}
@@ -112,9 +112,21 @@ module _ {T : Type 0} (encode : T → List ℕ) (decode : List ℕ → Option T)
         kept = version_kept rows row id g.version g.kept;
       }
 
+  listing_more : (rows : List (Row T)) (row : Row T) (call : Call T) (found : Option ℕ) (request : Request) → ListingStands decode rows call found request → ListingStands decode (rows ++ row ∷ []) call found request
+  listing_more rows row call found request h =
+      record {
+        call_is = h.call_is;
+        after = h.after;
+        limit = h.limit;
+        room = h.room;
+        asks = h.asks;
+        passed = h.passed;
+        known = λ n e. let bound = h.known n e in (bound.0, omega (arith, bound.1, newest_grows rows row));
+      }
+
   reading_more : (rows : List (Row T)) (row : Row T) (store after : StoreState) (op : ℕ) (call : Call T) (read : ReadOp T) → Moves decode rows store row after → ReadingStands decode rows op call read → ReadingStands decode (rows ++ row ∷ []) op call read
   unfolding found_more
-  reading_more rows row store after op call (reads.Lists request) m h = h
+  reading_more rows row store after op call (reads.Lists found request) m h = listing_more rows row call found request h
   reading_more rows row store after op call (reads.Gets id request) m h = (found_more rows row op call id h.0, h.1)
   reading_more rows row store after op call (reads.Checks id (Some value) check) m h =
       record {
@@ -222,6 +234,7 @@ module _ {T : Type 0} (encode : T → List ℕ) (decode : List ℕ → Option T)
   but : (s : State T) (op : ℕ) → Stands decode s → StandsBut decode s op
   but s op st =
       record {
+        paged = st.paged;
         know = st.know;
         count = st.count;
         zero = st.zero;
@@ -233,6 +246,7 @@ module _ {T : Type 0} (encode : T → List ℕ) (decode : List ℕ → Option T)
   close : (s : State T) (op : ℕ) → StandsBut decode s op → ((o : Operation T) → numbered s.operations op ≡ Some o → OpStands decode s.trace s.store op o.doing) → Stands decode s
   close s op st at =
       record {
+        paged = st.paged;
         know = st.know;
         count = st.count;
         zero = st.zero;
@@ -248,6 +262,7 @@ module _ {T : Type 0} (encode : T → List ℕ) (decode : List ℕ → Option T)
       StandsBut decode s (row_op row) → StandsBut decode (record s { store = store; trace = s.trace ++ row ∷ [] }) (row_op row)
   but_more s row store quiet within' k m st =
       record {
+        paged = st.paged;
         know = k;
         count = st.count ∙ sym (begun_count-more s.trace row quiet);
         zero = any_false (begins 0) s.trace row st.zero (no_begin 0 row quiet);
@@ -260,6 +275,7 @@ module _ {T : Type 0} (encode : T → List ℕ) (decode : List ℕ → Option T)
   but_doing s op o doing some st =
       let new : Operation T = record { client = o.client; doing = doing } in
       record {
+        paged = st.paged;
         know = st.know;
         count = length-set s.operations (op - 1) new ∙ st.count;
         zero = st.zero;
@@ -305,6 +321,7 @@ module _ {T : Type 0} (encode : T → List ℕ) (decode : List ℕ → Option T)
   effect_but s op None store most k frame st =
       let same = append-nil s.trace in
       record {
+        paged = st.paged;
         know = k;
         count = st.count ∙ sym (ap begun_count same);
         zero = rw same st.zero;
@@ -329,13 +346,14 @@ module _ {T : Type 0} (encode : T → List ℕ) (decode : List ℕ → Option T)
       let bound = within old.operations op v.operation v.found in
       let r = served_run old op told new v st in
       let effect = effect_of old.store.files v.request v.reply in
-      let after = after_serve decode v.refused old.trace old.store new.store op r.0 v.operation.doing v.request v.reply v.asks st.know r.1 v.serves v.honest in
+      let after = after_serve decode old.page st.paged v.refused old.trace old.store new.store op r.0 v.operation.doing v.request v.reply v.asks st.know r.1 v.serves v.honest in
       let s' : State T = record old { store = new.store; trace = old.trace ++ effect_rows op effect } in
       let turn : TurnStands decode s'.trace new.store op r.0 v.next = subst (TurnStands decode s'.trace new.store op r.0) (sym v.turns) after.turn in
       let kept = turn_keeps s' op v.operation r.0 v.next.0 v.next.1 bound.0 bound.1 (effect_but old op effect new.store bound.1 after.know after.frame (but old op st)) turn in
-      subst (λ (clients : ℕ). Stands decode (record { clients = clients; store = new.store; operations = new.operations; trace = new.trace })) (sym v.clients)
-      (subst (λ (operations : List (Operation T)). Stands decode (record { clients = old.clients; store = new.store; operations = operations; trace = new.trace })) (sym v.operations)
-      (subst (λ (rows : List (Row T)). Stands decode (record { clients = old.clients; store = new.store; operations = with_doing old.operations op v.operation v.next.0; trace = rows })) (sym v.trace) kept))
+      subst (λ (clients : ℕ). Stands decode (record { clients = clients; page = new.page; store = new.store; operations = new.operations; trace = new.trace })) (sym v.clients)
+      (subst (λ (page : ℕ). Stands decode (record { clients = old.clients; page = page; store = new.store; operations = new.operations; trace = new.trace })) (sym v.page)
+      (subst (λ (operations : List (Operation T)). Stands decode (record { clients = old.clients; page = old.page; store = new.store; operations = operations; trace = new.trace })) (sym v.operations)
+      (subst (λ (rows : List (Row T)). Stands decode (record { clients = old.clients; page = old.page; store = new.store; operations = with_doing old.operations op v.operation v.next.0; trace = rows })) (sym v.trace) kept)))
 
   -- begins
 
@@ -347,6 +365,7 @@ module _ {T : Type 0} (encode : T → List ℕ) (decode : List ℕ → Option T)
       let o : Operation T = record { client = client; doing = doing } in
       let more : length (s.operations ++ o ∷ []) ≡ length s.operations + 1 = length-append s.operations (o ∷ []) in
       record {
+        paged = st.paged;
         know = begun_more decode s.trace s.store (next_op s) call st.know (record { next = ap (λ n. n + 1) st.count; known = known; low = low });
         count = more ∙ (ap (λ n. n + 1) st.count ∙ sym (begun_count-begun s.trace (next_op s) call));
         zero = any_false (begins 0) s.trace row st.zero (ne_eqb (next_op s) 0 (λ h. omega (arith, h)));
@@ -394,21 +413,21 @@ module _ {T : Type 0} (encode : T → List ℕ) (decode : List ℕ → Option T)
   low_room rows store to k e = elim (or_cases (to == 0) (is_below_told rows to) e) [ inl z ↦ inl (eqb-true to 0 z) | inr told ↦ inr (k.history.told_below to told) ]
 
   -- how a call starts fits
-  start_turn : (rows : List (Row T)) (store : StoreState) (op : ℕ) (call : Call T) → KnowStands decode rows store → Fresh decode rows op → has_known_base rows call ≡ true → has_low_boundary rows call ≡ true → ReadsBack encode decode call →
-      TurnStands decode (rows ++ Begun op call ∷ []) store op call (started encode call)
-  start_turn rows store op calls.Read k f known low back =
+  start_turn : (page : ℕ) → 1 ≤ page → (rows : List (Row T)) (store : StoreState) (op : ℕ) (call : Call T) → KnowStands decode rows store → Fresh decode rows op → has_known_base rows call ≡ true → has_low_boundary rows call ≡ true → ReadsBack encode decode call →
+      TurnStands decode (rows ++ Begun op call ∷ []) store op call (started page encode call)
+  start_turn page room rows store op calls.Read k f known low back =
       let b = began rows op calls.Read f in
-      record { called = b.called; begun = b.begun; running = b.running; stands = (refl, refl) }
-  start_turn rows store op (calls.Check id) k f known low back =
+      record { called = b.called; begun = b.begun; running = b.running; stands = first_page decode page room (rows ++ Begun op calls.Read ∷ []) calls.Read refl }
+  start_turn page room rows store op (calls.Check id) k f known low back =
       let b = began rows op (calls.Check id) f in
       record { called = b.called; begun = b.begun; running = b.running; stands = (refl, refl) }
-  start_turn rows store op (calls.Advance to) k f known low back =
+  start_turn page room rows store op (calls.Advance to) k f known low back =
       let b = began rows op (calls.Advance to) f in
       record { called = b.called; begun = b.begun; running = b.running; stands = (refl, room_more rows (Begun op (calls.Advance to)) to (low_room rows store to k low), refl) }
-  start_turn rows store op (calls.Delete id) k f known low back =
+  start_turn page room rows store op (calls.Delete id) k f known low back =
       let b = began rows op (calls.Delete id) f in
       record { called = b.called; begun = b.begun; running = b.running; stands = (record { call_is = refl; checks = refl; removes = refl }, tt) }
-  start_turn rows store op (calls.Write base value) k f known low back =
+  start_turn page room rows store op (calls.Write base value) k f known low back =
       let call : Call T = calls.Write base value in
       let row : Row T = Begun op call in
       let b = began rows op call f in
@@ -443,12 +462,12 @@ module _ {T : Type 0} (encode : T → List ℕ) (decode : List ℕ → Option T)
   set_last [] x y = refl
   set_last (z ∷ zs) x y = ap (λ r. z ∷ r) (set_last zs x y)
 
-  begin_keeps : (s : State T) (client : ℕ) (call : Call T) → Stands decode s → has_known_base s.trace call ≡ true → has_low_boundary s.trace call ≡ true → ReadsBack encode decode call → Stands decode (begun_as s client call (started encode call)).1
+  begin_keeps : (s : State T) (client : ℕ) (call : Call T) → Stands decode s → has_known_base s.trace call ≡ true → has_low_boundary s.trace call ≡ true → ReadsBack encode decode call → Stands decode (begun_as s client call (started s.page encode call)).1
   begin_keeps s client call st known low back =
-      let start = started encode call in
+      let start = started s.page encode call in
       let o : Operation T = record { client = client; doing = start.0 } in
       let s' : State T = record s { operations = s.operations ++ o ∷ []; trace = s.trace ++ Begun (next_op s) call ∷ [] } in
-      let turn = start_turn s.trace s.store (next_op s) call st.know (st.fresh (next_op s) (omega arith)) known low back in
+      let turn = start_turn s.page st.paged s.trace s.store (next_op s) call st.know (st.fresh (next_op s) (omega arith)) known low back in
       let kept = turn_keeps s' (next_op s) o call start.0 start.1 (omega arith) (omega (arith, length-append s.operations (o ∷ []))) (begun_but s client call start.0 st known low) turn in
       let place : next_op s - 1 ≡ length s.operations = omega arith in
       let same : with_doing s'.operations (next_op s) o start.0 ≡ s.operations ++ o ∷ [] = ap (λ n. set (s.operations ++ o ∷ []) n o) place ∙ set_last s.operations o o in
@@ -466,10 +485,11 @@ module _ {T : Type 0} (encode : T → List ℕ) (decode : List ℕ → Option T)
   none_there' : (n : ℕ) → is_some (get (empty {X = Got} {R = path_cmp}) (version_path world_names n)) ≡ false
   none_there' n = ap is_some (get-empty path_cmp (version_path world_names n))
 
-  pub opening_stands : (clients : ℕ) → Stands decode (opening clients)
-  opening_stands clients =
+  pub opening_stands : (clients page : ℕ) → 1 ≤ page → Stands decode (opening clients page)
+  opening_stands clients page room =
       let nothing : boundary {T = T} [] ≡ 0 = ap boundary_said (get-empty path_cmp world_boundary) in
       record {
+        paged = room;
         know = record {
           history = record {
             good = λ k row e. cc;
@@ -487,6 +507,7 @@ module _ {T : Type 0} (encode : T → List ℕ) (decode : List ℕ → Option T)
             gone = λ n some most e. absurd (omega (arith, some, most));
             says = λ got e. absurd (let clash = sym (get-empty path_cmp world_boundary) ∙ e in cc);
             given = λ path got e. absurd (let clash = sym (get-empty path_cmp path) ∙ e in cc);
+            versions = λ path got below e. absurd (let clash = sym (get-empty path_cmp path) ∙ e in cc);
             kept = λ path. nothing_at path ∙ sym (get-empty path_cmp path);
             left = refl;
             honest = refl;
@@ -515,4 +536,4 @@ module _ {T : Type 0} (encode : T → List ℕ) (decode : List ℕ → Option T)
   runs_keep old (t ∷ taken) new r st = runs_keep r.0 taken new r.2 (takes_keeps old t.0 t.1 r.0 r.1 st)
 
   pub reached_stands : (s : State T) → IsReached encode decode s → Stands decode s
-  reached_stands s r = runs_keep (opening s.clients) r.0 s r.1 (opening_stands s.clients)
+  reached_stands s r = runs_keep (opening s.clients s.page) r.0 s r.1 (opening_stands s.clients s.page r.2)

@@ -93,7 +93,7 @@ module _ {T : Type 0} where
       ∙ (ap boundary_said (get-insert path_cmp_total (stored rows) path bytes world_boundary ∙ ap (λ b. cond b (Some bytes) (get (stored rows) world_boundary)) (same_tie path))
       ∙ said_put (is_boundary path) bytes (get (stored rows) world_boundary))
   effect_reached rows op (requests.Get path known) = boundary-same rows (Effect op (requests.Get path known)) (stored-more rows (Effect op (requests.Get path known)))
-  effect_reached rows op (requests.List prefix) = boundary-same rows (Effect op (requests.List prefix)) (stored-more rows (Effect op (requests.List prefix)))
+  effect_reached rows op (requests.List prefix after limit) = boundary-same rows (Effect op (requests.List prefix after limit)) (stored-more rows (Effect op (requests.List prefix after limit)))
   effect_reached rows op (requests.Delete path) =
       ap (λ (contents : Contents). boundary_said (get contents world_boundary)) (stored-more rows (Effect op (requests.Delete path)))
       ∙ (ap boundary_said (get-remove path_cmp_total (stored rows) path world_boundary ∙ ap (λ b. cond b None (get (stored rows) world_boundary)) (same_tie path))

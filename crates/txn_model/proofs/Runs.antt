@@ -1,5 +1,5 @@
 -- What holds of each state that a world reaches, as its public calls say it.
-use Rattle.std.proofs.Common.{◌≡◌, ◌≢◌, ℕ, zero, suc, ◌+◌, ◌<◌, List, [], ◌∷◌, ◌++◌, length, Bool, true, false, cond, is_some, is_ok, Option, Some, None, Result, Ok, Err, OnErr, IfOk, inl, inr, refl, sym, ◌∙◌, ap, subst, arith}
+use Rattle.std.proofs.Common.{◌≡◌, ◌≢◌, ℕ, zero, suc, ◌+◌, ◌<◌, ◌≤◌, List, [], ◌∷◌, ◌++◌, length, Bool, true, false, cond, is_some, is_ok, Option, Some, None, Result, Ok, Err, OnErr, IfOk, inl, inr, refl, sym, ◌∙◌, ap, subst, arith}
 use Rattle.std.specs.FinMap.{get}
 use Rattle.std.proofs.lemmas.List.{map-append}
 use Rattle.txn_store.specs.Paths.{Segments}
@@ -60,9 +60,18 @@ module _ {T : Type 0} (encode : T → List ℕ) (decode : List ℕ → Option T)
   takes_clients old (events.Begin client call) told new t = sym (ap (λ (p : Told T × State T). p.1.clients) t.step.step)
   takes_clients old (events.Serve op) told new t = t.step.clients
 
+  pub takes_page : (old : State T) (event : Event T) (told : Told T) (new : State T) → Takes encode decode old event told new → new.page ≡ old.page
+  takes_page old (events.Begin client call) told new t = sym (ap (λ (p : Told T × State T). p.1.page) t.step.step)
+  takes_page old (events.Serve op) told new t = t.step.page
+
   pub reached_more : (old : State T) (event : Event T) (told : Told T) (new : State T) → IsReached encode decode old → Takes encode decode old event told new → IsReached encode decode new
   reached_more old event told new r t =
-      (r.0 ++ (event, told) ∷ [], subst (λ (n : ℕ). Runs encode decode (opening n) (r.0 ++ (event, told) ∷ []) new) (sym (takes_clients old event told new t)) (runs_more (opening old.clients) r.0 old event told new r.1 t))
+      let same = takes_page old event told new t in (
+        r.0 ++ (event, told) ∷ [],
+        subst (λ (n : ℕ). Runs encode decode (opening n new.page) (r.0 ++ (event, told) ∷ []) new) (sym (takes_clients old event told new t))
+            (subst (λ (page : ℕ). Runs encode decode (opening old.clients page) (r.0 ++ (event, told) ∷ []) new) (sym same) (runs_more (opening old.clients old.page) r.0 old event told new r.1 t)),
+        subst (λ (page : ℕ). 1 ≤ page) (sym same) r.2,
+      )
 
   -- whatever an event is answered, a reached state follows
   pub reached_after : (r : Result (Told T) EventFault) (old : State T) (event : Event T) (new : State T) → IsReached encode decode old → OnErr r (new ≡ old) → IfOk r (λ told. Takes encode decode old event told new) → IsReached encode decode new
@@ -110,7 +119,7 @@ module _ {T : Type 0} (encode : T → List ℕ) (decode : List ℕ → Option T)
   write_kind rows op call writes.Checks write w = subst (λ (c : CheckOp). IsGet c.request) (sym w.checks) tt
 
   read_kind : (rows : List (Row T)) (op : ℕ) (call : Call T) (read : ReadOp T) → ReadingStands decode rows op call read → ReadInKind read
-  read_kind rows op call (reads.Lists request) h = subst IsList (sym h.1) tt
+  read_kind rows op call (reads.Lists found request) h = subst IsList (sym h.asks) tt
   read_kind rows op call (reads.Gets id request) h = subst IsGet (sym h.1) tt
   read_kind rows op call (reads.Checks id (Some value) check) h = subst (λ (c : CheckOp). IsGet c.request) (sym h.checks) tt
   read_kind rows op call (reads.Checks id None check) h = absurd h
@@ -198,7 +207,7 @@ module _ {T : Type 0} (encode : T → List ℕ) (decode : List ℕ → Option T)
   served_row : (op : ℕ) (old new : StoreState) (request : Request) (reply : Reply) → AllGiven old → Serves request old reply new → new.failures ≡ 0 → RowOf op old new request reply
   served_row op old new (requests.Put path bytes mode) (replies.Put answer) all s honest = put_row op path bytes mode old new answer all s honest
   served_row op old new (requests.Get path known) (replies.Get answer) all s honest = inl (refl, get_files path known old new answer s honest)
-  served_row op old new (requests.List prefix) (replies.List answer) all s honest = inl (refl, (list_kept prefix old new answer s honest).files)
+  served_row op old new (requests.List prefix after limit) (replies.List answer) all s honest = inl (refl, (list_kept prefix after limit old new answer s honest).files)
   served_row op old new (requests.Delete path) (replies.Delete answer) all s honest = delete_row op path old new answer s honest
   served_row op old new (requests.Put path bytes mode) (replies.Get answer) all s honest = absurd s
   served_row op old new (requests.Put path bytes mode) (replies.List answer) all s honest = absurd s
@@ -206,9 +215,9 @@ module _ {T : Type 0} (encode : T → List ℕ) (decode : List ℕ → Option T)
   served_row op old new (requests.Get path known) (replies.Put answer) all s honest = absurd s
   served_row op old new (requests.Get path known) (replies.List answer) all s honest = absurd s
   served_row op old new (requests.Get path known) (replies.Delete answer) all s honest = absurd s
-  served_row op old new (requests.List prefix) (replies.Put answer) all s honest = absurd s
-  served_row op old new (requests.List prefix) (replies.Get answer) all s honest = absurd s
-  served_row op old new (requests.List prefix) (replies.Delete answer) all s honest = absurd s
+  served_row op old new (requests.List prefix after limit) (replies.Put answer) all s honest = absurd s
+  served_row op old new (requests.List prefix after limit) (replies.Get answer) all s honest = absurd s
+  served_row op old new (requests.List prefix after limit) (replies.Delete answer) all s honest = absurd s
   served_row op old new (requests.Delete path) (replies.Put answer) all s honest = absurd s
   served_row op old new (requests.Delete path) (replies.Get answer) all s honest = absurd s
   served_row op old new (requests.Delete path) (replies.List answer) all s honest = absurd s
@@ -219,9 +228,9 @@ module _ {T : Type 0} (encode : T → List ℕ) (decode : List ℕ → Option T)
       let trace : new.trace ≡ (old.trace ++ rows) ++ answer_row said = v.trace ∙ ap (λ more. (old.trace ++ rows) ++ more) (went_row op v.next.1 ∙ ap answer_row (sym v.tells)) in
       (rows, served_row op old.store new.store v.request v.reply st.know.files.given v.serves v.honest, trace, ap op_told v.tells ∙ went_op op v.next.1)
 
-  begin_adds : (s : State T) (client : ℕ) (call : Call T) → AddsRows s.trace s.store.files (events.Begin client call) (begun_as s client call (started encode call)).0 (begun_as s client call (started encode call)).1.trace (begun_as s client call (started encode call)).1.store.files
+  begin_adds : (s : State T) (client : ℕ) (call : Call T) → AddsRows s.trace s.store.files (events.Begin client call) (begun_as s client call (started s.page encode call)).0 (begun_as s client call (started s.page encode call)).1.trace (begun_as s client call (started s.page encode call)).1.store.files
   begin_adds s client call =
-      let start = started encode call in
+      let start = started s.page encode call in
       let op = sym (begun_op (next_op s) start.1) in
       (subst (λ (n : ℕ). (begun_as s client call start).1.trace ≡ (s.trace ++ Begun n call ∷ []) ++ answer_row (begun_as s client call start).0) op (ap (λ rows. (s.trace ++ Begun (next_op s) call ∷ []) ++ rows) (begun_row (next_op s) start.1)), refl)
 

@@ -34,17 +34,17 @@ use Rattle.txn_model.specs.Names.{world_names, world_boundary}
 use Rattle.txn_model.specs.History.{boundary}
 use Rattle.txn_model.specs.Doing.{Next, asked, or_no_memory, write_next, read_next, delete_next, turned}
 use Rattle.txn_model.specs.Machine.{effect_of}
-use Rattle.txn_model.proofs.Stands.{KnowStands, PuttingStands, CreatedStands, WritingStands, Reached, FoundStands, Room, ReadBelow, DeletingStands, RunStands, TurnStands, create, get_boundary, raise, remove_version}
+use Rattle.txn_model.proofs.Stands.{KnowStands, PuttingStands, CreatedStands, WritingStands, Reached, ListingStands, FoundStands, Room, ReadBelow, DeletingStands, RunStands, TurnStands, create, get_boundary, raise, remove_version}
 use Rattle.txn_model.proofs.Checks.{get_kept, list_kept, Leaves, Runs, runs_of, quiet, may_lack, KnowsOrLacks, boundary_got, decides}
 use Rattle.txn_model.proofs.WriteServes.{put_served, write_decided}
 use Rattle.txn_model.proofs.ReadServes.{list_served, get_served, read_checked}
 use Rattle.txn_model.proofs.BoundServes.{check_done, known_turn, raise_served, delete_checked, remove_served}
 
-module _ {T : Type 0} (decode : List ℕ → Option T) where
+module _ {T : Type 0} (decode : List ℕ → Option T) (page : ℕ) (room : 1 ≤ page) where
   -- a serve of an operation that runs, by the kind of its request
 
   abbrev pub AfterServe : Bool → List (Row T) → StoreState → StoreState → ℕ → Call T → Doing T → Request → Reply → Type 0
-  AfterServe refused rows old new op call doing request reply = Leaves decode rows old op (effect_of old.files request reply) new call (turned decode refused doing reply)
+  AfterServe refused rows old new op call doing request reply = Leaves decode rows old op (effect_of old.files request reply) new call (turned page decode refused doing reply)
 
   -- a get of the boundary file
   boundary_served : (rows : List (Row T)) (old new : StoreState) (op : ℕ) (call : Call T) (next : Reply → Next T) (reply : Reply) → KnowStands decode rows old → Serves get_boundary old reply new → new.failures ≡ 0 →
@@ -63,20 +63,20 @@ module _ {T : Type 0} (decode : List ℕ → Option T) where
   create_served rows old new op call write (replies.List answer) k r is w s honest refused = absurd s
   create_served rows old new op call write (replies.Delete answer) k r is w s honest refused = absurd s
 
-  listing_served : (refused : Bool) (rows : List (Row T)) (old new : StoreState) (op : ℕ) (call : Call T) (request : Request) (reply : Reply) → KnowStands decode rows old → Runs decode rows op call → call ≡ calls.Read →
-      Serves (requests.List world_names.dir) old reply new → new.failures ≡ 0 → AfterServe refused rows old new op call (Read (reads.Lists request)) (requests.List world_names.dir) reply
-  listing_served refused rows old new op call request (replies.List answer) k r is s honest =
-      quiet decode rows old new op call (or_no_memory refused (read_next (listed_turned world_names (reads.Lists request) answer))) k (list_kept world_names.dir old new answer s honest) honest
-      (may_lack decode refused rows new op call (read_next (listed_turned world_names (reads.Lists request) answer)) r (list_served decode rows old new op request call answer k r is s honest))
-  listing_served refused rows old new op call request (replies.Put answer) k r is s honest = absurd s
-  listing_served refused rows old new op call request (replies.Get answer) k r is s honest = absurd s
-  listing_served refused rows old new op call request (replies.Delete answer) k r is s honest = absurd s
+  listing_served : (refused : Bool) (rows : List (Row T)) (old new : StoreState) (op : ℕ) (call : Call T) (found : Option ℕ) (request : Request) (reply : Reply) → KnowStands decode rows old → Runs decode rows op call → (l : ListingStands decode rows call found request) →
+      Serves (requests.List world_names.dir l.after l.limit) old reply new → new.failures ≡ 0 → AfterServe refused rows old new op call (Read (reads.Lists found request)) (requests.List world_names.dir l.after l.limit) reply
+  listing_served refused rows old new op call found request (replies.List answer) k r l s honest =
+      quiet decode rows old new op call (or_no_memory refused (read_next (listed_turned world_names page (reads.Lists found request) found answer))) k (list_kept world_names.dir l.after l.limit old new answer s honest) honest
+      (may_lack decode refused rows new op call (read_next (listed_turned world_names page (reads.Lists found request) found answer)) r (list_served decode page room rows old new op found request call answer k r l s honest))
+  listing_served refused rows old new op call found request (replies.Put answer) k r l s honest = absurd s
+  listing_served refused rows old new op call found request (replies.Get answer) k r l s honest = absurd s
+  listing_served refused rows old new op call found request (replies.Delete answer) k r l s honest = absurd s
 
   getting_served : (refused : Bool) (rows : List (Row T)) (old new : StoreState) (op : ℕ) (call : Call T) (id : ℕ) (request : Request) (reply : Reply) → KnowStands decode rows old → Runs decode rows op call → FoundStands decode rows op call id →
       Serves (requests.Get (version_path world_names id) None) old reply new → new.failures ≡ 0 → AfterServe refused rows old new op call (Read (reads.Gets id request)) (requests.Get (version_path world_names id) None) reply
   getting_served refused rows old new op call id request (replies.Get answer) k r f s honest =
-      quiet decode rows old new op call (or_no_memory refused (read_next (got_turned world_names world_boundary decode (reads.Gets id request) id answer))) k (get_kept (version_path world_names id) old new answer s honest) honest
-      (may_lack decode refused rows new op call (read_next (got_turned world_names world_boundary decode (reads.Gets id request) id answer)) r (get_served decode rows old new op id request call answer k r f s honest))
+      quiet decode rows old new op call (or_no_memory refused (read_next (got_turned world_names world_boundary page decode (reads.Gets id request) id answer))) k (get_kept (version_path world_names id) old new answer s honest) honest
+      (may_lack decode refused rows new op call (read_next (got_turned world_names world_boundary page decode (reads.Gets id request) id answer)) r (get_served decode page room rows old new op id request call answer k r f s honest))
   getting_served refused rows old new op call id request (replies.Put answer) k r f s honest = absurd s
   getting_served refused rows old new op call id request (replies.List answer) k r f s honest = absurd s
   getting_served refused rows old new op call id request (replies.Delete answer) k r f s honest = absurd s
@@ -111,14 +111,14 @@ module _ {T : Type 0} (decode : List ℕ → Option T) where
       let own : request ≡ get_boundary = sym (same_Some write.check.request request (sym (ap (λ (st : WriteStep). Some (write_asked_at st write)) is) ∙ asks)) ∙ ap (λ (c : CheckOp). c.request) w.checks in
       let runs = runs_of decode rows old op call (Write write) r in
       as_asked refused rows old new op call (Write write) request get_boundary reply own s (λ s'.
-      boundary_served rows old new op call (turned decode refused (Write write)) reply k s' honest (λ answer known.
+      boundary_served rows old new op call (turned page decode refused (Write write)) reply k s' honest (λ answer known.
       subst (λ (st : WriteStep). TurnStands decode rows new op call (write_next (write_turned_at st write (replies.Get answer)))) (sym is) (write_decided decode rows new op write call (decided write.check.id (boundary_known answer)) runs w (decides decode rows new write.check.id (boundary_known answer) known))))
 
   after_read : (refused : Bool) (rows : List (Row T)) (old new : StoreState) (op : ℕ) (call : Call T) (read : ReadOp T) (request : Request) (reply : Reply) → asked (Read read) ≡ Some request → KnowStands decode rows old → RunStands decode rows old op call (Read read) →
       Serves request old reply new → new.failures ≡ 0 → AfterServe refused rows old new op call (Read read) request reply
-  after_read refused rows old new op call (reads.Lists own) request reply asks k r s honest =
-      as_asked refused rows old new op call (Read (reads.Lists own)) request (requests.List world_names.dir) reply (sym (same_Some own request asks) ∙ r.stands.1) s
-      (λ s'. listing_served refused rows old new op call own reply k (runs_of decode rows old op call (Read (reads.Lists own)) r) r.stands.0 s' honest)
+  after_read refused rows old new op call (reads.Lists found own) request reply asks k r s honest =
+      as_asked refused rows old new op call (Read (reads.Lists found own)) request (requests.List world_names.dir r.stands.after r.stands.limit) reply (sym (same_Some own request asks) ∙ r.stands.asks) s
+      (λ s'. listing_served refused rows old new op call found own reply k (runs_of decode rows old op call (Read (reads.Lists found own)) r) r.stands s' honest)
   after_read refused rows old new op call (reads.Gets id own) request reply asks k r s honest =
       as_asked refused rows old new op call (Read (reads.Gets id own)) request (requests.Get (version_path world_names id) None) reply (sym (same_Some own request asks) ∙ r.stands.1) s
       (λ s'. getting_served refused rows old new op call id own reply k (runs_of decode rows old op call (Read (reads.Gets id own)) r) r.stands.0 s' honest)
@@ -128,9 +128,9 @@ module _ {T : Type 0} (decode : List ℕ → Option T) where
       let doing : Doing T = Read (reads.Checks id (Some value) check) in
       let runs = runs_of decode rows old op call doing r in
       as_asked refused rows old new op call doing request get_boundary reply (sym (same_Some check.request request asks) ∙ ap (λ (c : CheckOp). c.request) h.checks) s (λ s'.
-      boundary_served rows old new op call (turned decode refused doing) reply k s' honest (λ answer known.
-      subst (λ (n : ℕ). TurnStands decode rows new op call (or_no_memory refused (read_next (read_decided world_names (reads.Checks id (Some value) check) id (Some value) check (decided n (boundary_known answer)))))) (sym same)
-      (may_lack decode refused rows new op call _ runs (read_checked decode rows new op id value check call (decided id (boundary_known answer)) runs h (decides decode rows new id (boundary_known answer) known)))))
+      boundary_served rows old new op call (turned page decode refused doing) reply k s' honest (λ answer known.
+      subst (λ (n : ℕ). TurnStands decode rows new op call (or_no_memory refused (read_next (read_decided world_names page (reads.Checks id (Some value) check) id (Some value) check (decided n (boundary_known answer)))))) (sym same)
+      (may_lack decode refused rows new op call _ runs (read_checked decode page room rows new op id value check call (decided id (boundary_known answer)) runs h (decides decode rows new id (boundary_known answer) known)))))
   after_read refused rows old new op call (reads.Checks id None check) request reply asks k r s honest = absurd r.stands
 
   after_advance : (refused : Bool) (rows : List (Row T)) (old new : StoreState) (op : ℕ) (call : Call T) (advance : AdvanceOp) (request : Request) (reply : Reply) → asked {T = T} (Advance advance) ≡ Some request → KnowStands decode rows old → RunStands decode rows old op call (Advance advance) →
@@ -139,7 +139,7 @@ module _ {T : Type 0} (decode : List ℕ → Option T) where
       let doing : Doing T = Advance (advances.Gets to own) in
       let runs = runs_of decode rows old op call doing r in
       as_asked refused rows old new op call doing request get_boundary reply (sym (same_Some own request asks) ∙ r.stands.2) s (λ s'.
-      boundary_served rows old new op call (turned decode refused doing) reply k s' honest (λ answer known.
+      boundary_served rows old new op call (turned page decode refused doing) reply k s' honest (λ answer known.
       may_lack decode refused rows new op call _ runs (known_turn decode rows new op to own call (boundary_known answer) runs r.stands.0 r.stands.1 known)))
   after_advance refused rows old new op call (advances.Puts to own) request reply asks k r s honest =
       let h = r.stands.2 in
@@ -154,7 +154,7 @@ module _ {T : Type 0} (decode : List ℕ → Option T) where
       let runs = runs_of decode rows old op call doing r in
       let own : request ≡ get_boundary = sym (same_Some delete.check.request request (sym (ap (λ (st : DeleteStep). Some (delete_asked_at st delete)) is) ∙ asks)) ∙ ap (λ (c : CheckOp). c.request) h.checks in
       as_asked refused rows old new op call doing request get_boundary reply own s (λ s'.
-      boundary_served rows old new op call (turned decode refused doing) reply k s' honest (λ answer known.
+      boundary_served rows old new op call (turned page decode refused doing) reply k s' honest (λ answer known.
       subst (λ (st : DeleteStep). TurnStands decode rows new op call (delete_next (delete_turned_at st delete (replies.Get answer)))) (sym is) (delete_checked decode rows new op delete call (decided delete.check.id (boundary_known answer)) runs h (decides decode rows new delete.check.id (boundary_known answer) known))))
   after_delete deletes.Removes refused rows old new op call delete request reply is asks k r s honest =
       let h = r.stands.0 in
@@ -168,7 +168,7 @@ module _ {T : Type 0} (decode : List ℕ → Option T) where
       let doing : Doing T = Check check in
       let own : request ≡ get_boundary = sym (same_Some check.request request asks) ∙ ap (λ (c : CheckOp). c.request) r.stands.1 in
       as_asked refused rows old new op call doing request get_boundary reply own s (λ s'.
-      boundary_served rows old new op call (turned decode refused doing) reply k s' honest (λ answer known. check_done decode rows new op check call (decided check.id (boundary_known answer)) (runs_of decode rows old op call doing r) r.stands.0 (decides decode rows new check.id (boundary_known answer) known)))
+      boundary_served rows old new op call (turned page decode refused doing) reply k s' honest (λ answer known. check_done decode rows new op check call (decided check.id (boundary_known answer)) (runs_of decode rows old op call doing r) r.stands.0 (decides decode rows new check.id (boundary_known answer) known)))
 
   pub after_serve : (refused : Bool) (rows : List (Row T)) (old new : StoreState) (op : ℕ) (call : Call T) (doing : Doing T) (request : Request) (reply : Reply) → asked doing ≡ Some request → KnowStands decode rows old → RunStands decode rows old op call doing →
       Serves request old reply new → new.failures ≡ 0 → AfterServe refused rows old new op call doing request reply

@@ -1,10 +1,10 @@
 -- The invariant: what stands of the history, of the store, of an operation that runs, and of a whole state.
-use Rattle.std.proofs.Common.{◌≡◌, ◌≢◌, ℕ, ◌+◌, ◌<◌, ◌≤◌, ◌^◌, List, ◌∷◌, [], ◌++◌, Contains, length, slice_get, Bool, true, false, Option, Some, None, is_some, ◌⊎◌}
+use Rattle.std.proofs.Common.{◌≡◌, ◌≢◌, ℕ, ◌+◌, ◌<◌, ◌≤◌, ◌^◌, List, ◌∷◌, [], ◌++◌, Contains, length, slice_get, Bool, true, false, Option, Some, None, is_some, ◌⊎◌, refl}
 use Rattle.std.specs.Option.{option_map}
 use Rattle.std.specs.FinMap.{get}
 use Rattle.std.specs.Fmt.{decimal}
-use Rattle.txn_store.specs.Paths.{Segments}
-use Rattle.txn_store.specs.Store.{Files, State as StoreState}
+use Rattle.txn_store.specs.Paths.{Segments, is_below}
+use Rattle.txn_store.specs.Store.{Files, State as StoreState, is_above as is_after}
 use Rattle.txn_store.specs.VersionName.{version_path}
 use Rattle.txn_store.specs.declared.store.Got.{Got}
 use Rattle.txn_store.specs.declared.store.PutMode.TheVariants.{Create}
@@ -74,6 +74,18 @@ bytes_at versions n = option_map (λ version. version.1) (numbered versions n)
 abbrev pub AllGiven : StoreState → Type 0
 AllGiven store = (path : Segments) (got : Got) → get store.files path ≡ Some got → Contains store.given got.token
 
+-- the path of a version
+abbrev pub IsVersionPath : Segments → Type 0
+IsVersionPath path = (n : ℕ) × (n < 2 ^ 64) × (path ≡ version_path world_names n)
+
+-- each file below the folder is a version
+abbrev pub AllVersions : Files → Type 0
+AllVersions files = (path : Segments) (got : Got) → is_below world_names.dir path ≡ true → get files path ≡ Some got → IsVersionPath path
+
+-- each version that does not stand after a path is at most what was found
+abbrev pub Passed : Option Segments → Option ℕ → Type 0
+Passed after found = (n : ℕ) → n < 2 ^ 64 → is_after after (version_path world_names n) ≡ false → (most : ℕ) × (found ≡ Some most) × (n ≤ most)
+
 module _ {T : Type 0} (decode : List ℕ → Option T) where
   -- the rows are one history, whose versions count up from 1, with the boundary below the newest
   pub record HistoryStands (rows : List (Row T)) : Type 0 where
@@ -93,6 +105,7 @@ module _ {T : Type 0} (decode : List ℕ → Option T) where
     pub gone : (n : ℕ) → 0 < n → n ≤ newest rows → is_there store.files n ≡ false → was_erased rows n ≡ true
     pub says : (got : Got) → get store.files world_boundary ≡ Some got → boundary_read got.bytes ≡ Some (boundary rows)
     pub given : AllGiven store
+    pub versions : AllVersions store.files
     pub kept : HasContents store.files (stored rows)
     pub left : store.left + put_count rows ≡ 18446744073709551615
     pub honest : store.failures ≡ 0
@@ -135,6 +148,24 @@ module _ {T : Type 0} (decode : List ℕ → Option T) where
   WritingStands rows op call writes.Puts write = PuttingStands rows op call write
   WritingStands rows op call writes.Checks write = CreatedStands rows op call write
 
+  -- what was found is an id of the history
+  abbrev pub KnowsFound : List (Row T) → Option ℕ → Type 0
+  KnowsFound rows found = (n : ℕ) → found ≡ Some n → (0 < n) × (n ≤ newest rows)
+
+  -- A read that asks for a page of its listing, and the greatest id that the pages before it listed. Each version that they passed is at most that.
+  pub record ListingStands (rows : List (Row T)) (call : Call T) (found : Option ℕ) (request : Request) : Type 0 where
+    pub call_is : call ≡ calls.Read
+    pub after : Option Segments
+    pub limit : ℕ
+    pub room : 1 ≤ limit
+    pub asks : request ≡ requests.List world_names.dir after limit
+    pub passed : Passed after found
+    pub known : KnowsFound rows found
+
+  -- a read that asks for its first page
+  pub first_page : (page : ℕ) → 1 ≤ page → (rows : List (Row T)) (call : Call T) → call ≡ calls.Read → ListingStands rows call None (requests.List world_names.dir None page)
+  first_page page room rows call is = record { call_is = is; after = None; limit = page; room = room; asks = refl; passed = λ n fits none. cc; known = λ n e. cc }
+
   -- a read that has found what was the newest version at a row of its call
   pub record FoundStands (rows : List (Row T)) (op : ℕ) (call : Call T) (id : ℕ) : Type 0 where
     pub call_is : call ≡ calls.Read
@@ -149,7 +180,7 @@ module _ {T : Type 0} (decode : List ℕ → Option T) where
     pub own : (id ≤ boundary rows) ⊎ (decode found.version.1 ≡ Some value)
 
   abbrev pub ReadingStands : List (Row T) → ℕ → Call T → ReadOp T → Type 0
-  ReadingStands rows op call (reads.Lists request) = (call ≡ calls.Read) × (request ≡ requests.List world_names.dir)
+  ReadingStands rows op call (reads.Lists found request) = ListingStands rows call found request
   ReadingStands rows op call (reads.Gets id request) = FoundStands rows op call id × (request ≡ requests.Get (version_path world_names id) None)
   ReadingStands rows op call (reads.Checks id (Some value) check) = HoldingStands rows op call id value check
   ReadingStands rows op call (reads.Checks id None check) = ⊥
@@ -254,6 +285,7 @@ module _ {T : Type 0} (decode : List ℕ → Option T) where
 
   -- What stands of a state, but for one operation. No operation has number 0.
   pub record StandsBut (s : State T) (hole : ℕ) : Type 0 where
+    pub paged : 1 ≤ s.page
     pub know : KnowStands s.trace s.store
     pub count : length s.operations ≡ begun_count s.trace
     pub zero : was_begun s.trace 0 ≡ false

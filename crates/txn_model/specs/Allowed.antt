@@ -38,7 +38,7 @@ abbrev pub Changes : Files → Request → Files → Type 0
 Changes before (requests.Put path bytes mode) after =
     (token : ℕ) × (after ≡ insert before path (record { bytes = bytes; token = token })) × (get before path ≢ Some (record { bytes = bytes; token = token }))
 Changes before (requests.Get path known) after = ⊥
-Changes before (requests.List prefix) after = ⊥
+Changes before (requests.List prefix from limit) after = ⊥
 Changes before (requests.Delete path) after = (after ≡ remove before path) × (is_some (get before path) ≡ true)
 
 module _ {T : Type 0} where

@@ -33,11 +33,11 @@ use Rattle.txn_model.specs.Names.{world_names, world_boundary}
 abbrev pub IsPut : Request → Type 0
 IsPut (requests.Put path bytes mode) = Unit {0}
 IsPut (requests.Get path known) = ⊥
-IsPut (requests.List prefix) = ⊥
+IsPut (requests.List prefix after limit) = ⊥
 IsPut (requests.Delete path) = ⊥
 
 abbrev pub IsList : Request → Type 0
-IsList (requests.List prefix) = Unit {0}
+IsList (requests.List prefix after limit) = Unit {0}
 IsList (requests.Put path bytes mode) = ⊥
 IsList (requests.Get path known) = ⊥
 IsList (requests.Delete path) = ⊥
@@ -45,14 +45,14 @@ IsList (requests.Delete path) = ⊥
 abbrev pub IsGet : Request → Type 0
 IsGet (requests.Get path known) = Unit {0}
 IsGet (requests.Put path bytes mode) = ⊥
-IsGet (requests.List prefix) = ⊥
+IsGet (requests.List prefix after limit) = ⊥
 IsGet (requests.Delete path) = ⊥
 
 abbrev pub IsDelete : Request → Type 0
 IsDelete (requests.Delete path) = Unit {0}
 IsDelete (requests.Put path bytes mode) = ⊥
 IsDelete (requests.Get path known) = ⊥
-IsDelete (requests.List prefix) = ⊥
+IsDelete (requests.List prefix after limit) = ⊥
 
 -- a write asks for a put, and then for a get
 abbrev pub WriteInKind : WriteStep → WriteOp → Type 0
@@ -60,7 +60,7 @@ WriteInKind writes.Puts op = IsPut op.put
 WriteInKind writes.Checks op = IsGet op.check.request
 
 abbrev pub ReadInKind : {T : Type 0} → ReadOp T → Type 0
-ReadInKind (reads.Lists request) = IsList request
+ReadInKind (reads.Lists found request) = IsList request
 ReadInKind (reads.Gets id request) = IsGet request
 ReadInKind (reads.Checks id (Some value) check) = IsGet check.request
 ReadInKind (reads.Checks id None check) = ⊥
@@ -160,14 +160,14 @@ module _ {T : Type 0} where
   abbrev pub delete_next : DeleteOp × Turned (Result (Unit {0}) ℕ) → Next T
   delete_next next = next_of (Delete next.0) (done_answer next.1)
 
-module _ {T : Type 0} (encode : T → List ℕ) where
-  -- how a call starts
+module _ {T : Type 0} (page : ℕ) (encode : T → List ℕ) where
+  -- how a call starts, where a page of a listing has so many files at most
   abbrev pub started : Call T → Next T
   started (calls.Write base value) =
       if number_of base == 18446744073709551615
       then (Ended, Some (answers.Refused 10))
       else (Write (write_started world_names world_boundary base (encode value)), None)
-  started calls.Read = (Read (read_started world_names), None)
+  started calls.Read = (Read (read_started world_names page), None)
   started (calls.Check id) = (Check (check_started world_boundary id), None)
   started (calls.Advance to) = (Advance (advance_started world_boundary to), None)
   started (calls.Delete id) = (Delete (delete_started world_names world_boundary id), None)
@@ -181,11 +181,11 @@ module _ {T : Type 0} (encode : T → List ℕ) (decode : List ℕ → Option T)
   ReadsBack (calls.Advance to) = Unit {0}
   ReadsBack (calls.Delete id) = Unit {0}
 
-module _ {T : Type 0} (decode : List ℕ → Option T) where
+module _ {T : Type 0} (page : ℕ) (decode : List ℕ → Option T) where
   -- what it makes of a reply, where a growth may have been refused: a read and an advance grow, the others do not
   abbrev pub turned : Bool → Doing T → Reply → Next T
   turned refused (Write op) reply = write_next (write_turned op reply)
-  turned refused (Read op) reply = or_no_memory refused (read_next (read_turned world_names world_boundary decode op reply))
+  turned refused (Read op) reply = or_no_memory refused (read_next (read_turned world_names world_boundary page decode op reply))
   turned refused (Check op) reply = check_next op (check_turned op reply)
   turned refused (Advance op) reply = or_no_memory refused (advance_next (advance_turned world_boundary op reply))
   turned refused (Delete op) reply = delete_next (delete_turned op reply)

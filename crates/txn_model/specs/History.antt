@@ -40,28 +40,28 @@ bytes_as id (Some version) = if version.0 == id then Some version.1 else None
 abbrev pub created : Request → Option Version
 created (requests.Put path bytes mode) = option_map (λ id. (id, bytes)) (version_of world_names path)
 created (requests.Get path known) = None
-created (requests.List prefix) = None
+created (requests.List prefix after limit) = None
 created (requests.Delete path) = None
 
 -- the boundary that it puts in its file
 abbrev pub raised : Request → Option ℕ
 raised (requests.Put path bytes mode) = if is_boundary path then boundary_read bytes else None
 raised (requests.Get path known) = None
-raised (requests.List prefix) = None
+raised (requests.List prefix after limit) = None
 raised (requests.Delete path) = None
 
 -- the id whose name it removes
 abbrev pub removed : Request → Option ℕ
 removed (requests.Put path bytes mode) = None
 removed (requests.Get path known) = None
-removed (requests.List prefix) = None
+removed (requests.List prefix after limit) = None
 removed (requests.Delete path) = version_of world_names path
 
 -- a put takes a token of the store
 abbrev pub is_put : Request → Bool
 is_put (requests.Put path bytes mode) = true
 is_put (requests.Get path known) = false
-is_put (requests.List prefix) = false
+is_put (requests.List prefix after limit) = false
 is_put (requests.Delete path) = false
 
 -- The contents of the store: the bytes under each path, tokens aside.
@@ -71,7 +71,7 @@ Contents = FinMap path_cmp (List ℕ)
 abbrev pub contents_after : Contents → Request → Contents
 contents_after contents (requests.Put path bytes mode) = insert contents path bytes
 contents_after contents (requests.Get path known) = contents
-contents_after contents (requests.List prefix) = contents
+contents_after contents (requests.List prefix after limit) = contents
 contents_after contents (requests.Delete path) = remove contents path
 
 -- files with these contents

@@ -1,5 +1,5 @@
 -- The world's step, over the store's contract.
-use Rattle.std.specs.Prelude.{◌≡◌, ℕ, List, [], ◌∷◌, ◌++◌, ◌+◌, ◌-◌, ◌^◌, Bool, true, false, if◌then◌else◌, Option, Some, None, Result, Ok, Err, length, slice_set, is_some, is_ok, map}
+use Rattle.std.specs.Prelude.{◌≡◌, ℕ, List, [], ◌∷◌, ◌++◌, ◌+◌, ◌-◌, ◌^◌, ◌≤◌, Bool, true, false, if◌then◌else◌, Option, Some, None, Result, Ok, Err, length, slice_set, is_some, is_ok, map}
 use Rattle.std.specs.FinMap.{empty, get}
 use Rattle.txn_store.specs.Store.{Files, State as StoreState}
 use Rattle.txn_store.specs.Requests.{Serves}
@@ -28,6 +28,8 @@ use Rattle.txn_model.specs.OneHistory.{has_known_base, has_low_boundary}
 -- all of a world but its codec and its allocator
 pub record State (T : Type 0) : Type 0 where
   pub clients : ℕ
+  -- how many files a page of a listing has at most
+  pub page : ℕ
   pub store : StoreState
   pub operations : List (Operation T)
   pub trace : List (Row T)
@@ -76,7 +78,7 @@ took (replies.Delete (Err error)) = false
 abbrev pub may_change : Files → Request → Option Request
 may_change files (requests.Put path bytes mode) = Some (requests.Put path bytes mode)
 may_change files (requests.Get path known) = None
-may_change files (requests.List prefix) = None
+may_change files (requests.List prefix after limit) = None
 may_change files (requests.Delete path) = if is_some (get files path) then Some (requests.Delete path) else None
 
 -- the request that changed the store, by the files before it and its reply
@@ -87,13 +89,13 @@ effect_of files request reply = if took reply then may_change files request else
 abbrev pub boundary_after : ℕ → Request → ℕ
 boundary_after before (requests.Put path bytes mode) = if is_boundary path then boundary_said (Some bytes) else before
 boundary_after before (requests.Get path known) = before
-boundary_after before (requests.List prefix) = before
+boundary_after before (requests.List prefix after limit) = before
 boundary_after before (requests.Delete path) = if is_boundary path then 0 else before
 
 module _ {T : Type 0} where
   -- a world in which nothing has happened
-  abbrev pub opening : ℕ → State T
-  opening clients = record { clients = clients; store = empty_store; operations = []; trace = [] }
+  abbrev pub opening : ℕ → ℕ → State T
+  opening clients page = record { clients = clients; page = page; store = empty_store; operations = []; trace = [] }
 
   abbrev pub answer_rows : ℕ → Option (Answer T) → List (Row T)
   answer_rows op None = []
@@ -140,16 +142,17 @@ fault_met (Err faults.UnknownBase) = Some faults.UnknownBase
 fault_met (Err faults.BoundaryTooHigh) = Some faults.BoundaryTooHigh
 fault_met (Err faults.NoMemory) = None
 
-module _ {T : Type 0} (decode : List ℕ → Option T) where
+module _ {T : Type 0} (page : ℕ) (decode : List ℕ → Option T) where
   -- the operation takes a reply
   abbrev pub AdvancesAt : List (Operation T) → List (Operation T) → ℕ → Option (Operation T) → Reply → Option (Answer T) → Type 0
   AdvancesAt old new op None reply answer = ⊥
   AdvancesAt old new op (Some operation) reply answer =
-      (doing : Doing T) × Turns decode operation.doing reply doing answer × (new ≡ with_doing old op operation doing)
+      (doing : Doing T) × Turns page decode operation.doing reply doing answer × (new ≡ with_doing old op operation doing)
 
   abbrev pub Advances : List (Operation T) → List (Operation T) → ℕ → Reply → Option (Answer T) → Type 0
   Advances old new op reply answer = AdvancesAt old new op (numbered old op) reply answer
 
+module _ {T : Type 0} (decode : List ℕ → Option T) where
   -- A serve: the operation's request is served by the store, which never fails, and the operation takes the reply.
   pub record Served (old : State T) (op : ℕ) (said : Told T) (new : State T) : Type 0 where
     pub operation : Operation T
@@ -162,9 +165,10 @@ module _ {T : Type 0} (decode : List ℕ → Option T) where
     -- a growth of the operation was refused
     pub refused : Bool
     pub next : Next T
-    pub turns : next ≡ turned decode refused operation.doing reply
+    pub turns : next ≡ turned old.page decode refused operation.doing reply
     pub tells : said ≡ told_of (told.Went op) op next.1
     pub clients : new.clients ≡ old.clients
+    pub page : new.page ≡ old.page
     pub operations : new.operations ≡ with_doing old.operations op operation next.0
     pub trace : new.trace ≡ (old.trace ++ effect_rows op (effect_of old.store.files request reply)) ++ answer_rows op next.1
 
@@ -172,7 +176,7 @@ module _ {T : Type 0} (encode : T → List ℕ) (decode : List ℕ → Option T)
   -- A begin: its call's operation starts.
   pub record Begins (old : State T) (client : ℕ) (call : Call T) (told : Told T) (new : State T) : Type 0 where
     pub reads_back : ReadsBack encode decode call
-    pub step : begun_as old client call (started encode call) ≡ (told, new)
+    pub step : begun_as old client call (started old.page encode call) ≡ (told, new)
 
   abbrev pub Steps : State T → Event T → Told T → State T → Type 0
   Steps old (events.Begin client call) told new = Begins old client call told new
@@ -205,6 +209,6 @@ module _ {T : Type 0} (encode : T → List ℕ) (decode : List ℕ → Option T)
   Runs old [] new = new ≡ old
   Runs old (taken ∷ rest) new = (middle : State T) × Takes old taken.0 taken.1 middle × Runs middle rest new
 
-  -- some events lead here from a world in which nothing has happened
+  -- some events lead here from a world in which nothing has happened, where a page has room for a file at least
   abbrev pub IsReached : State T → Type 0
-  IsReached s = (taken : List (Event T × Told T)) × Runs (opening s.clients) taken s
+  IsReached s = (taken : List (Event T × Told T)) × Runs (opening s.clients s.page) taken s × (1 ≤ s.page)

@@ -48,7 +48,7 @@ pub fn start<T: Drop, C: ObjectCodec<T>>(
 ) -> Result<(Doing<T>, Option<u8>), AllocError>
     requires names { layout.now.names ≡ world_names }
     requires boundary { layout.now.boundary ≡ world_boundary }
-    ensures started { IfOk result (λ start. (start.0, refusal_of_number start.1) ≡ started (C.encoded layout.now.codec) call.now) }
+    ensures started { IfOk result (λ start. (start.0, refusal_of_number start.1) ≡ started layout.now.page (C.encoded layout.now.codec) call.now) }
     ensures reads_back { IfOk result (λ _. ReadsBack (C.encoded layout.now.codec) (C.decoded layout.now.codec) call.now) }
 {
     match call {
@@ -134,7 +134,7 @@ impl<T: Clone> Doing<T> {
         requires names { layout.now.names ≡ world_names }
         requires boundary { layout.now.boundary ≡ world_boundary }
         requires asked { IsReply self.old reply }
-        ensures turned { Turns (C.decoded layout.now.codec) self.old reply self.new (first_of result) }
+        ensures turned { Turns layout.now.page (C.decoded layout.now.codec) self.old reply self.new (first_of result) }
         ensures twice { IfSome result (λ pair. pair.1 ≡ pair.0) }
     {
         match self {

@@ -1,5 +1,5 @@
 //! Laws that every trace of a world obeys, whatever the events: it is one history, and what follows of that.
-ghost use Rattle.std.specs.Prelude.{List};
+ghost use Rattle.std.specs.Prelude.{List, ◌≤◌};
 ghost use Rattle.txn_model.specs.Machine.{State, opening, Runs};
 ghost use Rattle.txn_model.specs.OneHistory.{IsOneHistory};
 ghost use Rattle.txn_model.specs.Laws.{NeverFalls, KeepsAbove, HasOneWriter};
@@ -9,9 +9,9 @@ ghost use Rattle.txn_model.specs.declared.trace.Row.{Row};
 
 use txn_types::codec::ObjectCodec;
 
-/// Whatever events are taken, in whatever order, the trace is one history.
+/// Whatever events are taken, in whatever order, the trace is one history, where a page has room for a file at least.
 pub fn one_history<T: Drop, C: ObjectCodec<T>>(_codec: &C)
-    ensures { (clients : _) (taken : List (Event T × Told T)) (state : State T) → Runs (C.encoded _codec.now) (C.decoded _codec.now) (opening clients) taken state → IsOneHistory (C.decoded _codec.now) state.trace }
+    ensures { (clients page : _) (taken : List (Event T × Told T)) (state : State T) → 1 ≤ page → Runs (C.encoded _codec.now) (C.decoded _codec.now) (opening clients page) taken state → IsOneHistory (C.decoded _codec.now) state.trace }
 {}
 
 /// The boundary never falls.

@@ -15,7 +15,7 @@ use Rattle.txn_script.specs.declared.stop.Stop.TheVariants as stops
 use Rattle.txn_script.specs.Lines.{lines_of, is_skipped, kept}
 use Rattle.txn_script.specs.Grammar.{Says}
 use Rattle.txn_script.specs.Printed.{with_feed, entry_text, entries_text, boundary_text, erased_text, end_text}
-use Rattle.txn_script.specs.Script.{EventSteps, MayStand, LineSteps, Plays, EndsWith, IsBadNext, IsBadLine, IsFront, IsEndFront, IsPrinted, IsPrintedBefore, IsFrontPrinted, StopsAfter}
+use Rattle.txn_script.specs.Script.{Stage, IsPage, PageSteps, EventSteps, MayStand, LineSteps, Plays, EndsWith, IsBadNext, IsBadLine, IsFront, IsEndFront, IsPrinted, IsPrintedBefore, IsFrontPrinted, StopsAfter}
 use Rattle.txn_script.proofs.Steps.{both_after}
 use Rattle.txn_script.specs.Reading.{OnBadLine, SkipsTo, NextIs, ReadsNext, MeetsBad, Opens, OpensBad}
 use Rattle.txn_script.specs.Printing.{Misplaced, StopsLine, StopsInEntries, StopsInEnd}
@@ -54,7 +54,7 @@ pub record Ended (s : State Record) (values : List Record) (ids : List ℕ) : Ty
   pub erased : AreErased s.trace ids
 
 -- what was printed of the end lines, and what was still to print
-end_front : (s : State Record) (values : List Record) (ids text more : List ℕ) → Ended s values ids → text ++ more ≡ end_text values (boundary s.trace) ids → IsEndFront (Some s) [] text
+end_front : (s : State Record) (values : List Record) (ids text more : List ℕ) → Ended s values ids → text ++ more ≡ end_text values (boundary s.trace) ids → IsEndFront (Some (record { state = s; opened = None })) [] text
 end_front s values ids text more are e = inr (more, record { values = values; ids = ids; entries = are.entries; erased = are.erased; whole = e })
 
 pub entries_front : (stop : Stop) (s : State Record) (values : List Record) (ids : List ℕ) (old new : Option (List ℕ)) → Ended s values ids → StopsInEntries stop values old new → StopsInEnd stop s old new
@@ -90,14 +90,14 @@ kept_same : (before skipped : List (List ℕ)) → kept skipped ≡ [] → kept 
 kept_same before skipped none = kept-append before skipped ∙ ap (λ ls. kept before ++ ls) none ∙ append-nil (kept before)
 
 -- one more line
-plays_push : (old mid new : Option (State Record)) (ls : List (List ℕ)) (bytes text first : List ℕ) (line : Line) → Plays old ls text mid → Says bytes line → MayStand mid line → LineSteps mid line first new → Plays old (ls ++ bytes ∷ []) (text ++ first) new
+plays_push : (old mid new : Option Stage) (ls : List (List ℕ)) (bytes text first : List ℕ) (line : Line) → Plays old ls text mid → Says bytes line → MayStand mid line → LineSteps mid line first new → Plays old (ls ++ bytes ∷ []) (text ++ first) new
 plays_push old mid new [] bytes text first line plays says may step =
     (line, first, new, [], says, subst (λ s. MayStand s line) plays.1 may, subst (λ s. LineSteps s line first new) plays.1 step, (refl, refl), ap (λ t. t ++ first) plays.0 ∙ sym (append-nil first))
 plays_push old mid new (l ∷ ls) bytes text first line plays says may step =
     (plays.0, plays.1, plays.2, plays.3 ++ first, plays.4, plays.5, plays.6, plays_push plays.2 mid new ls bytes plays.3 first line plays.7 says may step, ap (λ t. t ++ first) plays.8 ∙ append_assoc plays.1 plays.3 first)
 
 -- So many lines of the input were taken: what they print, the world after them, and the bytes that are left.
-pub record Taking (input : List ℕ) (number : ℕ) (left : List ℕ) (stage : Option (State Record)) (text : List ℕ) : Type 0 where
+pub record Taking (input : List ℕ) (number : ℕ) (left : List ℕ) (stage : Option Stage) (text : List ℕ) : Type 0 where
   pub before : List (List ℕ)
   pub lines : lines_of input ≡ before ++ lines_of left
   pub count : number ≡ length before
@@ -106,7 +106,7 @@ pub record Taking (input : List ℕ) (number : ℕ) (left : List ℕ) (stage : O
 nothing_taken : (input : List ℕ) → Taking input 0 input None []
 nothing_taken input = record { before = []; lines = refl; count = refl; plays = (refl, refl) }
 
-take_next : (input left after : List ℕ) (n m : ℕ) (old new : Option (State Record)) (text first : List ℕ) (line : Line) → Taking input n left old text → NextIs left n after m (Some line) → MayStand old line → LineSteps old line first new → Taking input m after new (text ++ first)
+take_next : (input left after : List ℕ) (n m : ℕ) (old new : Option Stage) (text first : List ℕ) (line : Line) → Taking input n left old text → NextIs left n after m (Some line) → MayStand old line → LineSteps old line first new → Taking input m after new (text ++ first)
 take_next input left after n m old new text first line on next may step =
     let bytes = next.0 in
     let skipped = next.1.skipped in
@@ -122,7 +122,7 @@ take_next input left after n m old new text first line on next may step =
     }
 
 -- the next line that is left is bad
-bad_next : (input left : List ℕ) (n m : ℕ) (stage : Option (State Record)) (text : List ℕ) (rest : List (List ℕ)) → Taking input n left stage text → SkipsTo left n m rest → IsBadNext stage rest → IsBadLine input m text
+bad_next : (input left : List ℕ) (n m : ℕ) (stage : Option Stage) (text : List ℕ) (rest : List (List ℕ)) → Taking input n left stage text → SkipsTo left n m rest → IsBadNext stage rest → IsBadLine input m text
 bad_next input left n m stage text rest on skips bad =
     record {
       before = on.before ++ skips.skipped;
@@ -135,36 +135,41 @@ bad_next input left n m stage text rest on skips bad =
     }
 
 -- What was printed so far, and what is left of the input.
-abbrev pub Playing : Option (List ℕ) → Option (List ℕ) → ℕ → Option (List ℕ) → Option (List ℕ) → State Record → Type 0
+abbrev pub Playing : Option (List ℕ) → Option (List ℕ) → ℕ → Option (List ℕ) → Option (List ℕ) → Stage → Type 0
 Playing old new number out now world = IfSome old (λ input. (left : List ℕ) × (text : List ℕ) × (new ≡ Some left) × Taking input number left (Some world) text × Appends out now text)
 
-pub play_first : (old new out : Option (List ℕ)) (n m : ℕ) (world : State Record) → n ≡ 0 → Opens old n new m world → Playing old new m out out world
-play_first None new out n m world zero opens = tt
-play_first (Some input) new out n m world zero opens =
+pub play_first : (old new out : Option (List ℕ)) (n m clients : ℕ) (world : State Record) → n ≡ 0 → Opens old n new m clients world → Playing old new m out out (record { state = world; opened = Some clients })
+play_first None new out n m clients world zero opens = tt
+play_first (Some input) new out n m clients world zero opens =
     let after = opens.0 in
-    let clients = opens.1 in
+    let stage : Stage = record { state = opening clients 1000; opened = Some clients } in
     let start : Taking input n input None [] = subst (λ k. Taking input k input None []) (sym zero) (nothing_taken input) in
-    let taken : Taking input m after (Some (opening clients)) ([] ++ []) = take_next input input after n m None (Some (opening clients)) [] [] (lines.Clients clients) start opens.5 (opens.3, opens.4) (refl, refl) in
-    (after, [], opens.2, subst (λ s. Taking input m after (Some s) []) (sym opens.6) taken, appends_nothing out)
+    let taken : Taking input m after (Some stage) ([] ++ []) = take_next input input after n m None (Some stage) [] [] (lines.Clients clients) start opens.4 (opens.2, opens.3) (refl, refl) in
+    (after, [], opens.1, subst (λ (s : State Record). Taking input m after (Some (record { state = s; opened = Some clients })) []) (sym opens.5) taken, appends_nothing out)
 
-may_follow : (old new : State Record) (line : Line) (text : List ℕ) → EventSteps old line text new → MayStand (Some old) line
+page_follows : (opened : Option ℕ) (size : ℕ) (text : List ℕ) (new : State Record) → PageSteps opened size text new → IsPage opened size
+page_follows None size text new step = step
+page_follows (Some clients) size text new step = (step.2, step.3)
+
+may_follow : (old : Stage) (new : State Record) (line : Line) (text : List ℕ) → EventSteps old.opened old.state line text new → MayStand (Some old) line
 may_follow old new (lines.Clients count) text step = step
+may_follow old new (lines.Page size) text step = page_follows old.opened size text new step
 may_follow old new (lines.Begin client call) text step = tt
 may_follow old new (lines.Serve op) text step = tt
 may_follow old new (lines.Run op) text step = tt
 
-pub play_more : (old mid new out now later : Option (List ℕ)) (n m : ℕ) (world next : State Record) (line : Line) (text : List ℕ) → Playing old mid n out now world → ReadsNext mid n new m (Some line) → EventSteps world line text next → Appends now later text → Playing old new m out later next
+pub play_more : (old mid new out now later : Option (List ℕ)) (n m : ℕ) (world : Stage) (next : State Record) (line : Line) (text : List ℕ) → Playing old mid n out now world → ReadsNext mid n new m (Some line) → EventSteps world.opened world.state line text next → Appends now later text → Playing old new m out later (record { state = next; opened = None })
 play_more None mid new out now later n m world next line text on read step grown = tt
 play_more (Some input) mid new out now later n m world next line text on read step grown =
     let here : ReadsNext (Some on.0) n new m (Some line) = subst (λ o. ReadsNext o n new m (Some line)) on.2 read in (
       here.0,
       on.1 ++ text,
       here.1,
-      take_next input on.0 here.0 n m (Some world) (Some next) on.1 text line on.3 here.2 (may_follow world next line text step) (next, refl, step),
+      take_next input on.0 here.0 n m (Some world) (Some (record { state = next; opened = None })) on.1 text line on.3 here.2 (may_follow world next line text step) (next, refl, step),
       appends_both out now later on.1 text on.4 grown,
     )
 
-pub play_end : (old mid new out now later : Option (List ℕ)) (n m : ℕ) (world : State Record) → Playing old mid n out now world → ReadsNext mid n new m None → ((text : List ℕ) × EndsWith world text × Appends now later text) → IsPrinted old out later
+pub play_end : (old mid new out now later : Option (List ℕ)) (n m : ℕ) (world : Stage) → Playing old mid n out now world → ReadsNext mid n new m None → ((text : List ℕ) × EndsWith world.state text × Appends now later text) → IsPrinted old out later
 play_end None mid new out now later n m world on read ends = tt
 play_end (Some input) mid new out now later n m world on read ends =
     let here : ReadsNext (Some on.0) n new m None = subst (λ o. ReadsNext o n new m None) on.2 read in
@@ -173,16 +178,16 @@ play_end (Some input) mid new out now later n m world on read ends =
     let all : lines_of input ≡ taken.before ++ skipped = taken.lines ∙ ap (λ ls. taken.before ++ ls) (here.2.lines ∙ append-nil skipped) in
     let same : kept taken.before ≡ kept (lines_of input) = sym (ap kept all ∙ kept_same taken.before skipped here.2.none_kept) in (
       on.1 ++ ends.0,
-      record { printed = on.1; state = world; ending = ends.0; plays = subst (λ ls. Plays None ls on.1 (Some world)) same taken.plays; ends = ends.1; whole = refl },
+      record { printed = on.1; stage = world; ending = ends.0; plays = subst (λ ls. Plays None ls on.1 (Some world)) same taken.plays; ends = ends.1; whole = refl },
       appends_both out now later on.1 ends.0 on.4 ends.2,
     )
 
 -- So much was printed where the run stops after these lines.
-front_of : (input left : List ℕ) (n : ℕ) (stage : Option (State Record)) (text : List ℕ) → Taking input n left stage text → IsFront input text
+front_of : (input left : List ℕ) (n : ℕ) (stage : Option Stage) (text : List ℕ) → Taking input n left stage text → IsFront input text
 front_of input left n stage text on =
     record { before = on.before; left = lines_of left; stage = stage; printed = text; ending = []; lines = on.lines; plays = on.plays; ends = nothing_more stage (lines_of left); whole = sym (append-nil text) }
   where
-    nothing_more : (s : Option (State Record)) (ls : List (List ℕ)) → IsEndFront s ls []
+    nothing_more : (s : Option Stage) (ls : List (List ℕ)) → IsEndFront s ls []
     nothing_more None ls = refl
     nothing_more (Some world) (l ∷ ls) = refl
     nothing_more (Some world) [] = inl refl
@@ -191,7 +196,7 @@ none_printed : (old out : Option (List ℕ)) → IsFrontPrinted old out out
 none_printed None out = tt
 none_printed (Some input) out = ([], front_of input input 0 None [] (nothing_taken input), appends_nothing out)
 
-so_printed : (old mid out now : Option (List ℕ)) (n : ℕ) (world : State Record) → Playing old mid n out now world → IsFrontPrinted old out now
+so_printed : (old mid out now : Option (List ℕ)) (n : ℕ) (world : Stage) → Playing old mid n out now world → IsFrontPrinted old out now
 so_printed None mid out now n world on = tt
 so_printed (Some input) mid out now n world on = (on.1, front_of input on.0 n (Some world) on.1 on.3, on.4)
 
@@ -212,23 +217,24 @@ open_bad (Some input) out n m zero bad =
 pub stops_first : (stop : Stop) (old out : Option (List ℕ)) (n : ℕ) → n ≡ 0 → OnBadLine stop (OpensBad old n) → StopsAfter stop old out out
 stops_first stop old out n zero is = stops_by stop old out out (OpensBad old n) is (λ m bad. open_bad old out n m zero bad) (none_printed old out)
 
-play_bad : (old mid out now : Option (List ℕ)) (n m : ℕ) (world : State Record) → Playing old mid n out now world → MeetsBad mid n m → IsPrintedBefore m old out now
+play_bad : (old mid out now : Option (List ℕ)) (n m : ℕ) (world : Stage) → Playing old mid n out now world → MeetsBad mid n m → IsPrintedBefore m old out now
 play_bad None mid out now n m world on meets = tt
 play_bad (Some input) mid out now n m world on meets =
     let here : MeetsBad (Some on.0) n m = subst (λ o. MeetsBad o n m) on.2 meets in
     (on.1, bad_next input on.0 n m (Some world) on.1 (here.0 ∷ here.1) on.3 here.2 (here.3, λ line says may. here.4 line says), on.4)
 
 -- it stops at a later line that is not read, or says nothing
-pub stops_next : (stop : Stop) (old mid out now : Option (List ℕ)) (n : ℕ) (world : State Record) → Playing old mid n out now world → OnBadLine stop (MeetsBad mid n) → StopsAfter stop old out now
+pub stops_next : (stop : Stop) (old mid out now : Option (List ℕ)) (n : ℕ) (world : Stage) → Playing old mid n out now world → OnBadLine stop (MeetsBad mid n) → StopsAfter stop old out now
 stops_next stop old mid out now n world on is = stops_by stop old out now (MeetsBad mid n) is (λ m meets. play_bad old mid out now n m world on meets) (so_printed old mid out now n world on)
 
-no_second : (world : State Record) (line : Line) → Misplaced line → ¬ (MayStand (Some world) line)
+no_second : (world : Stage) (line : Line) → Misplaced world.opened line → ¬ (MayStand (Some world) line)
 no_second world (lines.Clients count) misplaced may = may
+no_second world (lines.Page size) misplaced may = misplaced may
 no_second world (lines.Begin client call) misplaced may = misplaced
 no_second world (lines.Serve op) misplaced may = misplaced
 no_second world (lines.Run op) misplaced may = misplaced
 
-play_misplaced : (old mid new out now : Option (List ℕ)) (n m : ℕ) (world : State Record) (line : Line) → Playing old mid n out now world → ReadsNext mid n new m (Some line) → Misplaced line → IsPrintedBefore m old out now
+play_misplaced : (old mid new out now : Option (List ℕ)) (n m : ℕ) (world : Stage) (line : Line) → Playing old mid n out now world → ReadsNext mid n new m (Some line) → Misplaced world.opened line → IsPrintedBefore m old out now
 play_misplaced None mid new out now n m world line on read misplaced = tt
 play_misplaced (Some input) mid new out now n m world line on read misplaced =
     let here : ReadsNext (Some on.0) n new m (Some line) = subst (λ o. ReadsNext o n new m (Some line)) on.2 read in
@@ -237,12 +243,12 @@ play_misplaced (Some input) mid new out now n m world line on read misplaced =
     (on.1, bad_next input on.0 n m (Some world) on.1 (bytes ∷ lines_of here.0) on.3 here.2.1 (here.2.2, bad), on.4)
 
 -- it stops at a line that was read
-pub stops_line : (stop bad : Stop) (old mid new out now : Option (List ℕ)) (n m : ℕ) (world : State Record) (line : Line) → bad ≡ stops.BadLine m → Playing old mid n out now world → ReadsNext mid n new m (Some line) → StopsLine stop bad line → StopsAfter stop old out now
+pub stops_line : (stop bad : Stop) (old mid new out now : Option (List ℕ)) (n m : ℕ) (world : Stage) (line : Line) → bad ≡ stops.BadLine m → Playing old mid n out now world → ReadsNext mid n new m (Some line) → StopsLine stop bad world.opened line → StopsAfter stop old out now
 stops_line stop bad old mid new out now n m world line named on read (inl is) = subst (λ s. StopsAfter s old out now) (sym is) (so_printed old mid out now n world on)
 stops_line stop bad old mid new out now n m world line named on read (inr is) = subst (λ s. StopsAfter s old out now) (sym (is.1 ∙ named)) (play_misplaced old mid new out now n m world line on read is.0)
 
 -- it stops in the end lines
-pub stops_end : (stop : Stop) (old mid new out now later : Option (List ℕ)) (n m : ℕ) (world : State Record) → Playing old mid n out now world → ReadsNext mid n new m None → StopsInEnd stop world now later → StopsAfter stop old out later
+pub stops_end : (stop : Stop) (old mid new out now later : Option (List ℕ)) (n m : ℕ) (world : Stage) → Playing old mid n out now world → ReadsNext mid n new m None → StopsInEnd stop world.state now later → StopsAfter stop old out later
 stops_end stop old mid new out now later n m world on read (inl is) = subst (λ s. StopsAfter s old out later) (sym is) tt
 stops_end stop None mid new out now later n m world on read (inr is) = subst (λ s. StopsAfter s None out later) (sym is.0) tt
 stops_end stop (Some input) mid new out now later n m world on read (inr is) =

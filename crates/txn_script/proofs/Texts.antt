@@ -48,6 +48,7 @@ call_ascii (calls.Delete id) fits = word_ascii (codes "delete") id refl fits
 
 line_ascii : (line : Line) → LineFits line → IsAscii (line_text line)
 line_ascii (lines.Clients count) fits = word_ascii (codes "clients") count refl fits
+line_ascii (lines.Page size) fits = word_ascii (codes "page") size refl fits
 line_ascii (lines.Begin client call) fits = ascii_with (codes "begin") (begin_text client call) 32 (lit< tt) (ascii_of (codes "begin") refl) (ascii_with (decimal client) (call_text call) 32 (lit< tt) (IsAscii-decimal client fits.0) (call_ascii call fits.1))
 line_ascii (lines.Serve op) fits = word_ascii (codes "serve") op refl fits
 line_ascii (lines.Run op) fits = word_ascii (codes "run") op refl fits
@@ -82,6 +83,7 @@ call_short (calls.Delete id) fits = omega (arith, length-with (codes "delete") (
 
 line_short : (line : Line) → LineFits line → length (line_text line) ≤ MOST_BYTES
 line_short (lines.Clients count) fits = omega (arith, length-with (codes "clients") (decimal count) 32, digits count fits)
+line_short (lines.Page size) fits = omega (arith, length-with (codes "page") (decimal size) 32, digits size fits)
 line_short (lines.Begin client call) fits = omega (arith, length-with (codes "begin") (begin_text client call) 32, length-with (decimal client) (call_text call) 32, digits client fits.0, call_short call fits.1)
 line_short (lines.Serve op) fits = omega (arith, length-with (codes "serve") (decimal op) 32, digits op fits)
 line_short (lines.Run op) fits = omega (arith, length-with (codes "run") (decimal op) 32, digits op fits)

@@ -28,6 +28,7 @@ begin_text client call = decimal client ++ (32 ∷ call_text call)
 -- the text of a line: words divided by one space each, and numbers as plain decimals
 abbrev pub line_text : Line → List ℕ
 line_text (lines.Clients count) = codes "clients" ++ (32 ∷ decimal count)
+line_text (lines.Page size) = codes "page" ++ (32 ∷ decimal size)
 line_text (lines.Begin client call) = codes "begin" ++ (32 ∷ begin_text client call)
 line_text (lines.Serve op) = codes "serve" ++ (32 ∷ decimal op)
 line_text (lines.Run op) = codes "run" ++ (32 ∷ decimal op)
@@ -49,6 +50,7 @@ CallFits (calls.Delete id) = id < 2 ^ 64
 
 abbrev pub LineFits : Line → Type 0
 LineFits (lines.Clients count) = count < 2 ^ 64
+LineFits (lines.Page size) = size < 2 ^ 64
 LineFits (lines.Begin client call) = (client < 2 ^ 64) × CallFits call
 LineFits (lines.Serve op) = op < 2 ^ 64
 LineFits (lines.Run op) = op < 2 ^ 64

@@ -1,5 +1,5 @@
 -- How lines are printed and a run stops, for the functions that print them.
-use Rattle.std.specs.Prelude.{◌≡◌, ℕ, List, [], ◌++◌, ◌⊎◌, Option, Some}
+use Rattle.std.specs.Prelude.{◌≡◌, ℕ, List, [], ◌++◌, ◌⊎◌, Option, Some, None}
 use Rattle.std.specs.Io.KnownBytes.{Appends, append_known}
 use Rattle.txn_script.specs.declared.record.Record.{Record}
 use Rattle.txn_model.specs.Machine.{State}
@@ -9,7 +9,7 @@ use Rattle.txn_script.specs.declared.printer.Printer.{Printer}
 use Rattle.txn_script.specs.declared.stop.Stop.{Stop}
 use Rattle.txn_script.specs.declared.stop.Stop.TheVariants as stops
 use Rattle.txn_script.specs.Printed.{entries_text}
-use Rattle.txn_script.specs.Script.{IsEndFront}
+use Rattle.txn_script.specs.Script.{IsPage, IsEndFront}
 
 -- what a printer has not written yet
 abbrev pub unwritten : Printer → List ℕ
@@ -27,21 +27,22 @@ IsUnchanged old new = unwritten new ≡ unwritten old
 abbrev pub held : Option (List ℕ) → Printer → Option (List ℕ)
 held written printer = append_known written (unwritten printer)
 
--- the line may not follow the first one
-abbrev pub Misplaced : Line → Type 0
-Misplaced (lines.Clients count) = Unit {0}
-Misplaced (lines.Begin client call) = ⊥
-Misplaced (lines.Serve op) = ⊥
-Misplaced (lines.Run op) = ⊥
+-- the line may not stand after the first one: directly after it, where it had so many clients, or later
+abbrev pub Misplaced : Option ℕ → Line → Type 0
+Misplaced opened (lines.Clients count) = Unit {0}
+Misplaced opened (lines.Page size) = ¬ (IsPage opened size)
+Misplaced opened (lines.Begin client call) = ⊥
+Misplaced opened (lines.Serve op) = ⊥
+Misplaced opened (lines.Run op) = ⊥
 
 -- A stop in the end lines, some of which were printed.
 abbrev pub StopsInEnd : Stop → State Record → Option (List ℕ) → Option (List ℕ) → Type 0
-StopsInEnd stop s old new = (stop ≡ stops.WriteFailed) ⊎ ((stop ≡ stops.NoMemory) × (text : List ℕ) × IsEndFront (Some s) [] text × Appends old new text)
+StopsInEnd stop s old new = (stop ≡ stops.WriteFailed) ⊎ ((stop ≡ stops.NoMemory) × (text : List ℕ) × IsEndFront (Some (record { state = s; opened = None })) [] text × Appends old new text)
 
 -- A stop in the lines of the entries, some of which were printed.
 abbrev pub StopsInEntries : Stop → List Record → Option (List ℕ) → Option (List ℕ) → Type 0
 StopsInEntries stop entries old new = (stop ≡ stops.WriteFailed) ⊎ ((stop ≡ stops.NoMemory) × (text : List ℕ) × (more : List ℕ) × (text ++ more ≡ entries_text 1 entries) × Appends old new text)
 
 -- A line took no effect on what is printed: it may not stand there, or memory was wanting.
-abbrev pub StopsLine : Stop → Stop → Line → Type 0
-StopsLine stop bad line = (stop ≡ stops.NoMemory) ⊎ (Misplaced line × (stop ≡ bad))
+abbrev pub StopsLine : Stop → Stop → Option ℕ → Line → Type 0
+StopsLine stop bad opened line = (stop ≡ stops.NoMemory) ⊎ (Misplaced opened line × (stop ≡ bad))

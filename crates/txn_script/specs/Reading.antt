@@ -70,9 +70,9 @@ ReadsNext old n new m found = IfSome old (λ input. (after : List ℕ) × (new �
 abbrev pub MeetsBad : Option (List ℕ) → ℕ → ℕ → Type 0
 MeetsBad old n m = IfSome old (λ input. (bytes : List ℕ) × (rest : List (List ℕ)) × SkipsTo input n m (bytes ∷ rest) × (is_skipped bytes ≡ false) × ((line : Line) → ¬ (Says bytes line)))
 
--- The first kept line opens a world.
-abbrev pub Opens : Option (List ℕ) → ℕ → Option (List ℕ) → ℕ → State Record → Type 0
-Opens old n new m world = IfSome old (λ input. (after : List ℕ) × (clients : ℕ) × (new ≡ Some after) × (1 ≤ clients) × (clients ≤ 64) × NextIs input n after m (Some (lines.Clients clients)) × (world ≡ opening clients))
+-- The first kept line opens a world for so many clients.
+abbrev pub Opens : Option (List ℕ) → ℕ → Option (List ℕ) → ℕ → ℕ → State Record → Type 0
+Opens old n new m clients world = IfSome old (λ input. (after : List ℕ) × (new ≡ Some after) × (1 ≤ clients) × (clients ≤ 64) × NextIs input n after m (Some (lines.Clients clients)) × (world ≡ opening clients 1000))
 
 -- The first kept line opens none, or none is kept; m is its number, or that of the line past the end.
 abbrev pub OpensBad : Option (List ℕ) → ℕ → ℕ → Type 0

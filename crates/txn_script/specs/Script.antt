@@ -43,37 +43,60 @@ Serves (suc n) old op text new =
     Steps old (events.Serve op) false text new
     ⊎ ((first : List ℕ) × (middle : State Record) × (rest : List ℕ) × Steps old (events.Serve op) true first middle × Serves n middle op rest new × (text ≡ first ++ rest))
 
--- What a line of events prints, and the state after it.
-abbrev pub EventSteps : State Record → Line → List ℕ → State Record → Type 0
-EventSteps old (lines.Clients count) text new = ⊥
-EventSteps old (lines.Begin client call) text new = (going : Bool) × Steps old (events.Begin client call) going text new
-EventSteps old (lines.Serve op) text new = (going : Bool) × Steps old (events.Serve op) going text new
-EventSteps old (lines.Run op) text new = Serves 100 old op text new
+-- How far a script is: its world, and directly after the line `clients N` that N.
+pub record Stage : Type 0 where
+  pub state : State Record
+  pub opened : Option ℕ
 
--- A line may stand at a stage of the script: `clients N` with N from 1 to 64 before there is a world, and each other line after it.
-abbrev pub MayStand : Option (State Record) → Line → Type 0
+-- how many clients a script may have
+abbrev pub IsClients : ℕ → Type 0
+IsClients count = (1 ≤ count) × (count ≤ 64)
+
+-- `page N` may stand directly after `clients`, with N from 1 to 1000.
+abbrev pub IsPage : Option ℕ → ℕ → Type 0
+IsPage None size = ⊥
+IsPage (Some clients) size = (1 ≤ size) × (size ≤ 1000)
+
+-- It makes the world one of pages of that size, in which nothing has happened, and prints nothing.
+abbrev pub PageSteps : Option ℕ → ℕ → List ℕ → State Record → Type 0
+PageSteps None size text new = ⊥
+PageSteps (Some clients) size text new = (text ≡ []) × (new ≡ opening clients size) × (1 ≤ size) × (size ≤ 1000)
+
+-- What a line after the first one prints, and the state after it.
+abbrev pub EventSteps : Option ℕ → State Record → Line → List ℕ → State Record → Type 0
+EventSteps opened old (lines.Clients count) text new = ⊥
+EventSteps opened old (lines.Page size) text new = PageSteps opened size text new
+EventSteps opened old (lines.Begin client call) text new = (going : Bool) × Steps old (events.Begin client call) going text new
+EventSteps opened old (lines.Serve op) text new = (going : Bool) × Steps old (events.Serve op) going text new
+EventSteps opened old (lines.Run op) text new = Serves 100 old op text new
+
+-- A line may stand at a stage of the script: `clients N` with N from 1 to 64 before there is a world, `page N` directly after it, and each other line later.
+abbrev pub MayStand : Option Stage → Line → Type 0
 MayStand None (lines.Clients count) = (1 ≤ count) × (count ≤ 64)
+MayStand None (lines.Page size) = ⊥
 MayStand None (lines.Begin client call) = ⊥
 MayStand None (lines.Serve op) = ⊥
 MayStand None (lines.Run op) = ⊥
-MayStand (Some state) (lines.Clients count) = ⊥
-MayStand (Some state) (lines.Begin client call) = Unit {0}
-MayStand (Some state) (lines.Serve op) = Unit {0}
-MayStand (Some state) (lines.Run op) = Unit {0}
+MayStand (Some stage) (lines.Clients count) = ⊥
+MayStand (Some stage) (lines.Page size) = IsPage stage.opened size
+MayStand (Some stage) (lines.Begin client call) = Unit {0}
+MayStand (Some stage) (lines.Serve op) = Unit {0}
+MayStand (Some stage) (lines.Run op) = Unit {0}
 
--- What a line prints, and the stage after it.
-abbrev pub LineSteps : Option (State Record) → Line → List ℕ → Option (State Record) → Type 0
-LineSteps None (lines.Clients count) text new = (text ≡ []) × (new ≡ Some (opening count))
+-- What a line prints, and the stage after it. Without a `page` line a page has 1,000 files at most.
+abbrev pub LineSteps : Option Stage → Line → List ℕ → Option Stage → Type 0
+LineSteps None (lines.Clients count) text new = (text ≡ []) × (new ≡ Some (record { state = opening count 1000; opened = Some count }))
+LineSteps None (lines.Page size) text new = ⊥
 LineSteps None (lines.Begin client call) text new = ⊥
 LineSteps None (lines.Serve op) text new = ⊥
 LineSteps None (lines.Run op) text new = ⊥
-LineSteps (Some old) line text new = (state : State Record) × (new ≡ Some state) × EventSteps old line text state
+LineSteps (Some old) line text new = (state : State Record) × (new ≡ Some (record { state = state; opened = None })) × EventSteps old.opened old.state line text state
 
 -- What lines print, one after another, and the stage after them.
-abbrev pub Plays : Option (State Record) → List (List ℕ) → List ℕ → Option (State Record) → Type 0
+abbrev pub Plays : Option Stage → List (List ℕ) → List ℕ → Option Stage → Type 0
 Plays old [] text new = (text ≡ []) × (new ≡ old)
 Plays old (bytes ∷ rest) text new =
-    (line : Line) × (first : List ℕ) × (middle : Option (State Record)) × (more : List ℕ) × Says bytes line × MayStand old line × LineSteps old line first middle × Plays middle rest more new × (text ≡ first ++ more)
+    (line : Line) × (first : List ℕ) × (middle : Option Stage) × (more : List ℕ) × Says bytes line × MayStand old line × LineSteps old line first middle × Plays middle rest more new × (text ≡ first ++ more)
 
 -- The lines that are printed at the end of a script: the history, the boundary and the erased ids of its trace.
 pub record EndsWith (s : State Record) (text : List ℕ) : Type 0 where
@@ -86,14 +109,14 @@ pub record EndsWith (s : State Record) (text : List ℕ) : Type 0 where
 -- What a whole script prints: what its kept lines print, and then the end lines.
 pub record Prints (input text : List ℕ) : Type 0 where
   pub printed : List ℕ
-  pub state : State Record
+  pub stage : Stage
   pub ending : List ℕ
-  pub plays : Plays None (kept (lines_of input)) printed (Some state)
-  pub ends : EndsWith state ending
+  pub plays : Plays None (kept (lines_of input)) printed (Some stage)
+  pub ends : EndsWith stage.state ending
   pub whole : text ≡ printed ++ ending
 
 -- The first of these lines may not stand at this stage; or no line is left, and there is no world yet.
-abbrev pub IsBadNext : Option (State Record) → List (List ℕ) → Type 0
+abbrev pub IsBadNext : Option Stage → List (List ℕ) → Type 0
 IsBadNext stage [] = stage ≡ None
 IsBadNext stage (bytes ∷ rest) = (is_skipped bytes ≡ false) × ((line : Line) → Says bytes line → ¬ (MayStand stage line))
 
@@ -101,23 +124,23 @@ IsBadNext stage (bytes ∷ rest) = (is_skipped bytes ≡ false) × ((line : Line
 pub record IsBadLine (input : List ℕ) (n : ℕ) (text : List ℕ) : Type 0 where
   pub before : List (List ℕ)
   pub left : List (List ℕ)
-  pub stage : Option (State Record)
+  pub stage : Option Stage
   pub lines : lines_of input ≡ before ++ left
   pub number : n ≡ length before + 1
   pub plays : Plays None (kept before) text stage
   pub bad : IsBadNext stage left
 
 -- The first of the end lines, or none of them: none while lines are left, or where there is no world.
-abbrev pub IsEndFront : Option (State Record) → List (List ℕ) → List ℕ → Type 0
+abbrev pub IsEndFront : Option Stage → List (List ℕ) → List ℕ → Type 0
 IsEndFront None left text = text ≡ []
 IsEndFront (Some s) (line ∷ rest) text = text ≡ []
-IsEndFront (Some s) [] text = (text ≡ []) ⊎ ((more : List ℕ) × EndsWith s (text ++ more))
+IsEndFront (Some s) [] text = (text ≡ []) ⊎ ((more : List ℕ) × EndsWith s.state (text ++ more))
 
 -- What the first so many lines of the input print, and after the last of them perhaps the first of the end lines.
 pub record IsFront (input text : List ℕ) : Type 0 where
   pub before : List (List ℕ)
   pub left : List (List ℕ)
-  pub stage : Option (State Record)
+  pub stage : Option Stage
   pub printed : List ℕ
   pub ending : List ℕ
   pub lines : lines_of input ≡ before ++ left

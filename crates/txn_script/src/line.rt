@@ -15,6 +15,8 @@ use txn_model::event::Call;
 pub enum Line {
     /// The script has so many clients.
     Clients(u64),
+    /// A listing goes in pages of so many files at most.
+    Page(u64),
     /// The client begins a call.
     Begin(u64, Call<Record>),
     /// The store serves what the operation asks for.
@@ -94,6 +96,7 @@ pub fn read_line(text: &str) -> Option<Line>
     let (word, rest) = text.split_once(' ')?;
     match word {
         "clients" => Some(Line::Clients(read_decimal(rest)?)),
+        "page" => Some(Line::Page(read_decimal(rest)?)),
         "begin" => {
             let (client, call) = read_begin(rest)?;
             Some(Line::Begin(client, call))

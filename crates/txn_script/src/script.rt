@@ -2,9 +2,8 @@
 
 ghost use Rattle.std.specs.Prelude.{◌≡◌, ℕ, ◌≤◌, ◌++◌, ◌∷◌, [], List, Some, None, IfOk, IfErr, IfSome, IfNone, OnOk};
 ghost use Rattle.std.specs.Io.KnownBytes.{Appends};
-ghost use Rattle.txn_model.specs.Machine.{opening};
 ghost use Rattle.txn_script.specs.Printed.{with_feed, entries_text};
-ghost use Rattle.txn_script.specs.Script.{Steps, Serves, EventSteps, MayStand, EndsWith, IsPrinted, IsPrintedBefore, StopsAfter};
+ghost use Rattle.txn_script.specs.Script.{IsClients, Steps, Serves, PageSteps, EventSteps, MayStand, EndsWith, IsPrinted, IsPrintedBefore, StopsAfter};
 ghost use Rattle.txn_script.specs.Reading.{OnBadLine, Opens, OpensBad};
 ghost use Rattle.txn_script.specs.Printing.{held, Gathers, IsUnchanged, StopsLine, StopsInEntries, StopsInEnd};
 
@@ -16,11 +15,16 @@ use crate::record::{Record, RecordCodec};
 use crate::stop::Stop;
 use std::alloc::Global;
 use std::io::{BufRead, BufReader, Read, Write};
+use std::mem;
 use txn_model::event::{Event, EventFault, Told};
+use txn_types::layout::PAGE;
 use txn_world::world::World;
 
 /// The most clients that a script may have.
 const MOST_CLIENTS: u64 = 64;
+
+/// The most files of a page that a script may set.
+const MOST_PAGE: u64 = 1000;
 
 /// How many events a `run` makes at most.
 const MOST_TURNS: u64 = 100;
@@ -73,21 +77,50 @@ fn run_operation(
     Ok(())
 }
 
-/// Takes what a line says. `bad` is its refusal where it may not stand there.
+/// The world that a `page` line makes, directly after the line of so many clients. `bad` is its refusal where it may
+/// not stand there.
+fn paged(
+    alloc: Global,
+    opened: Option<u64>,
+    size: u64,
+    bad: Stop,
+) -> Result<World<Record, RecordCodec>, Stop>
+    requires { IfSome opened IsClients }
+    ensures ok { IfOk result (λ world. PageSteps opened size [] world.state) }
+    ensures err { IfErr result (λ stop. StopsLine stop bad opened (Line.Page size)) }
+{
+    let Some(clients) = opened else {
+        return Err(bad);
+    };
+    if size < 1 || MOST_PAGE < size {
+        return Err(bad);
+    }
+    match World::new(alloc, RecordCodec, clients, size) {
+        Ok(world) => Ok(world),
+        Err(_) => Err(Stop::NoMemory),
+    }
+}
+
+/// Takes what a line says, where `opened` is how many clients the line before it has opened a world for, if it has.
+/// `bad` is the line's refusal where it may not stand there.
 fn take_line(
+    alloc: Global,
     world: &mut World<Record, RecordCodec>,
+    opened: Option<u64>,
     line: Line,
     bad: Stop,
     printer: &mut Printer,
 ) -> Result<(), Stop>
+    requires { IfSome opened IsClients }
     ensures ok { OnOk result ((text : List ℕ)
-        × EventSteps world.old.state line text world.new.state
+        × EventSteps opened world.old.state line text world.new.state
         × Gathers printer.old printer.new text) }
     ensures err { IfErr result
-        (λ stop. StopsLine stop bad line × IsUnchanged printer.old printer.new) }
+        (λ stop. StopsLine stop bad opened line × IsUnchanged printer.old printer.new) }
 {
     match line {
         Line::Clients(_) => return Err(bad),
+        Line::Page(size) => drop(mem::replace(world, paged(alloc, opened, size, bad)?)),
         Line::Begin(client, call) => {
             take_event(world, Event::Begin(client, call), printer)?;
         }
@@ -156,18 +189,22 @@ fn clients_of(line: Option<Line>) -> Option<u64>
     }
 }
 
-/// The world that the first line opens.
-fn open<R: BufRead>(alloc: Global, lines: &mut Lines<R>) -> Result<World<Record, RecordCodec>, Stop>
-    ensures ok { IfOk result (λ world. Opens (R.remaining lines.old.reader) lines.old.number
-        (R.remaining lines.new.reader) lines.new.number world.state) }
+/// The world that the first line opens, and for how many clients.
+fn open<R: BufRead>(
+    alloc: Global,
+    lines: &mut Lines<R>,
+) -> Result<(World<Record, RecordCodec>, u64), Stop>
+    ensures ok { IfOk result (λ opened. Opens (R.remaining lines.old.reader) lines.old.number
+        (R.remaining lines.new.reader) lines.new.number opened.1 opened.0.state) }
+    ensures clients { IfOk result (λ opened. IsClients opened.1) }
     ensures bad { IfErr result (λ stop. OnBadLine stop
         (OpensBad (R.remaining lines.old.reader) lines.old.number)) }
 {
     let Some(clients) = clients_of(lines.next_line()?) else {
         return Err(lines.bad());
     };
-    match World::new(alloc, RecordCodec, clients) {
-        Ok(world) => Ok(world),
+    match World::new(alloc, RecordCodec, clients, PAGE) {
+        Ok(world) => Ok((world, clients)),
         Err(_) => Err(Stop::NoMemory),
     }
 }
@@ -185,13 +222,15 @@ fn play<R: BufRead, W: Write>(
     ensures stop { IfErr result (λ stop. StopsAfter stop (R.remaining lines.old.reader)
         (held (W.contents out.old) printer.old) (held (W.contents out.new) printer.new)) }
 {
-    let mut world = open(alloc, lines)?;
+    let (mut world, clients) = open(alloc, lines)?;
+    let mut opened = Some(clients);
     for _line in 0..u64::MAX {
         let Some(line) = lines.next_line()? else {
             return print_end(alloc, &world, printer, out);
         };
         let bad = lines.bad();
-        take_line(&mut world, line, bad, printer)?;
+        take_line(alloc, &mut world, opened, line, bad, printer)?;
+        opened = None;
         printer.write_full(out)?;
     }
     Err(Stop::ReadFailed)

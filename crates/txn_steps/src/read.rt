@@ -1,14 +1,17 @@
 //! A read as a state.
-ghost use Rattle.std.specs.Prelude.{◌≡◌, IfOk, None, Err, unwrap_or};
+ghost use Rattle.std.specs.Prelude.{◌≡◌, IfOk, None, Some, Err, unwrap_or};
+ghost use Rattle.std.specs.Option.{option_copied};
 ghost use Rattle.txn_store.specs.VersionName.{version_path};
 ghost use Rattle.txn_store.specs.VersionOf.{version_of};
 ghost use Rattle.txn_steps.specs.Steps.{turned_by_number, lacks_memory, error_in, TellsErrorOf};
-ghost use Rattle.txn_steps.specs.ReadSteps.{greater_of, greatest_listed, read_started, getting, holding, listed_turned, got_turned, read_or_lacks};
+ghost use Rattle.txn_steps.specs.ReadSteps.{greater_of, greatest_from, next_after, listing_on, read_started, getting, holding, paged_turned, listed_turned, got_turned, read_or_lacks};
 
 use crate::check::CheckOp;
 use crate::turned::{self, Turned, goes_as, taken};
 use std::alloc::{AllocError, Global};
-use txn_store::request::{Listing, Reply, Request};
+use txn_store::page::Page;
+use txn_store::path::Path;
+use txn_store::request::{Reply, Request};
 use txn_store::store::{Got, ObjectMeta, StoreError};
 use txn_store::version_names::VersionNames;
 use txn_types::codec::ObjectCodec;
@@ -16,11 +19,11 @@ use txn_types::error::TransactionalObjectError;
 use txn_types::id::MonotonicId;
 use txn_types::layout::Layout;
 
-/// A read of the newest version: a listing, the get of the greatest listed id, and the check of that id.
+/// A read of the newest version: a listing, page by page, the get of the greatest listed id, and the check of that id.
 #[derive(Drop)]
 pub enum ReadOp<T> {
-    /// It asks for a listing of the versions.
-    Lists(Request),
+    /// It asks for a page of the listing. The pages before it listed this id as their greatest, or no version.
+    Lists(Option<u64>, Request),
     /// It asks for the version of this id.
     Gets(MonotonicId, Request),
     /// It holds the version of this id, until it answers it, and asks for the check of the id.
@@ -30,11 +33,11 @@ pub enum ReadOp<T> {
 /// What a read answers: the id and the value of the newest version, or that there is none.
 pub type ReadAnswer<T> = Result<Option<(MonotonicId, T)>, TransactionalObjectError>;
 
-/// The greatest id of the versions among listed files. Other files are skipped.
-fn greatest(names: &VersionNames, metas: &[ObjectMeta]) -> Option<u64>
-    ensures { result ≡ greatest_listed names.now metas.now }
+/// The greatest of an id and those of the versions among listed files. Other files are skipped.
+fn greatest(names: &VersionNames, found: Option<u64>, metas: &[ObjectMeta]) -> Option<u64>
+    ensures { result ≡ greatest_from found names.now metas.now }
 {
-    let mut greatest = None;
+    let mut greatest = found;
     for meta in metas {
         greatest = greater(greatest, parsed(names, meta));
     }
@@ -58,11 +61,33 @@ fn parsed(names: &VersionNames, meta: &ObjectMeta) -> Option<u64>
     names.parse_id(&meta.location)
 }
 
-fn list_request(names: &VersionNames) -> Result<Request, AllocError>
-    ensures { IfOk result (λ request. request ≡ Request.List names.now.dir) }
+/// The path after which the next page begins: the last of this page, where it says that more follow.
+/// A page that tells no file is the last.
+fn next_after(page: &Page) -> Option<&Path>
+    ensures { option_copied result ≡ next_after page.now }
+{
+    if !page.more {
+        return None;
+    }
+    match page.metas.as_slice().last() {
+        Some(meta) => Some(&meta.location),
+        None => None,
+    }
+}
+
+fn list_request(
+    names: &VersionNames,
+    after: Option<Path>,
+    limit: u64,
+) -> Result<Request, AllocError>
+    ensures { IfOk result (λ request. request ≡ Request.List names.now.dir after limit) }
 {
     let prefix = names.dir().try_clone()?;
-    Ok(Request::List { prefix })
+    Ok(Request::List {
+        prefix,
+        after,
+        limit,
+    })
 }
 
 fn get_request(alloc: Global, names: &VersionNames, id: u64) -> Result<Request, AllocError>
@@ -78,11 +103,25 @@ fn get_request(alloc: Global, names: &VersionNames, id: u64) -> Result<Request, 
 /// What a read does next where it goes on, and what it says.
 type Step<T> = turned::Step<ReadOp<T>, Option<(MonotonicId, T)>>;
 
-/// It asks for a listing.
-fn list<T>(names: &VersionNames) -> Result<ReadOp<T>, AllocError>
-    ensures { IfOk result (λ op. op ≡ read_started names.now) }
+/// It asks for the first page.
+fn list<T, C>(layout: &Layout<C>) -> Result<ReadOp<T>, AllocError>
+    ensures { IfOk result (λ op. op ≡ read_started layout.now.names layout.now.page) }
 {
-    Ok(ReadOp::Lists(list_request(names)?))
+    let request = list_request(&layout.names, None, layout.page)?;
+    Ok(ReadOp::Lists(None, request))
+}
+
+/// It asks for the page after this path.
+fn list_on<T, C>(
+    layout: &Layout<C>,
+    found: Option<u64>,
+    after: &Path,
+) -> Result<ReadOp<T>, AllocError>
+    ensures { IfOk result (λ op. op ≡ listing_on layout.now.names layout.now.page found after.now) }
+{
+    let after = after.try_clone()?;
+    let request = list_request(&layout.names, Some(after), layout.page)?;
+    Ok(ReadOp::Lists(found, request))
 }
 
 /// It asks for the version of this id.
@@ -101,23 +140,41 @@ fn hold<T: Drop, C>(layout: &Layout<C>, id: MonotonicId, value: T) -> Result<Rea
     Ok(ReadOp::Checks(id, Some(value), check))
 }
 
-/// After the listing.
-fn after_list<T>(
+/// After a page, by where the next one begins and the greatest id so far.
+fn after_page<T, C>(
     alloc: Global,
-    names: &VersionNames,
-    answer: Result<Listing, StoreError>,
+    layout: &Layout<C>,
+    after: Option<&Path>,
+    found: Option<u64>,
     op: &ReadOp<T>,
 ) -> Step<T>
-    ensures turned { (unwrap_or result.0 op.now, turned_by_number result.1) ≡ read_or_lacks (lacks_memory (turned_by_number result.1)) op.now (listed_turned names.now op.now answer) }
+    ensures turned { (unwrap_or result.0 op.now, turned_by_number result.1) ≡ read_or_lacks (lacks_memory (turned_by_number result.1)) op.now (paged_turned layout.now.names layout.now.page op.now (option_copied after.entry) found) }
+    ensures store_error { TellsErrorOf None result.1 }
+{
+    match (after, found) {
+        (Some(after), _) => goes_as(list_on(layout, found, after)),
+        (None, Some(id)) => goes_as(get(alloc, &layout.names, id)),
+        (None, None) => (None, Turned::Done(Ok(None))),
+    }
+}
+
+/// After the listing's answer.
+fn after_list<T, C>(
+    alloc: Global,
+    layout: &Layout<C>,
+    answer: Result<Page, StoreError>,
+    found: Option<u64>,
+    op: &ReadOp<T>,
+) -> Step<T>
+    ensures turned { (unwrap_or result.0 op.now, turned_by_number result.1) ≡ read_or_lacks (lacks_memory (turned_by_number result.1)) op.now (listed_turned layout.now.names layout.now.page op.now found answer) }
     ensures store_error { TellsErrorOf (error_in answer) result.1 }
 {
-    let listing = match answer {
-        Ok(listing) => listing,
-        Err(error) => return (None, Turned::Done(Err(error.into()))),
-    };
-    match greatest(names, listing.as_slice()) {
-        None => (None, Turned::Done(Ok(None))),
-        Some(id) => goes_as(get(alloc, names, id)),
+    match answer {
+        Ok(page) => {
+            let found = greatest(&layout.names, found, page.metas.as_slice());
+            after_page(alloc, layout, next_after(&page), found, op)
+        }
+        Err(error) => (None, Turned::Done(Err(error.into()))),
     }
 }
 
@@ -129,7 +186,7 @@ fn after_get<T: Drop, C: ObjectCodec<T>>(
     id: MonotonicId,
     op: &ReadOp<T>,
 ) -> Step<T>
-    ensures turned { (unwrap_or result.0 op.now, turned_by_number result.1) ≡ read_or_lacks (lacks_memory (turned_by_number result.1)) op.now (got_turned layout.now.names layout.now.boundary (C.decoded layout.now.codec) op.now id answer) }
+    ensures turned { (unwrap_or result.0 op.now, turned_by_number result.1) ≡ read_or_lacks (lacks_memory (turned_by_number result.1)) op.now (got_turned layout.now.names layout.now.boundary layout.now.page (C.decoded layout.now.codec) op.now id answer) }
     ensures store_error { TellsErrorOf (error_in answer) result.1 }
 {
     match answer {
@@ -138,7 +195,7 @@ fn after_get<T: Drop, C: ObjectCodec<T>>(
             Err(fault) => (None, Turned::Done(Err(fault.into()))),
         },
         // It was removed since it was listed: the read starts again.
-        Err(StoreError::NotFound) => goes_as(list(&layout.names)),
+        Err(StoreError::NotFound) => goes_as(list(layout)),
         Err(error) => (None, Turned::Done(Err(error.into()))),
     }
 }
@@ -147,11 +204,11 @@ impl<T: Drop> ReadOp<T> {
     ghost use Rattle.txn_steps.specs.ReadSteps.{read_started, read_asked, read_turned, read_or_lacks, IsReadReply};
     ghost use Rattle.txn_steps.specs.Steps.{reply_error, TellsErrorOf};
 
-    /// A read, which begins with its listing. The only error is want of memory.
+    /// A read, which begins with the first page of its listing. The only error is want of memory.
     pub fn start<C>(layout: &Layout<C>) -> Result<ReadOp<T>, AllocError>
-        ensures { IfOk result (λ op. op ≡ read_started layout.now.names) }
+        ensures { IfOk result (λ op. op ≡ read_started layout.now.names layout.now.page) }
     {
-        list(&layout.names)
+        list(layout)
     }
 
     /// What it asks of the store. It takes no memory.
@@ -159,18 +216,20 @@ impl<T: Drop> ReadOp<T> {
         ensures { result.now ≡ read_asked self.now }
     {
         match self {
-            ReadOp::Lists(request) => request,
+            ReadOp::Lists(_, request) => request,
             ReadOp::Gets(_, request) => request,
             ReadOp::Checks(_, _, check) => check.ask(),
         }
     }
 
-    /// Takes the store's reply to what it asks. With no version listed it answers `None`; else it
-    /// gets the greatest listed one, and lists again where that is missing. What it got it decodes,
-    /// and then has its id checked: where the check accepts it, it answers the id and the value, and
-    /// where the id is at or below the boundary it lists again. Bytes that the codec refuses are
-    /// `CallbackError`, a growth that is refused is `NoMemory`, and an error of the store or of the
-    /// check is as it becomes.
+    /// Takes the store's reply to what it asks. After a page that says that more follow, it asks for
+    /// the next, which begins after the last path of this one; a page that tells no file is the last.
+    /// With no version listed in any page it answers `None`; else it gets the greatest listed one.
+    /// Where that is missing, it starts again at the first page. What it got it decodes, and then has
+    /// its id checked: where the check accepts it, it answers the id and the value, and where the id
+    /// is at or below the boundary it starts again at the first page. Bytes that the codec refuses
+    /// are `CallbackError`, a growth that is refused is `NoMemory`, which leaves the read as it was,
+    /// and an error of the store or of the check is as it becomes.
     pub fn take<C: ObjectCodec<T>>(
         &mut self,
         alloc: Global,
@@ -178,12 +237,12 @@ impl<T: Drop> ReadOp<T> {
         reply: Reply,
     ) -> Turned<ReadAnswer<T>>
         requires { IsReadReply self.old reply }
-        ensures turned { (self.new, turned_by_number result) ≡ read_or_lacks (lacks_memory (turned_by_number result)) self.old (read_turned layout.now.names layout.now.boundary (C.decoded layout.now.codec) self.old reply) }
+        ensures turned { (self.new, turned_by_number result) ≡ read_or_lacks (lacks_memory (turned_by_number result)) self.old (read_turned layout.now.names layout.now.boundary layout.now.page (C.decoded layout.now.codec) self.old reply) }
         ensures store_error { TellsErrorOf (reply_error reply) result }
     {
         let step = match (&mut *self, reply) {
-            (ReadOp::Lists(_), Reply::List(answer)) => {
-                after_list(alloc, &layout.names, answer, self)
+            (ReadOp::Lists(found, _), Reply::List(answer)) => {
+                after_list(alloc, layout, answer, *found, self)
             }
             (ReadOp::Gets(id, _), Reply::Get(answer)) => {
                 after_get(alloc, layout, answer, *id, self)
@@ -194,7 +253,7 @@ impl<T: Drop> ReadOp<T> {
                     Turned::Done(Ok(value.take().map(|value| (*id, value)))),
                 ),
                 // The boundary has reached it: the read starts again.
-                Err(TransactionalObjectError::ObjectVersionExists) => goes_as(list(&layout.names)),
+                Err(TransactionalObjectError::ObjectVersionExists) => goes_as(list(layout)),
                 Err(error) => (None, Turned::Done(Err(error))),
             },
             _ => unreachable!(),

@@ -5,7 +5,11 @@ pub mod LastLine
 pub mod Shown
 pub mod NameLemmas
 pub mod Walks
-pub mod ListingLemmas
 pub mod MemoryLemmas
 pub mod FileLemmas
 pub mod VersionOfLemmas
+pub mod BelowLemmas
+pub mod SortedLemmas
+pub mod PlaceLemmas
+pub mod PageLemmas
+pub mod VersionOrder

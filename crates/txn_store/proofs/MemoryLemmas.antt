@@ -1,15 +1,13 @@
 -- What the calls of a store in memory mean.
-use Rattle.std.proofs.Common.{◌≡◌, ℕ, zero, suc, ◌+◌, ◌-◌, ◌^◌, ◌<◌, ◌≤◌, List, [], ◌∷◌, ◌++◌, Contains, Option, Some, None, Ok, refl, sym, ap, subst, arith, inl, inr}
+use Rattle.std.proofs.Common.{◌≡◌, ℕ, zero, suc, ◌+◌, ◌-◌, ◌^◌, ◌<◌, ◌≤◌, List, [], ◌∷◌, ◌++◌, Contains, Option, Some, None, Ok, refl, ap, ◌∙◌, arith, inl, inr}
 use Rattle.std.specs.Option.{SomeIff}
-use Rattle.std.specs.FinMap.{get, entries}
-use Rattle.std.specs.List.Sorted.{IsPermutation}
+use Rattle.std.specs.FinMap.{get, entries, insert, remove}
 use Rattle.std.proofs.lemmas.List.Elements.{Contains-push_cases}
-use Rattle.std.proofs.lemmas.List.Sorted.{IsPermutation-refl}
 use Rattle.txn_store.specs.Paths.{Segments}
-use Rattle.txn_store.specs.Store.{Puts, Lists, Deletes, put_fault, listing}
+use Rattle.txn_store.specs.Store.{Puts, Lists, Deletes, put_fault, listing, page_of}
 use Rattle.txn_store.specs.Memory.{Memory, tokens_from, state_of, called, with_file, without_file}
 use Rattle.txn_store.specs.MemoryFields.{end_of}
-use Rattle.txn_store.specs.declared.store.ObjectMeta.{ObjectMeta}
+use Rattle.txn_store.specs.declared.page.Page.{Page}
 use Rattle.txn_store.specs.declared.store.PutMode.{PutMode}
 
 -- every token so far is below the next one
@@ -52,11 +50,18 @@ delete_removed m n path is = rw is (record {
   err = tt;
 })
 
--- a listing in the order of the entries
-pub list_in_order : (m n : Memory) → n ≡ called m → (prefix : Segments) (metas : List ObjectMeta) → metas ≡ listing prefix (entries m.files) → Lists prefix (state_of m) (Ok metas) (state_of n)
-list_in_order m n is prefix metas listed = rw is (record {
+-- a page of a listing
+pub list_in_order : (m n : Memory) → n ≡ called m → (prefix : Segments) (after : Option Segments) (limit : ℕ) (page : Page) → page ≡ page_of limit (listing prefix after (entries m.files)) → Lists prefix after limit (state_of m) (Ok page) (state_of n)
+list_in_order m n is prefix after limit page listed = rw is (record {
   counted = record { calls = refl; failures = omega arith };
-  listed = subst (IsPermutation (listing prefix (entries m.files))) (sym listed) (IsPermutation-refl (listing prefix (entries m.files)));
+  listed = listed;
   kept = record { files = refl; given = refl; left = refl };
   err = tt;
 })
+
+-- what a put and a delete leave, after the call was counted
+pub file_put : (m v n : Memory) (path : Segments) (bytes : List ℕ) → v ≡ called m → n ≡ record { files = insert v.files path (record { bytes = bytes; token = v.next }); first = v.first; next = v.next + 1; calls = v.calls } → n ≡ with_file path bytes m
+file_put m v n path bytes begun is = is ∙ ap (λ (w : Memory). record { files = insert w.files path (record { bytes = bytes; token = w.next }); first = w.first; next = w.next + 1; calls = w.calls }) begun
+
+pub file_removed : (m v n : Memory) (path : Segments) → v ≡ called m → n ≡ record { files = remove v.files path; first = v.first; next = v.next; calls = v.calls } → n ≡ without_file path m
+file_removed m v n path begun is = is ∙ ap (λ (w : Memory). record { files = remove w.files path; first = w.first; next = w.next; calls = w.calls }) begun

@@ -10,4 +10,5 @@ pub mod Requests
 pub mod CallCounts
 pub mod Failing
 pub mod MemoryServes
+pub mod Sorted
 pub mod VersionOf

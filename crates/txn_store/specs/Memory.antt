@@ -1,7 +1,8 @@
 -- What a store in memory is seen as, and what its calls do.
-use Rattle.std.specs.Prelude.{◌≡◌, ◌⊎◌, ℕ, zero, suc, ◌+◌, ◌-◌, ◌^◌, if◌then◌else◌, nat_lt, List, [], ◌∷◌, ◌++◌, Option, Some, None, Result, Ok, Err, refl}
+use Rattle.std.specs.Prelude.{◌≡◌, ◌⊎◌, ℕ, zero, suc, ◌+◌, ◌-◌, ◌^◌, if◌then◌else◌, nat_lt, List, [], ◌∷◌, ◌++◌, length, Option, Some, None, Result, Ok, Err, refl}
 use Rattle.std.specs.Coded.{Coded, code_by, coded×, coded_ℕ, coded_list}
 use Rattle.std.specs.FinMap as finmap
+use Rattle.std.specs.Int.Digits.{digits_of}
 use Rattle.txn_store.specs.Paths.{Segments}
 use Rattle.txn_store.specs.Store.{Files, State, known_fault}
 use Rattle.txn_store.specs.declared.store.Got.{Got}
@@ -16,6 +17,19 @@ pub record Memory : Type 0 where
   pub next : ℕ
   pub calls : ℕ
 
+-- a store in memory: what it stands for, and how many stored paths its last call compared with an asked one
+pub record Searched : Type 0 where
+  pub memory : Memory
+  pub compared : ℕ
+
+-- how many binary digits a number has, none for 0
+abbrev pub binary_digits : ℕ → ℕ
+binary_digits n = length (digits_of 2 n)
+
+-- how many files it has
+abbrev pub file_count : Memory → ℕ
+file_count m = length (finmap.entries m.files)
+
 -- a file is stored as its bytes and its token
 abbrev pub got_code : Coded Got
 got_code = code_by (List ℕ × ℕ) (coded× (coded_list coded_ℕ) coded_ℕ) (λ g. (g.bytes, g.token)) (λ p. record { bytes = p.0; token = p.1 }) (λ _. refl)
@@ -28,6 +42,9 @@ memory_code =
     code_by (Files × (ℕ × (ℕ × ℕ))) (coded× files_code (coded× coded_ℕ (coded× coded_ℕ coded_ℕ)))
     (λ m. (m.files, (m.first, (m.next, m.calls)))) (λ p. record { files = p.0; first = p.1.0; next = p.1.1.0; calls = p.1.1.1 }) (λ _. refl)
 
+abbrev pub searched_code : Coded Searched
+searched_code = code_by (Memory × ℕ) (coded× memory_code coded_ℕ) (λ s. (s.memory, s.compared)) (λ p. record { memory = p.0; compared = p.1 }) (λ _. refl)
+
 -- so many tokens, from the first one on
 abbrev pub tokens_from : ℕ → ℕ → List ℕ
 tokens_from first zero = []
@@ -37,6 +54,10 @@ tokens_from first (suc n) = tokens_from first n ++ (first + n) ∷ []
 abbrev pub state_of : Memory → State
 state_of m = record { files = m.files; given = tokens_from m.first (m.next - m.first); left = 2 ^ 64 - m.next; calls = m.calls; failures = 0 }
 
+abbrev pub searched_state : Searched → State
+searched_state s = state_of s.memory
+
+-- an empty store
 abbrev pub fresh_memory : ℕ → Memory
 fresh_memory first = record { files = finmap.empty; first = first; next = first; calls = 0 }
 

@@ -1,7 +1,7 @@
 -- What a store in memory replies to a request, and what it then is.
 use Rattle.std.specs.Prelude.{◌≡◌, Ok, Err}
 use Rattle.std.specs.FinMap as finmap
-use Rattle.txn_store.specs.Store.{put_fault, listing}
+use Rattle.txn_store.specs.Store.{put_fault, listing, page_of}
 use Rattle.txn_store.specs.Memory.{Memory, put_answer, get_answer, called, with_file, without_file}
 use Rattle.txn_store.specs.declared.request.Request.{Request}
 use Rattle.txn_store.specs.declared.request.Request.TheVariants.{Put, Get, List, Delete}
@@ -13,14 +13,14 @@ use Rattle.txn_store.specs.declared.store.StoreError.TheVariants.{NoMemory}
 abbrev pub exact_reply : Request → Memory → Reply
 exact_reply (Put path bytes mode) m = PutReply (put_answer (put_fault mode (finmap.get m.files path)) m.next)
 exact_reply (Get path known) m = GetReply (get_answer known (finmap.get m.files path))
-exact_reply (List prefix) m = ListReply (Ok (listing prefix (finmap.entries m.files)))
+exact_reply (List prefix after limit) m = ListReply (Ok (page_of limit (listing prefix after (finmap.entries m.files))))
 exact_reply (Delete path) m = DeleteReply (Ok tt)
 
 -- the reply of a refused growth, which a delete does not have
 abbrev pub LacksMemory : Request → Reply → Type 0
 LacksMemory (Put path bytes mode) reply = reply ≡ PutReply (Err NoMemory)
 LacksMemory (Get path known) reply = reply ≡ GetReply (Err NoMemory)
-LacksMemory (List prefix) reply = reply ≡ ListReply (Err NoMemory)
+LacksMemory (List prefix after limit) reply = reply ≡ ListReply (Err NoMemory)
 LacksMemory (Delete path) reply = ⊥
 
 -- the store after a request and its reply

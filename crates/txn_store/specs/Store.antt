@@ -1,8 +1,9 @@
 -- What a store stands for, and what each call may answer.
-use Rattle.std.specs.Prelude.{◌≡◌, ◌⊎◌, ℕ, ◌+◌, ◌<◌, ◌≤◌, ◌==◌, if◌then◌else◌, List, [], ◌∷◌, ◌++◌, Contains, Option, Some, None, Result, Ok, Err, IfOk, IfErr, OnOk, map, filter, length}
-use Rattle.std.specs.List.Sorted.{IsPermutation}
+use Rattle.std.specs.Prelude.{◌≡◌, ◌⊎◌, ℕ, ◌+◌, ◌<◌, ◌≤◌, ◌==◌, ◌&&◌, if◌then◌else◌, Bool, true, nat_lt, List, [], ◌∷◌, ◌++◌, Contains, Option, Some, None, Result, IfOk, IfErr, OnOk, map, filter, take, length}
+use Rattle.std.specs.Ordering.{is_lt}
 use Rattle.std.specs.FinMap as finmap
 use Rattle.txn_store.specs.Paths.{Segments, path_cmp, is_below}
+use Rattle.txn_store.specs.declared.page.Page.{Page}
 use Rattle.txn_store.specs.declared.store.Got.{Got}
 use Rattle.txn_store.specs.declared.store.ObjectMeta.{ObjectMeta}
 use Rattle.txn_store.specs.declared.store.PutMode.{PutMode}
@@ -13,10 +14,6 @@ use Rattle.txn_store.specs.declared.store.StoreError.TheVariants.{NotFound, Alre
 -- files under their paths
 abbrev pub Files : Type 0
 Files = finmap.FinMap path_cmp Got
-
--- the files of a list of entries
-abbrev pub files_of : List (Segments × Got) → Files
-files_of es = finmap.from_entries es
 
 -- what a store stands for
 pub record State : Type 0 where
@@ -117,19 +114,23 @@ pub record Gets (path : Segments) (known : Option ℕ) (old : State) (result : R
 abbrev pub meta_of : Segments × Got → ObjectMeta
 meta_of e = record { location = e.0; size = length e.1.bytes; token = e.1.token }
 
--- the files below a prefix, in the order of the entries
-abbrev pub listing : Segments → List (Segments × Got) → List ObjectMeta
-listing prefix es = map meta_of (filter (λ e. is_below prefix e.0) es)
+-- above a path, where one is given
+abbrev pub is_above : Option Segments → Segments → Bool
+is_above None path = true
+is_above (Some after) path = is_lt (path_cmp after path)
 
--- an answer with another value
-abbrev pub answer_map : {T A : Type 0} → Result T StoreError → (T → A) → Result A StoreError
-answer_map (Ok x) f = Ok (f x)
-answer_map (Err e) f = Err e
+-- the files below a prefix and above a path, in the order of the entries
+abbrev pub listing : Segments → Option Segments → List (Segments × Got) → List ObjectMeta
+listing prefix after es = map meta_of (filter (λ e. is_below prefix e.0 && is_above after e.0) es)
 
--- a listing, and its answer: each file below the prefix once, in any order
-pub record Lists (prefix : Segments) (old : State) (result : Result (List ObjectMeta) StoreError) (new : State) : Type 0 where
+-- the first of these files, up to a limit, and whether another follows
+abbrev pub page_of : ℕ → List ObjectMeta → Page
+page_of limit metas = record { metas = take limit metas; more = nat_lt limit (length metas) }
+
+-- a listing, and its answer: the first files below the prefix and above a path, in the order of their paths
+pub record Lists (prefix : Segments) (after : Option Segments) (limit : ℕ) (old : State) (result : Result Page StoreError) (new : State) : Type 0 where
   pub counted : Counted old new
-  pub listed : IfOk result (IsPermutation (listing prefix (finmap.entries old.files)))
+  pub listed : IfOk result (λ page. page ≡ page_of limit (listing prefix after (finmap.entries old.files)))
   pub kept : OnOk result (Kept old new)
   pub err : IfErr result (Refused None ⊥ old new)
 

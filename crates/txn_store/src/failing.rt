@@ -1,11 +1,13 @@
 //! A store that fails on command, for tests.
-ghost use Rattle.std.specs.Prelude.{◌≡◌};
+ghost use Rattle.std.specs.Prelude.{◌≡◌, ◌≤◌};
+ghost use Rattle.std.specs.Option.{option_copied};
 ghost use Rattle.txn_store.specs.declared.failing.Counts.{Counts};
 ghost use Rattle.txn_store.specs.CallCounts.{no_calls, one_put, one_get, one_list, one_delete};
 
 use crate::count::Count;
+use crate::page::Page;
 use crate::path::Path;
-use crate::store::{Got, ObjectMeta, ObjectStore, PutMode, StoreError, Token};
+use crate::store::{Got, ObjectStore, PutMode, StoreError, Token};
 use bytes::Bytes;
 use std::alloc::Global;
 
@@ -101,7 +103,7 @@ impl<S> FailingStore<S> {
 }
 
 impl<S: ObjectStore> ObjectStore for FailingStore<S> {
-    ghost use Rattle.txn_store.specs.Store.{Puts, Gets, Lists, Deletes, answer_map};
+    ghost use Rattle.txn_store.specs.Store.{Puts, Gets, Lists, Deletes};
     ghost use Rattle.txn_store.specs.Failing.{IsNextCall, FailsWhenDue, due, failing_state};
 
     ghost state = { λ f. failing_state (S.state f.inner) f.failed f.withheld };
@@ -140,18 +142,25 @@ impl<S: ObjectStore> ObjectStore for FailingStore<S> {
         }
     }
 
-    fn list(&mut self, alloc: Global, prefix: &Path) -> Result<Vec<ObjectMeta>, StoreError>
-        ensures meaning { Lists prefix.now (failing_state (S.state self.old.inner) self.old.failed self.old.withheld) (answer_map result (λ metas. metas.items))
+    fn list(
+        &mut self,
+        alloc: Global,
+        prefix: &Path,
+        after: Option<&Path>,
+        limit: u64,
+    ) -> Result<Page, StoreError>
+        requires { 1 ≤ limit }
+        ensures meaning { Lists prefix.now (option_copied after.entry) limit (failing_state (S.state self.old.inner) self.old.failed self.old.withheld) result
             (failing_state (S.state self.new.inner) self.new.failed self.new.withheld) }
-        ensures call { FailsWhenDue (due self.old) (Lists prefix.now) (S.state self.old.inner) (answer_map result (λ metas. metas.items)) (S.state self.new.inner) }
+        ensures call { FailsWhenDue (due self.old) (Lists prefix.now (option_copied after.entry) limit) (S.state self.old.inner) result (S.state self.new.inner) }
         ensures next { IsNextCall (one_list self.old.counts) self.old self.new }
     {
         self.counts.lists = self.counts.lists.saturating_add(1);
         match self.turn() {
-            None => self.inner.list(alloc, prefix),
+            None => self.inner.list(alloc, prefix, after, limit),
             Some(When::Before) => Err(StoreError::Failed),
             Some(When::After) => {
-                let _ = self.inner.list(alloc, prefix);
+                let _ = self.inner.list(alloc, prefix, after, limit);
                 Err(StoreError::Failed)
             }
         }

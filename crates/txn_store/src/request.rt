@@ -1,12 +1,13 @@
 //! A call of a store and its answer, as values.
 ghost use Rattle.std.specs.Prelude.{◌≡◌, IfOk};
-ghost use Rattle.txn_store.specs.Requests.{Serves};
+ghost use Rattle.std.specs.Option.{option_copied};
+ghost use Rattle.txn_store.specs.Requests.{Serves, HasLimit};
 
+use crate::page::Page;
 use crate::path::Path;
-use crate::store::{Got, ObjectMeta, ObjectStore, PutMode, StoreError, Token};
+use crate::store::{Got, ObjectStore, PutMode, StoreError, Token};
 use bytes::Bytes;
 use std::alloc::{AllocError, Global};
-use std::marker::Model;
 
 /// One call of a store.
 #[derive(Drop)]
@@ -20,12 +21,25 @@ pub enum Request {
         path: Path,
         if_none_match: Option<Token>,
     },
+    /// The limit is at least 1 where the request is served.
     List {
         prefix: Path,
+        after: Option<Path>,
+        limit: u64,
     },
     Delete {
         path: Path,
     },
+}
+
+/// A copy of a path, where there is one.
+fn copied(path: Option<&Path>) -> Result<Option<Path>, AllocError>
+    ensures { IfOk result (λ copy. copy ≡ option_copied path.entry) }
+{
+    match path {
+        None => Ok(None),
+        Some(path) => Ok(Some(path.try_clone()?)),
+    }
 }
 
 impl Request {
@@ -51,9 +65,19 @@ impl Request {
                     if_none_match,
                 })
             }
-            Request::List { prefix } => {
+            Request::List {
+                prefix,
+                after,
+                limit,
+            } => {
                 let prefix = prefix.try_clone()?;
-                Ok(Request::List { prefix })
+                let after = copied(after.as_ref())?;
+                let limit = *limit;
+                Ok(Request::List {
+                    prefix,
+                    after,
+                    limit,
+                })
             }
             Request::Delete { path } => {
                 let path = path.try_clone()?;
@@ -63,65 +87,12 @@ impl Request {
     }
 }
 
-/// What a listing told. A clause sees the list.
-#[derive(Drop)]
-pub struct Listing {
-    metas: Vec<ObjectMeta>,
-}
-
-impl Model for Listing {
-    ghost use Rattle.std.specs.Prelude.{List};
-    ghost use Rattle.txn_store.specs.declared.store.ObjectMeta.{ObjectMeta};
-    ghost use Rattle.txn_store.specs.Metas.{metas_code};
-
-    ghost Value = { List ObjectMeta };
-
-    ghost coded = { metas_code };
-
-    ghost view = { λ l. l.metas.items };
-}
-
-impl Listing {
-    /// The listing of these files. It takes no memory.
-    pub fn from_vec(metas: Vec<ObjectMeta>) -> Listing
-        ensures { result ≡ metas.items }
-    {
-        Listing { metas }
-    }
-
-    /// The files told. It takes no memory.
-    pub fn into_vec(self) -> Vec<ObjectMeta>
-        ensures { result.items ≡ self }
-    {
-        self.metas
-    }
-
-    /// The files told, lent.
-    pub fn as_slice(&self) -> &[ObjectMeta]
-        ensures { result.now ≡ self.now }
-    {
-        self.metas.as_slice()
-    }
-
-    /// A listing of the same files.
-    pub fn try_clone(&self) -> Result<Listing, AllocError>
-        ensures { IfOk result (λ copy. copy ≡ self.now) }
-    {
-        let mut metas = Vec::with_capacity(*self.metas.allocator(), self.metas.len())?;
-        let told = self.as_slice();
-        for meta in told {
-            metas.push(meta.try_clone()?)?;
-        }
-        Ok(Listing { metas })
-    }
-}
-
 /// The answer to a request, of the same kind.
 #[derive(Drop)]
 pub enum Reply {
     Put(Result<Token, StoreError>),
     Get(Result<Got, StoreError>),
-    List(Result<Listing, StoreError>),
+    List(Result<Page, StoreError>),
     Delete(Result<(), StoreError>),
 }
 
@@ -137,9 +108,9 @@ impl Reply {
                 Ok(Reply::Get(Ok(got)))
             }
             Reply::Get(Err(error)) => Ok(Reply::Get(Err(*error))),
-            Reply::List(Ok(listing)) => {
-                let listing = listing.try_clone()?;
-                Ok(Reply::List(Ok(listing)))
+            Reply::List(Ok(page)) => {
+                let page = page.try_clone()?;
+                Ok(Reply::List(Ok(page)))
             }
             Reply::List(Err(error)) => Ok(Reply::List(Err(*error))),
             Reply::Delete(answer) => Ok(Reply::Delete(*answer)),
@@ -147,9 +118,10 @@ impl Reply {
     }
 }
 
-/// Makes the call that a request stands for.
+/// Makes the call that a request stands for. The limit of a listing is at least 1.
 #[inline(always)]
 pub fn serve<S: ObjectStore>(alloc: Global, store: &mut S, request: &Request) -> Reply
+    requires { HasLimit request.now }
     ensures { Serves request.now (S.state store.old) result (S.state store.new) }
 {
     match request {
@@ -158,10 +130,11 @@ pub fn serve<S: ObjectStore>(alloc: Global, store: &mut S, request: &Request) ->
             path,
             if_none_match,
         } => Reply::Get(store.get(path, *if_none_match)),
-        Request::List { prefix } => match store.list(alloc, prefix) {
-            Ok(metas) => Reply::List(Ok(Listing::from_vec(metas))),
-            Err(error) => Reply::List(Err(error)),
-        },
+        Request::List {
+            prefix,
+            after,
+            limit,
+        } => Reply::List(store.list(alloc, prefix, after.as_ref(), *limit)),
         Request::Delete { path } => Reply::Delete(store.delete(path)),
     }
 }

@@ -1,7 +1,9 @@
 //! A store as its callers see it: files of bytes under paths, each with the token of the put that wrote it.
-ghost use Rattle.std.specs.Prelude.{◌≡◌, IfOk};
+ghost use Rattle.std.specs.Prelude.{◌≡◌, ◌≤◌, IfOk};
+ghost use Rattle.std.specs.Option.{option_copied};
 ghost use Rattle.txn_store.specs.declared.store.StoreError.TheVariants.{NoMemory};
 
+use crate::page::Page;
 use crate::path::Path;
 use bytes::Bytes;
 use std::alloc::{AllocError, AllocFailed, Global};
@@ -135,7 +137,7 @@ impl<T: Drop> From<AllocFailed<T>> for StoreError {
 /// The errors 1 to 4 (`NotFound`, `AlreadyExists`, `Precondition`, `NotModified`) are exact functions of the map,
 /// and come before the others. `Failed` may come in place of any answer, and only where the count of failures rose.
 pub trait ObjectStore {
-    ghost use Rattle.txn_store.specs.Store.{State, Puts, Gets, Lists, Deletes, answer_map};
+    ghost use Rattle.txn_store.specs.Store.{State, Puts, Gets, Lists, Deletes};
 
     /// What the store stands for.
     ghost state: { Self → State };
@@ -148,9 +150,17 @@ pub trait ObjectStore {
     fn get(&mut self, path: &Path, if_none_match: Option<Token>) -> Result<Got, StoreError>
         ensures { Gets path.now if_none_match (state self.old) result (state self.new) };
 
-    /// The files strictly below a path, by whole segments, each once and in any order.
-    fn list(&mut self, alloc: Global, prefix: &Path) -> Result<Vec<ObjectMeta>, StoreError>
-        ensures { Lists prefix.now (state self.old) (answer_map result (λ metas. metas.items)) (state self.new) };
+    /// A page of the files strictly below a prefix, by whole segments, and above the path `after` where one is given:
+    /// the first `limit` of them in the order of their paths, and whether another follows. The limit is at least 1.
+    fn list(
+        &mut self,
+        alloc: Global,
+        prefix: &Path,
+        after: Option<&Path>,
+        limit: u64,
+    ) -> Result<Page, StoreError>
+        requires { 1 ≤ limit }
+        ensures { Lists prefix.now (option_copied after.entry) limit (state self.old) result (state self.new) };
 
     /// Removes a file. A missing path is no error.
     fn delete(&mut self, path: &Path) -> Result<(), StoreError>

@@ -8,7 +8,7 @@ use txn_steps::read::{ReadAnswer, ReadOp};
 use txn_steps::turned::Turned;
 use txn_steps::write::{WriteOp, WriteStep};
 use txn_store::path::{Path, PathFault};
-use txn_store::request::{Reply, serve};
+use txn_store::request::{Reply, Request, serve};
 use txn_store::store::ObjectStore;
 use txn_types::error::TransactionalObjectError;
 use txn_types::id::MonotonicId;
@@ -18,6 +18,18 @@ use txn_types::test_utils::NumberCodec;
 pub(crate) fn a_layout(alloc: Global) -> Result<Layout<NumberCodec>, PathFault> {
     let root = Path::from_text(alloc, "root")?;
     Layout::new(alloc, &root, "test", "val", NumberCodec)
+}
+
+/// The store's reply. A listing asks for a page of one file at least.
+pub(crate) fn replies<S: ObjectStore>(
+    alloc: Global,
+    store: &mut S,
+    request: &Request,
+) -> Result<Reply, Fail> {
+    match request {
+        Request::List { limit: 0, .. } => Err("a page of no file")?,
+        _ => Ok(serve(alloc, store, request)),
+    }
 }
 
 /// What a call answers, an error as its number.
@@ -41,7 +53,7 @@ pub(crate) fn turn_write<S: ObjectStore>(
     store: &mut S,
     op: &mut WriteOp,
 ) -> Result<Wrote, Fail> {
-    let reply = serve(alloc, store, op.ask());
+    let reply = replies(alloc, store, op.ask())?;
     match (op.step, reply) {
         (WriteStep::Puts, Reply::Put(answer)) => Ok(op.take(Reply::Put(answer))),
         (WriteStep::Checks, Reply::Get(answer)) => Ok(op.take(Reply::Get(answer))),
@@ -79,9 +91,9 @@ pub(crate) fn turn_read<S: ObjectStore>(
     layout: &Layout<NumberCodec>,
     op: &mut ReadOp<u64>,
 ) -> Result<Turned<ReadAnswer<u64>>, Fail> {
-    let reply = serve(alloc, store, op.ask());
+    let reply = replies(alloc, store, op.ask())?;
     match (&*op, reply) {
-        (ReadOp::Lists(_), Reply::List(answer)) => Ok(op.take(alloc, layout, Reply::List(answer))),
+        (ReadOp::Lists(..), Reply::List(answer)) => Ok(op.take(alloc, layout, Reply::List(answer))),
         (ReadOp::Gets(..), Reply::Get(answer)) => Ok(op.take(alloc, layout, Reply::Get(answer))),
         (ReadOp::Checks(_, Some(_), _), Reply::Get(answer)) => {
             Ok(op.take(alloc, layout, Reply::Get(answer)))
@@ -141,7 +153,7 @@ pub(crate) fn check<S: ObjectStore>(
     id: u64,
 ) -> Result<Answered<()>, Fail> {
     let mut op = CheckOp::start(layout, MonotonicId::new(id))?;
-    let Reply::Get(answer) = serve(alloc, store, op.ask()) else {
+    let Reply::Get(answer) = replies(alloc, store, op.ask())? else {
         return Err("a reply of another kind")?;
     };
     match op.take(Reply::Get(answer)) {
@@ -156,7 +168,7 @@ pub(crate) fn turn_advance<S: ObjectStore>(
     layout: &Layout<NumberCodec>,
     op: &mut AdvanceOp,
 ) -> Result<Did, Fail> {
-    let reply = serve(alloc, store, op.ask());
+    let reply = replies(alloc, store, op.ask())?;
     match (&*op, reply) {
         (AdvanceOp::Gets(..), Reply::Get(answer)) => Ok(op.take(alloc, layout, Reply::Get(answer))),
         (AdvanceOp::Puts(..), Reply::Put(answer)) => Ok(op.take(alloc, layout, Reply::Put(answer))),
@@ -195,7 +207,7 @@ fn turn_delete<S: ObjectStore>(
     store: &mut S,
     op: &mut DeleteOp,
 ) -> Result<Did, Fail> {
-    let reply = serve(alloc, store, op.ask());
+    let reply = replies(alloc, store, op.ask())?;
     match (op.step, reply) {
         (DeleteStep::Checks, Reply::Get(answer)) => Ok(op.take(Reply::Get(answer))),
         (DeleteStep::Removes, Reply::Delete(answer)) => Ok(op.take(Reply::Delete(answer))),

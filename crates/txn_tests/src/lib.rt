@@ -14,6 +14,8 @@ mod operations;
 #[cfg(test)]
 mod overtaken;
 #[cfg(test)]
+mod pages;
+#[cfg(test)]
 mod paths;
 #[cfg(test)]
 mod printed;

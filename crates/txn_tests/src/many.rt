@@ -1,6 +1,6 @@
 //! Many versions: a large store, and one whose growth is refused.
 use bytes::Bytes;
-use std::alloc::Global;
+use std::alloc::{AllocError, Global};
 use std::test::Fail;
 use txn_store::in_memory::InMemory;
 use txn_store::path::{Path, PathFault};
@@ -40,30 +40,128 @@ fn other_got(
     Ok(None)
 }
 
-/// The first place at which the version of that number is not listed.
-fn other_listed(names: &VersionNames, metas: &[ObjectMeta]) -> Option<u64> {
-    let mut next = 0u64;
+/// The first place at which a page does not tell the version of that number, and the number after the page.
+fn other_told(names: &VersionNames, metas: &[ObjectMeta], first: u64) -> (Option<u64>, u64) {
+    let mut next = first;
     for meta in metas {
         if names.parse_id(&meta.location) != Some(next) {
-            return Some(next);
+            return (Some(next), next);
         }
         next = next.saturating_add(1);
     }
-    None
+    (None, next)
 }
 
-/// The first version that is not got, the first that is not listed, and how many are.
-fn looked(alloc: Global, count: u64) -> Result<(Option<u64>, Option<u64>, usize), Fail> {
+/// The path of the last file told.
+fn last(metas: &[ObjectMeta]) -> Result<Option<Path>, AllocError> {
+    match metas.last() {
+        Some(meta) => Ok(Some(meta.location.try_clone()?)),
+        None => Ok(None),
+    }
+}
+
+/// What the pages of a listing tell of versions 0, 1, 2 and so on.
+#[derive(Clone, Copy, Debug, PartialEq, Eq)]
+struct Told {
+    /// The first version that is not told in its place.
+    other: Option<u64>,
+    pages: u64,
+    versions: u64,
+    /// The most paths that a page compared.
+    compared: u64,
+}
+
+const PAGE: u64 = 1000;
+
+/// The listing of all versions, page by page, of 1,000 pages at most.
+fn listed(alloc: Global, names: &VersionNames, store: &mut InMemory) -> Result<Told, Fail> {
+    let mut after = None;
+    let mut told = Told {
+        other: None,
+        pages: 0,
+        versions: 0,
+        compared: 0,
+    };
+    for pages in 1..1000 {
+        let page = store.list(alloc, names.dir(), after.as_ref(), PAGE)?;
+        let metas = page.metas.as_slice();
+        let (other, next) = other_told(names, metas, told.versions);
+        told = Told {
+            other,
+            pages,
+            versions: next,
+            compared: told.compared.max(store.compared()),
+        };
+        if !page.more || other.is_some() {
+            return Ok(told);
+        }
+        after = last(metas)?;
+    }
+    Err("a listing goes on")?
+}
+
+/// Removes the versions, the oldest first, and tells the most paths that one removal compared.
+fn removed(
+    alloc: Global,
+    names: &VersionNames,
+    store: &mut InMemory,
+    count: u64,
+) -> Result<u64, Fail> {
+    let mut compared = 0u64;
+    for number in 0..count {
+        store.delete(&names.path_for(alloc, number)?)?;
+        compared = compared.max(store.compared());
+    }
+    Ok(compared)
+}
+
+/// The first version that is not got, what is listed of all, and what once they are removed.
+fn looked(alloc: Global, count: u64) -> Result<(Option<u64>, Told, Told), Fail> {
     let names = names(alloc)?;
     let mut store = stored(alloc, &names, count)?;
     let got = other_got(alloc, &names, &mut store, count)?;
-    let metas = store.list(alloc, names.dir())?;
-    Ok((got, other_listed(&names, &metas), metas.len()))
+    let told = listed(alloc, &names, &mut store)?;
+    let _ = removed(alloc, &names, &mut store, count)?;
+    Ok((got, told, listed(alloc, &names, &mut store)?))
 }
 
 #[test]
 fn a_hundred_thousand_versions(rt: HostRuntime) -> Result<(), Fail> {
-    assert_eq!(rt; looked(rt.alloc(), MANY)?, (None, None, 100_000));
+    let (other, told, left) = looked(rt.alloc(), MANY)?;
+    assert_eq!(rt; (other, told.other), (None, None));
+    assert_eq!(rt; (told.pages, told.versions), (100, MANY));
+    assert_eq!(rt; (left.pages, left.versions, left.compared), (1, 0, 0));
+    Ok(())
+}
+
+/// The most paths that a call compares where so many versions are stored: a put, a get, a page and a removal.
+fn most_compared(alloc: Global, count: u64) -> Result<[u64; 4], Fail> {
+    let names = names(alloc)?;
+    let mut store = stored(alloc, &names, count)?;
+    let bytes = Bytes::from_static(b"other");
+    let mut most = [0u64; 4];
+    for number in 0..count.saturating_add(1) {
+        let path = names.path_for(alloc, number)?;
+        let _ = store.get(&path, None);
+        most[1] = most[1].max(store.compared());
+        let _ = store.put(&path, &bytes, &PutMode::Update(Token::new(0)));
+        most[0] = most[0].max(store.compared());
+    }
+    most[2] = listed(alloc, &names, &mut store)?.compared;
+    most[3] = removed(alloc, &names, &mut store, count)?;
+    Ok(most)
+}
+
+/// With so many versions, the most paths that a put, a get and a removal compare, and that a page does.
+const COMPARED: &[(u64, u64, u64)] = &[(0, 0, 0), (1, 1, 2), (1000, 10, 20), (1023, 10, 20)];
+
+#[test]
+fn a_call_compares_few_paths(rt: HostRuntime) -> Result<(), Fail> {
+    for (count, one, page) in COMPARED {
+        let most = most_compared(rt.alloc(), *count)?;
+        let within = most[0] <= *one && most[1] <= *one && most[2] <= *page && most[3] <= *one;
+        assert!(rt; within, "{count}: {most:?}");
+    }
     Ok(())
 }
 
@@ -118,8 +216,8 @@ fn put_few(alloc: Global, store: &mut InMemory, names: &VersionNames) -> Result<
 
 /// Whether so many files are listed, or memory is lacking.
 fn lists(alloc: Global, store: &mut InMemory, names: &VersionNames, count: usize) -> bool {
-    match store.list(alloc, names.dir()) {
-        Ok(metas) => metas.len() == count,
+    match store.list(alloc, names.dir(), None, PAGE) {
+        Ok(page) => page.metas.as_slice().len() == count && !page.more,
         Err(error) => error == StoreError::NoMemory,
     }
 }

@@ -178,7 +178,7 @@ fn lists_across(
 ) -> Result<bool, Fail> {
     let goes = reads_on(alloc, store, layout, op, row.turns)?;
     let played = plays(alloc, store, row.between)?.is_none();
-    let lists = reads_on(alloc, store, layout, op, row.more)? && matches!(op, ReadOp::Lists(_));
+    let lists = reads_on(alloc, store, layout, op, row.more)? && matches!(op, ReadOp::Lists(..));
     Ok(goes && played && lists)
 }
 

@@ -1,17 +1,19 @@
 //! Requests as values: each is served as its call, and its copy alike.
+use crate::driven::replies;
 use bytes::Bytes;
 use std::alloc::{AllocError, Global};
 use std::test::Fail;
 use txn_store::in_memory::InMemory;
+use txn_store::page::{Listing, Page};
 use txn_store::path::{Path, PathFault};
-use txn_store::request::{Listing, Reply, Request, serve};
+use txn_store::request::{Reply, Request};
 use txn_store::store::PutMode;
 
 /// What the requests are answered, in words.
 const WANTED: [&str; 5] = [
     "put 1",
     "got b\"abc\" of 1",
-    "listed dir/a 3",
+    "listed dir/a 3, more: false",
     "deleted",
     "not found",
 ];
@@ -29,6 +31,8 @@ fn requests(alloc: Global, mode: PutMode) -> Result<Vec<Request>, PathFault> {
     };
     let list = Request::List {
         prefix: Path::from_text(alloc, "dir")?,
+        after: Some(Path::from_text(alloc, "dir")?),
+        limit: 1,
     };
     let delete = Request::Delete {
         path: Path::from_text(alloc, "dir/a")?,
@@ -61,7 +65,10 @@ fn words(alloc: Global, reply: Reply) -> Result<String, AllocError> {
             let number = got.token.number();
             format!(in alloc; "got {bytes:?} of {number}")
         }
-        Reply::List(Ok(listing)) => listed(alloc, &Listing::from_vec(listing.into_vec())),
+        Reply::List(Ok(Page { metas, more })) => {
+            let told = listed(alloc, &Listing::from_vec(metas.into_vec()))?;
+            format!(in alloc; "{told}, more: {more}")
+        }
         Reply::Delete(Ok(())) => format!(in alloc; "deleted"),
         Reply::Put(Err(error))
         | Reply::Get(Err(error))
@@ -76,17 +83,17 @@ fn served(
     store: &mut InMemory,
     request: &Request,
     copied: bool,
-) -> Result<String, AllocError> {
+) -> Result<String, Fail> {
     if !copied {
-        return words(alloc, serve(alloc, store, request));
+        return Ok(words(alloc, replies(alloc, store, request)?)?);
     }
     let copy = request.try_clone()?;
-    let reply = serve(alloc, store, &copy);
-    words(alloc, reply.try_clone()?)
+    let reply = replies(alloc, store, &copy)?;
+    Ok(words(alloc, reply.try_clone()?)?)
 }
 
 /// The first request of a store's first five that is answered something else, counted from 0.
-fn other_served(alloc: Global, mode: PutMode, copied: bool) -> Result<Option<usize>, PathFault> {
+fn other_served(alloc: Global, mode: PutMode, copied: bool) -> Result<Option<usize>, Fail> {
     let mut store = InMemory::new(alloc);
     let requests = requests(alloc, mode)?;
     for (at, (request, want)) in requests.iter().zip(WANTED).enumerate() {

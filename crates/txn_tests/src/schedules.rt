@@ -7,6 +7,7 @@ use txn_script::line::{Line, read_line};
 use txn_script::record::{Record, RecordCodec};
 use txn_store::request::Request;
 use txn_types::boundary::read_boundary;
+use txn_types::layout::PAGE;
 use txn_world::world::World;
 
 /// Events that two clients take, and what comes of them.
@@ -224,7 +225,7 @@ struct Outcome {
 }
 
 fn outcome_of(alloc: Global, schedule: &Schedule) -> Result<Outcome, Fail> {
-    let mut world = World::new(alloc, RecordCodec, 2)?;
+    let mut world = World::new(alloc, RecordCodec, 2, PAGE)?;
     let taken = world.run(events(alloc, schedule.lines)?);
     Ok(Outcome {
         taken,
@@ -285,7 +286,7 @@ const EFFECTS: &[&str] = &[
 
 /// A world with one client after these events.
 fn ran(alloc: Global, lines: &[&str]) -> Result<World<Record, RecordCodec>, Fail> {
-    let mut world = World::new(alloc, RecordCodec, 1)?;
+    let mut world = World::new(alloc, RecordCodec, 1, PAGE)?;
     world.run(events(alloc, lines)?);
     Ok(world)
 }

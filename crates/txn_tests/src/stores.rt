@@ -10,6 +10,9 @@ use txn_store::store::StoreError::{
 };
 use txn_store::store::{Got, ObjectMeta, ObjectStore, PutMode, StoreError, Token};
 
+/// The paths and the sizes of files, in order.
+type Told = &'static [(&'static str, u64)];
+
 /// A call of a store, and what it answers.
 enum Step {
     Create(&'static str, &'static [u8], Result<u64, StoreError>),
@@ -20,12 +23,14 @@ enum Step {
     Get(&'static str, Result<(&'static [u8], u64), StoreError>),
     /// A get of what is not of this token.
     GetNewer(&'static str, u64, Result<(&'static [u8], u64), StoreError>),
-    /// The paths and their sizes, in order.
-    List(&'static str, Result<&'static [(&'static str, u64)], StoreError>),
+    /// The paths and their sizes, in order, all in one page.
+    List(&'static str, Result<Told, StoreError>),
+    /// A page after a path, of so many files at most; and whether another follows.
+    Page(&'static str, Option<&'static str>, u64, Told, bool),
     Delete(&'static str, Result<(), StoreError>),
 }
 
-use Step::{Create, Delete, Get, GetNewer, List, Overwrite, Update};
+use Step::{Create, Delete, Get, GetNewer, List, Overwrite, Page, Update};
 
 fn puts<S: ObjectStore>(
     alloc: Global,
@@ -76,18 +81,34 @@ fn are_told(
     Ok(metas.len() == wanted.len())
 }
 
+fn paths(alloc: Global, text: Option<&str>) -> Result<Option<Path>, PathFault> {
+    match text {
+        None => Ok(None),
+        Some(text) => Ok(Some(Path::from_text(alloc, text)?)),
+    }
+}
+
+/// Whether a page, of one file at least, is answered so: the files and whether another follows, or an error.
 fn lists<S: ObjectStore>(
     alloc: Global,
     store: &mut S,
-    prefix: &str,
-    wanted: Result<&[(&str, u64)], StoreError>,
+    (prefix, after, limit): (&str, Option<&str>, u64),
+    wanted: Result<(&[(&str, u64)], bool), StoreError>,
 ) -> Result<bool, PathFault> {
     let prefix = Path::from_text(alloc, prefix)?;
-    Ok(match (store.list(alloc, &prefix), wanted) {
-        (Ok(metas), Ok(wanted)) => are_told(alloc, &metas, wanted)?,
-        (Err(error), Err(wanted)) => error == wanted,
-        _ => false,
-    })
+    let after = paths(alloc, after)?;
+    Ok(
+        match (
+            store.list(alloc, &prefix, after.as_ref(), limit.max(1)),
+            wanted,
+        ) {
+            (Ok(page), Ok((wanted, more))) => {
+                are_told(alloc, page.metas.as_slice(), wanted)? && page.more == more
+            }
+            (Err(error), Err(wanted)) => error == wanted,
+            _ => false,
+        },
+    )
 }
 
 /// Whether the call answers what it should.
@@ -103,7 +124,13 @@ fn answers<S: ObjectStore>(alloc: Global, store: &mut S, step: &Step) -> Result<
         }
         Get(path, want) => gets(alloc, store, path, None, *want)?,
         GetNewer(path, token, want) => gets(alloc, store, path, Some(Token::new(*token)), *want)?,
-        List(prefix, want) => lists(alloc, store, prefix, *want)?,
+        List(prefix, want) => {
+            let want = want.map(|told| (told, false));
+            lists(alloc, store, (prefix, None, 1000), want)?
+        }
+        Page(prefix, after, limit, told, more) => {
+            lists(alloc, store, (prefix, *after, *limit), Ok((*told, *more)))?
+        }
         Delete(path, want) => {
             let path = Path::from_text(alloc, path)?;
             store.delete(&path) == *want
@@ -124,6 +151,8 @@ fn plays<S: ObjectStore>(
     }
     Ok(None)
 }
+
+const ALL_OF_DIR: Told = &[("dir/a", 3), ("dir/a/c", 3), ("dir/b", 3)];
 
 /// Steps over a store in memory, and whether files stand under paths in the end.
 struct InMemoryRow {
@@ -167,7 +196,7 @@ const IN_MEMORY: &[InMemoryRow] = &[
             Create("di", b"abc", Ok(6)),
             Create("e", b"abc", Ok(7)),
             Create("dirr", b"abc", Ok(8)),
-            List("dir", Ok(&[("dir/a", 3), ("dir/a/c", 3), ("dir/b", 3)])),
+            List("dir", Ok(ALL_OF_DIR)),
             List(
                 "",
                 Ok(&[
@@ -184,6 +213,30 @@ const IN_MEMORY: &[InMemoryRow] = &[
             List("dir/b", Ok(&[])),
         ],
         contains: &[("dir/a", true)],
+    },
+    InMemoryRow {
+        name: "a page has the first files after a path, and tells whether more follow",
+        first: None,
+        steps: &[
+            Create("dir/a", b"abc", Ok(1)),
+            Create("dir/a/c", b"abc", Ok(2)),
+            Create("dir/b", b"abc", Ok(3)),
+            Create("dir-a/x", b"abc", Ok(4)),
+            Page("dir", None, 2, &[("dir/a", 3), ("dir/a/c", 3)], true),
+            Page("dir", Some("dir/a/c"), 2, &[("dir/b", 3)], false),
+            Page("dir", Some("dir/a"), 1, &[("dir/a/c", 3)], true),
+            Page("dir", None, 3, ALL_OF_DIR, false),
+            Page("dir", Some("dir/b"), 2, &[], false),
+            Page("dir", Some("dir/aa"), 9, &[("dir/b", 3)], false),
+            Page("dir", Some("dir"), 1, &[("dir/a", 3)], true),
+            Page("dir", Some("a"), 4, ALL_OF_DIR, false),
+            Page("dir", Some("e"), 4, &[], false),
+            Page("none", None, 1, &[], false),
+            Page("", Some("dir/b"), 1, &[("dir-a/x", 3)], false),
+            Delete("dir/a/c", Ok(())),
+            Page("dir", Some("dir/a"), 1, &[("dir/b", 3)], false),
+        ],
+        contains: &[("dir/a/c", false), ("dir/b", true)],
     },
     InMemoryRow {
         name: "nothing stands in a new store",
@@ -272,7 +325,7 @@ const EACH_KIND: Counts = Counts {
 /// What is got and listed of a file `a`.
 const FOUND: (&[u8], u64) = (b"x", 1);
 
-const LISTED: &[(&str, u64)] = &[("a", 1)];
+const LISTED: Told = &[("a", 1)];
 
 /// The first fails after its effect. The others are a put, a get, a listing, a delete and a get.
 const FAILING: &[FailingRow] = &[

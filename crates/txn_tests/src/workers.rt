@@ -13,6 +13,7 @@ use txn_threads::finish::{FinishFault, finish};
 use txn_threads::gate::{FreeGate, Gate, GateSpent};
 use txn_threads::kept::{Kept, Share};
 use txn_threads::work::{End, Job, Worker, work, work_all};
+use txn_types::layout::PAGE;
 use txn_world::world::World;
 
 type Records = Kept<Record, RecordCodec>;
@@ -22,7 +23,7 @@ fn kept_by(alloc: Global, workers: u64) -> Result<(Records, Vec<Share>), AllocEr
     requires few { workers ≤ 64 }
     ensures { IfOk result (λ made. vec_len made.1 ≡ workers) }
 {
-    let world = World::new(alloc, RecordCodec, workers)?;
+    let world = World::new(alloc, RecordCodec, workers, PAGE)?;
     Kept::new(alloc, world, workers)
 }
 

@@ -13,6 +13,7 @@ use txn_model::laws::{
 use txn_model::trace::Row;
 use txn_script::record::{Record, RecordCodec};
 use txn_types::codec::ObjectCodec;
+use txn_types::layout::PAGE;
 use txn_types::test_utils::NumberCodec;
 use txn_world::world::World;
 
@@ -121,7 +122,7 @@ fn other_told(
 /// The first event that is told something else, the number of rows, and whether the entries are as they
 /// should be.
 fn played(alloc: Global, row: &ToldRow) -> Result<(Option<usize>, usize, bool), AllocError> {
-    let mut world = World::new(alloc, RecordCodec, 2)?;
+    let mut world = World::new(alloc, RecordCodec, 2, PAGE)?;
     let other = other_told(&mut world, row.steps)?;
     let entries = world.entries(alloc)?;
     let are_same = entries.as_slice() == row.entries;
@@ -216,7 +217,7 @@ fn ran<T: Clone, C: ObjectCodec<T> + Drop>(
 ) -> Result<World<T, C>, AllocError>
     requires { IsExactClone T.is_clone }
 {
-    let mut world = World::new(alloc, codec, 1)?;
+    let mut world = World::new(alloc, codec, 1, PAGE)?;
     world.run(copied(alloc, events)?);
     Ok(world)
 }

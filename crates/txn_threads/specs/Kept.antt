@@ -54,7 +54,7 @@ module _ {T : Type 0} (encode : T → List ℕ) (decode : List ℕ → Option T)
   -- Taking the journal's events in order, from a world in which nothing has happened, tells what the
   -- journal says and ends here.
   abbrev pub Replays : List (JournalRow T) → State T → Type 0
-  Replays journal state = Runs encode decode (opening state.clients) (taken_of journal) state
+  Replays journal state = Runs encode decode (opening state.clients state.page) (taken_of journal) state
 
   -- One row more, of this worker, event and what the world told of it; and the world took the event.
   pub record AddsJournalRow {C : Type 0} (old new : KeptState T C) (worker : ℕ) (event : Event T) (told : Told T) : Type 0 where

@@ -127,7 +127,7 @@ impl<T: Clone, C: ObjectCodec<T> + Drop> Kept<T, C> {
         world: World<T, C>,
         workers: u64,
     ) -> Result<(Kept<T, C>, Vec<Share>), AllocError>
-        requires opening { world.state ≡ opening world.state.clients }
+        requires opening { world.state ≡ opening world.state.clients world.state.page }
         requires some { 1 ≤ workers }
         requires few { workers ≤ world.state.clients }
         ensures kept { IfOk result (λ made. made.0 ≡ record { world = world; workers = workers; journal = [] }) }

@@ -18,7 +18,11 @@ fn boundary_path(alloc: Global, root: &Path, subdir: &str) -> Result<Path, PathF
     root.join("gc")?.join(&name)
 }
 
-/// The names of an object's versions, the path of its boundary file, and the codec of its values.
+/// How many files a page of a listing has at most, where nothing else is said.
+pub const PAGE: u64 = 1000;
+
+/// The names of an object's versions, the path of its boundary file, the codec of its values, and the size of a page
+/// of a listing.
 #[derive(Drop)]
 pub struct Layout<C> {
     /// The names of the versions.
@@ -27,11 +31,13 @@ pub struct Layout<C> {
     pub boundary: Path,
     /// How values are written and read.
     pub codec: C,
+    /// How many files a page of a listing has at most. It is at least 1.
+    pub page: u64,
 }
 
 impl<C: Drop> Layout<C> {
     /// The versions are the files of the folder `subdir` below the root, under this suffix, and the
-    /// boundary file is `<root>/gc/<subdir>.boundary`.
+    /// boundary file is `<root>/gc/<subdir>.boundary`. A page has 1,000 files at most.
     /// `BadSegment` comes exactly where the folder's name or the suffix is not as it has to be:
     /// a plain segment, and for the suffix one without a dot.
     pub fn new(
@@ -41,7 +47,7 @@ impl<C: Drop> Layout<C> {
         file_suffix: &str,
         codec: C,
     ) -> Result<Layout<C>, PathFault>
-        ensures ok { IfOk result (λ layout. layout ≡ record { names = record { dir = root.now ++ subdir.now ∷ []; suffix = file_suffix.now }; boundary = boundary_path root.now subdir.now; codec = codec }) }
+        ensures ok { IfOk result (λ layout. layout ≡ record { names = record { dir = root.now ++ subdir.now ∷ []; suffix = file_suffix.now }; boundary = boundary_path root.now subdir.now; codec = codec; page = 1000 }) }
         ensures bad_segment { IsErrOf result PathFault.BadSegment ↔ ((not (is_plain subdir.now) || not (is_suffix file_suffix.now)) ≡ true) }
     {
         // Both names are tested before anything grows.
@@ -55,6 +61,7 @@ impl<C: Drop> Layout<C> {
             names,
             boundary,
             codec,
+            page: PAGE,
         })
     }
 }

@@ -35,7 +35,7 @@ module _ {T : Type 0} (decode : List ℕ → Option T) where
   legal_create rows op (requests.Put path bytes mode) version e (inr (inl put)) = absurd (not_raised rows op path bytes mode version (is_boundary path) refl e put)
   legal_create rows op (requests.Put path bytes mode) version e (inr (inr gone)) = absurd gone
   legal_create rows op (requests.Get path known) version e legal = cc
-  legal_create rows op (requests.List prefix) version e legal = cc
+  legal_create rows op (requests.List prefix after limit) version e legal = cc
   legal_create rows op (requests.Delete path) version e legal = cc
 
   -- what a version put makes of the versions

@@ -47,10 +47,10 @@ module _ {T : Type 0} where
   pub asked_reply : (operations : List (Operation T)) (op : ℕ) (reply : Reply) (o d : Operation T) → IsReplyBy (numbered operations op) reply → o ≡ get_or operations (op - 1) d → IsReply o.doing reply
   asked_reply operations op reply o d asked e = (found_at operations op reply o d asked e).1
 
-  pub advanced_at : (decode : List ℕ → Option T) (operations : List (Operation T)) (op : ℕ) (reply : Reply) (o d : Operation T) (doing : Doing T) (answer : Option (Answer T)) → IsReplyBy (numbered operations op) reply → o ≡ get_or operations (op - 1) d → Turns decode o.doing reply doing answer →
-      Advances decode operations (with_doing operations op o doing) op reply answer
-  advanced_at decode operations op reply o d doing answer asked e turn =
-      subst (λ (found : Option (Operation T)). AdvancesAt decode operations (with_doing operations op o doing) op found reply answer) (sym (found_at operations op reply o d asked e).0) (doing, turn, refl)
+  pub advanced_at : (page : ℕ) (decode : List ℕ → Option T) (operations : List (Operation T)) (op : ℕ) (reply : Reply) (o d : Operation T) (doing : Doing T) (answer : Option (Answer T)) → IsReplyBy (numbered operations op) reply → o ≡ get_or operations (op - 1) d → Turns page decode o.doing reply doing answer →
+      Advances page decode operations (with_doing operations op o doing) op reply answer
+  advanced_at page decode operations op reply o d doing answer asked e turn =
+      subst (λ (found : Option (Operation T)). AdvancesAt page decode operations (with_doing operations op o doing) op found reply answer) (sym (found_at operations op reply o d asked e).0) (doing, turn, refl)
 
 -- a reply is of the kind of the request that is served
 
@@ -60,7 +60,7 @@ put_reply (requests.Put path bytes mode) (replies.Get answer) old new is s = abs
 put_reply (requests.Put path bytes mode) (replies.List answer) old new is s = absurd s
 put_reply (requests.Put path bytes mode) (replies.Delete answer) old new is s = absurd s
 put_reply (requests.Get path known) reply old new is s = absurd is
-put_reply (requests.List prefix) reply old new is s = absurd is
+put_reply (requests.List prefix after limit) reply old new is s = absurd is
 put_reply (requests.Delete path) reply old new is s = absurd is
 
 get_reply : (request : Request) (reply : Reply) (old new : StoreState) → IsGet request → Serves request old reply new → IsGetReply reply
@@ -69,14 +69,14 @@ get_reply (requests.Get path known) (replies.Put answer) old new is s = absurd s
 get_reply (requests.Get path known) (replies.List answer) old new is s = absurd s
 get_reply (requests.Get path known) (replies.Delete answer) old new is s = absurd s
 get_reply (requests.Put path bytes mode) reply old new is s = absurd is
-get_reply (requests.List prefix) reply old new is s = absurd is
+get_reply (requests.List prefix after limit) reply old new is s = absurd is
 get_reply (requests.Delete path) reply old new is s = absurd is
 
 list_reply : (request : Request) (reply : Reply) (old new : StoreState) → IsList request → Serves request old reply new → IsListReply reply
-list_reply (requests.List prefix) (replies.List answer) old new is s = tt
-list_reply (requests.List prefix) (replies.Put answer) old new is s = absurd s
-list_reply (requests.List prefix) (replies.Get answer) old new is s = absurd s
-list_reply (requests.List prefix) (replies.Delete answer) old new is s = absurd s
+list_reply (requests.List prefix after limit) (replies.List answer) old new is s = tt
+list_reply (requests.List prefix after limit) (replies.Put answer) old new is s = absurd s
+list_reply (requests.List prefix after limit) (replies.Get answer) old new is s = absurd s
+list_reply (requests.List prefix after limit) (replies.Delete answer) old new is s = absurd s
 list_reply (requests.Put path bytes mode) reply old new is s = absurd is
 list_reply (requests.Get path known) reply old new is s = absurd is
 list_reply (requests.Delete path) reply old new is s = absurd is
@@ -88,7 +88,7 @@ delete_reply (requests.Delete path) (replies.Get answer) old new is s = absurd s
 delete_reply (requests.Delete path) (replies.List answer) old new is s = absurd s
 delete_reply (requests.Put path bytes mode) reply old new is s = absurd is
 delete_reply (requests.Get path known) reply old new is s = absurd is
-delete_reply (requests.List prefix) reply old new is s = absurd is
+delete_reply (requests.List prefix after limit) reply old new is s = absurd is
 
 write_reply : (step : WriteStep) (op : WriteOp) (reply : Reply) (old new : StoreState) → WriteInKind step op → Serves (write_asked_at step op) old reply new → IsWriteReplyAt step reply
 write_reply writes.Puts op reply old new is s = put_reply op.put reply old new is s
@@ -101,7 +101,7 @@ remove_reply deletes.Removes op reply old new is s = delete_reply op.remove repl
 module _ {T : Type 0} where
   doing_reply : (doing : Doing T) (request : Request) (reply : Reply) (old new : StoreState) → AsksInKind doing → asked doing ≡ Some request → Serves request old reply new → IsReply doing reply
   doing_reply (Write op) request reply old new is e s = write_reply op.step op reply old new is (subst (λ (q : Request). Serves q old reply new) (sym (same_Some (write_asked op) request e)) s)
-  doing_reply (Read (reads.Lists own)) request reply old new is e s = list_reply own reply old new is (subst (λ (q : Request). Serves q old reply new) (sym (same_Some own request e)) s)
+  doing_reply (Read (reads.Lists found own)) request reply old new is e s = list_reply own reply old new is (subst (λ (q : Request). Serves q old reply new) (sym (same_Some own request e)) s)
   doing_reply (Read (reads.Gets id own)) request reply old new is e s = get_reply own reply old new is (subst (λ (q : Request). Serves q old reply new) (sym (same_Some own request e)) s)
   doing_reply (Read (reads.Checks id (Some value) check)) request reply old new is e s = get_reply check.request reply old new is (subst (λ (q : Request). Serves q old reply new) (sym (same_Some check.request request e)) s)
   doing_reply (Read (reads.Checks id None check)) request reply old new is e s = absurd is
@@ -120,8 +120,8 @@ module _ {T : Type 0} where
 
 module _ {T : Type 0} (encode : T → List ℕ) (decode : List ℕ → Option T) where
   served_at : (old : State T) (op : ℕ) (found : Option (Operation T)) (request : Request) (reply : Reply) (store : StoreState) (operations : List (Operation T)) (answer : Option (Answer T)) →
-      numbered old.operations op ≡ found → asked_of found ≡ Some request → Serves request old.store reply store → store.failures ≡ 0 → AdvancesAt decode old.operations operations op found reply answer →
-      Served decode old op (told_of (told.Went op) op answer) (record { clients = old.clients; store = store; operations = operations; trace = (old.trace ++ effect_rows op (effect_of old.store.files request reply)) ++ answer_rows op answer })
+      numbered old.operations op ≡ found → asked_of found ≡ Some request → Serves request old.store reply store → store.failures ≡ 0 → AdvancesAt old.page decode old.operations operations op found reply answer →
+      Served decode old op (told_of (told.Went op) op answer) (record { clients = old.clients; page = old.page; store = store; operations = operations; trace = (old.trace ++ effect_rows op (effect_of old.store.files request reply)) ++ answer_rows op answer })
   served_at old op None request reply store operations answer e a s f h = absurd h
   served_at old op (Some operation) request reply store operations answer e a s f h =
       record {
@@ -137,6 +137,7 @@ module _ {T : Type 0} (encode : T → List ℕ) (decode : List ℕ → Option T)
         turns = h.1.1;
         tells = refl;
         clients = refl;
+        page = refl;
         operations = h.2;
         trace = refl;
       }
@@ -146,14 +147,14 @@ module _ {T : Type 0} (encode : T → List ℕ) (decode : List ℕ → Option T)
 
   pub served_takes : (old : State T) (op : ℕ) (request : Request) (reply : Reply) (copy effect : Option Request) (store : StoreState) (operations : List (Operation T)) (answer : Option (Answer T)) (rows traced : List (Row T)) (said : Told T) →
       Some request ≡ asked_by old.operations op → copy ≡ may_change old.store.files request → Serves request old.store reply store → store.failures ≡ 0 → effect ≡ cond (took reply) copy None →
-      rows ≡ old.trace ++ effect_rows op effect → Advances decode old.operations operations op reply answer → said ≡ told_of (told.Went op) op answer → traced ≡ rows ++ answer_rows op answer →
-      Takes encode decode old (events.Serve op) said (record { clients = old.clients; store = store; operations = operations; trace = traced })
+      rows ≡ old.trace ++ effect_rows op effect → Advances old.page decode old.operations operations op reply answer → said ≡ told_of (told.Went op) op answer → traced ≡ rows ++ answer_rows op answer →
+      Takes encode decode old (events.Serve op) said (record { clients = old.clients; page = old.page; store = store; operations = operations; trace = traced })
   served_takes old op request reply copy effect store operations answer rows traced said a c s f e r h t w =
       let is : effect ≡ effect_of old.store.files request reply = e ∙ ap (λ o. cond (took reply) o None) c in
       let trace : traced ≡ (old.trace ++ effect_rows op (effect_of old.store.files request reply)) ++ answer_rows op answer = w ∙ ap (λ rs. rs ++ answer_rows op answer) (r ∙ ap (λ o. old.trace ++ effect_rows op o) is) in
       let served = served_at old op (numbered old.operations op) request reply store operations answer refl (sym a) s f h in
       record {
         allowed = allowed old op request (sym a);
-        step = subst (λ (rs : List (Row T)). Served decode old op said (record { clients = old.clients; store = store; operations = operations; trace = rs })) (sym trace)
-            (subst (λ (m : Told T). Served decode old op m (record { clients = old.clients; store = store; operations = operations; trace = (old.trace ++ effect_rows op (effect_of old.store.files request reply)) ++ answer_rows op answer })) (sym t) served);
+        step = subst (λ (rs : List (Row T)). Served decode old op said (record { clients = old.clients; page = old.page; store = store; operations = operations; trace = rs })) (sym trace)
+            (subst (λ (m : Told T). Served decode old op m (record { clients = old.clients; page = old.page; store = store; operations = operations; trace = (old.trace ++ effect_rows op (effect_of old.store.files request reply)) ++ answer_rows op answer })) (sym t) served);
       }

@@ -3,7 +3,7 @@ ghost use Rattle.std.specs.Prelude.{◌≡◌, ◌++◌, ◌≤◌, ◌<◌, ◌
 ghost use Rattle.std.specs.HashSet.{contains, spare};
 ghost use Rattle.std.specs.Option.{ForSome, option_copied};
 ghost use Rattle.txn_model.specs.Lists.{numbered, AreAscending};
-ghost use Rattle.txn_store.specs.Memory.{state_of};
+ghost use Rattle.txn_store.specs.Memory.{searched_state};
 ghost use Rattle.txn_model.specs.Names.{world_names, world_boundary};
 ghost use Rattle.txn_model.specs.Doing.{IsExactClone, first_of, refusal_of_number};
 ghost use Rattle.txn_model.specs.Machine.{told_of, answer_rows, asked_by, may_change, took, Advances, IsReplyBy};
@@ -16,7 +16,7 @@ use txn_model::event::{Answer, Call, Event, EventFault, Told};
 use txn_model::trace::Row;
 use txn_store::in_memory::InMemory;
 use txn_store::path::{Path, PathFault};
-use txn_store::request::{Reply, Request, serve};
+use txn_store::request::{Reply, Request};
 use txn_types::codec::ObjectCodec;
 use txn_types::layout::Layout;
 use txn_types::room::push_within;
@@ -68,7 +68,7 @@ fn asked<T: Drop>(operations: &[Operation<T>], op: u64) -> Option<&Request>
 /// removal of a file that is there.
 #[inline(always)]
 fn copy_of(store: &InMemory, request: &Request) -> Result<Option<Request>, AllocError>
-    ensures { IfOk result (λ copy. copy ≡ may_change (state_of store.now).files request.now) }
+    ensures { IfOk result (λ copy. copy ≡ may_change (searched_state store.now).files request.now) }
 {
     match request {
         Request::Put { .. } => Ok(Some(request.try_clone()?)),
@@ -104,7 +104,7 @@ fn advance<T: Clone, C: ObjectCodec<T>>(
     requires names { layout.now.names ≡ world_names }
     requires boundary { layout.now.boundary ≡ world_boundary }
     requires asked { IsReplyBy (numbered operations.old.items op) reply }
-    ensures advanced { Advances (C.decoded layout.now.codec) operations.old.items operations.new.items op reply (first_of result) }
+    ensures advanced { Advances layout.now.page (C.decoded layout.now.codec) operations.old.items operations.new.items op reply (first_of result) }
     ensures twice { IfSome result (λ pair. pair.1 ≡ pair.0) }
 {
     operations[(op - 1) as usize]
@@ -112,11 +112,13 @@ fn advance<T: Clone, C: ObjectCodec<T>>(
         .take(alloc, layout, reply)
 }
 
-/// Versions are the files root/test/<n>.val, and the boundary is the file root/gc/test.boundary.
-fn world_layout<C: Drop>(alloc: Global, codec: C) -> Result<Layout<C>, AllocError>
+/// Versions are the files root/test/<n>.val, and the boundary is the file root/gc/test.boundary. A page of a listing
+/// has at most so many files.
+fn world_layout<C: Drop>(alloc: Global, codec: C, page: u64) -> Result<Layout<C>, AllocError>
     ensures names { IfOk result (λ layout. layout.names ≡ world_names) }
     ensures boundary { IfOk result (λ layout. layout.boundary ≡ world_boundary) }
     ensures codec { IfOk result (λ layout. layout.codec ≡ codec) }
+    ensures page { IfOk result (λ layout. layout.page ≡ page) }
 {
     let root = match Path::root(alloc).join("root") {
         Ok(root) => root,
@@ -124,7 +126,10 @@ fn world_layout<C: Drop>(alloc: Global, codec: C) -> Result<Layout<C>, AllocErro
         Err(PathFault::BadSegment) => unreachable!(),
     };
     match Layout::new(alloc, &root, "test", "val", codec) {
-        Ok(layout) => Ok(layout),
+        Ok(mut layout) => {
+            layout.page = page;
+            Ok(layout)
+        }
         Err(PathFault::NoMemory) => Err(AllocError),
         Err(PathFault::BadSegment) => unreachable!(),
     }
@@ -169,13 +174,13 @@ impl<T: Clone, C: ObjectCodec<T> + Drop> Tables<T, C> {
     ghost use Rattle.txn_world.specs.Shown.{shown};
     ghost use Rattle.std.specs.Result.{result_err};
 
-    pub fn new(alloc: Global, codec: C, clients: u64) -> Result<Tables<T, C>, AllocError>
-        ensures shown { IfOk result (λ tables. shown tables ≡ opening clients) }
+    pub fn new(alloc: Global, codec: C, clients: u64, page: u64) -> Result<Tables<T, C>, AllocError>
+        ensures shown { IfOk result (λ tables. shown tables ≡ opening clients page) }
         ensures codec { IfOk result (λ tables. tables.layout.codec ≡ codec) }
     {
         Ok(Tables {
             alloc,
-            layout: world_layout(alloc, codec)?,
+            layout: world_layout(alloc, codec, page)?,
             clients,
             store: InMemory::new(alloc),
             operations: Vec::new(alloc),
@@ -291,7 +296,7 @@ impl<T: Clone, C: ObjectCodec<T> + Drop> Tables<T, C> {
         };
         let copy = copy_of(&self.store, request)?;
         self.trace.reserve()?;
-        let reply = serve(self.alloc, &mut self.store, request);
+        let reply = self.store.serve(self.alloc, request);
         let effect = effect_of(&reply, copy);
         self.trace.effect(&self.layout, op, effect);
         let answers = advance(self.alloc, &self.layout, &mut self.operations, op, reply);

@@ -83,14 +83,16 @@ fn entries_of<T: Drop, C: ObjectCodec<T>>(
 
 impl<T: Clone, C: ObjectCodec<T> + Drop> World<T, C> {
     /// A world in which nothing has happened, with clients 1 to `clients`, of which there are 1 to
-    /// 64. The only error is want of memory, and then there is no world.
-    pub fn new(alloc: Global, codec: C, clients: u64) -> Result<World<T, C>, AllocError>
+    /// 64. A listing has pages of at most `page` files, at least 1. The only error is want of memory,
+    /// and then there is no world.
+    pub fn new(alloc: Global, codec: C, clients: u64, page: u64) -> Result<World<T, C>, AllocError>
         requires some { 1 ≤ clients }
         requires few { clients ≤ 64 }
-        ensures { IfOk result (λ world. world ≡ record { codec = codec; state = opening clients }) }
+        requires paged { 1 ≤ page }
+        ensures { IfOk result (λ world. world ≡ record { codec = codec; state = opening clients page }) }
     {
         Ok(World {
-            tables: Tables::new(alloc, codec, clients)?,
+            tables: Tables::new(alloc, codec, clients, page)?,
         })
     }
 

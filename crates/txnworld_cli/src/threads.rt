@@ -3,7 +3,7 @@
 ghost use Rattle.std.specs.Prelude.{◌≡◌, ◌≤◌, ◌⊎◌, All, Some, Bool, IfOk, IfErr};
 ghost use Rattle.std.specs.Io.KnownBytes.{Appends};
 ghost use Rattle.txn_script.specs.declared.stop.Stop.TheVariants as stops;
-ghost use Rattle.txnworld_cli.specs.Threads.{job_list, tally_text, halt_text, begun_count, answered_count, stopped_worker, share_list, IsCrew};
+ghost use Rattle.txnworld_cli.specs.Threads.{job_list, tally_text, halt_text, says_begun, says_answered, begun_count, answered_count, stopped_worker, share_list, IsCrew};
 ghost use Rattle.txnworld_cli.specs.Tallies.{AgreeAs, Tallies, IsTally, PrintsTally, Halts, IsHaltOf, NamesHalt};
 
 use std::alloc::{AllocError, Global};
@@ -20,6 +20,7 @@ use txn_threads::finish::finish;
 use txn_threads::gate::FreeGate;
 use txn_threads::kept::{Kept, Share};
 use txn_threads::work::{End, Job, Worked, Worker, work_all};
+use txn_types::layout::PAGE;
 use txn_world::world::World;
 
 /// What a run of workers left.
@@ -154,22 +155,44 @@ fn shares_of(alloc: Global, worked: Vec<Worked>) -> Result<Vec<Share>, AllocErro
     Ok(shares)
 }
 
+/// Whether a row says that a call began.
+fn says_begun(row: &Row<Record>) -> bool
+    ensures { result ≡ says_begun row.now }
+{
+    matches!(row, Row::Begun(_, _))
+}
+
+/// Whether a row says that a call was answered.
+fn says_answered(row: &Row<Record>) -> bool
+    ensures { result ≡ says_answered row.now }
+{
+    matches!(row, Row::Answered(_, _))
+}
+
 /// How many rows say that a call began.
 fn begun(rows: &[Row<Record>]) -> u64
     ensures { result ≡ begun_count rows.now }
 {
-    rows.iter()
-        .filter(|row| matches!(row, Row::Begun(_, _)))
-        .count() as u64
+    let mut count = 0;
+    for row in rows {
+        if says_begun(row) {
+            count += 1;
+        }
+    }
+    count
 }
 
 /// How many rows say that a call was answered.
 fn answered(rows: &[Row<Record>]) -> u64
     ensures { result ≡ answered_count rows.now }
 {
-    rows.iter()
-        .filter(|row| matches!(row, Row::Answered(_, _)))
-        .count() as u64
+    let mut count = 0;
+    for row in rows {
+        if says_answered(row) {
+            count += 1;
+        }
+    }
+    count
 }
 
 /// Whether the shares finish the kept world.
@@ -212,7 +235,7 @@ fn run_workers<R: Threads + Wait + Sync>(rt: &R, alloc: Global, workers: u64) ->
     ensures tally { IfOk result (IsTally workers) }
     ensures halt { IfErr result (IsHaltOf workers) }
 {
-    let world = World::new(alloc, RecordCodec, workers)?;
+    let world = World::new(alloc, RecordCodec, workers, PAGE)?;
     let (kept, shares) = Kept::new(alloc, world, workers)?;
     let kept = Mutex::new(kept);
     let worked = work_all(rt, &kept, crew(alloc, shares)?)?;

@@ -11,7 +11,10 @@ use Rattle.txn_script.proofs.Playing.{appends_both, gathers, play_first, play_mo
 use Rattle.txn_script.proofs.script.play.Goals as goal
 
 pub loop-line-init : goal.loop-line-init
-loop-line-init g c = play_first (g.R.Read.remaining c.args.lines.now.reader) (g.R.Read.remaining c.open.new.lines.reader) (append_known (g.W.Write.contents c.args.out.now) c.args.printer.now.text.items) c.args.lines.now.number c.open.new.lines.number c.in_ok-world.world.state c.requires c.in_ok-world.ensures.ok
+loop-line-init g c = record {
+  playing = play_first (g.R.Read.remaining c.args.lines.now.reader) (g.R.Read.remaining c.open.new.lines.reader) (append_known (g.W.Write.contents c.args.out.now) c.args.printer.now.text.items) c.args.lines.now.number c.open.new.lines.number c.in_ok-world.clients c.in_ok-world.world.state c.requires c.in_ok-world.ensures.ok;
+  few = c.in_ok-world.ensures.clients;
+}
 
 pub returns-in_err-world-clause-stop : goal.returns-in_err-world-clause-stop
 returns-in_err-world-clause-stop g c =
@@ -25,7 +28,7 @@ returns-in_err-line-clause-stop g c =
     let held = append_known (g.W.Write.contents c.args.out.now) c.args.printer.now.text.items in
     let now = append_known (g.W.Write.contents c.loop-line.out) c.loop-line.printer.text.items in
     let p = err_from_is_err_and c.from_residual-in_err-line.result c.from_residual-in_err-line.ensures.1 in
-    rw (p.1, p.2) (stops_next c.in_err-line.field-0.0 start before held now c.loop-line.lines.number c.loop-line.world.state c.loop-line.invariant c.in_err-line.ensures.bad)
+    rw (p.1, p.2) (stops_next c.in_err-line.field-0.0 start before held now c.loop-line.lines.number (record { state = c.loop-line.world.state; opened = c.loop-line.opened }) c.loop-line.invariant.playing c.in_err-line.ensures.bad)
 
 pub returns-in_default-clause-ok : goal.returns-in_default-clause-ok
 returns-in_default-clause-ok g c =
@@ -36,7 +39,7 @@ returns-in_default-clause-ok g c =
     let now = append_known (g.W.Write.contents c.loop-line.out) c.loop-line.printer.text.items in
     let later = append_known (g.W.Write.contents c.print_end.new.out) c.print_end.new.printer.text.items in
     let read = subst (λ (found : Option Line). ReadsNext before c.loop-line.lines.number after c.next_line.new.self.number found) c.in_default.is c.in_ok-line.ensures.ok in
-    on_ok_weaker c.print_end.result (play_end start before after held now later c.loop-line.lines.number c.next_line.new.self.number c.loop-line.world.state c.loop-line.invariant read) c.print_end.ensures.ok
+    on_ok_weaker c.print_end.result (play_end start before after held now later c.loop-line.lines.number c.next_line.new.self.number (record { state = c.loop-line.world.state; opened = c.loop-line.opened }) c.loop-line.invariant.playing read) c.print_end.ensures.ok
 
 pub returns-in_default-clause-stop : goal.returns-in_default-clause-stop
 returns-in_default-clause-stop g c =
@@ -47,7 +50,7 @@ returns-in_default-clause-stop g c =
     let now = append_known (g.W.Write.contents c.loop-line.out) c.loop-line.printer.text.items in
     let later = append_known (g.W.Write.contents c.print_end.new.out) c.print_end.new.printer.text.items in
     let read = subst (λ (found : Option Line). ReadsNext before c.loop-line.lines.number after c.next_line.new.self.number found) c.in_default.is c.in_ok-line.ensures.ok in
-    MatchResult-weaker c.print_end.result c.print_end.ensures.err (λ x h. h) (λ stop is. stops_end stop start before after held now later c.loop-line.lines.number c.next_line.new.self.number c.loop-line.world.state c.loop-line.invariant read is)
+    MatchResult-weaker c.print_end.result c.print_end.ensures.err (λ x h. h) (λ stop is. stops_end stop start before after held now later c.loop-line.lines.number c.next_line.new.self.number (record { state = c.loop-line.world.state; opened = c.loop-line.opened }) c.loop-line.invariant.playing read is)
 
 pub returns-in_err-take_line-clause-stop : goal.returns-in_err-take_line-clause-stop
 returns-in_err-take_line-clause-stop g c =
@@ -61,7 +64,7 @@ returns-in_err-take_line-clause-stop g c =
     let stop = c.in_err-take_line.field-0.0 in
     let is = c.in_err-take_line.ensures.err in
     let p = err_from_is_err_and c.from_residual-in_err-take_line.result c.from_residual-in_err-take_line.ensures.1 in
-    rw (p.1, p.2) (subst (λ (items : List ℕ). StopsAfter stop start held (append_known (g.W.Write.contents c.loop-line.out) items)) (sym is.1) (stops_line stop c.bad-bad.result start before after held now c.loop-line.lines.number number c.loop-line.world.state c.in-Some.line c.bad-bad.ensures c.loop-line.invariant read is.0))
+    rw (p.1, p.2) (subst (λ (items : List ℕ). StopsAfter stop start held (append_known (g.W.Write.contents c.loop-line.out) items)) (sym is.1) (stops_line stop c.bad-bad.result start before after held now c.loop-line.lines.number number (record { state = c.loop-line.world.state; opened = c.loop-line.opened }) c.in-Some.line c.bad-bad.ensures c.loop-line.invariant.playing read is.0))
 
 pub returns-in_err-write_full-clause-stop : goal.returns-in_err-write_full-clause-stop
 returns-in_err-write_full-clause-stop g c =
@@ -72,7 +75,7 @@ returns-in_err-write_full-clause-stop g c =
     rw (p.1, p.2) (subst (λ (stop : Stop). StopsAfter stop start held later) (sym c.in_err-write_full.ensures.err) tt)
 
 pub returns-clause-stop : goal.returns-clause-stop
-returns-clause-stop g c = stops_next stops.ReadFailed (g.R.Read.remaining c.args.lines.now.reader) (g.R.Read.remaining c.loop-line.lines.reader) (append_known (g.W.Write.contents c.args.out.now) c.args.printer.now.text.items) (append_known (g.W.Write.contents c.loop-line.out) c.loop-line.printer.text.items) c.loop-line.lines.number c.loop-line.world.state c.loop-line.invariant tt
+returns-clause-stop g c = stops_next stops.ReadFailed (g.R.Read.remaining c.args.lines.now.reader) (g.R.Read.remaining c.loop-line.lines.reader) (append_known (g.W.Write.contents c.args.out.now) c.args.printer.now.text.items) (append_known (g.W.Write.contents c.loop-line.out) c.loop-line.printer.text.items) c.loop-line.lines.number (record { state = c.loop-line.world.state; opened = c.loop-line.opened }) c.loop-line.invariant.playing tt
 
 pub loop-line-preserved : goal.loop-line-preserved
 loop-line-preserved g c =
@@ -85,4 +88,7 @@ loop-line-preserved g c =
     let read = subst (λ (found : Option Line). ReadsNext before c.loop-line.lines.number after c.next_line.new.self.number found) c.in-Some.is c.in_ok-line.ensures.ok in
     let step = c.in_ok-take_line.ensures.ok in
     let grown : Appends now later step.0 = subst (Appends now later) (append-nil step.0) (appends_both now (append_known (g.W.Write.contents c.loop-line.out) c.take_line.new.printer.text.items) later step.0 [] (gathers (g.W.Write.contents c.loop-line.out) c.loop-line.printer.text.items c.take_line.new.printer.text.items step.0 step.2) c.in_ok-write_full.ensures.ok) in
-    play_more start before after held now later c.loop-line.lines.number c.next_line.new.self.number c.loop-line.world.state c.take_line.new.world.state c.in-Some.line step.0 c.loop-line.invariant read step.1 grown
+    record {
+      playing = play_more start before after held now later c.loop-line.lines.number c.next_line.new.self.number (record { state = c.loop-line.world.state; opened = c.loop-line.opened }) c.take_line.new.world.state c.in-Some.line step.0 c.loop-line.invariant.playing read step.1 grown;
+      few = tt;
+    }

@@ -6,4 +6,4 @@ take-requires-clause-asked g c = asked_reply c.args.operations.now.items c.args.
 
 pub returns-clause-advanced : goal.returns-clause-advanced
 returns-clause-advanced g c =
-    advanced_at (g.C.ObjectCodec.decoded c.args.layout.now.codec) c.args.operations.now.items c.args.op c.args.reply c.index_mut.result.now _ c.take.new.self _ c.requires.asked c.index_mut.ensures.value c.take.ensures.turned
+    advanced_at c.args.layout.now.page (g.C.ObjectCodec.decoded c.args.layout.now.codec) c.args.operations.now.items c.args.op c.args.reply c.index_mut.result.now _ c.take.new.self _ c.requires.asked c.index_mut.ensures.value c.take.ensures.turned

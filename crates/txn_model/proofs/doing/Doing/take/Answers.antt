@@ -14,7 +14,7 @@ returns-in-Write-clause-turned g c =
 pub returns-in-Read-clause-turned : goal.returns-in-Read-clause-turned
 returns-in-Read-clause-turned g c =
     rw (c.in-Read.is, ← c.requires.names, ← c.requires.boundary)
-    (read_turns c.in-Read.op c.take-in-Read.new.self _ (read_turned c.args.layout.now.names c.args.layout.now.boundary (g.C.ObjectCodec.decoded c.args.layout.now.codec) c.in-Read.op c.args.reply) _ _ c.take-in-Read.ensures.turned c.read-answers.ensures.first c.end_where-in-Read.ensures.next)
+    (read_turns c.in-Read.op c.take-in-Read.new.self _ (read_turned c.args.layout.now.names c.args.layout.now.boundary c.args.layout.now.page (g.C.ObjectCodec.decoded c.args.layout.now.codec) c.in-Read.op c.args.reply) _ _ c.take-in-Read.ensures.turned c.read-answers.ensures.first c.end_where-in-Read.ensures.next)
 
 pub returns-in-Check-clause-turned : goal.returns-in-Check-clause-turned
 returns-in-Check-clause-turned g c =

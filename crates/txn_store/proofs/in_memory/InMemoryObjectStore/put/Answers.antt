@@ -2,24 +2,25 @@
 use Rattle.std.proofs.Common.{◌≡◌, ◌∙◌, ◌<◌, ◌≤◌, ◌^◌, sym, ap, subst, refl, None, rules}
 use Rattle.std.specs.FinMap as finmap
 use Rattle.txn_store.specs.Store.{put_fault}
-use Rattle.txn_store.specs.Memory.{Memory}
-use Rattle.txn_store.specs.MemoryFields.{end_of}
-use Rattle.txn_store.proofs.FileLemmas.{one_put}
-use Rattle.txn_store.proofs.MemoryLemmas.{end_of-after, put_placed}
+use Rattle.txn_store.specs.Memory.{Memory, Searched, called}
+use Rattle.txn_store.specs.MemoryFields.{end_of, memory_view}
+use Rattle.txn_store.proofs.MemoryLemmas.{end_of-after, put_placed, file_put}
 use Rattle.txn_store.proofs.in_memory.InMemoryObjectStore.put.Goals as goal
 
 pub returns-clause-ok : goal.returns-clause-ok
 returns-clause-ok c =
     let fits : c.in-Some-next.next < 2 ^ 64 = search rules in
-    let files = one_put _ _ _ _ c.in_ok-insert.ensures.updates.0 in
     let after = end_of-after c.in-Some-next.next _ fits c.checked_add-self-inside.ensures in
     let next : end_of c.self.inside.next ≡ c.in-Some-next.next = ap end_of c.in-Some-next.is in
-    rw (← c.self.view_is, c.tick.ensures, files, after, next, c.in_ok-path.ensures, c.in_ok-bytes.ensures.cases, c.new-token.ensures) refl
+    let begun : memory_view c.self.inside ≡ called c.args.self.now.memory = ap (λ (s : Searched). s.memory) (c.self.view_is ∙ c.begin.ensures) in
+    file_put c.args.self.now.memory (memory_view c.self.inside) _ c.args.path.now c.args.bytes.now begun
+    (rw (c.in_ok-set.ensures.ok, after, next, c.in_ok-bytes.ensures.cases, c.new-token.ensures) refl)
 
 pub returns-clause-meaning : goal.returns-clause-meaning
 returns-clause-meaning c =
     let fits : c.in-Some-next.next < 2 ^ 64 = search rules in
-    let next : c.in-Some-next.next ≡ c.args.self.now.next = sym (ap end_of c.in-Some-next.is) ∙ ap (λ (m : Memory). m.next) c.self.view_is in
-    let rising : c.args.self.now.first ≤ c.args.self.now.next = let P : Memory → Type 0 = λ m. m.first ≤ m.next in subst P c.self.view_is c.self.invariant in
-    let allowed : put_fault c.args.mode.now (finmap.get c.args.self.now.files c.args.path.now) ≡ None = ap (λ (m : Memory). put_fault c.args.mode.now (finmap.get m.files c.args.path.now)) (sym c.self.view_is) ∙ ap (put_fault c.args.mode.now) (sym c.held.ensures) ∙ sym c.fault_of_put.ensures ∙ c.in_default.is in
-    put_placed c.args.self.now _ c.args.path.now c.args.bytes.now c.args.mode.now _ (returns-clause-ok c) (c.new-token.ensures ∙ next) rising (rw next at fits) allowed
+    let begun : memory_view c.self.inside ≡ called c.args.self.now.memory = ap (λ (s : Searched). s.memory) (c.self.view_is ∙ c.begin.ensures) in
+    let next : c.in-Some-next.next ≡ c.args.self.now.memory.next = sym (ap end_of c.in-Some-next.is) ∙ ap (λ (m : Memory). m.next) begun in
+    let rising : c.args.self.now.memory.first ≤ c.args.self.now.memory.next = let P : Memory → Type 0 = λ m. m.first ≤ m.next in subst P begun c.self.invariant in
+    let allowed : put_fault c.args.mode.now (finmap.get c.args.self.now.memory.files c.args.path.now) ≡ None = ap (λ (m : Memory). put_fault c.args.mode.now (finmap.get m.files c.args.path.now)) (sym begun) ∙ ap (put_fault c.args.mode.now) (sym c.at.ensures) ∙ sym c.fault_of_put.ensures ∙ c.in_default.is in
+    put_placed c.args.self.now.memory _ c.args.path.now c.args.bytes.now c.args.mode.now _ (returns-clause-ok c) (c.new-token.ensures ∙ next) rising (rw next at fits) allowed

@@ -1,0 +1,55 @@
+//! A read in pages: how many listings it makes.
+use crate::driven::{Answered, a_layout, turn_read, write};
+use std::alloc::Global;
+use std::test::Fail;
+use txn_steps::read::ReadOp;
+use txn_steps::turned::Turned;
+use txn_store::failing::{FailingStore, When};
+use txn_store::in_memory::InMemory;
+
+/// What a read answers, the listings that it made, and the gets.
+type Paged = (Answered<Option<(u64, u64)>>, u64, u64);
+
+/// A read of so many versions, version n of the value n, where a page has so many files at most.
+fn paged(alloc: Global, versions: u64, page: u64) -> Result<Paged, Fail> {
+    let mut layout = a_layout(alloc)?;
+    layout.page = page;
+    let mut store = InMemory::new(alloc);
+    for base in 0..versions {
+        let _ = write(alloc, &mut store, &layout, base, base.saturating_add(1))?;
+    }
+    let mut store = FailingStore::new(store, 0, When::Before);
+    let mut op = ReadOp::start(&layout)?;
+    for _ in 0..10 {
+        if let Turned::Done(answer) = turn_read(alloc, &mut store, &layout, &mut op)? {
+            let counts = store.counts();
+            let told = match answer {
+                Ok(found) => Ok(found.map(|(id, value)| (id.id(), value))),
+                Err(error) => Err(error.number()),
+            };
+            return Ok((told, counts.lists, counts.gets));
+        }
+    }
+    Err("a read goes on")?
+}
+
+/// Versions, the files of a page, and what a read then answers and how many listings it makes.
+const PAGED: &[(u64, u64, Option<(u64, u64)>, u64)] = &[
+    (0, 1, None, 1),
+    (1, 1, Some((1, 1)), 1),
+    (3, 1, Some((3, 3)), 3),
+    (3, 2, Some((3, 3)), 2),
+    (4, 2, Some((4, 4)), 2),
+    (5, 2, Some((5, 5)), 3),
+    (5, 1000, Some((5, 5)), 1),
+];
+
+#[test]
+fn a_read_lists_each_page_once(rt: HostRuntime) -> Result<(), Fail> {
+    for (versions, page, found, lists) in PAGED {
+        let gets = if found.is_some() { 2 } else { 0 };
+        let told = paged(rt.alloc(), *versions, *page)?;
+        assert_eq!(rt; told, (Ok(*found), *lists, gets), "{versions} by {page}");
+    }
+    Ok(())
+}
