@@ -70,7 +70,7 @@ EventSteps opened old (lines.Begin client call) text new = (going : Bool) × Ste
 EventSteps opened old (lines.Serve op) text new = (going : Bool) × Steps old (events.Serve op) going text new
 EventSteps opened old (lines.Run op) text new = Serves 100 old op text new
 
--- A line may stand at a stage of the script: `clients N` with N from 1 to 64 before there is a world, `page N` directly after it, and each other line later.
+-- A line may stand at a stage of the script: `clients N` with N from 1 to 64 before there is a world, `page N` directly after it, and each other line where there is a world.
 abbrev pub MayStand : Option Stage → Line → Type 0
 MayStand None (lines.Clients count) = (1 ≤ count) × (count ≤ 64)
 MayStand None (lines.Page size) = ⊥

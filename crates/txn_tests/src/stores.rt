@@ -125,7 +125,10 @@ fn answers<S: ObjectStore>(alloc: Global, store: &mut S, step: &Step) -> Result<
         Get(path, want) => gets(alloc, store, path, None, *want)?,
         GetNewer(path, token, want) => gets(alloc, store, path, Some(Token::new(*token)), *want)?,
         List(prefix, want) => {
-            let want = want.map(|told| (told, false));
+            let want = match want {
+                Ok(told) => Ok((*told, false)),
+                Err(error) => Err(*error),
+            };
             lists(alloc, store, (prefix, None, 1000), want)?
         }
         Page(prefix, after, limit, told, more) => {
