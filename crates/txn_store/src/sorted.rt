@@ -1,11 +1,11 @@
 //! Files in the order of their paths, found by binary search.
-ghost use Rattle.std.specs.Prelude.{◌≡◌, ◌≤◌, ◌<◌, ◌+◌, ◌-◌, ◌^◌, map, length, take, drop, IfOk, IsOk, OnOk, OnErr};
+ghost use Rattle.std.specs.Prelude.{◌≡◌, ◌≤◌, ◌<◌, ◌+◌, ◌-◌, ◌^◌, map, length, take, drop, IfOk, OnOk, OnErr};
 ghost use Rattle.std.specs.Option.{option_copied};
 ghost use Rattle.std.specs.FinMap as finmap;
 ghost use Rattle.txn_store.specs.CallCounts.{one_more};
 ghost use Rattle.txn_store.specs.Memory.{binary_digits};
 ghost use Rattle.txn_store.specs.Sorted.{side, IsPlace, IsBehind, further};
-ghost use Rattle.txn_store.specs.Store.{Files, meta_of, listing, page_of};
+ghost use Rattle.txn_store.specs.Store.{meta_of, listing, page_of};
 
 use crate::page::{Listing, Page};
 use crate::path::Path;
