@@ -118,14 +118,15 @@ pub(crate) fn reads_on<S: ObjectStore>(
     Ok(true)
 }
 
-/// Ends a read that lists no more than once.
+/// Ends a read that takes no more turns than these.
 pub(crate) fn end_read<S: ObjectStore>(
     alloc: Global,
     store: &mut S,
     layout: &Layout<NumberCodec>,
     op: &mut ReadOp<u64>,
+    turns: u64,
 ) -> Result<Answered<Option<(u64, u64)>>, Fail> {
-    for _ in 0..3 {
+    for _ in 0..turns {
         if let Turned::Done(answer) = turn_read(alloc, store, layout, op)? {
             return Ok(match answer {
                 Ok(found) => Ok(found.map(|(id, value)| (id.id(), value))),
@@ -143,7 +144,7 @@ pub(crate) fn read<S: ObjectStore>(
     layout: &Layout<NumberCodec>,
 ) -> Result<Answered<Option<(u64, u64)>>, Fail> {
     let mut op = ReadOp::start(layout)?;
-    end_read(alloc, store, layout, &mut op)
+    end_read(alloc, store, layout, &mut op, 3)
 }
 
 pub(crate) fn check<S: ObjectStore>(

@@ -193,7 +193,7 @@ fn read_across(alloc: Global, row: &ReadRow) -> Result<Answered<Option<(u64, u64
     if !lists_across(alloc, &mut store, &layout, &mut op, row)? {
         return Err("it does not list")?;
     }
-    end_read(alloc, &mut store, &layout, &mut op)
+    end_read(alloc, &mut store, &layout, &mut op, 3)
 }
 
 #[test]

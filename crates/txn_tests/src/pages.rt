@@ -1,36 +1,39 @@
 //! A read in pages: how many listings it makes.
-use crate::driven::{Answered, a_layout, turn_read, write};
+use crate::driven::{Answered, a_layout, end_read, write};
 use std::alloc::Global;
 use std::test::Fail;
 use txn_steps::read::ReadOp;
-use txn_steps::turned::Turned;
 use txn_store::failing::{FailingStore, When};
 use txn_store::in_memory::InMemory;
+use txn_types::layout::Layout;
+use txn_types::test_utils::NumberCodec;
+
+/// A store that counts its calls, with so many versions, version n of the value n.
+fn filled(
+    alloc: Global,
+    layout: &Layout<NumberCodec>,
+    versions: u64,
+) -> Result<FailingStore<InMemory>, Fail> {
+    let mut store = FailingStore::new(InMemory::new(alloc), 0, When::Before);
+    for base in 0..versions {
+        let _ = write(alloc, &mut store, layout, base, base.saturating_add(1))?;
+    }
+    Ok(store)
+}
 
 /// What a read answers, the listings that it made, and the gets.
 type Paged = (Answered<Option<(u64, u64)>>, u64, u64);
 
-/// A read of so many versions, version n of the value n, where a page has so many files at most.
+/// A read of so many versions, where a page has so many files at most.
 fn paged(alloc: Global, versions: u64, page: u64) -> Result<Paged, Fail> {
     let mut layout = a_layout(alloc)?;
     layout.page = page;
-    let mut store = InMemory::new(alloc);
-    for base in 0..versions {
-        let _ = write(alloc, &mut store, &layout, base, base.saturating_add(1))?;
-    }
-    let mut store = FailingStore::new(store, 0, When::Before);
+    let mut store = filled(alloc, &layout, versions)?;
+    let before = store.counts();
     let mut op = ReadOp::start(&layout)?;
-    for _ in 0..10 {
-        if let Turned::Done(answer) = turn_read(alloc, &mut store, &layout, &mut op)? {
-            let counts = store.counts();
-            let told = match answer {
-                Ok(found) => Ok(found.map(|(id, value)| (id.id(), value))),
-                Err(error) => Err(error.number()),
-            };
-            return Ok((told, counts.lists, counts.gets));
-        }
-    }
-    Err("a read goes on")?
+    let told = end_read(alloc, &mut store, &layout, &mut op, 10)?;
+    let after = store.counts();
+    Ok((told, after.lists, after.gets.saturating_sub(before.gets)))
 }
 
 /// Versions, the files of a page, and what a read then answers and how many listings it makes.
