@@ -13,7 +13,7 @@ use Rattle.txn_store.proofs.FileLemmas.{get-remove_same}
 use Rattle.txn_steps.specs.declared.check.CheckOp.{CheckOp}
 use Rattle.txn_steps.specs.declared.advance.AdvanceOp.TheVariants as advances
 use Rattle.txn_steps.specs.declared.delete.DeleteOp.{DeleteOp}
-use Rattle.txn_steps.specs.declared.turned.Turned.TheVariants as turns
+use Rattle.txn_caches.specs.declared.turned.Turned.TheVariants as turns
 use Rattle.txn_steps.specs.CheckSteps.{Known}
 use Rattle.txn_steps.specs.AdvanceSteps.{raise_mode, advance_known, raise_turned}
 use Rattle.txn_steps.specs.DeleteSteps.{removing, delete_decided, removed as removal}

@@ -19,7 +19,7 @@ use Rattle.txn_steps.specs.declared.advance.AdvanceOp.{AdvanceOp}
 use Rattle.txn_steps.specs.declared.advance.AdvanceOp.TheVariants as advances
 use Rattle.txn_steps.specs.declared.delete.DeleteStep.{DeleteStep}
 use Rattle.txn_steps.specs.declared.delete.DeleteStep.TheVariants as deletes
-use Rattle.txn_steps.specs.Steps.{number_of}
+use Rattle.txn_types.specs.Numbers.{number_of}
 use Rattle.txn_steps.specs.WriteSteps.{write_started}
 use Rattle.txn_model.specs.declared.doing.Doing.{Doing}
 use Rattle.txn_model.specs.declared.doing.Doing.TheVariants.{Write, Read, Check, Advance, Delete, Ended}

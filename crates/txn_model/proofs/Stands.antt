@@ -21,7 +21,7 @@ use Rattle.txn_steps.specs.declared.advance.AdvanceOp.TheVariants as advances
 use Rattle.txn_steps.specs.declared.delete.DeleteStep.{DeleteStep}
 use Rattle.txn_steps.specs.declared.delete.DeleteStep.TheVariants as deletes
 use Rattle.txn_steps.specs.declared.delete.DeleteOp.{DeleteOp}
-use Rattle.txn_steps.specs.Steps.{number_of}
+use Rattle.txn_types.specs.Numbers.{number_of}
 use Rattle.txn_types.specs.BoundaryText.{boundary_read}
 use Rattle.txn_steps.specs.CheckSteps.{check_started}
 use Rattle.txn_steps.specs.AdvanceSteps.{raise_mode}

@@ -5,9 +5,9 @@ use Rattle.txn_steps.specs.declared.write.WriteOp.{WriteOp}
 use Rattle.txn_steps.specs.declared.read.ReadOp.{ReadOp}
 use Rattle.txn_steps.specs.declared.advance.AdvanceOp.{AdvanceOp}
 use Rattle.txn_steps.specs.declared.delete.DeleteOp.{DeleteOp}
-use Rattle.txn_steps.specs.declared.turned.Turned.{Turned}
-use Rattle.txn_steps.specs.declared.turned.Turned.TheVariants.{Goes, Done}
-use Rattle.txn_steps.specs.Steps.{lacks_memory, or_lacks}
+use Rattle.txn_caches.specs.declared.turned.Turned.{Turned}
+use Rattle.txn_caches.specs.declared.turned.Turned.TheVariants.{Goes, Done}
+use Rattle.txn_caches.specs.Steps.{lacks_memory, or_lacks}
 use Rattle.txn_steps.specs.ReadSteps.{ReadAnswer, read_or_lacks}
 use Rattle.txn_model.specs.declared.doing.Doing.TheVariants.{Write, Read, Check, Advance, Delete}
 use Rattle.txn_model.specs.declared.event.Answer.{Answer}

@@ -12,8 +12,8 @@ use Rattle.txn_store.specs.declared.store.StoreError.{StoreError}
 use Rattle.txn_store.specs.declared.store.StoreError.TheVariants as errors
 use Rattle.txn_store.specs.declared.request.Reply.TheVariants as replies
 use Rattle.txn_steps.specs.declared.write.WriteOp.{WriteOp}
-use Rattle.txn_steps.specs.declared.turned.Turned.TheVariants as turns
-use Rattle.txn_steps.specs.Steps.{number_of}
+use Rattle.txn_caches.specs.declared.turned.Turned.TheVariants as turns
+use Rattle.txn_types.specs.Numbers.{number_of}
 use Rattle.txn_steps.specs.WriteSteps.{created as now_created, accepted_as, put_turned}
 use Rattle.txn_model.specs.declared.doing.Doing.TheVariants.{Write}
 use Rattle.txn_model.specs.declared.event.Call.{Call}

@@ -14,9 +14,10 @@ use Rattle.txn_steps.specs.declared.advance.AdvanceOp.TheVariants as advances
 use Rattle.txn_steps.specs.declared.delete.DeleteStep.{DeleteStep}
 use Rattle.txn_steps.specs.declared.delete.DeleteStep.TheVariants as deletes
 use Rattle.txn_steps.specs.declared.delete.DeleteOp.{DeleteOp}
-use Rattle.txn_steps.specs.declared.turned.Turned.{Turned}
-use Rattle.txn_steps.specs.declared.turned.Turned.TheVariants as turns
-use Rattle.txn_steps.specs.Steps.{number_of, IsGetReply}
+use Rattle.txn_caches.specs.declared.turned.Turned.{Turned}
+use Rattle.txn_caches.specs.declared.turned.Turned.TheVariants as turns
+use Rattle.txn_types.specs.Numbers.{number_of}
+use Rattle.txn_caches.specs.Steps.{IsGetReply}
 use Rattle.txn_steps.specs.CheckSteps.{check_started, check_turned}
 use Rattle.txn_steps.specs.WriteSteps.{write_started, write_asked, write_turned, IsWriteReply}
 use Rattle.txn_steps.specs.ReadSteps.{ReadAnswer, read_started, read_asked, read_turned, IsReadReply}

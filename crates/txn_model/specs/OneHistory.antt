@@ -7,7 +7,7 @@ use Rattle.txn_model.specs.declared.event.Answer.TheVariants as answers
 use Rattle.txn_store.specs.declared.request.Request.{Request}
 use Rattle.txn_model.specs.declared.trace.Row.{Row}
 use Rattle.txn_model.specs.declared.trace.Row.TheVariants.{Effect, Begun, Answered}
-use Rattle.txn_steps.specs.Steps.{number_of}
+use Rattle.txn_types.specs.Numbers.{number_of}
 use Rattle.txn_model.specs.History.{Version, created, raised, removed, has_id, versions_of, newest, boundary, was_erased, is_stored, put_count, IsEntry}
 use Rattle.txn_model.specs.Calls.{was_begun, was_answered, IsCall, begun_count, was_told, is_below_told, AtRow}
 

@@ -1,6 +1,6 @@
 //! The operations of a world's clients, as states of `txn_steps`.
 ghost use Rattle.std.specs.Prelude.{◌≡◌, ◌⊎◌, Some, IfOk, IfSome};
-ghost use Rattle.txn_steps.specs.Steps.{turned_by_number};
+ghost use Rattle.txn_caches.specs.Steps.{turned_by_number};
 ghost use Rattle.txn_model.specs.Names.{world_names, world_boundary};
 ghost use Rattle.txn_model.specs.Doing.{started, write_answer, read_answer, done_answer, refusal_of_number, first_of, ReadsBack, IsExactClone};
 
@@ -11,7 +11,7 @@ use txn_steps::advance::AdvanceOp;
 use txn_steps::check::CheckOp;
 use txn_steps::delete::DeleteOp;
 use txn_steps::read::{ReadAnswer, ReadOp};
-use txn_steps::turned::Turned;
+use txn_caches::turned::Turned;
 use txn_steps::write::WriteOp;
 use txn_store::request::{Reply, Request};
 use txn_types::codec::ObjectCodec;

@@ -1,7 +1,7 @@
 //! What a get of the boundary file makes known.
 ghost use Rattle.std.specs.Prelude.{◌≡◌, Some, IfOk};
 ghost use Rattle.txn_steps.specs.CheckSteps.{boundary_known};
-ghost use Rattle.txn_steps.specs.Steps.{by_number, error_in, HasErrorOf};
+ghost use Rattle.txn_caches.specs.Steps.{by_number, error_in, HasErrorOf};
 
 use std::alloc::AllocError;
 use txn_store::path::Path;

@@ -3,12 +3,12 @@ ghost use Rattle.std.specs.Prelude.{◌≡◌, IfOk, None, Some, Err, unwrap_or}
 ghost use Rattle.std.specs.Option.{option_copied};
 ghost use Rattle.txn_store.specs.VersionName.{version_path};
 ghost use Rattle.txn_store.specs.VersionOf.{version_of};
-ghost use Rattle.txn_steps.specs.Steps.{turned_by_number, lacks_memory, error_in, TellsErrorOf};
+ghost use Rattle.txn_caches.specs.Steps.{turned_by_number, lacks_memory, error_in, TellsErrorOf};
 ghost use Rattle.txn_steps.specs.ReadSteps.{greater_of, greatest_from, next_after, listing_on, read_started, getting, holding, paged_turned, listed_turned, got_turned, read_or_lacks};
 
 use crate::check::CheckOp;
-use crate::turned::{self, Turned, goes_as, taken};
 use std::alloc::{AllocError, Global};
+use txn_caches::turned::{self, Turned, goes_as, taken};
 use txn_store::page::Page;
 use txn_store::path::Path;
 use txn_store::request::{Reply, Request};
@@ -202,7 +202,7 @@ fn after_get<T: Drop, C: ObjectCodec<T>>(
 
 impl<T: Drop> ReadOp<T> {
     ghost use Rattle.txn_steps.specs.ReadSteps.{read_started, read_asked, read_turned, read_or_lacks, IsReadReply};
-    ghost use Rattle.txn_steps.specs.Steps.{reply_error, TellsErrorOf};
+    ghost use Rattle.txn_caches.specs.Steps.{reply_error, TellsErrorOf};
 
     /// A read, which begins with the first page of its listing. The only error is want of memory.
     pub fn start<C>(layout: &Layout<C>) -> Result<ReadOp<T>, AllocError>

@@ -2,3 +2,4 @@ pub mod Errors
 pub mod Refusal
 pub mod NumberBytes
 pub mod BoundaryText
+pub mod Numbers

@@ -4,6 +4,8 @@
 //! ## Core types
 //! - `MonotonicId`: the id of a version. The first is 1, and each later one is the one before plus 1.
 //! - `DirtyObject<T, Id>`: a local candidate `{ id, value }`, with the id of the version that it is made from.
+//! - `EpochField<T>`: where a value keeps its epoch. What is set, it reads.
+//! - `IdentifiedObjectMetadata<Id>`: a listed file with the id of its version.
 //! - `ObjectCodec<T>`: how values are written as bytes and read back. What it writes, it reads as the same value.
 //! - `TransactionalObjectError`: the error of every call, of eleven kinds with stated numbers.
 //! - `Layout<C>`: where the versions and the boundary file of an object lie, and the codec of its values.
@@ -21,8 +23,10 @@
 pub mod boundary;
 pub mod codec;
 pub mod dirty;
+pub mod epoch;
 pub mod error;
 pub mod id;
+pub mod identified;
 pub mod layout;
 pub mod room;
 pub mod test_utils;

@@ -5,6 +5,7 @@ ghost use Rattle.txn_types.specs.NumberBytes.{number_of};
 
 use crate::codec::{CodecFault, ObjectCodec};
 use crate::dirty::DirtyObject;
+use crate::epoch::EpochField;
 use crate::id::MonotonicId;
 use anyhow::anyhow;
 use bytes::Bytes;
@@ -54,5 +55,23 @@ pub fn round_trip<T, C: ObjectCodec<T>>(
     match codec.encode(alloc, value) {
         Ok(bytes) => codec.decode(alloc, &bytes),
         Err(AllocError) => Err(CodecFault::NoMemory),
+    }
+}
+
+/// Numbers that are their own epoch.
+#[derive(Clone, Copy, Debug)]
+pub struct NumberEpoch;
+
+impl EpochField<u64> for NumberEpoch {
+    ghost epoch_of = { λ _ n. n };
+
+    ghost with_epoch = { λ _ _ epoch. epoch };
+
+    fn get_epoch(&self, number: &u64) -> u64 {
+        *number
+    }
+
+    fn set_epoch(&self, value: &mut u64, epoch: u64) {
+        *value = epoch;
     }
 }

@@ -15,7 +15,7 @@ use Rattle.txn_steps.specs.declared.advance.AdvanceOp.TheVariants as advances
 use Rattle.txn_steps.specs.declared.delete.DeleteStep.{DeleteStep}
 use Rattle.txn_steps.specs.declared.delete.DeleteStep.TheVariants as deletes
 use Rattle.txn_steps.specs.declared.delete.DeleteOp.{DeleteOp}
-use Rattle.txn_steps.specs.Steps.{IsPutReply, IsGetReply, IsListReply, IsDeleteReply}
+use Rattle.txn_caches.specs.Steps.{IsPutReply, IsGetReply, IsListReply, IsDeleteReply}
 use Rattle.txn_steps.specs.WriteSteps.{write_asked_at, write_asked, IsWriteReplyAt}
 use Rattle.txn_steps.specs.DeleteSteps.{delete_asked_at, delete_asked, IsDeleteOpReplyAt}
 use Rattle.txn_model.specs.declared.doing.Doing.{Doing}

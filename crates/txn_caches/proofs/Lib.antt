@@ -1,0 +1,3 @@
+pub mod WindowLemmas
+pub mod StepLemmas
+pub mod CountLemmas

@@ -1,0 +1,10 @@
+pub mod Steps
+pub mod Asking
+pub mod Windows
+pub mod Boundaries
+pub mod BoundaryReads
+pub mod BoundaryChecks
+pub mod Checks
+pub mod Counts
+pub mod BoundaryAdvances
+pub mod Advances
