@@ -1,6 +1,15 @@
-pub mod Steps
 pub mod CheckSteps
 pub mod WriteSteps
 pub mod ReadSteps
 pub mod AdvanceSteps
 pub mod DeleteSteps
+pub mod Requests
+pub mod Writes
+pub mod Latest
+pub mod Reads
+pub mod SeenSteps
+pub mod Listed
+pub mod Picked
+pub mod Listings
+pub mod Deletes
+pub mod CallsLeft

@@ -7,17 +7,18 @@
 //!
 //! ## Core types
 //! - `WriteOp`, `ReadOp<T>`, `CheckOp`, `AdvanceOp`, `DeleteOp`: the operations. `ask` is the request that is due,
-//!   and `take` takes the store's reply to it and says by `Turned` whether the operation goes on or is done.
-//! - `Turned<A>`: that an operation goes on, or its answer.
+//!   and `take` takes the store's reply to it and says by `Turned` of `txn_caches` whether the operation goes on or is
+//!   done. They keep nothing between two calls.
 //! - `Known`: what a get of the boundary file makes known.
+//! - `cached`: the operations of a client that keeps both its caches, which take the place of those.
 //!
 //! Ids, errors, codecs and layouts are those of `txn_types`, whose page has the error semantics.
 #![tactic(auto)]
 
 pub mod advance;
+pub mod cached;
 pub mod check;
 pub mod delete;
 pub mod known;
 pub mod read;
-pub mod turned;
 pub mod write;

@@ -1,0 +1,132 @@
+//! A read of the newest version, as a state.
+ghost use Rattle.std.specs.Prelude.{◌≡◌, IfOk};
+ghost use Rattle.txn_caches.specs.Steps.{turned_by_number, lacks_memory, TellsErrorOf};
+ghost use Rattle.txn_caches.specs.Asking.{asks, reply_told, unless_lacking};
+ghost use Rattle.txn_steps.specs.Reads.{read_started, read_asked, read_turned, read_left, read_chosen, read_accepted, IsReading, IsChecking, IsReadReply, IsInRange};
+
+use crate::cached::latest::{LatestOp, ReadAnswer};
+use std::alloc::{AllocError, Global};
+use std::mem;
+use txn_caches::ask::Ask;
+use txn_caches::boundary_read::BoundaryRead;
+use txn_caches::caches::Caches;
+use txn_caches::check::CheckOp;
+use txn_caches::turned::Turned;
+use txn_store::request::Reply;
+use txn_types::codec::ObjectCodec;
+use txn_types::error::TransactionalObjectError;
+use txn_types::id::MonotonicId;
+use txn_types::layout::Layout;
+
+/// A read of the newest version: an unchecked read, and the check of the id that it finds. An id that is refused starts it
+/// again.
+#[derive(Drop)]
+pub enum ReadOp<T> {
+    /// It reads. The read of the boundary for the check that follows is made beforehand, so that nothing grows once a
+    /// version is found.
+    Reads(LatestOp<T>, BoundaryRead),
+    /// It found this version, and checks its id.
+    Checks(MonotonicId, T, CheckOp),
+    /// It has answered a version.
+    Ended,
+}
+
+impl<T: Drop> ReadOp<T> {
+    /// A read, which begins with a look. The only error is want of memory.
+    pub fn start<C>(layout: &Layout<C>) -> Result<ReadOp<T>, AllocError>
+        ensures { IfOk result (λ op. op ≡ read_started layout.now.boundary) }
+    {
+        let boundary = BoundaryRead::start(&layout.boundary)?;
+        Ok(ReadOp::Reads(LatestOp::start(), boundary))
+    }
+
+    /// What it asks for. It takes no memory.
+    pub fn ask(&self) -> Ask<'_>
+        ensures { asks result ≡ read_asked self.now }
+    {
+        match self {
+            ReadOp::Reads(latest, _) => latest.ask(),
+            ReadOp::Checks(_, _, check) => check.ask(),
+            ReadOp::Ended => Ask::Look,
+        }
+    }
+
+    /// It found this version, and checks its id. It takes no memory.
+    fn choose(&mut self, id: MonotonicId, value: T)
+        requires { IsReading self.old }
+        ensures { self.new ≡ read_chosen self.old id value }
+    {
+        let ReadOp::Reads(_, boundary) = mem::replace(self, ReadOp::Ended) else {
+            unreachable!()
+        };
+        *self = ReadOp::Checks(id, value, CheckOp::of_read(id, boundary));
+    }
+
+    /// The check accepted the version that it found, which it answers. It takes no memory.
+    fn accept(&mut self) -> Turned<ReadAnswer<T>>
+        requires { IsChecking self.old }
+        ensures turned { (self.new, turned_by_number result) ≡ read_accepted self.old }
+        ensures store_error { TellsErrorOf None result }
+    {
+        let ReadOp::Checks(id, value, _) = mem::replace(self, ReadOp::Ended) else {
+            unreachable!()
+        };
+        Turned::Done(Ok(Some((id, value))))
+    }
+
+    /// Takes the store's reply to what it asks, or none for a look. It answers `None` where the unchecked read does, and
+    /// the version that it found where the check accepts it; a version that the check refuses starts the read again.
+    /// Bytes that the codec refuses are `CallbackError`, a growth that is refused is `NoMemory`, and leaves what was; an
+    /// error of the check or of the store ends the read.
+    pub fn take<C: ObjectCodec<T>>(
+        &mut self,
+        alloc: Global,
+        layout: &Layout<C>,
+        caches: &mut Caches,
+        reply: Option<Reply>,
+    ) -> Turned<ReadAnswer<T>>
+        requires reply { IsReadReply self.old reply }
+        requires range { IsInRange self.old }
+        ensures turned { (self.new, turned_by_number result) ≡ unless_lacking (lacks_memory (turned_by_number result)) self.old (read_turned layout.now.names layout.now.boundary layout.now.page (C.decoded layout.now.codec) self.old caches.old reply) }
+        ensures caches { caches.new ≡ read_left self.old caches.old (turned_by_number result) }
+        ensures store_error { TellsErrorOf (reply_told reply) result }
+    {
+        match self {
+            ReadOp::Reads(latest, _) => match latest.take(
+                alloc,
+                layout,
+                &mut caches.latest,
+                reply,
+            ) {
+                Turned::Done(Ok(Some((id, value)))) => {
+                    self.choose(id, value);
+                    Turned::Goes
+                }
+                told => told,
+            },
+            ReadOp::Checks(_, _, check) => match check.take(caches, reply) {
+                Turned::Goes => Turned::Goes,
+                Turned::Done(Ok(())) => self.accept(),
+                Turned::Done(Err(TransactionalObjectError::ObjectVersionExists)) => {
+                    self.again(layout)
+                }
+                Turned::Done(Err(error)) => Turned::Done(Err(error)),
+            },
+            ReadOp::Ended => unreachable!(),
+        }
+    }
+
+    /// It starts again.
+    fn again<C>(&mut self, layout: &Layout<C>) -> Turned<ReadAnswer<T>>
+        ensures turned { (self.new, turned_by_number result) ≡ unless_lacking (lacks_memory (turned_by_number result)) self.old (read_started layout.now.boundary, Turned.Goes) }
+        ensures store_error { TellsErrorOf None result }
+    {
+        match ReadOp::start(layout) {
+            Ok(next) => {
+                *self = next;
+                Turned::Goes
+            }
+            Err(error) => Turned::Done(Err(error.into())),
+        }
+    }
+}
