@@ -1,0 +1,5 @@
+use Rattle.txn_history.proofs.Fronts.{never_falls}
+use Rattle.txn_history.proofs.laws.boundary_never_falls.Goals as goal
+
+pub returns : goal.returns
+returns g c = λ decode get_epoch failed rows good. never_falls decode get_epoch failed rows good

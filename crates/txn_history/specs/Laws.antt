@@ -1,0 +1,36 @@
+-- What follows of one history.
+use Rattle.std.specs.Prelude.{◌≡◌, ◌≤◌, ℕ, List, Option, true, take, slice_get, Some, None}
+use Rattle.txn_history.specs.declared.event.Call.{Call}
+use Rattle.txn_history.specs.declared.event.Call.TheVariants as calls
+use Rattle.txn_history.specs.declared.event.Answer.{Answer}
+use Rattle.txn_history.specs.declared.event.Answer.TheVariants as answers
+use Rattle.txn_history.specs.declared.trace.Row.{Row}
+use Rattle.txn_history.specs.declared.trace.Row.TheVariants.{Answered}
+use Rattle.txn_history.specs.History.{boundary, erases}
+use Rattle.txn_history.specs.Calls.{IsCall}
+
+module _ {T : Type 0} where
+  -- the boundary never falls: it is no lower after more rows
+  abbrev pub NeverFalls : List (Row T) → Type 0
+  NeverFalls rows = (early late : ℕ) → early ≤ late → boundary (take early rows) ≤ boundary (take late rows)
+
+  -- what is above the boundary is not removed: a row that removes the name of an id comes after the boundary has reached it
+  abbrev pub KeepsAbove : List (Row T) → Type 0
+  KeepsAbove rows = (k id : ℕ) (row : Row T) → slice_get rows k ≡ Some row → erases id row ≡ true → id ≤ boundary (take k rows)
+
+  -- the id that a checked write answers as its own
+  abbrev pub id_entered : Call T → Answer T → Option ℕ
+  id_entered (calls.Write base value) (answers.Wrote id) = Some id
+  id_entered call answer = None
+
+  -- row k is an answer of the operation, which is its own version of this id
+  pub record AnswersOwn (rows : List (Row T)) (k op id : ℕ) : Type 0 where
+    pub call : Call T
+    pub called : IsCall rows op call
+    pub answer : Answer T
+    pub there : slice_get rows k ≡ Some (Answered op answer)
+    pub own : id_entered call answer ≡ Some id
+
+  -- two successful checked writes never have the same id: rows that answer it are one row
+  abbrev pub HasOneWriter : List (Row T) → Type 0
+  HasOneWriter rows = (j k op other id : ℕ) → AnswersOwn rows j op id → AnswersOwn rows k other id → j ≡ k

@@ -1,0 +1,10 @@
+pub mod Names
+pub mod Lists
+pub mod History
+pub mod Calls
+pub mod OneHistory
+pub mod Laws
+pub mod Seen
+pub mod Allowed
+pub mod GoesOn
+pub mod Added
