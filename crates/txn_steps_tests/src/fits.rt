@@ -1,0 +1,172 @@
+//! Whether a reply, or none for a look, is what an operation asks for.
+ghost use Rattle.std.specs.Prelude.{IsTrue};
+ghost use Rattle.txn_caches.specs.Asking.{IsLook, IsPut, IsGot, IsListed, IsDeleted};
+ghost use Rattle.txn_caches.specs.BoundaryReads.{IsBoundaryReply};
+ghost use Rattle.txn_caches.specs.BoundaryChecks.{IsBoundaryCheckReply};
+ghost use Rattle.txn_caches.specs.BoundaryAdvances.{IsBoundaryAdvanceReply};
+ghost use Rattle.txn_caches.specs.Checks.{IsCheckReply};
+ghost use Rattle.txn_caches.specs.Advances.{IsAdvanceReply};
+ghost use Rattle.txn_steps.specs.Writes.{IsUncheckedReply, IsWriteReply};
+ghost use Rattle.txn_steps.specs.Latest.{IsLatestReply, InRange};
+ghost use Rattle.txn_steps.specs.Reads.{IsReadReply, IsInRange};
+ghost use Rattle.txn_steps.specs.SeenSteps.{IsSeenReply};
+ghost use Rattle.txn_steps.specs.Deletes.{IsRemovalReply, IsDeleteReply};
+
+use txn_caches::advance::{AdvanceOp, BoundaryAdvance};
+use txn_caches::boundary_read::BoundaryRead;
+use txn_caches::check::{BoundaryCheck, BoundaryStep, CheckOp};
+use txn_steps::cached::delete::{DeleteOp, DeleteStep, DeleteUncheckedOp, RemovalStep};
+use txn_steps::cached::latest::LatestOp;
+use txn_steps::cached::read::ReadOp;
+use txn_steps::cached::seen::ReadSeenOp;
+use txn_steps::cached::write::{WriteOp, WriteStep, WriteUncheckedOp};
+use txn_store::request::Reply;
+
+fn is_look(reply: &Option<Reply>) -> bool
+    ensures { IsTrue result → IsLook reply.now }
+{
+    reply.is_none()
+}
+
+fn is_put(reply: &Option<Reply>) -> bool
+    ensures { IsTrue result → IsPut reply.now }
+{
+    matches!(reply, Some(Reply::Put(_)))
+}
+
+pub(crate) fn is_got(reply: &Option<Reply>) -> bool
+    ensures { IsTrue result → IsGot reply.now }
+{
+    matches!(reply, Some(Reply::Get(_)))
+}
+
+pub(crate) fn is_listed(reply: &Option<Reply>) -> bool
+    ensures { IsTrue result → IsListed reply.now }
+{
+    matches!(reply, Some(Reply::List(_)))
+}
+
+fn is_deleted(reply: &Option<Reply>) -> bool
+    ensures { IsTrue result → IsDeleted reply.now }
+{
+    matches!(reply, Some(Reply::Delete(_)))
+}
+
+pub(crate) fn fits_boundary(op: &BoundaryRead, reply: &Option<Reply>) -> bool
+    ensures { IsTrue result → IsBoundaryReply op.now reply.now }
+{
+    match op {
+        BoundaryRead::Gets(_) => is_got(reply),
+        _ => is_look(reply),
+    }
+}
+
+pub(crate) fn fits_boundary_check(op: &BoundaryCheck, reply: &Option<Reply>) -> bool
+    ensures { IsTrue result → IsBoundaryCheckReply op.now reply.now }
+{
+    match op.step {
+        BoundaryStep::Looks => is_look(reply),
+        BoundaryStep::Reads => fits_boundary(&op.read, reply),
+    }
+}
+
+pub(crate) fn fits_boundary_advance(op: &BoundaryAdvance, reply: &Option<Reply>) -> bool
+    ensures { IsTrue result → IsBoundaryAdvanceReply op.now reply.now }
+{
+    match op {
+        BoundaryAdvance::Reads(_, _, read) => fits_boundary(read, reply),
+        BoundaryAdvance::Puts(..) => is_put(reply),
+        _ => is_look(reply),
+    }
+}
+
+pub(crate) fn fits_check(op: &CheckOp, reply: &Option<Reply>) -> bool
+    ensures { IsTrue result → IsCheckReply op.now reply.now }
+{
+    match op {
+        CheckOp::Checks(check) => fits_boundary_check(check, reply),
+        CheckOp::Drops(_) => is_look(reply),
+    }
+}
+
+pub(crate) fn fits_advance(op: &AdvanceOp, reply: &Option<Reply>) -> bool
+    ensures { IsTrue result → IsAdvanceReply op.now reply.now }
+{
+    match op {
+        AdvanceOp::Raises(_, raise) => fits_boundary_advance(raise, reply),
+        AdvanceOp::Drops(_) => is_look(reply),
+    }
+}
+
+pub(crate) fn fits_write_unchecked(op: &WriteUncheckedOp, reply: &Option<Reply>) -> bool
+    ensures { IsTrue result → IsUncheckedReply op.now reply.now }
+{
+    match op {
+        WriteUncheckedOp::Puts(..) => is_put(reply),
+        WriteUncheckedOp::Keeps(_) => is_look(reply),
+        WriteUncheckedOp::Ended => false,
+    }
+}
+
+pub(crate) fn fits_write(op: &WriteOp, reply: &Option<Reply>) -> bool
+    ensures { IsTrue result → IsWriteReply op.now reply.now }
+{
+    match op.step {
+        WriteStep::Writes => fits_write_unchecked(&op.write, reply),
+        WriteStep::Checks => fits_check(&op.check, reply),
+    }
+}
+
+/// It has found no more than four successors besides.
+pub(crate) fn fits_latest(op: &LatestOp<u64>, reply: &Option<Reply>) -> bool
+    ensures reply { IsTrue result → IsLatestReply op.now reply.now }
+    ensures range { IsTrue result → InRange op.now }
+{
+    match op {
+        LatestOp::Probes(_, found, _, _) => *found < 4 && is_got(reply),
+        LatestOp::Finds(_, found) => *found <= 4 && is_look(reply),
+        LatestOp::Lists(..) => is_listed(reply),
+        LatestOp::Gets(..) => is_got(reply),
+        LatestOp::Ended => false,
+        _ => is_look(reply),
+    }
+}
+
+pub(crate) fn fits_read(op: &ReadOp<u64>, reply: &Option<Reply>) -> bool
+    ensures reply { IsTrue result → IsReadReply op.now reply.now }
+    ensures range { IsTrue result → IsInRange op.now }
+{
+    match op {
+        ReadOp::Reads(latest, _) => fits_latest(latest, reply),
+        ReadOp::Checks(_, _, check) => fits_check(check, reply),
+        ReadOp::Ended => false,
+    }
+}
+
+pub(crate) fn fits_seen(op: &ReadSeenOp<u64>, reply: &Option<Reply>) -> bool
+    ensures { IsTrue result → IsSeenReply op.now reply.now }
+{
+    match op {
+        ReadSeenOp::Gets(..) => is_got(reply),
+        ReadSeenOp::Ended => false,
+        _ => is_look(reply),
+    }
+}
+
+pub(crate) fn fits_removal(op: &DeleteUncheckedOp, reply: &Option<Reply>) -> bool
+    ensures { IsTrue result → IsRemovalReply op.now reply.now }
+{
+    match op.step {
+        RemovalStep::Removes => is_deleted(reply),
+        RemovalStep::Drops => is_look(reply),
+    }
+}
+
+pub(crate) fn fits_delete(op: &DeleteOp, reply: &Option<Reply>) -> bool
+    ensures { IsTrue result → IsDeleteReply op.now reply.now }
+{
+    match op.step {
+        DeleteStep::Checks => fits_check(&op.check, reply),
+        DeleteStep::Removes => fits_removal(&op.removal, reply),
+    }
+}

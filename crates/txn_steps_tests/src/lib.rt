@@ -1,0 +1,19 @@
+//! Tests of the caches of a client and of the operations that use them: what no clause says, and that each
+//! call succeeds with ample memory. Most are tables of calls, each with what it says and how many calls of
+//! the store and looks it took, that one function plays.
+#![tactic(auto)]
+
+#[cfg(test)]
+mod by_hand;
+#[cfg(test)]
+mod calls;
+#[cfg(test)]
+mod driven;
+#[cfg(test)]
+mod fits;
+#[cfg(test)]
+mod parts;
+#[cfg(test)]
+mod scenarios;
+#[cfg(test)]
+mod windows;
