@@ -1,11 +1,11 @@
 //! Operations over a store, each through to its answer.
 use std::alloc::Global;
 use std::test::Fail;
+use txn_caches::turned::Turned;
 use txn_steps::advance::AdvanceOp;
 use txn_steps::check::CheckOp;
 use txn_steps::delete::{DeleteOp, DeleteStep};
 use txn_steps::read::{ReadAnswer, ReadOp};
-use txn_steps::turned::Turned;
 use txn_steps::write::{WriteOp, WriteStep};
 use txn_store::path::{Path, PathFault};
 use txn_store::request::{Reply, Request, serve};
@@ -35,9 +35,9 @@ pub(crate) fn replies<S: ObjectStore>(
 /// What a call answers, an error as its number.
 pub(crate) type Answered<A> = Result<A, u8>;
 
-fn numbered<A: Drop>(answer: Result<A, TransactionalObjectError>) -> Answered<A> {
+fn numbered(answer: Result<(), TransactionalObjectError>) -> Answered<()> {
     match answer {
-        Ok(answer) => Ok(answer),
+        Ok(()) => Ok(()),
         Err(error) => Err(error.number()),
     }
 }
@@ -61,6 +61,27 @@ pub(crate) fn turn_write<S: ObjectStore>(
     }
 }
 
+/// What a write answers, its id as a number.
+fn written(answer: Result<MonotonicId, TransactionalObjectError>) -> Answered<u64> {
+    match answer {
+        Ok(id) => Ok(id.id()),
+        Err(error) => Err(error.number()),
+    }
+}
+
+fn end_write<S: ObjectStore>(
+    alloc: Global,
+    store: &mut S,
+    op: &mut WriteOp,
+) -> Result<Answered<u64>, Fail> {
+    for _ in 0..2 {
+        if let Turned::Done(answer) = turn_write(alloc, store, op)? {
+            return Ok(written(answer));
+        }
+    }
+    Err("a write goes on")?
+}
+
 pub(crate) fn write<S: ObjectStore>(
     alloc: Global,
     store: &mut S,
@@ -73,16 +94,10 @@ pub(crate) fn write<S: ObjectStore>(
     } else {
         Some(MonotonicId::new(base))
     };
-    let mut op = match WriteOp::start(alloc, layout, base, &value) {
-        Ok(op) => op,
-        Err(error) => return Ok(Err(error.number())),
-    };
-    for _ in 0..2 {
-        if let Turned::Done(answer) = turn_write(alloc, store, &mut op)? {
-            return Ok(numbered(answer).map(|id| id.id()));
-        }
+    match WriteOp::start(alloc, layout, base, &value) {
+        Ok(mut op) => end_write(alloc, store, &mut op),
+        Err(error) => Ok(Err(error.number())),
     }
-    Err("a write goes on")?
 }
 
 pub(crate) fn turn_read<S: ObjectStore>(
@@ -118,6 +133,15 @@ pub(crate) fn reads_on<S: ObjectStore>(
     Ok(true)
 }
 
+/// What a read answers, the id as a number.
+fn found(answer: ReadAnswer<u64>) -> Answered<Option<(u64, u64)>> {
+    match answer {
+        Ok(Some((id, value))) => Ok(Some((id.id(), value))),
+        Ok(None) => Ok(None),
+        Err(error) => Err(error.number()),
+    }
+}
+
 /// Ends a read that takes no more turns than these.
 pub(crate) fn end_read<S: ObjectStore>(
     alloc: Global,
@@ -128,10 +152,7 @@ pub(crate) fn end_read<S: ObjectStore>(
 ) -> Result<Answered<Option<(u64, u64)>>, Fail> {
     for _ in 0..turns {
         if let Turned::Done(answer) = turn_read(alloc, store, layout, op)? {
-            return Ok(match answer {
-                Ok(found) => Ok(found.map(|(id, value)| (id.id(), value))),
-                Err(error) => Err(error.number()),
-            });
+            return Ok(found(answer));
         }
     }
     Err("a read goes on")?
@@ -147,6 +168,13 @@ pub(crate) fn read<S: ObjectStore>(
     end_read(alloc, store, layout, &mut op, 3)
 }
 
+fn turn_check<S: ObjectStore>(alloc: Global, store: &mut S, op: &mut CheckOp) -> Result<Did, Fail> {
+    match replies(alloc, store, op.ask())? {
+        Reply::Get(answer) => Ok(op.take(Reply::Get(answer))),
+        _ => Err("a reply of another kind")?,
+    }
+}
+
 pub(crate) fn check<S: ObjectStore>(
     alloc: Global,
     store: &mut S,
@@ -154,10 +182,7 @@ pub(crate) fn check<S: ObjectStore>(
     id: u64,
 ) -> Result<Answered<()>, Fail> {
     let mut op = CheckOp::start(layout, MonotonicId::new(id))?;
-    let Reply::Get(answer) = replies(alloc, store, op.ask())? else {
-        return Err("a reply of another kind")?;
-    };
-    match op.take(Reply::Get(answer)) {
+    match turn_check(alloc, store, &mut op)? {
         Turned::Done(answer) => Ok(numbered(answer)),
         Turned::Goes => Err("a check goes on")?,
     }
@@ -216,6 +241,19 @@ fn turn_delete<S: ObjectStore>(
     }
 }
 
+fn end_delete<S: ObjectStore>(
+    alloc: Global,
+    store: &mut S,
+    op: &mut DeleteOp,
+) -> Result<Answered<()>, Fail> {
+    for _ in 0..2 {
+        if let Turned::Done(answer) = turn_delete(alloc, store, op)? {
+            return Ok(numbered(answer));
+        }
+    }
+    Err("a delete goes on")?
+}
+
 pub(crate) fn delete<S: ObjectStore>(
     alloc: Global,
     store: &mut S,
@@ -223,12 +261,7 @@ pub(crate) fn delete<S: ObjectStore>(
     id: u64,
 ) -> Result<Answered<()>, Fail> {
     let mut op = DeleteOp::start(alloc, layout, MonotonicId::new(id))?;
-    for _ in 0..2 {
-        if let Turned::Done(answer) = turn_delete(alloc, store, &mut op)? {
-            return Ok(numbered(answer));
-        }
-    }
-    Err("a delete goes on")?
+    end_delete(alloc, store, &mut op)
 }
 
 /// Whether the version of this id stands.

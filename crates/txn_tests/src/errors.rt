@@ -46,24 +46,54 @@ fn is_shown<E: Display>(alloc: Global, error: &E, text: &str) -> Result<bool, Al
     Ok(format!(in alloc; "{error}")?.as_str() == text)
 }
 
-/// Whether an error has this number and text, and is a conflict where its number is 5.
-fn is_told(
-    alloc: Global,
-    error: &TransactionalObjectError,
-    number: u8,
-    text: &str,
-) -> Result<bool, AllocError> {
-    let shown = is_shown(alloc, error, text)?;
+/// The error of this number.
+fn error_of(number: u8) -> TransactionalObjectError {
+    match number {
+        1 => IoError,
+        2 => ObjectStoreError(StoreError::Failed),
+        3 => ObjectUpdateTimeout { timeout: 1500 },
+        4 => LatestRecordMissing,
+        5 => ObjectVersionExists,
+        6 => Fenced,
+        7 => InvalidObjectState,
+        8 => CallbackError(anyhow!("bad bytes")),
+        9 => TransactionalObjectError::NoMemory,
+        10 => IdExhausted,
+        _ => TurnsExhausted,
+    }
+}
+
+const ERRORS: [(u8, &str); 11] = [
+    (1, "io error"),
+    (2, "object store error"),
+    (3, "object update timed out"),
+    (4, "failed to find latest record"),
+    (5, "object version exists"),
+    (6, "detected newer client"),
+    (7, "object in store is in an unexpected state"),
+    (8, "callback error"),
+    (9, "no memory"),
+    (10, "id exhausted"),
+    (11, "turns exhausted"),
+];
+
+/// Errors that show what they hold.
+const DEBUGGED: [(u8, &str); 2] = [
+    (3, "ObjectUpdateTimeout { timeout: 1500 }"),
+    (2, "ObjectStoreError(Failed)"),
+];
+
+/// Whether an error has its number and this text, and is a conflict where its number is 5.
+fn is_told(alloc: Global, number: u8, text: &str) -> Result<bool, AllocError> {
+    let error = error_of(number);
     let is_conflict = error.is_sequenced_write_conflict();
-    Ok(shown && error.number() == number && is_conflict == (number == 5))
+    let is_right = error.number() == number && is_conflict == (number == 5);
+    Ok(is_shown(alloc, &error, text)? && is_right)
 }
 
 /// Whether an error shows what it holds in this way.
-fn is_debugged(
-    alloc: Global,
-    error: &TransactionalObjectError,
-    text: &str,
-) -> Result<bool, AllocError> {
+fn is_debugged(alloc: Global, number: u8, text: &str) -> Result<bool, AllocError> {
+    let error = error_of(number);
     Ok(format!(in alloc; "{error:?}")?.as_str() == text)
 }
 
@@ -81,44 +111,11 @@ fn errors_have_their_numbers_and_texts(rt: HostRuntime) -> Result<(), Fail> {
     for (fault, number) in FINISH_FAULTS {
         assert_eq!(rt; fault.number(), number);
     }
-    for (error, number, text) in [
-        (IoError, 1, "io error"),
-        (
-            ObjectStoreError(StoreError::Failed),
-            2,
-            "object store error",
-        ),
-        (
-            ObjectUpdateTimeout { timeout: 1500 },
-            3,
-            "object update timed out",
-        ),
-        (LatestRecordMissing, 4, "failed to find latest record"),
-        (ObjectVersionExists, 5, "object version exists"),
-        (Fenced, 6, "detected newer client"),
-        (
-            InvalidObjectState,
-            7,
-            "object in store is in an unexpected state",
-        ),
-        (CallbackError(anyhow!("bad bytes")), 8, "callback error"),
-        (TransactionalObjectError::NoMemory, 9, "no memory"),
-        (IdExhausted, 10, "id exhausted"),
-        (TurnsExhausted, 11, "turns exhausted"),
-    ] {
-        assert!(rt; is_told(rt.alloc(), &error, number, text)?, "{text}");
+    for (number, text) in ERRORS {
+        assert!(rt; is_told(rt.alloc(), number, text)?, "{text}");
     }
-    for (error, text) in [
-        (
-            ObjectUpdateTimeout { timeout: 1500 },
-            "ObjectUpdateTimeout { timeout: 1500 }",
-        ),
-        (
-            ObjectStoreError(StoreError::Failed),
-            "ObjectStoreError(Failed)",
-        ),
-    ] {
-        assert!(rt; is_debugged(rt.alloc(), &error, text)?, "{text}");
+    for (number, text) in DEBUGGED {
+        assert!(rt; is_debugged(rt.alloc(), number, text)?, "{text}");
     }
     Ok(())
 }

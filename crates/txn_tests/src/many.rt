@@ -13,15 +13,35 @@ fn names(alloc: Global) -> Result<VersionNames, PathFault> {
     VersionNames::new(alloc, Path::from_text(alloc, "root/test")?, "val")
 }
 
+fn put_version(
+    alloc: Global,
+    names: &VersionNames,
+    store: &mut InMemory,
+    number: u64,
+) -> Result<(), Fail> {
+    let path = names.path_for(alloc, number)?;
+    let _ = store.put(&path, &Bytes::from_static(b"a value"), &PutMode::Create)?;
+    Ok(())
+}
+
 /// A store with so many versions of seven bytes.
 fn stored(alloc: Global, names: &VersionNames, count: u64) -> Result<InMemory, Fail> {
     let mut store = InMemory::new(alloc);
-    let bytes = Bytes::from_static(b"a value");
     for number in 0..count {
-        let path = names.path_for(alloc, number)?;
-        let _ = store.put(&path, &bytes, &PutMode::Create)?;
+        put_version(alloc, names, &mut store, number)?;
     }
     Ok(store)
+}
+
+/// How many bytes a version has.
+fn size(
+    alloc: Global,
+    names: &VersionNames,
+    store: &mut InMemory,
+    number: u64,
+) -> Result<usize, Fail> {
+    let path = names.path_for(alloc, number)?;
+    Ok(store.get(&path, None)?.bytes.len())
 }
 
 /// The first version that has not seven bytes.
@@ -32,8 +52,7 @@ fn other_got(
     count: u64,
 ) -> Result<Option<u64>, Fail> {
     for number in 0..count {
-        let path = names.path_for(alloc, number)?;
-        if store.get(&path, None)?.bytes.len() != 7 {
+        if size(alloc, names, store, number)? != 7 {
             return Ok(Some(number));
         }
     }
@@ -73,7 +92,31 @@ struct Told {
 
 const PAGE: u64 = 1000;
 
-/// The listing of all versions, page by page, of 1,000 pages at most.
+/// Adds what the next page tells, and says whether it is the last that is asked for.
+fn turns_page(
+    alloc: Global,
+    names: &VersionNames,
+    store: &mut InMemory,
+    after: &mut Option<Path>,
+    told: &mut Told,
+) -> Result<bool, Fail> {
+    let page = store.list(alloc, names.dir(), after.as_ref(), PAGE)?;
+    let metas = page.metas.as_slice();
+    let (other, next) = other_told(names, metas, told.versions);
+    *told = Told {
+        other,
+        pages: told.pages.saturating_add(1),
+        versions: next,
+        compared: told.compared.max(store.compared()),
+    };
+    if !page.more || other.is_some() {
+        return Ok(true);
+    }
+    *after = last(metas)?;
+    Ok(false)
+}
+
+/// The listing of all versions, page by page, of fewer than 1,000 pages.
 fn listed(alloc: Global, names: &VersionNames, store: &mut InMemory) -> Result<Told, Fail> {
     let mut after = None;
     let mut told = Told {
@@ -82,20 +125,10 @@ fn listed(alloc: Global, names: &VersionNames, store: &mut InMemory) -> Result<T
         versions: 0,
         compared: 0,
     };
-    for pages in 1..1000 {
-        let page = store.list(alloc, names.dir(), after.as_ref(), PAGE)?;
-        let metas = page.metas.as_slice();
-        let (other, next) = other_told(names, metas, told.versions);
-        told = Told {
-            other,
-            pages,
-            versions: next,
-            compared: told.compared.max(store.compared()),
-        };
-        if !page.more || other.is_some() {
+    for _ in 1..1000 {
+        if turns_page(alloc, names, store, &mut after, &mut told)? {
             return Ok(told);
         }
-        after = last(metas)?;
     }
     Err("a listing goes on")?
 }
@@ -116,13 +149,23 @@ fn removed(
 }
 
 /// The first version that is not got, what is listed of all, and what once they are removed.
+fn looked_in(
+    alloc: Global,
+    names: &VersionNames,
+    store: &mut InMemory,
+    count: u64,
+) -> Result<(Option<u64>, Told, Told), Fail> {
+    let got = other_got(alloc, names, store, count)?;
+    let told = listed(alloc, names, store)?;
+    let _ = removed(alloc, names, store, count)?;
+    Ok((got, told, listed(alloc, names, store)?))
+}
+
+/// The same, over a store with so many versions.
 fn looked(alloc: Global, count: u64) -> Result<(Option<u64>, Told, Told), Fail> {
     let names = names(alloc)?;
     let mut store = stored(alloc, &names, count)?;
-    let got = other_got(alloc, &names, &mut store, count)?;
-    let told = listed(alloc, &names, &mut store)?;
-    let _ = removed(alloc, &names, &mut store, count)?;
-    Ok((got, told, listed(alloc, &names, &mut store)?))
+    looked_in(alloc, &names, &mut store, count)
 }
 
 #[test]
@@ -134,22 +177,44 @@ fn a_hundred_thousand_versions(rt: HostRuntime) -> Result<(), Fail> {
     Ok(())
 }
 
+/// The paths that a put and a get of a version compare.
+fn compared_at(
+    alloc: Global,
+    names: &VersionNames,
+    store: &mut InMemory,
+    number: u64,
+) -> Result<(u64, u64), AllocError> {
+    let path = names.path_for(alloc, number)?;
+    let _ = store.get(&path, None);
+    let get = store.compared();
+    let bytes = Bytes::from_static(b"other");
+    let _ = store.put(&path, &bytes, &PutMode::Update(Token::new(0)));
+    Ok((store.compared(), get))
+}
+
+/// The most paths that a call over this store compares.
+fn most_in(
+    alloc: Global,
+    names: &VersionNames,
+    store: &mut InMemory,
+    count: u64,
+) -> Result<[u64; 4], Fail> {
+    let (mut most_put, mut most_get) = (0u64, 0u64);
+    for number in 0..count.saturating_add(1) {
+        let (put, get) = compared_at(alloc, names, store, number)?;
+        most_put = most_put.max(put);
+        most_get = most_get.max(get);
+    }
+    let page = listed(alloc, names, store)?.compared;
+    let removal = removed(alloc, names, store, count)?;
+    Ok([most_put, most_get, page, removal])
+}
+
 /// The most paths that a call compares where so many versions are stored: a put, a get, a page and a removal.
 fn most_compared(alloc: Global, count: u64) -> Result<[u64; 4], Fail> {
     let names = names(alloc)?;
     let mut store = stored(alloc, &names, count)?;
-    let bytes = Bytes::from_static(b"other");
-    let mut most = [0u64; 4];
-    for number in 0..count.saturating_add(1) {
-        let path = names.path_for(alloc, number)?;
-        let _ = store.get(&path, None);
-        most[1] = most[1].max(store.compared());
-        let _ = store.put(&path, &bytes, &PutMode::Update(Token::new(0)));
-        most[0] = most[0].max(store.compared());
-    }
-    most[2] = listed(alloc, &names, &mut store)?.compared;
-    most[3] = removed(alloc, &names, &mut store, count)?;
-    Ok(most)
+    most_in(alloc, &names, &mut store, count)
 }
 
 /// With so many versions, the most paths that a put, a get and a removal compare, and that a page does.
@@ -191,9 +256,24 @@ fn puts(store: &mut InMemory, path: &Path, token: u64) -> (bool, bool) {
     }
 }
 
+/// Whether a file is missing, and is removed all the same.
+fn is_missing(store: &mut InMemory, path: &Path) -> bool {
+    let is_missing = store.get(path, None) == Err(StoreError::NotFound);
+    is_missing && store.delete(path).is_ok()
+}
+
 /// Puts versions, and looks for a file that is missing and removes it after each.
 fn put_few(alloc: Global, store: &mut InMemory, names: &VersionNames) -> Result<Left, PathFault> {
     let missing = names.dir().join("missing")?;
+    put_beside(alloc, store, names, &missing)
+}
+
+fn put_beside(
+    alloc: Global,
+    store: &mut InMemory,
+    names: &VersionNames,
+    missing: &Path,
+) -> Result<Left, PathFault> {
     let mut left = Left {
         other: None,
         stored: 0,
@@ -202,8 +282,7 @@ fn put_few(alloc: Global, store: &mut InMemory, names: &VersionNames) -> Result<
     for number in 0..FEW {
         let path = names.path_for(alloc, number)?;
         let (answers, taken) = puts(store, &path, next);
-        let is_missing = store.get(&missing, None) == Err(StoreError::NotFound);
-        if !answers || !is_missing || store.delete(&missing).is_err() {
+        if !answers || !is_missing(store, missing) {
             left.other = left.other.or(Some(number));
         }
         if taken {
@@ -237,10 +316,17 @@ fn removes(alloc: Global, store: &mut InMemory, names: &VersionNames) -> Result<
 /// and whether all are removed.
 fn refused(alloc: Global) -> Result<(Option<u64>, bool, bool), PathFault> {
     let names = names(alloc)?;
-    let mut store = InMemory::new(alloc);
-    let left = put_few(alloc, &mut store, &names)?;
-    let listed = lists(alloc, &mut store, &names, left.stored);
-    Ok((left.other, listed, removes(alloc, &mut store, &names)?))
+    refused_in(alloc, &mut InMemory::new(alloc), &names)
+}
+
+fn refused_in(
+    alloc: Global,
+    store: &mut InMemory,
+    names: &VersionNames,
+) -> Result<(Option<u64>, bool, bool), PathFault> {
+    let left = put_few(alloc, store, names)?;
+    let listed = lists(alloc, store, names, left.stored);
+    Ok((left.other, listed, removes(alloc, store, names)?))
 }
 
 // Run it with each allocation failing in turn: what a refused growth leaves is what was there, and the calls that

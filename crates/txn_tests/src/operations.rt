@@ -1,18 +1,20 @@
 //! Operations over a store, alone and where a call of it fails.
-use crate::driven::{a_layout, turn_read};
+use crate::driven::{a_layout, reads_on, turn_read};
 use crate::scenario::Said::{Answers, Found, Is, Wrote};
 use crate::scenario::Step::{Advance, Check, Delete, Holds, Put, Read, Stands, Write};
 use crate::scenario::{Heard, plays, plays_in_memory};
-use std::alloc::Global;
+use std::alloc::{AllocError, Global};
 use std::test::Fail;
+use txn_caches::turned::Turned;
 use txn_steps::known::{Known, known_boundary};
 use txn_steps::read::{ReadAnswer, ReadOp};
-use txn_steps::turned::Turned;
 use txn_store::failing::{Counts, FailingStore, When};
 use txn_store::in_memory::InMemory;
 use txn_store::path::Path;
-use txn_store::store::{ObjectStore, StoreError, Token};
+use txn_store::store::{Got, ObjectStore, StoreError, Token};
 use txn_types::error::TransactionalObjectError;
+use txn_types::layout::Layout;
+use txn_types::test_utils::NumberCodec;
 
 const BOUNDARY: &str = "root/gc/test.boundary";
 
@@ -161,34 +163,57 @@ const REFUSED: &[Heard] = &[
     (Read, Found(Err(8))),
 ];
 
-/// What a read answers to its nth reply, where it goes on until then.
+/// What a read's next turn ends it with, where it does.
+fn last_turn<S: ObjectStore>(
+    alloc: Global,
+    store: &mut S,
+    layout: &Layout<NumberCodec>,
+    op: &mut ReadOp<u64>,
+) -> Result<Option<ReadAnswer<u64>>, Fail> {
+    match turn_read(alloc, store, layout, op)? {
+        Turned::Done(answer) => Ok(Some(answer)),
+        Turned::Goes => Ok(None),
+    }
+}
+
+/// What a read answers to the reply after so many, where it goes on until then.
 fn read_answer<S: ObjectStore>(
     alloc: Global,
     store: &mut S,
-    nth: u64,
+    before: u64,
 ) -> Result<Option<ReadAnswer<u64>>, Fail> {
     let layout = a_layout(alloc)?;
     let mut op = ReadOp::start(&layout)?;
-    for turn in 0..nth {
-        if let Turned::Done(answer) = turn_read(alloc, store, &layout, &mut op)? {
-            return Ok(if turn + 1 == nth { Some(answer) } else { None });
-        }
+    if !reads_on(alloc, store, &layout, &mut op, before)? {
+        return Ok(None);
     }
-    Ok(None)
+    last_turn(alloc, store, &layout, &mut op)
+}
+
+/// Whether a read ends with the codec's refusal, in these words.
+fn refuses(alloc: Global, answer: &ReadAnswer<u64>, words: &str) -> Result<bool, AllocError> {
+    match answer {
+        Err(TransactionalObjectError::CallbackError(kept)) => {
+            Ok(format!(in alloc; "{kept}")?.as_str() == words)
+        }
+        _ => Ok(false),
+    }
+}
+
+/// Whether a read's second reply ends it so, over a store of refused bytes.
+fn is_refused_by(alloc: Global, store: &mut InMemory, words: &str) -> Result<bool, Fail> {
+    if plays(alloc, store, REFUSED)?.is_some() {
+        return Err("a step says something else")?;
+    }
+    match read_answer(alloc, store, 1)? {
+        Some(answer) => Ok(refuses(alloc, &answer, words)?),
+        None => Ok(false),
+    }
 }
 
 /// Whether a read's second reply ends it with the codec's refusal, in these words.
 fn is_refused(alloc: Global, words: &str) -> Result<bool, Fail> {
-    let mut store = InMemory::new(alloc);
-    if plays(alloc, &mut store, REFUSED)?.is_some() {
-        return Err("a step says something else")?;
-    }
-    Ok(match read_answer(alloc, &mut store, 2)? {
-        Some(Err(TransactionalObjectError::CallbackError(kept))) => {
-            format!(in alloc; "{kept}")?.as_str() == words
-        }
-        _ => false,
-    })
+    is_refused_by(alloc, &mut InMemory::new(alloc), words)
 }
 
 #[test]
@@ -260,11 +285,15 @@ fn other_failing(alloc: Global, nth: u64, steps: &[Heard]) -> Result<Option<usiz
 /// The first advance with another answer, or after which other calls were made than one get for each
 /// advance and the puts beside it.
 fn other_advance(alloc: Global) -> Result<Option<u64>, Fail> {
-    let mut store = FailingStore::new(InMemory::new(alloc), 0, When::Before);
+    let store = InMemory::new(alloc);
+    other_counted(alloc, &mut FailingStore::new(store, 0, When::Before))
+}
+
+fn other_counted(alloc: Global, store: &mut FailingStore<InMemory>) -> Result<Option<u64>, Fail> {
     let mut gets = 0u64;
     for (step, puts) in ADVANCES {
         gets = gets.saturating_add(1);
-        let other = plays(alloc, &mut store, &[step])?;
+        let other = plays(alloc, store, &[step])?;
         let counts = Counts {
             puts,
             gets,
@@ -281,7 +310,7 @@ fn other_advance(alloc: Global) -> Result<Option<u64>, Fail> {
 /// The store's error with which a read's first reply ends it, where it does.
 fn first_error(alloc: Global) -> Result<Option<StoreError>, Fail> {
     let mut store = FailingStore::new(InMemory::new(alloc), 1, When::Before);
-    Ok(match read_answer(alloc, &mut store, 1)? {
+    Ok(match read_answer(alloc, &mut store, 0)? {
         Some(Err(TransactionalObjectError::ObjectStoreError(kept))) => Some(kept),
         _ => None,
     })
@@ -300,12 +329,25 @@ fn a_failing_store_ends_an_operation(rt: HostRuntime) -> Result<(), Fail> {
 
 /// What a get of the boundary's file makes known after these steps, and that file's token.
 fn known_after(alloc: Global, steps: &[Heard]) -> Result<(Known, Option<Token>), Fail> {
-    let mut store = InMemory::new(alloc);
-    if plays(alloc, &mut store, steps)?.is_some() {
+    known_in(alloc, &mut InMemory::new(alloc), steps)
+}
+
+fn known_in(
+    alloc: Global,
+    store: &mut InMemory,
+    steps: &[Heard],
+) -> Result<(Known, Option<Token>), Fail> {
+    if plays(alloc, store, steps)?.is_some() {
         return Err("a step says something else")?;
     }
     let path = Path::from_text(alloc, BOUNDARY)?;
-    let answer = store.get(&path, None);
+    Ok(known_by(store.get(&path, None))?)
+}
+
+/// What an answer makes known, and its token.
+fn known_by(
+    answer: Result<Got, StoreError>,
+) -> Result<(Known, Option<Token>), TransactionalObjectError> {
     let token = match &answer {
         Ok(got) => Some(got.token),
         Err(_) => None,

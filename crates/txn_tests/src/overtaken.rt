@@ -7,9 +7,9 @@ use crate::scenario::Step::{Advance, Holds, Remove, Write};
 use crate::scenario::{Heard, plays};
 use std::alloc::Global;
 use std::test::Fail;
+use txn_caches::turned::Turned;
 use txn_steps::advance::AdvanceOp;
 use txn_steps::read::ReadOp;
-use txn_steps::turned::Turned;
 use txn_steps::write::WriteOp;
 use txn_store::in_memory::InMemory;
 use txn_store::request::Request;
@@ -32,13 +32,18 @@ fn a_write(alloc: Global) -> Result<WriteOp, Fail> {
     Ok(WriteOp::start(alloc, &layout, base, &258)?)
 }
 
+fn goes_on(alloc: Global, store: &mut InMemory, op: &mut WriteOp) -> Result<(), Fail> {
+    match turn_write(alloc, store, op)? {
+        Turned::Goes => Ok(()),
+        Turned::Done(_) => Err("a put ends a write")?,
+    }
+}
+
 /// That write, when its version is created.
 fn a_write_that_put(alloc: Global) -> Result<WriteOp, Fail> {
     let mut op = a_write(alloc)?;
-    match turn_write(alloc, &mut InMemory::new(alloc), &mut op)? {
-        Turned::Goes => Ok(op),
-        Turned::Done(_) => Err("a put ends a write")?,
-    }
+    goes_on(alloc, &mut InMemory::new(alloc), &mut op)?;
+    Ok(op)
 }
 
 /// Whether it asks for the create of a file at this path, of these bytes.
@@ -106,36 +111,55 @@ fn is_overtaken(
     Ok(gets && puts && matches!(op, AdvanceOp::Gets(..)))
 }
 
+fn end_overtaken(
+    alloc: Global,
+    store: &mut InMemory,
+    layout: &Layout<NumberCodec>,
+    op: &mut AdvanceOp,
+    between: u64,
+) -> Result<Answered<()>, Fail> {
+    if !is_overtaken(alloc, store, layout, op, between)? {
+        return Err("it was not overtaken")?;
+    }
+    end_advance(alloc, store, layout, op)
+}
+
 /// What an advance answers that another one overtook.
 fn overtaken(
     alloc: Global,
     store: &mut InMemory,
+    layout: &Layout<NumberCodec>,
     target: u64,
     between: u64,
 ) -> Result<Answered<()>, Fail> {
-    let layout = a_layout(alloc)?;
-    let mut op = AdvanceOp::start(&layout, MonotonicId::new(target))?;
-    if !is_overtaken(alloc, store, &layout, &mut op, between)? {
-        return Err("it was not overtaken")?;
-    }
-    end_advance(alloc, store, &layout, &mut op)
+    let mut op = AdvanceOp::start(layout, MonotonicId::new(target))?;
+    end_overtaken(alloc, store, layout, &mut op, between)
 }
 
 /// Targets, to what another advance comes first, and the boundary's text in the end. First there is no
 /// file when it is read, then one with another token, and then one that has reached the target.
 const ADVANCES: [(u64, u64, &[u8]); 3] = [(3, 2, b"3"), (6, 4, b"6"), (8, 9, b"9")];
 
-/// The first target of an advance that ends otherwise.
-fn other_advance(alloc: Global) -> Result<Option<u64>, Fail> {
-    let mut store = InMemory::new(alloc);
+/// The first target of an advance over this store that ends otherwise.
+fn other_over(
+    alloc: Global,
+    store: &mut InMemory,
+    layout: &Layout<NumberCodec>,
+) -> Result<Option<u64>, Fail> {
     for (target, between, text) in ADVANCES {
-        let answer = overtaken(alloc, &mut store, target, between)?;
-        let other = plays(alloc, &mut store, &[(Holds(BOUNDARY, text), Is(true))])?;
+        let answer = overtaken(alloc, store, layout, target, between)?;
+        let other = plays(alloc, store, &[(Holds(BOUNDARY, text), Is(true))])?;
         if answer != Ok(()) || other.is_some() {
             return Ok(Some(target));
         }
     }
     Ok(None)
+}
+
+/// The first target of an advance that ends otherwise.
+fn other_advance(alloc: Global) -> Result<Option<u64>, Fail> {
+    let layout = a_layout(alloc)?;
+    other_over(alloc, &mut InMemory::new(alloc), &layout)
 }
 
 /// A read that others overtake.
@@ -182,18 +206,37 @@ fn lists_across(
     Ok(goes && played && lists)
 }
 
-/// What such a read answers in the end.
-fn read_across(alloc: Global, row: &ReadRow) -> Result<Answered<Option<(u64, u64)>>, Fail> {
-    let mut store = InMemory::new(alloc);
-    if plays(alloc, &mut store, row.before)?.is_some() {
+/// What such a read answers in the end, once it lists.
+fn end_across(
+    alloc: Global,
+    store: &mut InMemory,
+    layout: &Layout<NumberCodec>,
+    op: &mut ReadOp<u64>,
+    row: &ReadRow,
+) -> Result<Answered<Option<(u64, u64)>>, Fail> {
+    if !lists_across(alloc, store, layout, op, row)? {
+        return Err("it does not list")?;
+    }
+    end_read(alloc, store, layout, op, 3)
+}
+
+/// The same, over a store that the steps before it filled.
+fn read_over(
+    alloc: Global,
+    store: &mut InMemory,
+    row: &ReadRow,
+) -> Result<Answered<Option<(u64, u64)>>, Fail> {
+    if plays(alloc, store, row.before)?.is_some() {
         return Err("a step says something else")?;
     }
     let layout = a_layout(alloc)?;
     let mut op = ReadOp::start(&layout)?;
-    if !lists_across(alloc, &mut store, &layout, &mut op, row)? {
-        return Err("it does not list")?;
-    }
-    end_read(alloc, &mut store, &layout, &mut op, 3)
+    end_across(alloc, store, &layout, &mut op, row)
+}
+
+/// What such a read answers in the end.
+fn read_across(alloc: Global, row: &ReadRow) -> Result<Answered<Option<(u64, u64)>>, Fail> {
+    read_over(alloc, &mut InMemory::new(alloc), row)
 }
 
 #[test]

@@ -8,6 +8,18 @@ use txn_store::in_memory::InMemory;
 use txn_types::layout::Layout;
 use txn_types::test_utils::NumberCodec;
 
+fn fill(
+    alloc: Global,
+    store: &mut FailingStore<InMemory>,
+    layout: &Layout<NumberCodec>,
+    versions: u64,
+) -> Result<(), Fail> {
+    for base in 0..versions {
+        let _ = write(alloc, store, layout, base, base.saturating_add(1))?;
+    }
+    Ok(())
+}
+
 /// A store that counts its calls, with so many versions, version n of the value n.
 fn filled(
     alloc: Global,
@@ -15,9 +27,7 @@ fn filled(
     versions: u64,
 ) -> Result<FailingStore<InMemory>, Fail> {
     let mut store = FailingStore::new(InMemory::new(alloc), 0, When::Before);
-    for base in 0..versions {
-        let _ = write(alloc, &mut store, layout, base, base.saturating_add(1))?;
-    }
+    fill(alloc, &mut store, layout, versions)?;
     Ok(store)
 }
 
@@ -29,9 +39,17 @@ fn paged(alloc: Global, versions: u64, page: u64) -> Result<Paged, Fail> {
     let mut layout = a_layout(alloc)?;
     layout.page = page;
     let mut store = filled(alloc, &layout, versions)?;
+    paged_in(alloc, &mut store, &layout)
+}
+
+fn paged_in(
+    alloc: Global,
+    store: &mut FailingStore<InMemory>,
+    layout: &Layout<NumberCodec>,
+) -> Result<Paged, Fail> {
     let before = store.counts();
-    let mut op = ReadOp::start(&layout)?;
-    let told = end_read(alloc, &mut store, &layout, &mut op, 10)?;
+    let mut op = ReadOp::start(layout)?;
+    let told = end_read(alloc, store, layout, &mut op, 10)?;
     let after = store.counts();
     Ok((told, after.lists, after.gets.saturating_sub(before.gets)))
 }

@@ -43,18 +43,41 @@ const BOUNDARIES: &[(&[u8], Option<u64>)] = &[
 /// A boundary, and the text of its file.
 const WRITTEN: [(u64, &str); 3] = [(0, "0"), (70, "70"), (u64::MAX, "18446744073709551615")];
 
+/// The first digits that say another number.
+fn other_digits() -> Option<&'static str> {
+    for (text, number) in DIGITS {
+        if read_digits(text) != *number {
+            return Some(*text);
+        }
+    }
+    None
+}
+
+/// The first bytes that say another boundary.
+fn other_boundary() -> Option<&'static [u8]> {
+    for (bytes, boundary) in BOUNDARIES {
+        if read_boundary(bytes) != *boundary {
+            return Some(*bytes);
+        }
+    }
+    None
+}
+
+/// The first boundary that is written as another text.
+fn other_written(alloc: Global) -> Result<Option<u64>, AllocError> {
+    for (boundary, text) in WRITTEN {
+        if boundary_bytes(alloc, boundary)?.as_slice() != text.as_bytes() {
+            return Ok(Some(boundary));
+        }
+    }
+    Ok(None)
+}
+
 #[test]
 fn numbers_are_read_and_written(rt: HostRuntime) -> Result<(), Fail> {
-    for (text, number) in DIGITS {
-        assert_eq!(rt; read_digits(text), *number, "{text}");
-    }
-    for (bytes, boundary) in BOUNDARIES {
-        assert_eq!(rt; read_boundary(bytes), *boundary, "{bytes:?}");
-    }
-    for (boundary, text) in WRITTEN {
-        let bytes = boundary_bytes(rt.alloc(), boundary)?;
-        assert_eq!(rt; bytes.as_slice(), text.as_bytes());
-    }
+    assert_eq!(rt; other_digits(), None);
+    assert_eq!(rt; other_boundary(), None);
+    assert_eq!(rt; other_written(rt.alloc())?, None);
     Ok(())
 }
 
@@ -65,8 +88,7 @@ fn is_shown(
     text: &str,
     filename: Option<&str>,
 ) -> Result<bool, AllocError> {
-    let shown = format!(in alloc; "{path}")?;
-    Ok(shown.as_str() == text && path.filename() == filename)
+    Ok(path.filename() == filename && format!(in alloc; "{path}")?.as_str() == text)
 }
 
 /// Whether the path of a text is shown as this text, and its last segment is this one.
@@ -94,25 +116,52 @@ fn are_ordered(alloc: Global) -> Result<bool, PathFault> {
     let short = Path::from_text(alloc, "a/z")?;
     let long = Path::from_text(alloc, "a-b")?;
     let above = Path::from_text(alloc, "a")?;
-    let same = short.try_clone()?;
-    let ordered = short < long && short == same && short != long && above < short;
-    let below = short.is_below(&above) && !long.is_below(&above) && !above.is_below(&above);
-    Ok(ordered && below)
+    let is_same = short == short.try_clone()?;
+    Ok(is_same && come_so(&short, &long, &above) && lie_so(&short, &long, &above))
+}
+
+fn come_so(short: &Path, long: &Path, above: &Path) -> bool {
+    short < long && short != long && above < short
+}
+
+fn lie_so(short: &Path, long: &Path, above: &Path) -> bool {
+    short.is_below(above) && !long.is_below(above) && !above.is_below(above)
+}
+
+/// Texts, the texts as which their paths are shown, and the last segments.
+const SHOWN: [(&str, &str, Option<&str>); 4] = [
+    ("/root//test/", "root/test", Some("test")),
+    ("a", "a", Some("a")),
+    ("only", "only", Some("only")),
+    ("//", "", None),
+];
+
+/// The first text whose path is shown otherwise, or has another last segment.
+fn other_shown(alloc: Global) -> Result<Option<&'static str>, PathFault> {
+    for (text, shown, filename) in SHOWN {
+        if !is_read_as(alloc, text, shown, filename)? {
+            return Ok(Some(text));
+        }
+    }
+    Ok(None)
+}
+
+/// Whether the root is shown as nothing.
+fn is_root_shown(alloc: Global) -> Result<bool, AllocError> {
+    is_shown(alloc, &Path::root(alloc), "", None)
+}
+
+/// Whether a path to which a segment was joined is shown with it.
+fn is_joined(alloc: Global) -> Result<bool, PathFault> {
+    let joined = Path::from_text(alloc, "root")?.join("a-_.9")?;
+    Ok(is_shown(alloc, &joined, "root/a-_.9", Some("a-_.9"))?)
 }
 
 #[test]
 fn paths_are_shown_and_ordered(rt: HostRuntime) -> Result<(), Fail> {
-    for (text, shown, filename) in [
-        ("/root//test/", "root/test", Some("test")),
-        ("a", "a", Some("a")),
-        ("only", "only", Some("only")),
-        ("//", "", None),
-    ] {
-        assert!(rt; is_read_as(rt.alloc(), text, shown, filename)?, "{text:?}");
-    }
-    assert!(rt; is_shown(rt.alloc(), &Path::root(rt.alloc()), "", None)?);
-    let joined = Path::from_text(rt.alloc(), "root")?.join("a-_.9")?;
-    assert!(rt; is_shown(rt.alloc(), &joined, "root/a-_.9", Some("a-_.9"))?);
+    assert_eq!(rt; other_shown(rt.alloc())?, None);
+    assert!(rt; is_root_shown(rt.alloc())?);
+    assert!(rt; is_joined(rt.alloc())?);
     assert!(rt; lies_at(rt.alloc(), "root/test", "root/gc/test.boundary")?);
     assert!(rt; are_ordered(rt.alloc())?);
     Ok(())
@@ -143,27 +192,36 @@ fn is_bad<T: Drop>(made: Result<T, PathFault>) -> bool {
     }
 }
 
-#[test]
-fn bad_segments_are_refused(rt: HostRuntime) -> Result<(), Fail> {
-    let alloc = rt.alloc();
+fn is_bad_segment(alloc: Global, text: &str) -> bool {
+    is_bad(Path::root(alloc).join(text)) && !is_plain(text)
+}
+
+fn is_bad_suffix(alloc: Global, text: &str) -> bool {
+    is_bad(VersionNames::new(alloc, Path::root(alloc), text)) && !is_suffix(text)
+}
+
+fn is_bad_layout(alloc: Global, subdir: &str, suffix: &str) -> bool {
     let root = Path::root(alloc);
+    is_bad(Layout::new(alloc, &root, subdir, suffix, NumberCodec))
+}
+
+#[test]
+fn bad_segments_are_refused(rt: HostRuntime) {
+    let alloc = rt.alloc();
     for text in BAD_PATHS {
         assert!(rt; is_bad(Path::from_text(alloc, text)), "{text:?} as a path");
     }
     for text in BAD_SEGMENTS {
-        let refused = is_bad(root.join(text)) && !is_plain(text);
-        assert!(rt; refused, "{text:?} as a segment");
+        assert!(rt; is_bad_segment(alloc, text), "{text:?} as a segment");
     }
     for text in BAD_SUFFIXES {
-        let made = VersionNames::new(alloc, root.try_clone()?, text);
-        assert!(rt; is_bad(made) && !is_suffix(text), "{text:?} as a suffix");
+        assert!(rt; is_bad_suffix(alloc, text), "{text:?} as a suffix");
     }
     assert!(rt; is_suffix("val"));
     for (subdir, suffix) in BAD_LAYOUTS {
-        let made = Layout::new(alloc, &root, subdir, suffix, NumberCodec);
-        assert!(rt; is_bad(made), "{subdir:?} {suffix:?}");
+        let refused = is_bad_layout(alloc, subdir, suffix);
+        assert!(rt; refused, "{subdir:?} {suffix:?}");
     }
-    Ok(())
 }
 
 /// Paths, and the versions of the folder `root/test` that they are.
@@ -207,19 +265,55 @@ fn is_named(
     Ok(shown.as_str() == text && names.parse_id(&path) == Some(number))
 }
 
+/// The version that the path of a text is.
+fn parsed(alloc: Global, names: &VersionNames, text: &str) -> Result<Option<u64>, PathFault> {
+    Ok(names.parse_id(&Path::from_text(alloc, text)?))
+}
+
+/// The first path that is another version, or is none or one against what it should be.
+fn other_parsed(
+    alloc: Global,
+    names: &VersionNames,
+) -> Result<Option<(&'static str, Option<u64>)>, PathFault> {
+    for (text, want) in VERSIONS {
+        let version = parsed(alloc, names, text)?;
+        if version != *want {
+            return Ok(Some((*text, version)));
+        }
+    }
+    Ok(None)
+}
+
+/// The first version that has another path.
+fn other_named(alloc: Global, names: &VersionNames) -> Result<Option<u64>, AllocError> {
+    for (number, text) in NAMES {
+        if !is_named(alloc, names, number, text)? {
+            return Ok(Some(number));
+        }
+    }
+    Ok(None)
+}
+
+/// What is otherwise than it should be: a path that is read, the path of a version. And whether the folder is shown.
+type Other = (Option<(&'static str, Option<u64>)>, Option<u64>, bool);
+
+fn other_of(alloc: Global, names: &VersionNames) -> Result<Other, PathFault> {
+    let parsed = other_parsed(alloc, names)?;
+    let named = other_named(alloc, names)?;
+    let is_shown = is_shown(alloc, names.dir(), "root/test", Some("test"))?;
+    names.one_to_one(1, 2);
+    Ok((parsed, named, is_shown))
+}
+
+fn other(alloc: Global) -> Result<Other, PathFault> {
+    let dir = Path::from_text(alloc, "root/test")?;
+    let names = VersionNames::new(alloc, dir, "val")?;
+    other_of(alloc, &names)
+}
+
 #[test]
 fn versions_have_names_of_twenty_digits(rt: HostRuntime) -> Result<(), Fail> {
-    let dir = Path::from_text(rt.alloc(), "root/test")?;
-    let names = VersionNames::new(rt.alloc(), dir, "val")?;
-    for (text, want) in VERSIONS {
-        let path = Path::from_text(rt.alloc(), text)?;
-        assert_eq!(rt; names.parse_id(&path), *want, "{text:?}");
-    }
-    for (number, text) in NAMES {
-        assert!(rt; is_named(rt.alloc(), &names, number, text)?, "{number}");
-    }
-    assert!(rt; is_shown(rt.alloc(), names.dir(), "root/test", Some("test"))?);
-    names.one_to_one(1, 2);
+    assert_eq!(rt; other(rt.alloc())?, (None, None, true));
     twenty_digits(7);
     Ok(())
 }

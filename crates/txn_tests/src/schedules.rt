@@ -5,6 +5,7 @@ use txn_model::event::Event;
 use txn_model::trace::Row;
 use txn_script::line::{Line, read_line};
 use txn_script::record::{Record, RecordCodec};
+use txn_store::path::Path;
 use txn_store::request::Request;
 use txn_types::boundary::read_boundary;
 use txn_types::layout::PAGE;
@@ -198,18 +199,30 @@ fn row_texts(alloc: Global, rows: &[Row<Record>]) -> Result<Vec<String>, Fail> {
     Ok(texts)
 }
 
+fn is_boundary(alloc: Global, path: &Path) -> Result<bool, AllocError> {
+    Ok(format!(in alloc; "{path}")?.as_str() == "root/gc/test.boundary")
+}
+
+/// The number that a row put in the boundary file, where it did.
+fn raised_by(alloc: Global, row: &Row<Record>) -> Result<Option<u64>, Fail> {
+    let Row::Effect(_, Request::Put { path, bytes, .. }) = row else {
+        return Ok(None);
+    };
+    if !is_boundary(alloc, path)? {
+        return Ok(None);
+    }
+    match read_boundary(bytes) {
+        Some(number) => Ok(Some(number)),
+        None => Err("no number")?,
+    }
+}
+
 /// The numbers that were put in the boundary file, in order.
 fn raised(alloc: Global, rows: &[Row<Record>]) -> Result<Vec<u64>, Fail> {
     let mut numbers = Vec::new(alloc);
     for row in rows {
-        if let Row::Effect(_, Request::Put { path, bytes, .. }) = row {
-            let shown = format!(in alloc; "{path}")?;
-            if shown.as_str() == "root/gc/test.boundary" {
-                match read_boundary(bytes) {
-                    Some(number) => numbers.push(number)?,
-                    None => Err("no number")?,
-                }
-            }
+        if let Some(number) = raised_by(alloc, row)? {
+            numbers.push(number)?;
         }
     }
     Ok(numbers)
@@ -225,11 +238,21 @@ struct Outcome {
 }
 
 fn outcome_of(alloc: Global, schedule: &Schedule) -> Result<Outcome, Fail> {
+    let events = events(alloc, schedule.lines)?;
     let mut world = World::new(alloc, RecordCodec, 2, PAGE)?;
-    let taken = world.run(events(alloc, schedule.lines)?);
+    let taken = world.run(events);
+    outcome_in(alloc, &world, taken)
+}
+
+fn outcome_in(
+    alloc: Global,
+    world: &World<Record, RecordCodec>,
+    taken: u64,
+) -> Result<Outcome, Fail> {
+    let effects = effect_texts(alloc, world.trace())?.len();
     Ok(Outcome {
         taken,
-        effects: effect_texts(alloc, world.trace())?.len(),
+        effects,
         boundary: world.boundary(),
         raised: raised(alloc, world.trace())?,
     })
@@ -286,8 +309,9 @@ const EFFECTS: &[&str] = &[
 
 /// A world with one client after these events.
 fn ran(alloc: Global, lines: &[&str]) -> Result<World<Record, RecordCodec>, Fail> {
+    let events = events(alloc, lines)?;
     let mut world = World::new(alloc, RecordCodec, 1, PAGE)?;
-    world.run(events(alloc, lines)?);
+    world.run(events);
     Ok(world)
 }
 

@@ -40,8 +40,10 @@ fn puts<S: ObjectStore>(
     mode: &PutMode,
 ) -> Result<Result<u64, StoreError>, PathFault> {
     let path = Path::from_text(alloc, path)?;
-    let put = store.put(&path, &Bytes::from_static(bytes), mode);
-    Ok(put.map(|token| token.number()))
+    match store.put(&path, &Bytes::from_static(bytes), mode) {
+        Ok(token) => Ok(Ok(token.number())),
+        Err(error) => Ok(Err(error)),
+    }
 }
 
 fn gets<S: ObjectStore>(
@@ -52,13 +54,17 @@ fn gets<S: ObjectStore>(
     wanted: Result<(&[u8], u64), StoreError>,
 ) -> Result<bool, PathFault> {
     let path = Path::from_text(alloc, path)?;
-    Ok(match (store.get(&path, token), wanted) {
-        (Ok(Got { bytes, token }), Ok((text, number))) => {
-            bytes.as_slice() == text && token.number() == number
-        }
-        (Err(error), Err(wanted)) => error == wanted,
-        _ => false,
-    })
+    match store.get(&path, token) {
+        Ok(got) => Ok(is_got(&got, wanted)),
+        Err(error) => Ok(matches!(wanted, Err(wanted) if wanted == error)),
+    }
+}
+
+fn is_got(got: &Got, wanted: Result<(&[u8], u64), StoreError>) -> bool {
+    match wanted {
+        Ok((text, number)) => got.bytes.as_slice() == text && got.token.number() == number,
+        Err(_) => false,
+    }
 }
 
 /// Whether a file was told with this path and size.
@@ -271,6 +277,10 @@ const IN_MEMORY: &[InMemoryRow] = &[
     },
 ];
 
+fn contains(alloc: Global, store: &InMemory, text: &str) -> Result<bool, PathFault> {
+    Ok(store.contains(&Path::from_text(alloc, text)?))
+}
+
 /// The first path under which a file stands though it should not, or the other way round.
 fn other_contained(
     alloc: Global,
@@ -278,8 +288,7 @@ fn other_contained(
     wanted: &[(&'static str, bool)],
 ) -> Result<Option<&'static str>, PathFault> {
     for (text, stands) in wanted {
-        let path = Path::from_text(alloc, text)?;
-        if store.contains(&path) != *stands {
+        if contains(alloc, store, text)? != *stands {
             return Ok(Some(*text));
         }
     }
@@ -295,8 +304,16 @@ fn played(
         None => InMemory::new(alloc),
         Some(first) => InMemory::from_token(alloc, first),
     };
-    let other = plays(alloc, &mut store, row.steps)?;
-    Ok((other, other_contained(alloc, &store, row.contains)?))
+    played_in(alloc, &mut store, row)
+}
+
+fn played_in(
+    alloc: Global,
+    store: &mut InMemory,
+    row: &InMemoryRow,
+) -> Result<(Option<usize>, Option<&'static str>), PathFault> {
+    let other = plays(alloc, store, row.steps)?;
+    Ok((other, other_contained(alloc, store, row.contains)?))
 }
 
 #[test]

@@ -50,18 +50,41 @@ fn tells(kept: &mut Records, share: &mut Share, event: Event<Record>, want: &Tol
     }
 }
 
+/// What an event and a refused one leave: whether each was told as it should be, the share's worker and
+/// count, the rows and the journal, and the journal's workers that are not the first.
+type Began = (bool, bool, (u64, u64), (usize, usize), usize);
+
+fn began(kept: &mut Records, first: &mut Share) -> Began {
+    let begin = Event::Begin(1, Call::Read);
+    let is_told = tells(kept, first, begin, &Told::Began(1));
+    // No operation has the number 2.
+    let is_refused = kept.take(first, Event::Serve(2)).is_err();
+    let lengths = (kept.world().trace().len(), kept.journal().len());
+    let mut others = 0usize;
+    for row in kept.journal() {
+        if row.worker != 1 {
+            others = others.saturating_add(1);
+        }
+    }
+    (
+        is_told,
+        is_refused,
+        (first.worker(), first.count()),
+        lengths,
+        others,
+    )
+}
+
+fn began_and_finished(alloc: Global) -> Result<(Began, Result<Vec<u64>, FinishFault>), AllocError> {
+    let (mut kept, mut shares) = kept_by(alloc, 2)?;
+    let began = began(&mut kept, &mut shares[0]);
+    Ok((began, finish(kept, shares)))
+}
+
 #[test]
 fn an_event_adds_one_to_its_share(rt: HostRuntime) -> Result<(), Fail> {
-    let (mut kept, mut shares) = kept_by(rt.alloc(), 2)?;
-    let first = &mut shares[0];
-    let begin = Event::Begin(1, Call::Read);
-    assert!(rt; tells(&mut kept, first, begin, &Told::Began(1)));
-    // No operation has the number 2.
-    assert!(rt; kept.take(first, Event::Serve(2)).is_err());
-    assert_eq!(rt; (first.worker(), first.count()), (1, 1));
-    assert_eq!(rt; (kept.world().trace().len(), kept.journal().len()), (1, 1));
-    assert_eq!(rt; kept.journal()[0].worker, 1);
-    let counts = finish(kept, shares);
+    let (began, counts) = began_and_finished(rt.alloc())?;
+    assert_eq!(rt; began, (true, true, (1, 1), (1, 1), 0));
     assert_eq!(rt; counts, Ok(vec![in rt.alloc(); 1, 0]?));
     Ok(())
 }
@@ -114,21 +137,39 @@ struct Left {
     counts: Result<Vec<u64>, FinishFault>,
 }
 
-fn left_by(rt: &(impl Wait + AllocGlobal), row: &JobsRow) -> Result<Left, Fail> {
-    let (kept, mut shares) = kept_by(rt.alloc(), 1)?;
-    let kept = Mutex::new(kept);
+/// How a worker alone ends, and how many events it took. Its share goes back among the others.
+fn worked(
+    rt: &impl Wait,
+    kept: &Mutex<Records>,
+    shares: &mut Vec<Share>,
+    jobs: &[Job<Record>],
+) -> Result<(End, u64), Fail> {
     let Some(share) = shares.pop() else {
         return Err("no share")?;
     };
-    let worked = work(rt, &kept, share, &mut FreeGate, row.jobs);
+    let worked = work(rt, kept, share, &mut FreeGate, jobs);
     let count = worked.share.count();
     shares.push(worked.share)?;
+    Ok((worked.end, count))
+}
+
+/// How many rows a kept world has, and whether its entries are these.
+fn seen(alloc: Global, kept: &Records, entries: &[Record]) -> Result<(usize, bool), AllocError> {
+    let world = kept.world();
+    let rows = world.trace().len();
+    Ok((rows, world.entries(alloc)?.as_slice() == entries))
+}
+
+fn left_by(rt: &(impl Wait + AllocGlobal), row: &JobsRow) -> Result<Left, Fail> {
+    let (kept, mut shares) = kept_by(rt.alloc(), 1)?;
+    let kept = Mutex::new(kept);
+    let worked = worked(rt, &kept, &mut shares, row.jobs);
     let kept = kept.into_inner();
-    let rows = kept.world().trace().len();
-    let entries = kept.world().entries(rt.alloc())?.as_slice() == row.entries;
+    let seen = seen(rt.alloc(), &kept, row.entries);
     let counts = finish(kept, shares);
+    let ((end, count), (rows, entries)) = (worked?, seen?);
     Ok(Left {
-        end: worked.end,
+        end,
         count,
         rows,
         entries,
@@ -158,29 +199,45 @@ fn with_a_share_lost(alloc: Global) -> Result<Result<Vec<u64>, FinishFault>, All
     Ok(finish(kept, shares))
 }
 
+/// The share of worker 1 of another kept world.
+fn another_share(alloc: Global) -> Result<Option<Share>, AllocError> {
+    let (_other, mut others) = kept_by(alloc, 1)?;
+    Ok(others.pop())
+}
+
+/// Puts a share in the place of the last.
+fn put_last(shares: &mut Vec<Share>, other: Option<Share>) -> Result<(), AllocError> {
+    let _lost = shares.pop();
+    match other {
+        Some(other) => Ok(shares.push(other)?),
+        None => Ok(()),
+    }
+}
+
 /// What it gives with two shares of worker 1, and none of worker 2.
 fn with_a_share_twice(alloc: Global) -> Result<Result<Vec<u64>, FinishFault>, AllocError> {
+    let other = another_share(alloc)?;
     let (kept, mut shares) = kept_by(alloc, 2)?;
-    let (_other, mut others) = kept_by(alloc, 1)?;
-    let _lost = shares.pop();
-    if let Some(other) = others.pop() {
-        shares.push(other)?;
+    let put = put_last(&mut shares, other);
+    let finished = finish(kept, shares);
+    put?;
+    Ok(finished)
+}
+
+/// The shares of a world in which a worker began a read.
+fn shares_of_a_read(alloc: Global) -> Result<Vec<Share>, Fail> {
+    let (mut kept, mut shares) = kept_by(alloc, 1)?;
+    let began = Event::Begin(1, Call::Read);
+    if !tells(&mut kept, &mut shares[0], began, &Told::Began(1)) {
+        return Err("a begin is refused")?;
     }
-    Ok(finish(kept, shares))
+    Ok(shares)
 }
 
 /// What it gives where a fresh world was put in the place of one in which a worker began a read.
 fn in_anothers_place(alloc: Global) -> Result<Result<Vec<u64>, FinishFault>, Fail> {
-    let (mut kept, mut shares) = kept_by(alloc, 1)?;
-    let began = kept
-        .take(&mut shares[0], Event::Begin(1, Call::Read))
-        .is_ok();
-    if !began {
-        return Err("a begin is refused")?;
-    }
     let (fresh, _) = kept_by(alloc, 1)?;
-    kept = fresh;
-    Ok(finish(kept, shares))
+    Ok(finish(fresh, shares_of_a_read(alloc)?))
 }
 
 #[test]
@@ -246,6 +303,23 @@ fn at_a_meeting<'a>(
     Ok(workers)
 }
 
+/// How workers on threads of their own end, and their shares then.
+fn told_on_threads(
+    rt: &(impl Threads + Wait + Sync + AllocGlobal),
+    kept: &Mutex<Records>,
+    shares: Vec<Share>,
+    gate: Meeting<'_>,
+) -> Result<(Vec<End>, Vec<Share>), AllocError> {
+    let workers = at_a_meeting(rt.alloc(), shares, gate)?;
+    let mut ends = Vec::new(rt.alloc());
+    let mut shares = Vec::new(rt.alloc());
+    for one in work_all(rt, kept, workers)? {
+        ends.push(one.end)?;
+        shares.push(one.share)?;
+    }
+    Ok((ends, shares))
+}
+
 /// How workers on threads of their own end, and whether their shares finish the kept world.
 fn ends_on_threads(
     rt: &(impl Threads + Wait + Sync + AllocGlobal),
@@ -257,15 +331,33 @@ fn ends_on_threads(
         first: &first,
         second: &second,
     };
-    let workers = at_a_meeting(rt.alloc(), shares, gate)?;
+    let told = told_on_threads(rt, &kept, shares, gate);
+    let kept = kept.into_inner();
+    let (ends, shares) = told?;
+    Ok((ends, finish(kept, shares).is_ok()))
+}
+
+/// How a worker ends.
+fn end_of(rt: &impl Wait, kept: &Mutex<Records>, worker: Worker<Record, Meeting<'_>>) -> End {
+    let Worker {
+        share,
+        mut gate,
+        jobs,
+    } = worker;
+    work(rt, kept, share, &mut gate, &jobs).end
+}
+
+/// How workers end one after the other.
+fn told_in_turn(
+    rt: &(impl Wait + AllocGlobal),
+    kept: &Mutex<Records>,
+    workers: Vec<Worker<Record, Meeting<'_>>>,
+) -> Result<Vec<End>, AllocError> {
     let mut ends = Vec::new(rt.alloc());
-    let mut shares = Vec::new(rt.alloc());
-    for one in work_all(rt, &kept, workers)? {
-        ends.push(one.end)?;
-        shares.push(one.share)?;
+    for worker in workers {
+        ends.push(end_of(rt, kept, worker))?;
     }
-    let finished = finish(kept.into_inner(), shares).is_ok();
-    Ok((ends, finished))
+    Ok(ends)
 }
 
 /// How they end one after the other.
@@ -277,16 +369,7 @@ fn ends_in_turn(rt: &(impl Wait + AllocGlobal)) -> Result<Vec<End>, AllocError> 
         first: &first,
         second: &second,
     };
-    let mut ends = Vec::new(rt.alloc());
-    for worker in at_a_meeting(rt.alloc(), shares, gate)? {
-        let Worker {
-            share,
-            mut gate,
-            jobs,
-        } = worker;
-        ends.push(work(rt, &kept, share, &mut gate, &jobs).end)?;
-    }
-    Ok(ends)
+    told_in_turn(rt, &kept, at_a_meeting(rt.alloc(), shares, gate)?)
 }
 
 #[test]

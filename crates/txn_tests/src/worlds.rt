@@ -121,11 +121,20 @@ fn other_told(
 
 /// The first event that is told something else, the number of rows, and whether the entries are as they
 /// should be.
-fn played(alloc: Global, row: &ToldRow) -> Result<(Option<usize>, usize, bool), AllocError> {
+type Played = (Option<usize>, usize, bool);
+
+fn played(alloc: Global, row: &ToldRow) -> Result<Played, AllocError> {
     let mut world = World::new(alloc, RecordCodec, 2, PAGE)?;
-    let other = other_told(&mut world, row.steps)?;
-    let entries = world.entries(alloc)?;
-    let are_same = entries.as_slice() == row.entries;
+    played_in(alloc, &mut world, row)
+}
+
+fn played_in(
+    alloc: Global,
+    world: &mut World<Record, RecordCodec>,
+    row: &ToldRow,
+) -> Result<Played, AllocError> {
+    let other = other_told(world, row.steps)?;
+    let are_same = world.entries(alloc)?.as_slice() == row.entries;
     Ok((other, world.trace().len(), are_same))
 }
 
@@ -217,8 +226,9 @@ fn ran<T: Clone, C: ObjectCodec<T> + Drop>(
 ) -> Result<World<T, C>, AllocError>
     requires { IsExactClone T.is_clone }
 {
+    let events = copied(alloc, events)?;
     let mut world = World::new(alloc, codec, 1, PAGE)?;
-    world.run(copied(alloc, events)?);
+    world.run(events);
     Ok(world)
 }
 
@@ -234,11 +244,17 @@ fn ends_with<T: PartialEq>(rows: &[Row<T>], (op, answer): &(u64, Answer<T>)) -> 
 /// entries.
 fn says(alloc: Global, row: &NumberRow) -> Result<(bool, u64, bool, bool), AllocError> {
     let world = ran(alloc, NumberCodec, row.events)?;
+    said(alloc, &world, row)
+}
+
+fn said(
+    alloc: Global,
+    world: &World<u64, NumberCodec>,
+    row: &NumberRow,
+) -> Result<(bool, u64, bool, bool), AllocError> {
     let last = ends_with(world.trace(), &row.last);
-    let erased = world.erased(alloc)?;
-    let entries = world.entries(alloc)?;
-    let are_erased = erased.as_slice() == row.erased;
-    let are_entries = entries.as_slice() == row.entries;
+    let are_erased = world.erased(alloc)?.as_slice() == row.erased;
+    let are_entries = world.entries(alloc)?.as_slice() == row.entries;
     Ok((last, world.boundary(), are_erased, are_entries))
 }
 
