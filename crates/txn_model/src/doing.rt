@@ -7,11 +7,11 @@ ghost use Rattle.txn_model.specs.Doing.{started, write_answer, read_answer, done
 use crate::event::{Answer, Call};
 use std::alloc::{AllocError, Global};
 use std::mem;
+use txn_caches::turned::Turned;
 use txn_steps::advance::AdvanceOp;
 use txn_steps::check::CheckOp;
 use txn_steps::delete::DeleteOp;
 use txn_steps::read::{ReadAnswer, ReadOp};
-use txn_caches::turned::Turned;
 use txn_steps::write::WriteOp;
 use txn_store::request::{Reply, Request};
 use txn_types::codec::ObjectCodec;
