@@ -1,3 +1,4 @@
+pub mod Clones
 pub mod Names
 pub mod Lists
 pub mod History

@@ -1,9 +1,13 @@
 //! What comes into the world, and what it says of it.
+ghost use Rattle.std.specs.Prelude.{◌≡◌, IfOk};
+ghost use Rattle.txn_history.specs.Clones.{IsExactClone};
+
 use crate::ids::Ids;
+use std::alloc::AllocError;
 use std::ops::Bound;
 
 /// What a client asks for.
-#[derive(Debug, Drop)]
+#[derive(Debug, Drop, PartialEq, Eq)]
 pub enum Call<T> {
     /// Writes the value directly on the version of this id, or as the first version where there is
     /// no id. Answered [`Answer::Wrote`].
@@ -27,6 +31,26 @@ pub enum Call<T> {
     Advance(u64),
 }
 
+impl<T: Clone> Call<T> {
+    /// A copy. The only error is want of memory.
+    pub fn try_clone(&self) -> Result<Call<T>, AllocError>
+        requires { IsExactClone T.is_clone }
+        ensures { IfOk result (λ copy. copy ≡ self.now) }
+    {
+        Ok(match self {
+            Call::Write(base, value) => Call::Write(*base, value.clone()?),
+            Call::WriteUnchecked(base, value) => Call::WriteUnchecked(*base, value.clone()?),
+            Call::Read => Call::Read,
+            Call::ReadUnchecked(id) => Call::ReadUnchecked(*id),
+            Call::ReadSeen(id) => Call::ReadSeen(*id),
+            Call::ListIds(from, to) => Call::ListIds(*from, *to),
+            Call::Delete(id) => Call::Delete(*id),
+            Call::Check(id) => Call::Check(*id),
+            Call::Advance(id) => Call::Advance(*id),
+        })
+    }
+}
+
 /// How a store call fails.
 #[derive(Clone, Copy, Debug, PartialEq, Eq)]
 pub enum Failure {
@@ -39,7 +63,7 @@ pub enum Failure {
 }
 
 /// One step of the world. Clients, operations and loose requests are numbered from 1.
-#[derive(Debug, Drop)]
+#[derive(Debug, Drop, PartialEq, Eq)]
 pub enum Event<T> {
     /// The client begins the call. It becomes the operation of the next number.
     Begin(u64, Call<T>),
@@ -55,6 +79,24 @@ pub enum Event<T> {
     Land(u64),
     /// The client gives up all its operations, and loses its caches.
     Crash(u64),
+}
+
+impl<T: Clone> Event<T> {
+    /// A copy. The only error is want of memory.
+    pub fn try_clone(&self) -> Result<Event<T>, AllocError>
+        requires { IsExactClone T.is_clone }
+        ensures { IfOk result (λ copy. copy ≡ self.now) }
+    {
+        Ok(match self {
+            Event::Begin(client, call) => Event::Begin(*client, call.try_clone()?),
+            Event::Look(op) => Event::Look(*op),
+            Event::Serve(op) => Event::Serve(*op),
+            Event::Fail(op, failure) => Event::Fail(*op, *failure),
+            Event::GiveUp(op) => Event::GiveUp(*op),
+            Event::Land(k) => Event::Land(*k),
+            Event::Crash(client) => Event::Crash(*client),
+        })
+    }
 }
 
 /// How a call ends.
