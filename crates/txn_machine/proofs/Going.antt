@@ -1,0 +1,284 @@
+-- What stands beside the rows goes on as each event that is taken says.
+use Rattle.std.proofs.Common.{◌≡◌, ◌≢◌, ℕ, zero, suc, ◌+◌, ◌-◌, ◌≤◌, List, [], ◌∷◌, ◌++◌, length, map, set, slice_get, Bool, true, false, not, ◌==◌, ◌&&◌, is_some, cond, Option, Some, None, inl, inr, refl, sym, ◌∙◌, ap, subst, arith}
+use Rattle.std.proofs.lemmas.Bool.{cases_Bool, both_ways, eqb-true, eq-eqb, ne_eqb}
+use Rattle.std.proofs.lemmas.Option.{same_Some}
+use Rattle.txn_store.specs.declared.request.Reply.{Reply}
+use Rattle.txn_types.specs.Numbers.{number_of}
+use Rattle.txn_caches.specs.declared.caches.Caches.{Caches}
+use Rattle.txn_caches.specs.Checks.{check_turned}
+use Rattle.txn_caches.specs.Advances.{advance_turned}
+use Rattle.txn_steps.specs.Writes.{unchecked_started, unchecked_turned, write_started, write_turned}
+use Rattle.txn_steps.specs.Reads.{read_turned}
+use Rattle.txn_steps.specs.SeenSteps.{unchecked_turned as value_turned, seen_turned}
+use Rattle.txn_steps.specs.Listings.{listing_turned}
+use Rattle.txn_steps.specs.Deletes.{delete_turned}
+use Rattle.txn_history.specs.declared.event.Call.{Call}
+use Rattle.txn_history.specs.declared.event.Call.TheVariants as calls
+use Rattle.txn_history.specs.declared.event.Answer.{Answer}
+use Rattle.txn_history.specs.declared.event.Answer.TheVariants as answers
+use Rattle.txn_history.specs.declared.event.Failure.{Failure}
+use Rattle.txn_history.specs.declared.event.Failure.TheVariants as failures
+use Rattle.txn_history.specs.declared.event.Told.{Told}
+use Rattle.txn_history.specs.declared.event.Told.TheVariants as told
+use Rattle.txn_history.specs.declared.event.Event.{Event}
+use Rattle.txn_history.specs.declared.event.Event.TheVariants as events
+use Rattle.txn_history.specs.Lists.{numbered}
+use Rattle.txn_history.specs.Names.{world_names, world_boundary}
+use Rattle.txn_history.specs.Seen.{Ask, Store, Look, Operation as SeenOperation, asks_in, asks_of}
+use Rattle.txn_history.specs.GoesOn.{left_loose, state_of, ends_operation, state_after, states_after, GoesOn}
+use Rattle.txn_machine.specs.declared.doing.Doing.{Doing}
+use Rattle.txn_machine.specs.declared.doing.Doing.TheVariants.{Write, WriteUnchecked, Read, ReadUnchecked, ReadSeen, ListIds, Delete, Check, Advance, Ended}
+use Rattle.txn_machine.specs.declared.doing.Operation.{Operation}
+use Rattle.txn_machine.specs.Doing.{Next, started, turned, caches_left, asked, next_of, or_no_memory, write_answer, read_answer, value_answer, ids_answer, done_answer}
+use Rattle.txn_machine.specs.Machine.{State, seen_operation, seen_operations, seen_of, with_doing, effect_of, effected, told_of, acted, loosened, failing, given_up, told_failure, ended_by, crashed, next_op, begun_as, Acts, Fails, GivesUp, Lands, Crashes, Looks, Served, Begins, Takes}
+
+-- an operation that is not ended runs on where it ran, and one that is ended runs no more
+runs_on : (runs ends : Bool) → ends ≡ false → runs ≡ (runs && not ends)
+runs_on true ends e = ap not (sym e)
+runs_on false ends e = refl
+
+no_more : (runs ends : Bool) → ends ≡ true → (runs && not ends) ≡ false
+no_more true ends e = ap not e
+no_more false ends e = refl
+
+module _ {T : Type 0} where
+  -- what is seen of an operation
+
+  got_at : (os : List (Operation T)) (k : ℕ) (o : Operation T) → slice_get os k ≡ Some o → slice_get (seen_operations os) k ≡ Some (seen_operation o)
+  got_at [] k o e = cc
+  got_at (x ∷ os) zero o e = ap Some (ap seen_operation (same_Some x o e))
+  got_at (x ∷ os) (suc k) o e = got_at os k o e
+
+  asks_at : (os : List (Operation T)) (op : ℕ) (o : Operation T) → numbered os op ≡ Some o → asks_in (numbered (seen_operations os) op) ≡ asked o.doing
+  asks_at os zero o e = cc
+  asks_at os (suc k) o e = ap asks_in (got_at os k o e)
+
+  -- an operation that is there asks for what it is seen to ask for
+  pub seen_at : (s : State T) (op : ℕ) (o : Operation T) → numbered s.operations op ≡ Some o → asks_of (seen_of s) op ≡ asked o.doing
+  seen_at s op o e = asks_at s.operations op o e
+
+  -- what an operation does next asks for something just where it has no answer
+  abbrev Fits : Next T → Type 0
+  Fits next = is_some (asked next.0) ≡ not (is_some next.1)
+
+  next_fits : (doing : Doing T) (answer : Option (Answer T)) → is_some (asked doing) ≡ true → Fits (next_of doing answer)
+  next_fits doing None runs = runs
+  next_fits doing (Some answer) runs = refl
+
+  lacking_fits : (refused : Bool) (next : Next T) → Fits next → Fits (or_no_memory refused next)
+  lacking_fits true next fits = refl
+  lacking_fits false next fits = fits
+
+  turned_fits : (page : ℕ) (decode : List ℕ → Option T) (refused : Bool) (doing : Doing T) (caches : Caches) (reply : Option Reply) (ask : Ask) → asked doing ≡ Some ask → Fits (turned page decode refused doing caches reply)
+  turned_fits page decode refused (Write op) caches reply ask e = let t = write_turned op caches reply in next_fits (Write t.0) (write_answer t.1) refl
+  turned_fits page decode refused (WriteUnchecked op) caches reply ask e = let t = unchecked_turned op reply in next_fits (WriteUnchecked t.0) (write_answer t.1) refl
+  turned_fits page decode refused (Read op) caches reply ask e =
+      let t = read_turned world_names world_boundary page decode op caches reply in
+      lacking_fits refused (next_of (Read t.0) (read_answer t.1)) (next_fits (Read t.0) (read_answer t.1) refl)
+  turned_fits page decode refused (ReadUnchecked op) caches reply ask e =
+      let t = value_turned decode reply in
+      lacking_fits refused (next_of (ReadUnchecked op) (value_answer t)) (next_fits (ReadUnchecked op) (value_answer t) refl)
+  turned_fits page decode refused (ReadSeen op) caches reply ask e =
+      let t = seen_turned world_names decode op caches.latest reply in
+      lacking_fits refused (next_of (ReadSeen t.0) (value_answer t.1)) (next_fits (ReadSeen t.0) (value_answer t.1) refl)
+  turned_fits page decode refused (ListIds op) caches reply ask e =
+      let t = listing_turned world_names page op reply in
+      lacking_fits refused (next_of (ListIds t.0) (ids_answer t.1)) (next_fits (ListIds t.0) (ids_answer t.1) refl)
+  turned_fits page decode refused (Delete op) caches reply ask e = let t = delete_turned op caches reply in next_fits (Delete t.0) (done_answer t.1) refl
+  turned_fits page decode refused (Check op) caches reply ask e = let t = check_turned op caches reply in next_fits (Check t.0) (done_answer t.1) refl
+  turned_fits page decode refused (Advance op) caches reply ask e =
+      let t = advance_turned world_boundary op caches reply in
+      lacking_fits refused (next_of (Advance t.0) (done_answer t.1)) (next_fits (Advance t.0) (done_answer t.1) refl)
+  turned_fits page decode refused Ended caches reply ask e = cc
+
+  write_fits : (last : Bool) (doing : Doing T) → is_some (asked doing) ≡ true → Fits (cond last (Ended, Some (answers.Refused 10)) (doing, None))
+  write_fits true doing runs = refl
+  write_fits false doing runs = runs
+
+  started_fits : (page : ℕ) (encode : T → List ℕ) (call : Call T) → Fits (started page encode call)
+  started_fits page encode (calls.Write base value) = write_fits (number_of base == 18446744073709551615) (Write (write_started world_names world_boundary base (encode value))) refl
+  started_fits page encode (calls.WriteUnchecked base value) = write_fits (number_of base == 18446744073709551615) (WriteUnchecked (unchecked_started world_names base (encode value))) refl
+  started_fits page encode calls.Read = refl
+  started_fits page encode (calls.ReadUnchecked id) = refl
+  started_fits page encode (calls.ReadSeen id) = refl
+  started_fits page encode (calls.ListIds from to) = refl
+  started_fits page encode (calls.Delete id) = refl
+  started_fits page encode (calls.Check id) = refl
+  started_fits page encode (calls.Advance to) = refl
+
+  -- What is told ends no operation but the one of this number, and that one where it says so.
+  record EndsOne (t : Told T) (op : ℕ) (ended : Bool) : Type 0 where
+    pub others : (client n : ℕ) → n ≢ op → ends_operation t client n ≡ false
+    pub own : (client : ℕ) → ends_operation t client op ≡ ended
+
+  answer_ends : (op : ℕ) (answer : Answer T) → EndsOne (told.Answered op answer) op true
+  answer_ends op answer = record { others = λ client n ne. ne_eqb op n (λ e. ne (sym e)); own = λ client. eq-eqb op op refl }
+
+  give_up_ends : (op : ℕ) → EndsOne (told.GaveUp op) op true
+  give_up_ends op = record { others = λ client n ne. ne_eqb op n (λ e. ne (sym e)); own = λ client. eq-eqb op op refl }
+
+  told_ends : (otherwise : Told T) (op : ℕ) (answer : Option (Answer T)) → ((client n : ℕ) → ends_operation otherwise client n ≡ false) → EndsOne (told_of otherwise op answer) op (is_some answer)
+  told_ends otherwise op None none = record { others = λ client n ne. none client n; own = λ client. none client op }
+  told_ends otherwise op (Some answer) none = answer_ends op answer
+
+  -- operations that nothing ends stay as they were
+  state_stays : (t : Told T) (n : ℕ) (o : SeenOperation) → ends_operation t o.client n ≡ false → state_of o ≡ state_after t n o
+  state_stays t n o e = ap (λ (b : Bool). (o.client, b)) (runs_on (is_some o.asks) (ends_operation t o.client n) e)
+
+  states_stay : (t : Told T) (from : ℕ) (os : List SeenOperation) → ((client n : ℕ) → from ≤ n → ends_operation t client n ≡ false) → map state_of os ≡ states_after t from os None
+  states_stay t from [] none = refl
+  states_stay t from (o ∷ os) none = ap (λ s. s ∷ map state_of os) (state_stays t from o (none o.client from (omega arith))) ∙ ap (λ ss. state_after t from o ∷ ss) (states_stay t (from + 1) os (λ client n le. none client n (omega (arith, le))))
+
+  -- the operation that what is told may end
+  own_state : (t : Told T) (op : ℕ) (ended : Bool) (o : Operation T) (ask : Ask) (doing : Doing T) → EndsOne t op ended → asked o.doing ≡ Some ask → is_some (asked doing) ≡ not ended → state_of (seen_operation (record { client = o.client; doing = doing })) ≡ state_after t op (seen_operation o)
+  own_state t op ended o ask doing one asks fits =
+      let ran : is_some (asked o.doing) ≡ true = ap is_some asks in
+      let now : (is_some (asked o.doing) && not (ends_operation t o.client op)) ≡ not ended = ap (λ b. b && not (ends_operation t o.client op)) ran ∙ ap not (one.own o.client) in
+      ap (λ (b : Bool). (o.client, b)) (fits ∙ sym now)
+
+  -- one of the operations does something else
+  states_set : (t : Told T) (from k op : ℕ) (ended : Bool) (os : List (Operation T)) (o : Operation T) (ask : Ask) (doing : Doing T) → slice_get os k ≡ Some o → op ≡ from + k → EndsOne t op ended → asked o.doing ≡ Some ask → is_some (asked doing) ≡ not ended →
+      map state_of (seen_operations (set os k (record { client = o.client; doing = doing }))) ≡ states_after t from (seen_operations os) None
+  states_set t from k op ended [] o ask doing e at one asks fits = cc
+  states_set t from zero op ended (x ∷ os) o ask doing e at one asks fits =
+      let own : state_of (seen_operation (record { client = o.client; doing = doing })) ≡ state_after t op (seen_operation o) = own_state t op ended o ask doing one asks fits in
+      let here : state_after t op (seen_operation o) ≡ state_after t from (seen_operation x) = (let same : op ≡ from = omega (arith, at) in ap (λ n. state_after t n (seen_operation o)) same ∙ ap (λ (y : Operation T). state_after t from (seen_operation y)) (sym (same_Some x o e))) in
+      ap (λ s. s ∷ map state_of (seen_operations os)) (own ∙ here)
+      ∙ ap (λ ss. state_after t from (seen_operation x) ∷ ss) (states_stay t (from + 1) (seen_operations os) (λ client n le. one.others client n (λ same. omega (arith, at, le, same))))
+  states_set t from (suc k) op ended (x ∷ os) o ask doing e at one asks fits =
+      ap (λ s. s ∷ map state_of (seen_operations (set os k (record { client = o.client; doing = doing })))) (state_stays t from (seen_operation x) (one.others x.client from (λ same. omega (arith, at, same))))
+      ∙ ap (λ ss. state_after t from (seen_operation x) ∷ ss) (states_set t (from + 1) k op ended os o ask doing e (omega (arith, at)) one asks fits)
+
+  acted_states : (t : Told T) (op : ℕ) (ended : Bool) (os : List (Operation T)) (o : Operation T) (ask : Ask) (doing : Doing T) → numbered os op ≡ Some o → EndsOne t op ended → asked o.doing ≡ Some ask → is_some (asked doing) ≡ not ended →
+      map state_of (seen_operations (with_doing os op o doing)) ≡ states_after t 1 (seen_operations os) None
+  acted_states t zero ended os o ask doing e one asks fits = cc
+  acted_states t (suc k) ended os o ask doing e one asks fits =
+      let same : suc k - 1 ≡ k = omega arith in
+      ap (λ n. map state_of (seen_operations (set os n (record { client = o.client; doing = doing })))) same ∙ states_set t 1 k (suc k) ended os o ask doing e (omega arith) one asks fits
+
+  -- a new operation, which goes on or has ended
+  states_begun : (t : Told T) (from op client : ℕ) (ended : Bool) (os : List (Operation T)) (doing : Doing T) → op ≡ from + length os → EndsOne t op ended → is_some (asked doing) ≡ not ended →
+      map state_of (seen_operations (os ++ record { client = client; doing = doing } ∷ [])) ≡ states_after t from (seen_operations os) (Some client)
+  states_begun t from op client ended [] doing at one fits =
+      let same : op ≡ from = omega (arith, at) in
+      ap (λ (b : Bool). (client, b) ∷ []) (fits ∙ ap not (sym (one.own client) ∙ ap (λ n. ends_operation t client n) same))
+  states_begun t from op client ended (x ∷ os) doing at one fits =
+      ap (λ s. s ∷ map state_of (seen_operations (os ++ record { client = client; doing = doing } ∷ []))) (state_stays t from (seen_operation x) (one.others x.client from (λ same. omega (arith, at, same))))
+      ∙ ap (λ ss. state_after t from (seen_operation x) ∷ ss) (states_begun t (from + 1) op client ended os doing (omega (arith, at)) one fits)
+
+  -- the operations of a client end
+  crashed_state : (client n : ℕ) (o : Operation T) → state_of (seen_operation (ended_by client o)) ≡ state_after {T = T} (told.Crashed client) n (seen_operation o)
+  crashed_state client n o =
+      elim (cases_Bool (o.client == client)) [
+        | inl e ↦ (
+            let ends : (client == o.client) ≡ true = eq-eqb client o.client (sym (eqb-true o.client client e)) in
+            rw e (ap (λ (b : Bool). (o.client, b)) (sym (no_more (is_some (asked o.doing)) (client == o.client) ends)))
+            )
+        | inr e ↦ (
+            let stays : (client == o.client) ≡ false = ne_eqb client o.client (λ same. both_ways _ e (eq-eqb o.client client (sym same))) in
+            rw e (ap (λ (b : Bool). (o.client, b)) (runs_on (is_some (asked o.doing)) (client == o.client) stays))
+            )
+      ]
+
+  states_crashed : (client from : ℕ) (os : List (Operation T)) → map state_of (seen_operations (map (ended_by client) os)) ≡ states_after {T = T} (told.Crashed client) from (seen_operations os) None
+  states_crashed client from [] = refl
+  states_crashed client from (x ∷ os) =
+      ap (λ s. s ∷ map state_of (seen_operations (map (ended_by client) os))) (crashed_state client from x) ∙ ap (λ ss. state_after {T = T} (told.Crashed client) from (seen_operation x) ∷ ss) (states_crashed client (from + 1) os)
+
+  -- each event
+
+  -- by what is told, and the state that is left
+  told_so : (old : State T) (event : Event T) (said t : Told T) (new s : State T) → said ≡ t → new ≡ s → GoesOn (seen_of old) event t (seen_of s) → GoesOn (seen_of old) event said (seen_of new)
+  told_so old event said t new s tells is g = subst (λ (u : Told T). GoesOn (seen_of old) event u (seen_of new)) (sym tells) (subst (λ (x : State T). GoesOn (seen_of old) event t (seen_of x)) (sym is) g)
+
+  begin_goes : (encode : T → List ℕ) (decode : List ℕ → Option T) (old : State T) (client : ℕ) (call : Call T) (said : Told T) (new : State T) → Begins encode decode old client call said new → GoesOn (seen_of old) (events.Begin client call) said (seen_of new)
+  begin_goes encode decode old client call said new v =
+      let n = next_op old in
+      let t = told_of (told.Began n) n v.next.1 in
+      let fits = subst Fits (sym v.starts) (started_fits old.page encode call) in
+      told_so old (events.Begin client call) said t new (begun_as old client call v.next) v.tells v.state
+      (record {
+        clients = refl;
+        operations = states_begun t 1 n client (is_some v.next.1) old.operations v.next.0 (omega arith) (told_ends (told.Began n) n v.next.1 (λ c m. refl)) fits;
+        loose = refl;
+        failed = refl;
+      })
+
+  look_goes : (decode : List ℕ → Option T) (old : State T) (op : ℕ) (said : Told T) (new : State T) → Looks decode old op said new → GoesOn (seen_of old) (events.Look op) said (seen_of new)
+  look_goes decode old op said new v =
+      let a = v.acts in
+      let t = told_of (told.Went op) op v.next.1 in
+      let fits = subst Fits (sym v.turns) (turned_fits old.page decode v.refused v.operation.doing v.caches None Look a.asks) in
+      told_so old (events.Look op) said t new (acted old op v.operation v.next (caches_left v.operation.doing v.caches v.next.1)) v.tells v.state
+      (record {
+        clients = refl;
+        operations = acted_states t op (is_some v.next.1) old.operations v.operation Look v.next.0 a.found (told_ends (told.Went op) op v.next.1 (λ c m. refl)) a.asks fits;
+        loose = refl;
+        failed = refl;
+      })
+
+  serve_goes : (decode : List ℕ → Option T) (old : State T) (op : ℕ) (said : Told T) (new : State T) → Served decode old op said new → GoesOn (seen_of old) (events.Serve op) said (seen_of new)
+  serve_goes decode old op said new v =
+      let a = v.acts in
+      let t = told_of (told.Went op) op v.next.1 in
+      let fits = subst Fits (sym v.turns) (turned_fits old.page decode v.refused v.operation.doing v.caches (Some v.reply) (Store v.request) a.asks) in
+      told_so old (events.Serve op) said t new (acted (effected old op v.request v.reply v.store) op v.operation v.next (caches_left v.operation.doing v.caches v.next.1)) v.tells v.state
+      (record {
+        clients = refl;
+        operations = acted_states t op (is_some v.next.1) old.operations v.operation (Store v.request) v.next.0 a.found (told_ends (told.Went op) op v.next.1 (λ c m. refl)) a.asks fits;
+        loose = refl;
+        failed = refl;
+      })
+
+  -- what an operation leaves loose, by what it is seen to ask for
+  leaves : (old : State T) (op : ℕ) (o : Operation T) (ask : Ask) (caches : Caches) → Acts old op o ask caches → old.loose ++ left_loose op (Some ask) ≡ old.loose ++ left_loose op (asks_of (seen_of old) op)
+  leaves old op o ask caches a = ap (λ found. old.loose ++ left_loose op found) (sym (seen_at old op o a.found ∙ a.asks))
+
+  -- the operations, where one is told that its store call failed
+  failed_states : (old : State T) (op : ℕ) (o : Operation T) (ask : Ask) (caches : Caches) → Acts old op o ask caches →
+      map state_of (seen_operations (with_doing old.operations op o Ended)) ≡ states_after {T = T} (told.Answered op (answers.Refused 2)) 1 (seen_operations old.operations) None
+  failed_states old op o ask caches a = acted_states (told.Answered op (answers.Refused 2)) op true old.operations o ask Ended a.found (answer_ends op (answers.Refused 2)) a.asks refl
+
+  fail_goes : (failure : Failure) (old : State T) (op : ℕ) (said : Told T) (new : State T) → Fails old op failure said new → GoesOn (seen_of old) (events.Fail op failure) said (seen_of new)
+  fail_goes failures.Before old op said new v =
+      told_so old (events.Fail op failures.Before) said (told.Answered op (answers.Refused 2)) new (acted (failing old op) op v.operation told_failure v.caches) v.tells v.state
+      (record { clients = refl; operations = failed_states old op v.operation (Store v.request) v.caches v.acts; loose = refl; failed = refl })
+  fail_goes failures.After old op said new v =
+      told_so old (events.Fail op failures.After) said (told.Answered op (answers.Refused 2)) new (acted (failing (effected old op v.request v.reply v.store) op) op v.operation told_failure v.caches) v.tells v.state
+      (record { clients = refl; operations = failed_states old op v.operation (Store v.request) v.caches v.acts; loose = refl; failed = refl })
+  fail_goes failures.Loose old op said new v =
+      told_so old (events.Fail op failures.Loose) said (told.Answered op (answers.Refused 2)) new (acted (failing (loosened old op (Store v.request)) op) op v.operation told_failure v.caches) v.tells v.state
+      (record { clients = refl; operations = failed_states old op v.operation (Store v.request) v.caches v.acts; loose = leaves old op v.operation (Store v.request) v.caches v.acts; failed = refl })
+
+  give_up_goes : (old : State T) (op : ℕ) (said : Told T) (new : State T) → GivesUp old op said new → GoesOn (seen_of old) (events.GiveUp op) said (seen_of new)
+  give_up_goes old op said new v =
+      let a = v.acts in
+      told_so old (events.GiveUp op) said (told.GaveUp op) new (acted (loosened old op v.ask) op v.operation given_up v.caches) v.tells v.state
+      (record {
+        clients = refl;
+        operations = acted_states (told.GaveUp op) op true old.operations v.operation v.ask Ended a.found (give_up_ends op) a.asks refl;
+        loose = leaves old op v.operation v.ask v.caches a;
+        failed = refl;
+      })
+
+  land_goes : (old : State T) (k : ℕ) (said : Told T) (new : State T) → Lands old k said new → GoesOn (seen_of old) (events.Land k) said (seen_of new)
+  land_goes old k said new v =
+      let t = told.Landed k (is_some (effect_of old.store.files v.request v.reply)) in
+      told_so old (events.Land k) said t new (effected old v.op v.request v.reply v.store) v.tells v.state
+      (record { clients = refl; operations = states_stay t 1 (seen_operations old.operations) (λ client n le. refl); loose = refl; failed = refl })
+
+  crash_goes : (old : State T) (client : ℕ) (said : Told T) (new : State T) → Crashes old client said new → GoesOn (seen_of old) (events.Crash client) said (seen_of new)
+  crash_goes old client said new v =
+      told_so old (events.Crash client) said (told.Crashed client) new (crashed old client) v.tells v.state
+      (record { clients = refl; operations = states_crashed client 1 old.operations; loose = refl; failed = refl })
+
+module _ {T : Type 0} (encode : T → List ℕ) (decode : List ℕ → Option T) (get_epoch : T → ℕ) where
+  -- what stands beside the rows goes on with each event that is taken, whatever the state before it
+  pub goes_on_with : (old : State T) (event : Event T) (said : Told T) (new : State T) → Takes encode decode get_epoch old event said new → GoesOn (seen_of old) event said (seen_of new)
+  goes_on_with old (events.Begin client call) said new t = begin_goes encode decode old client call said new t.step
+  goes_on_with old (events.Look op) said new t = look_goes decode old op said new t.step
+  goes_on_with old (events.Serve op) said new t = serve_goes decode old op said new t.step
+  goes_on_with old (events.Fail op failure) said new t = fail_goes failure old op said new t.step
+  goes_on_with old (events.GiveUp op) said new t = give_up_goes old op said new t.step
+  goes_on_with old (events.Land k) said new t = land_goes old k said new t.step
+  goes_on_with old (events.Crash client) said new t = crash_goes old client said new t.step

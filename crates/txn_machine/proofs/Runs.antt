@@ -1,0 +1,241 @@
+-- What holds of each state that a world reaches, as its public calls say it: its history, the kinds of replies, and the rows that an event adds.
+use Rattle.std.proofs.Common.{◌≡◌, ◌≢◌, ℕ, ◌+◌, ◌≤◌, List, [], ◌∷◌, ◌++◌, length, not, Bool, true, false, cond, is_some, Option, Some, None, Result, Ok, Err, inl, inr, refl, sym, ◌∙◌, ap, subst}
+use Rattle.std.specs.FinMap.{get}
+use Rattle.std.proofs.lemmas.List.{append-nil}
+use Rattle.txn_store.specs.Paths.{Segments}
+use Rattle.txn_store.specs.Store.{State as StoreState, Placed, Removed, Puts, Deletes}
+use Rattle.txn_store.specs.Requests.{Serves}
+use Rattle.txn_store.specs.declared.store.PutMode.{PutMode}
+use Rattle.txn_store.specs.declared.store.StoreError.{StoreError}
+use Rattle.txn_store.specs.declared.store.StoreError.TheVariants as errors
+use Rattle.txn_store.specs.declared.request.Request.{Request}
+use Rattle.txn_store.specs.declared.request.Request.TheVariants as requests
+use Rattle.txn_store.specs.declared.request.Reply.{Reply}
+use Rattle.txn_store.specs.declared.request.Reply.TheVariants as replies
+use Rattle.txn_caches.specs.declared.caches.Caches.{Caches}
+use Rattle.txn_history.specs.declared.event.Call.{Call}
+use Rattle.txn_history.specs.declared.event.Answer.{Answer}
+use Rattle.txn_history.specs.declared.event.Answer.TheVariants as answers
+use Rattle.txn_history.specs.declared.event.Failure.{Failure}
+use Rattle.txn_history.specs.declared.event.Failure.TheVariants as failures
+use Rattle.txn_history.specs.declared.event.Told.{Told}
+use Rattle.txn_history.specs.declared.event.Told.TheVariants as told
+use Rattle.txn_history.specs.declared.event.Event.{Event}
+use Rattle.txn_history.specs.declared.event.Event.TheVariants as events
+use Rattle.txn_history.specs.declared.trace.Row.TheVariants.{Begun}
+use Rattle.txn_history.specs.Lists.{numbered}
+use Rattle.txn_history.specs.History.{stored}
+use Rattle.txn_history.specs.Calls.{begun_count}
+use Rattle.txn_history.specs.OneHistory.{IsOneHistory}
+use Rattle.txn_history.specs.Added.{is_empty, answer_row, Tells, IsEffectRow, AddsRows}
+use Rattle.txn_machine.specs.declared.doing.Operation.{Operation}
+use Rattle.txn_machine.specs.Machine.{State, HasContents, opening, seen_of, told_of, answer_rows, effect_of, effect_rows, next_op, FailsFirst, Fails, Lands, Looks, Served, Begins, Takes, Runs, IsReached}
+use Rattle.txn_machine.proofs.Stands.{AllGiven, Stands}
+use Rattle.txn_machine.proofs.Effects.{removed_missing}
+use Rattle.txn_machine.proofs.Faults.{get_kept, listed_kept, not_some, ruled_out}
+use Rattle.txn_machine.proofs.Going.{seen_at}
+use Rattle.txn_machine.proofs.States.{at_place}
+use Rattle.txn_machine.proofs.World.{reached_stands}
+
+module _ (T : Type 0) where
+  -- what a request that was served adds
+
+  abbrev RowOf : ℕ → StoreState → StoreState → Request → Reply → Type 0
+  RowOf op old new request reply = IsEffectRow {T = T} op request old.files new.files (effect_rows op (effect_of old.files request reply))
+
+  -- a token that is new is not a file's
+  fresh_token : (path : Segments) (bytes : List ℕ) (token : ℕ) (old new : StoreState) → AllGiven old → Placed path bytes token old new → get old.files path ≢ Some (record { bytes = bytes; token = token })
+  fresh_token path bytes token old new all placed e = placed.fresh (all path (record { bytes = bytes; token = token }) e)
+
+  put_row : (op : ℕ) (path : Segments) (bytes : List ℕ) (mode : PutMode) (old new : StoreState) (answer : Result ℕ StoreError) → AllGiven old → Puts path bytes mode old answer new → new.failures ≡ 0 → RowOf op old new (requests.Put path bytes mode) (replies.Put answer)
+  put_row op path bytes mode old new (Ok token) all p honest = inr (refl, (token, p.placed.files, fresh_token path bytes token old new all p.placed))
+  put_row op path bytes mode old new (Err errors.AlreadyExists) all p honest = inl (refl, p.err.1.files)
+  put_row op path bytes mode old new (Err errors.NoMemory) all p honest = inl (refl, p.err.1.files)
+  put_row op path bytes mode old new (Err errors.TokensExhausted) all p honest = inl (refl, p.err.2.files)
+  put_row op path bytes mode old new (Err errors.Failed) all p honest = ruled_out old new honest p.err.0
+  put_row op path bytes mode old new (Err errors.NotFound) all p honest = inl (refl, p.err.1.files)
+  put_row op path bytes mode old new (Err errors.Precondition) all p honest = inl (refl, p.err.1.files)
+  put_row op path bytes mode old new (Err errors.NotModified) all p honest = inl (refl, p.err.1.files)
+
+  removed_row : (there : Bool) (op : ℕ) (path : Segments) (old new : StoreState) → is_some (get old.files path) ≡ there → Removed path old new → IsEffectRow {T = T} op (requests.Delete path) old.files new.files (effect_rows op (cond there (Some (requests.Delete path)) None))
+  removed_row true op path old new e gone = inr (refl, (gone.files, e))
+  removed_row false op path old new e gone = inl (refl, gone.files ∙ removed_missing old.files path (not_some (get old.files path) e))
+
+  delete_row : (op : ℕ) (path : Segments) (old new : StoreState) (answer : Result (Unit {0}) StoreError) → Deletes path old answer new → new.failures ≡ 0 → RowOf op old new (requests.Delete path) (replies.Delete answer)
+  delete_row op path old new (Ok done) d honest = removed_row (is_some (get old.files path)) op path old new refl d.removed
+  delete_row op path old new (Err errors.NoMemory) d honest = inl (refl, d.err.1.files)
+  delete_row op path old new (Err errors.Failed) d honest = ruled_out old new honest d.err.0
+  delete_row op path old new (Err errors.TokensExhausted) d honest = absurd d.err
+  delete_row op path old new (Err errors.NotFound) d honest = inl (refl, d.err.1.files)
+  delete_row op path old new (Err errors.AlreadyExists) d honest = inl (refl, d.err.1.files)
+  delete_row op path old new (Err errors.Precondition) d honest = inl (refl, d.err.1.files)
+  delete_row op path old new (Err errors.NotModified) d honest = inl (refl, d.err.1.files)
+
+  served_row : (op : ℕ) (old new : StoreState) (request : Request) (reply : Reply) → AllGiven old → Serves request old reply new → new.failures ≡ 0 → RowOf op old new request reply
+  served_row op old new (requests.Put path bytes mode) (replies.Put answer) all s honest = put_row op path bytes mode old new answer all s honest
+  served_row op old new (requests.Get path known) (replies.Get answer) all s honest = inl (refl, (get_kept path known old new answer s honest).files)
+  served_row op old new (requests.List prefix after limit) (replies.List answer) all s honest = inl (refl, (listed_kept prefix after limit old new answer s honest).files)
+  served_row op old new (requests.Delete path) (replies.Delete answer) all s honest = delete_row op path old new answer s honest
+  served_row op old new (requests.Put path bytes mode) (replies.Get answer) all s honest = absurd s
+  served_row op old new (requests.Put path bytes mode) (replies.List answer) all s honest = absurd s
+  served_row op old new (requests.Put path bytes mode) (replies.Delete answer) all s honest = absurd s
+  served_row op old new (requests.Get path known) (replies.Put answer) all s honest = absurd s
+  served_row op old new (requests.Get path known) (replies.List answer) all s honest = absurd s
+  served_row op old new (requests.Get path known) (replies.Delete answer) all s honest = absurd s
+  served_row op old new (requests.List prefix after limit) (replies.Put answer) all s honest = absurd s
+  served_row op old new (requests.List prefix after limit) (replies.Get answer) all s honest = absurd s
+  served_row op old new (requests.List prefix after limit) (replies.Delete answer) all s honest = absurd s
+  served_row op old new (requests.Delete path) (replies.Put answer) all s honest = absurd s
+  served_row op old new (requests.Delete path) (replies.Get answer) all s honest = absurd s
+  served_row op old new (requests.Delete path) (replies.List answer) all s honest = absurd s
+
+  effect_empty : (op : ℕ) (effect : Option Request) → is_some effect ≡ not (is_empty (effect_rows {T = T} op effect))
+  effect_empty op None = refl
+  effect_empty op (Some request) = refl
+
+module _ {T : Type 0} where
+  -- the rows of answers
+
+  tells_answer : (otherwise : Told T) (op : ℕ) (answer : Option (Answer T)) → Tells otherwise op (told_of otherwise op answer)
+  tells_answer otherwise op None = inl refl
+  tells_answer otherwise op (Some answer) = inr (answer, refl)
+
+  went_row : (op : ℕ) (answer : Option (Answer T)) → answer_rows op answer ≡ answer_row (told_of (told.Went op) op answer)
+  went_row op None = refl
+  went_row op (Some answer) = refl
+
+  began_row : (op : ℕ) (answer : Option (Answer T)) → answer_rows op answer ≡ answer_row (told_of (told.Began op) op answer)
+  began_row op None = refl
+  began_row op (Some answer) = refl
+
+module _ {T : Type 0} (encode : T → List ℕ) (decode : List ℕ → Option T) (get_epoch : T → ℕ) where
+  -- one more step of a run
+  pub runs_more : (old : State T) (taken : List (Event T × Told T)) (middle : State T) (event : Event T) (said : Told T) (new : State T) → Runs encode decode get_epoch old taken middle → Takes encode decode get_epoch middle event said new → Runs encode decode get_epoch old (taken ++ (event, said) ∷ []) new
+  runs_more old [] middle event said new r t = (new, subst (λ (s : State T). Takes encode decode get_epoch s event said new) r t, refl)
+  runs_more old (p ∷ taken) middle event said new r t = (r.0, r.1, runs_more r.0 taken middle event said new r.2 t)
+
+  -- events change neither the number of clients nor the size of a page
+
+  fails_same : (failure : Failure) (old : State T) (op : ℕ) (said : Told T) (new : State T) → Fails old op failure said new → (new.clients ≡ old.clients) × (new.page ≡ old.page)
+  fails_same failures.Before old op said new v = (ap (λ (s : State T). s.clients) v.state, ap (λ (s : State T). s.page) v.state)
+  fails_same failures.After old op said new v = (ap (λ (s : State T). s.clients) v.state, ap (λ (s : State T). s.page) v.state)
+  fails_same failures.Loose old op said new v = (ap (λ (s : State T). s.clients) v.state, ap (λ (s : State T). s.page) v.state)
+
+  pub takes_same : (old : State T) (event : Event T) (said : Told T) (new : State T) → Takes encode decode get_epoch old event said new → (new.clients ≡ old.clients) × (new.page ≡ old.page)
+  takes_same old (events.Begin client call) said new t = (ap (λ (s : State T). s.clients) t.step.state, ap (λ (s : State T). s.page) t.step.state)
+  takes_same old (events.Look op) said new t = (ap (λ (s : State T). s.clients) t.step.state, ap (λ (s : State T). s.page) t.step.state)
+  takes_same old (events.Serve op) said new t = (ap (λ (s : State T). s.clients) t.step.state, ap (λ (s : State T). s.page) t.step.state)
+  takes_same old (events.Fail op failure) said new t = fails_same failure old op said new t.step
+  takes_same old (events.GiveUp op) said new t = (ap (λ (s : State T). s.clients) t.step.state, ap (λ (s : State T). s.page) t.step.state)
+  takes_same old (events.Land k) said new t = (ap (λ (s : State T). s.clients) t.step.state, ap (λ (s : State T). s.page) t.step.state)
+  takes_same old (events.Crash client) said new t = (ap (λ (s : State T). s.clients) t.step.state, ap (λ (s : State T). s.page) t.step.state)
+
+  -- reached states
+
+  pub opening_reached : (clients page : ℕ) → 1 ≤ page → IsReached encode decode get_epoch (opening clients page)
+  opening_reached clients page room = ([], refl, room)
+
+  pub taken_reached : (old : State T) (event : Event T) (said : Told T) (new : State T) → IsReached encode decode get_epoch old → Takes encode decode get_epoch old event said new → IsReached encode decode get_epoch new
+  taken_reached old event said new r t =
+      let same = takes_same old event said new t in
+      let run = runs_more (opening old.clients old.page) r.0 old event said new r.1 t in (
+        r.0 ++ (event, said) ∷ [],
+        subst (λ (c : ℕ). Runs encode decode get_epoch (opening c new.page) (r.0 ++ (event, said) ∷ []) new) (sym same.0)
+            (subst (λ (p : ℕ). Runs encode decode get_epoch (opening old.clients p) (r.0 ++ (event, said) ∷ []) new) (sym same.1) run),
+        subst (λ (p : ℕ). 1 ≤ p) (sym same.1) r.2,
+      )
+
+  pub reached_history : (s : State T) → IsReached encode decode get_epoch s → IsOneHistory decode get_epoch s.failed s.trace
+  reached_history s r = (reached_stands encode decode get_epoch s r).know.history.good
+
+  pub reached_stored : (s : State T) → IsReached encode decode get_epoch s → HasContents s.store.files (stored s.trace)
+  reached_stored s r = (reached_stands encode decode get_epoch s r).know.files.kept
+
+  pub reached_wide : (s : State T) → IsReached encode decode get_epoch s → length s.caches ≡ s.clients
+  reached_wide s r = (reached_stands encode decode get_epoch s r).wide
+
+  pub reached_caches : (s : State T) (op : ℕ) (o : Operation T) → IsReached encode decode get_epoch s → numbered s.operations op ≡ Some o → (caches : Caches) × (numbered s.caches o.client ≡ Some caches)
+  reached_caches s op o r e = let at = at_place decode get_epoch s op o (reached_stands encode decode get_epoch s r) e in (at.0, at.1)
+
+  -- the rows that an event adds
+
+  serve_adds : (old : State T) (op : ℕ) (said : Told T) (new : State T) → Served decode old op said new → Stands decode get_epoch old → AddsRows (seen_of old) old.trace old.store.files (events.Serve op) said new.trace new.store.files
+  serve_adds old op said new v st =
+      let rows = effect_rows op (effect_of old.store.files v.request v.reply) in
+      record {
+        request = v.request;
+        asked = seen_at old op v.operation v.acts.found ∙ v.acts.asks;
+        rows = rows;
+        effect = subst (λ (s : State T). IsEffectRow {T = T} op v.request old.store.files s.store.files rows) (sym v.state) (served_row T op old.store v.store v.request v.reply st.know.files.given v.reaches.serves v.reaches.honest);
+        told = subst (λ (t : Told T). Tells (told.Went op) op t) (sym v.tells) (tells_answer (told.Went op) op v.next.1);
+        added = ap (λ (s : State T). s.trace) v.state ∙ ap (λ more. (old.trace ++ rows) ++ more) (went_row op v.next.1 ∙ ap answer_row (sym v.tells));
+      }
+
+  look_adds : (old : State T) (op : ℕ) (said : Told T) (new : State T) → Looks decode old op said new → AddsRows (seen_of old) old.trace old.store.files (events.Look op) said new.trace new.store.files
+  look_adds old op said new v = (
+    subst (λ (t : Told T). Tells (told.Went op) op t) (sym v.tells) (tells_answer (told.Went op) op v.next.1),
+    ap (λ (s : State T). s.trace) v.state ∙ ap (λ more. old.trace ++ more) (went_row op v.next.1 ∙ ap answer_row (sym v.tells)),
+    ap (λ (s : State T). s.store.files) v.state,
+  )
+
+  first_adds : (looses : Bool) (old : State T) (op : ℕ) (said : Told T) (new : State T) → FailsFirst old op said looses new → (Tells (told.Went op) op said) × (new.trace ≡ old.trace ++ answer_row said) × (new.store.files ≡ old.store.files)
+  first_adds false old op said new v = (
+    inr (answers.Refused 2, v.tells),
+    ap (λ (s : State T). s.trace) v.state ∙ ap (λ (t : Told T). old.trace ++ answer_row t) (sym v.tells),
+    ap (λ (s : State T). s.store.files) v.state,
+  )
+  first_adds true old op said new v = (
+    inr (answers.Refused 2, v.tells),
+    ap (λ (s : State T). s.trace) v.state ∙ ap (λ (t : Told T). old.trace ++ answer_row t) (sym v.tells),
+    ap (λ (s : State T). s.store.files) v.state,
+  )
+
+  fail_adds : (failure : Failure) (old : State T) (op : ℕ) (said : Told T) (new : State T) → Fails old op failure said new → Stands decode get_epoch old → AddsRows (seen_of old) old.trace old.store.files (events.Fail op failure) said new.trace new.store.files
+  fail_adds failures.Before old op said new v st = first_adds false old op said new v
+  fail_adds failures.Loose old op said new v st = first_adds true old op said new v
+  fail_adds failures.After old op said new v st =
+      let rows = effect_rows op (effect_of old.store.files v.request v.reply) in
+      record {
+        request = v.request;
+        asked = seen_at old op v.operation v.acts.found ∙ v.acts.asks;
+        rows = rows;
+        effect = subst (λ (s : State T). IsEffectRow {T = T} op v.request old.store.files s.store.files rows) (sym v.state) (served_row T op old.store v.store v.request v.reply st.know.files.given v.reaches.serves v.reaches.honest);
+        told = inr (answers.Refused 2, v.tells);
+        added = ap (λ (s : State T). s.trace) v.state ∙ ap (λ (t : Told T). (old.trace ++ rows) ++ answer_row t) (sym v.tells);
+      }
+
+  land_adds : (old : State T) (k : ℕ) (said : Told T) (new : State T) → Lands old k said new → Stands decode get_epoch old → AddsRows (seen_of old) old.trace old.store.files (events.Land k) said new.trace new.store.files
+  land_adds old k said new v st =
+      let effect = effect_of old.store.files v.request v.reply in
+      let rows = effect_rows v.op effect in
+      record {
+        op = v.op;
+        request = v.request;
+        loose = v.found;
+        rows = rows;
+        effect = subst (λ (s : State T). IsEffectRow {T = T} v.op v.request old.store.files s.store.files rows) (sym v.state) (served_row T v.op old.store v.store v.request v.reply st.know.files.given v.reaches.serves v.reaches.honest);
+        told = v.tells ∙ ap (told.Landed k) (effect_empty T v.op effect);
+        added = ap (λ (s : State T). s.trace) v.state;
+      }
+
+  begin_adds : (old : State T) (client : ℕ) (call : Call T) (said : Told T) (new : State T) → Begins encode decode old client call said new → Stands decode get_epoch old → AddsRows (seen_of old) old.trace old.store.files (events.Begin client call) said new.trace new.store.files
+  begin_adds old client call said new v st =
+      let same : next_op old ≡ begun_count old.trace + 1 = ap (λ n. n + 1) st.count in
+      subst (λ (n : ℕ). Tells (told.Began n) n said × (new.trace ≡ (old.trace ++ Begun n call ∷ []) ++ answer_row said) × (new.store.files ≡ old.store.files)) same (
+        subst (λ (t : Told T). Tells (told.Began (next_op old)) (next_op old) t) (sym v.tells) (tells_answer (told.Began (next_op old)) (next_op old) v.next.1),
+        ap (λ (s : State T). s.trace) v.state ∙ ap (λ rows. (old.trace ++ Begun (next_op old) call ∷ []) ++ rows) (began_row (next_op old) v.next.1 ∙ ap answer_row (sym v.tells)),
+        ap (λ (s : State T). s.store.files) v.state,
+      )
+
+  takes_adds : (old : State T) (event : Event T) (said : Told T) (new : State T) → Stands decode get_epoch old → Takes encode decode get_epoch old event said new → AddsRows (seen_of old) old.trace old.store.files event said new.trace new.store.files
+  takes_adds old (events.Begin client call) said new st t = begin_adds old client call said new t.step st
+  takes_adds old (events.Look op) said new st t = look_adds old op said new t.step
+  takes_adds old (events.Serve op) said new st t = serve_adds old op said new t.step st
+  takes_adds old (events.Fail op failure) said new st t = fail_adds failure old op said new t.step st
+  takes_adds old (events.GiveUp op) said new st t = (t.step.tells, ap (λ (s : State T). s.trace) t.step.state ∙ append-nil old.trace, ap (λ (s : State T). s.store.files) t.step.state)
+  takes_adds old (events.Land k) said new st t = land_adds old k said new t.step st
+  takes_adds old (events.Crash client) said new st t = (t.step.tells, ap (λ (s : State T). s.trace) t.step.state, ap (λ (s : State T). s.store.files) t.step.state)
+
+  -- which rows an event adds
+  pub added_rows : (old : State T) (event : Event T) (said : Told T) (new : State T) → IsReached encode decode get_epoch old → Takes encode decode get_epoch old event said new → AddsRows (seen_of old) old.trace old.store.files event said new.trace new.store.files
+  added_rows old event said new r t = takes_adds old event said new (reached_stands encode decode get_epoch old r) t
