@@ -1,0 +1,117 @@
+-- The lines of a script, each by its text. A text is a script line exactly where it says one.
+use Rattle.std.specs.Prelude.{◌≡◌, ℕ, ◌<◌, ◌^◌, List, ◌∷◌, ◌++◌, Option, Some, None, codes, decimal}
+use Rattle.std.specs.declared.ops.Bound.{Bound}
+use Rattle.std.specs.declared.ops.Bound.TheVariants as bounds
+use Rattle.txn_history.specs.declared.event.Call.{Call}
+use Rattle.txn_history.specs.declared.event.Call.TheVariants as calls
+use Rattle.txn_history.specs.declared.event.Event.{Event}
+use Rattle.txn_history.specs.declared.event.Event.TheVariants as events
+use Rattle.txn_history.specs.declared.event.Failure.{Failure}
+use Rattle.txn_history.specs.declared.event.Failure.TheVariants as failures
+use Rattle.txn_lines.specs.declared.record.Record.{Record}
+use Rattle.txn_lines.specs.Record.{record_text, IsNumbers}
+use Rattle.txn_lines.specs.declared.line.Line.{Line}
+use Rattle.txn_lines.specs.declared.line.Line.TheVariants as lines
+
+-- the base of a write: an id, or a dash for none
+abbrev pub base_text : Option ℕ → List ℕ
+base_text None = codes "-"
+base_text (Some id) = decimal id
+
+abbrev pub write_text : Option ℕ → Record → List ℕ
+write_text base value = base_text base ++ (32 ∷ record_text value)
+
+-- a bound of a listing: an id that is within, an id that is not, or a dash for none
+abbrev pub bound_text : Bound ℕ → List ℕ
+bound_text (bounds.Included id) = codes "=" ++ decimal id
+bound_text (bounds.Excluded id) = codes "!" ++ decimal id
+bound_text bounds.Unbounded = codes "-"
+
+abbrev pub list_text : Bound ℕ → Bound ℕ → List ℕ
+list_text from to = bound_text from ++ (32 ∷ bound_text to)
+
+abbrev pub call_text : Call Record → List ℕ
+call_text (calls.Write base value) = codes "write" ++ (32 ∷ write_text base value)
+call_text (calls.WriteUnchecked base value) = codes "write_unchecked" ++ (32 ∷ write_text base value)
+call_text calls.Read = codes "read"
+call_text (calls.ReadUnchecked id) = codes "read_unchecked" ++ (32 ∷ decimal id)
+call_text (calls.ReadSeen id) = codes "read_seen" ++ (32 ∷ decimal id)
+call_text (calls.ListIds from to) = codes "list" ++ (32 ∷ list_text from to)
+call_text (calls.Delete id) = codes "delete" ++ (32 ∷ decimal id)
+call_text (calls.Check id) = codes "check" ++ (32 ∷ decimal id)
+call_text (calls.Advance to) = codes "advance" ++ (32 ∷ decimal to)
+
+abbrev pub begin_text : ℕ → Call Record → List ℕ
+begin_text client call = decimal client ++ (32 ∷ call_text call)
+
+-- how a store call fails: before its effect, after it, or with its request loose
+abbrev pub failure_text : Failure → List ℕ
+failure_text failures.Before = codes "before"
+failure_text failures.After = codes "after"
+failure_text failures.Loose = codes "loose"
+
+abbrev pub fail_text : ℕ → Failure → List ℕ
+fail_text op failure = decimal op ++ (32 ∷ failure_text failure)
+
+abbrev pub event_text : Event Record → List ℕ
+event_text (events.Begin client call) = codes "begin" ++ (32 ∷ begin_text client call)
+event_text (events.Look op) = codes "look" ++ (32 ∷ decimal op)
+event_text (events.Serve op) = codes "serve" ++ (32 ∷ decimal op)
+event_text (events.Fail op failure) = codes "fail" ++ (32 ∷ fail_text op failure)
+event_text (events.GiveUp op) = codes "giveup" ++ (32 ∷ decimal op)
+event_text (events.Land loose) = codes "land" ++ (32 ∷ decimal loose)
+event_text (events.Crash client) = codes "crash" ++ (32 ∷ decimal client)
+
+-- the text of a line: words divided by one space each, and numbers as plain decimals
+abbrev pub line_text : Line → List ℕ
+line_text (lines.Clients count) = codes "clients" ++ (32 ∷ decimal count)
+line_text (lines.Page size) = codes "page" ++ (32 ∷ decimal size)
+line_text (lines.Event event) = event_text event
+line_text (lines.Run op) = codes "run" ++ (32 ∷ decimal op)
+
+-- each number is below 2 ^ 64
+abbrev pub BaseFits : Option ℕ → Type 0
+BaseFits None = Unit {0}
+BaseFits (Some id) = id < 2 ^ 64
+
+abbrev pub WriteFits : Option ℕ → Record → Type 0
+WriteFits base value = BaseFits base × IsNumbers value
+
+abbrev pub BoundFits : Bound ℕ → Type 0
+BoundFits (bounds.Included id) = id < 2 ^ 64
+BoundFits (bounds.Excluded id) = id < 2 ^ 64
+BoundFits bounds.Unbounded = Unit {0}
+
+abbrev pub ListFits : Bound ℕ → Bound ℕ → Type 0
+ListFits from to = BoundFits from × BoundFits to
+
+abbrev pub CallFits : Call Record → Type 0
+CallFits (calls.Write base value) = WriteFits base value
+CallFits (calls.WriteUnchecked base value) = WriteFits base value
+CallFits calls.Read = Unit {0}
+CallFits (calls.ReadUnchecked id) = id < 2 ^ 64
+CallFits (calls.ReadSeen id) = id < 2 ^ 64
+CallFits (calls.ListIds from to) = ListFits from to
+CallFits (calls.Delete id) = id < 2 ^ 64
+CallFits (calls.Check id) = id < 2 ^ 64
+CallFits (calls.Advance to) = to < 2 ^ 64
+
+abbrev pub EventFits : Event Record → Type 0
+EventFits (events.Begin client call) = (client < 2 ^ 64) × CallFits call
+EventFits (events.Look op) = op < 2 ^ 64
+EventFits (events.Serve op) = op < 2 ^ 64
+EventFits (events.Fail op failure) = op < 2 ^ 64
+EventFits (events.GiveUp op) = op < 2 ^ 64
+EventFits (events.Land loose) = loose < 2 ^ 64
+EventFits (events.Crash client) = client < 2 ^ 64
+
+abbrev pub LineFits : Line → Type 0
+LineFits (lines.Clients count) = count < 2 ^ 64
+LineFits (lines.Page size) = size < 2 ^ 64
+LineFits (lines.Event event) = EventFits event
+LineFits (lines.Run op) = op < 2 ^ 64
+
+-- A text says a line.
+pub record Says (text : List ℕ) (line : Line) : Type 0 where
+  pub words : text ≡ line_text line
+  pub numbers : LineFits line

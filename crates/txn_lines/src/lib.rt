@@ -1,0 +1,9 @@
+//! The lines of scripts: what each says, how they are read, and the printed forms of what comes of them.
+#![tactic(auto)]
+
+pub mod line;
+pub mod lines;
+mod numerals;
+pub mod printed;
+pub mod record;
+pub mod stop;

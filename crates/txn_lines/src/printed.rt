@@ -1,0 +1,151 @@
+//! The printed lines.
+
+ghost use Rattle.std.specs.Prelude.{◌≡◌, Some};
+ghost use Rattle.txn_lines.specs.Printed.{refusal_name, answered_text, answer_text, entry_text, boundary_text, erased_text, listed_text, fault_text};
+
+use crate::record::Record;
+use std::fmt;
+use txn_history::event::{Answer, EventFault};
+
+/// The name of a refusal.
+fn refusal_name(number: u8) -> &'static str
+    ensures { result.now ≡ refusal_name number }
+{
+    match number {
+        1 => "IoError",
+        2 => "ObjectStoreError",
+        3 => "ObjectUpdateTimeout",
+        4 => "LatestRecordMissing",
+        5 => "ObjectVersionExists",
+        6 => "Fenced",
+        7 => "InvalidObjectState",
+        8 => "CallbackError",
+        9 => "NoMemory",
+        10 => "IdExhausted",
+        _ => "TurnsExhausted",
+    }
+}
+
+/// Ids, each after one space, or ` none`.
+#[derive(Clone, Copy, Debug)]
+struct Listed<'a>(&'a [u64]);
+
+impl fmt::Display for Listed<'_> {
+    ghost output = { λ listed. Some (listed_text listed.0.now) };
+
+    fn fmt<W: fmt::Write>(&self, f: &mut fmt::Formatter<W>) -> fmt::Result {
+        if self.0.is_empty() {
+            return write!(f, " none");
+        }
+        for id in self.0 {
+            write!(f, " {id}")?;
+        }
+        Ok(())
+    }
+}
+
+/// An answer as it is printed.
+#[derive(Debug, Drop)]
+pub struct Answered(pub Answer<Record>);
+
+impl fmt::Display for Answered {
+    ghost output = { λ answered. Some (answered_text answered.0) };
+
+    fn fmt<W: fmt::Write>(&self, f: &mut fmt::Formatter<W>) -> fmt::Result {
+        match &self.0 {
+            Answer::Wrote(id) => write!(f, "wrote {id}"),
+            Answer::Read(None) => write!(f, "read none"),
+            Answer::Read(Some((id, value))) => write!(f, "read {id} {value}"),
+            Answer::Value(None) => write!(f, "value none"),
+            Answer::Value(Some(value)) => write!(f, "value {value}"),
+            Answer::Ids(ids) => {
+                let listed = Listed(ids.as_slice());
+                write!(f, "ids{listed}")
+            }
+            Answer::Done => write!(f, "done"),
+            Answer::Refused(number) => {
+                let name = refusal_name(*number);
+                write!(f, "refused {number} {name}")
+            }
+        }
+    }
+}
+
+/// The line of an answer.
+#[derive(Debug, Drop)]
+pub struct AnswerLine {
+    pub op: u64,
+    pub answered: Answered,
+}
+
+impl fmt::Display for AnswerLine {
+    ghost output = { λ line. Some (answer_text line.op line.answered.0) };
+
+    fn fmt<W: fmt::Write>(&self, f: &mut fmt::Formatter<W>) -> fmt::Result {
+        let op = self.op;
+        let answered = &self.answered;
+        write!(f, "op {op}: {answered}")
+    }
+}
+
+/// The line of an entry of the history.
+#[derive(Clone, Copy, Debug)]
+pub struct EntryLine {
+    pub number: usize,
+    pub value: Record,
+}
+
+impl fmt::Display for EntryLine {
+    ghost output = { λ line. Some (entry_text line.number line.value) };
+
+    fn fmt<W: fmt::Write>(&self, f: &mut fmt::Formatter<W>) -> fmt::Result {
+        let number = self.number;
+        let value = self.value;
+        write!(f, "entry {number} {value}")
+    }
+}
+
+/// The line of the boundary.
+#[derive(Clone, Copy, Debug)]
+pub struct BoundaryLine(pub u64);
+
+impl fmt::Display for BoundaryLine {
+    ghost output = { λ line. Some (boundary_text line.0) };
+
+    fn fmt<W: fmt::Write>(&self, f: &mut fmt::Formatter<W>) -> fmt::Result {
+        let boundary = self.0;
+        write!(f, "boundary {boundary}")
+    }
+}
+
+/// The line of the erased ids.
+#[derive(Debug, Drop)]
+pub struct ErasedLine(pub Vec<u64>);
+
+impl fmt::Display for ErasedLine {
+    ghost output = { λ line. Some (erased_text line.0.items) };
+
+    fn fmt<W: fmt::Write>(&self, f: &mut fmt::Formatter<W>) -> fmt::Result {
+        let listed = Listed(&self.0);
+        write!(f, "erased{listed}")
+    }
+}
+
+/// The line of a refused event.
+#[derive(Clone, Copy, Debug)]
+pub struct FaultLine(pub EventFault);
+
+impl fmt::Display for FaultLine {
+    ghost output = { λ line. Some (fault_text line.0) };
+
+    fn fmt<W: fmt::Write>(&self, f: &mut fmt::Formatter<W>) -> fmt::Result {
+        match self.0 {
+            EventFault::UnknownNumber => write!(f, "fault 1 UnknownNumber"),
+            EventFault::NotAsked => write!(f, "fault 2 NotAsked"),
+            EventFault::UnknownBase => write!(f, "fault 3 UnknownBase"),
+            EventFault::BoundaryTooHigh => write!(f, "fault 4 BoundaryTooHigh"),
+            EventFault::EpochLowered => write!(f, "fault 5 EpochLowered"),
+            EventFault::NoMemory => write!(f, "fault 7 NoMemory"),
+        }
+    }
+}
