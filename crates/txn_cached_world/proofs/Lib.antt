@@ -1,0 +1,6 @@
+pub mod Indexes
+pub mod Ascending
+pub mod Running
+pub mod Acting
+pub mod Stepping
+pub mod Reached

@@ -1,0 +1,8 @@
+//! Clients that keep caches over one store of versions, one event at a time.
+#![tactic(auto)]
+
+mod clients;
+mod requests;
+mod tables;
+mod trace;
+pub mod world;
