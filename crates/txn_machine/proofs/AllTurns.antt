@@ -7,10 +7,10 @@ use Rattle.txn_caches.specs.declared.caches.Caches.{Caches}
 use Rattle.txn_caches.specs.declared.check.CheckOp.TheVariants as checks
 use Rattle.txn_caches.specs.declared.turned.Turned.{Turned}
 use Rattle.txn_caches.specs.declared.turned.Turned.TheVariants.{Goes}
-use Rattle.txn_steps.specs.declared.cached.latest.LatestOp.{LatestOp}
-use Rattle.txn_steps.specs.declared.cached.latest.LatestOp.TheVariants as latest
-use Rattle.txn_steps.specs.declared.cached.read.ReadOp.{ReadOp}
-use Rattle.txn_steps.specs.declared.cached.read.ReadOp.TheVariants as reads
+use Rattle.txn_steps.specs.declared.latest.LatestOp.{LatestOp}
+use Rattle.txn_steps.specs.declared.latest.LatestOp.TheVariants as latest
+use Rattle.txn_steps.specs.declared.read.ReadOp.{ReadOp}
+use Rattle.txn_steps.specs.declared.read.ReadOp.TheVariants as reads
 use Rattle.txn_steps.specs.Latest.{ReadAnswer}
 use Rattle.txn_steps.specs.Reads.{read_started, read_turned, read_left}
 use Rattle.txn_history.specs.declared.trace.Row.{Row}

@@ -26,12 +26,12 @@ use Rattle.txn_caches.specs.declared.turned.Turned.TheVariants as turns
 use Rattle.txn_caches.specs.Checks.{check_asked, check_turned, check_caches}
 use Rattle.txn_caches.specs.BoundaryAdvances.{boundary_advance_asked, boundary_advance_turned, boundary_advance_cached}
 use Rattle.txn_caches.specs.Advances.{advance_asked, advance_caches, raises_turned}
-use Rattle.txn_steps.specs.declared.cached.delete.RemovalStep.{RemovalStep}
-use Rattle.txn_steps.specs.declared.cached.delete.RemovalStep.TheVariants as removals
-use Rattle.txn_steps.specs.declared.cached.delete.DeleteUncheckedOp.{DeleteUncheckedOp}
-use Rattle.txn_steps.specs.declared.cached.delete.DeleteStep.{DeleteStep}
-use Rattle.txn_steps.specs.declared.cached.delete.DeleteStep.TheVariants as deletes
-use Rattle.txn_steps.specs.declared.cached.delete.DeleteOp.{DeleteOp}
+use Rattle.txn_steps.specs.declared.delete.RemovalStep.{RemovalStep}
+use Rattle.txn_steps.specs.declared.delete.RemovalStep.TheVariants as removals
+use Rattle.txn_steps.specs.declared.delete.DeleteUncheckedOp.{DeleteUncheckedOp}
+use Rattle.txn_steps.specs.declared.delete.DeleteStep.{DeleteStep}
+use Rattle.txn_steps.specs.declared.delete.DeleteStep.TheVariants as deletes
+use Rattle.txn_steps.specs.declared.delete.DeleteOp.{DeleteOp}
 use Rattle.txn_steps.specs.Deletes.{removal_started, removal_asked_at, removed, removal_replied, removal_turned_at, removal_latest_at, delete_asked, delete_asked_at, checks_turned as delete_checked, removes_turned, delete_turned_at, delete_caches_at}
 use Rattle.txn_history.specs.declared.event.Call.{Call}
 use Rattle.txn_history.specs.declared.event.Call.TheVariants as calls

@@ -10,7 +10,7 @@ use Rattle.txn_store.specs.declared.store.StoreError.TheVariants as errors
 use Rattle.txn_store.specs.declared.request.Request.{Request}
 use Rattle.txn_store.specs.declared.request.Reply.{Reply}
 use Rattle.txn_store.specs.declared.request.Reply.TheVariants as replies
-use Rattle.txn_steps.specs.declared.cached.listing.ListOp.{ListOp}
+use Rattle.txn_steps.specs.declared.listing.ListOp.{ListOp}
 use Rattle.txn_steps.specs.Picked.{picked}
 use Rattle.txn_steps.specs.Listings.{listing_after, listing_answered, listing_turned}
 use Rattle.txn_history.specs.declared.trace.Row.{Row}

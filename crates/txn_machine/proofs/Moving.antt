@@ -11,8 +11,8 @@ use Rattle.txn_store.specs.declared.request.Reply.TheVariants as replies
 use Rattle.txn_caches.specs.declared.caches.Caches.{Caches}
 use Rattle.txn_caches.specs.declared.turned.Turned.{Turned}
 use Rattle.txn_caches.specs.declared.turned.Turned.TheVariants.{Goes, Done}
-use Rattle.txn_steps.specs.declared.cached.read.ReadOp.{ReadOp}
-use Rattle.txn_steps.specs.declared.cached.read.ReadOp.TheVariants as reads
+use Rattle.txn_steps.specs.declared.read.ReadOp.{ReadOp}
+use Rattle.txn_steps.specs.declared.read.ReadOp.TheVariants as reads
 use Rattle.txn_steps.specs.Latest.{ReadAnswer}
 use Rattle.txn_steps.specs.Reads.{read_started, read_asked, read_turned, read_left}
 use Rattle.txn_history.specs.declared.event.Call.TheVariants as calls

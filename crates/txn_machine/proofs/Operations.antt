@@ -11,22 +11,22 @@ use Rattle.txn_store.specs.declared.request.Reply.TheVariants as replies
 use Rattle.txn_caches.specs.declared.caches.CachedBoundary.{CachedBoundary}
 use Rattle.txn_caches.specs.declared.caches.Caches.{Caches}
 use Rattle.txn_caches.specs.declared.turned.Turned.{Turned}
-use Rattle.txn_steps.specs.declared.cached.write.WriteUncheckedOp.{WriteUncheckedOp}
-use Rattle.txn_steps.specs.declared.cached.write.WriteUncheckedOp.TheVariants as unchecked
-use Rattle.txn_steps.specs.declared.cached.write.WriteStep.{WriteStep}
-use Rattle.txn_steps.specs.declared.cached.write.WriteStep.TheVariants as writes
-use Rattle.txn_steps.specs.declared.cached.write.WriteOp.{WriteOp}
-use Rattle.txn_steps.specs.declared.cached.latest.LatestOp.{LatestOp}
-use Rattle.txn_steps.specs.declared.cached.latest.LatestOp.TheVariants as latest
-use Rattle.txn_steps.specs.declared.cached.read.ReadOp.{ReadOp}
-use Rattle.txn_steps.specs.declared.cached.read.ReadOp.TheVariants as reads
-use Rattle.txn_steps.specs.declared.cached.seen.ReadSeenOp.{ReadSeenOp}
-use Rattle.txn_steps.specs.declared.cached.seen.ReadSeenOp.TheVariants as seen
+use Rattle.txn_steps.specs.declared.write.WriteUncheckedOp.{WriteUncheckedOp}
+use Rattle.txn_steps.specs.declared.write.WriteUncheckedOp.TheVariants as unchecked
+use Rattle.txn_steps.specs.declared.write.WriteStep.{WriteStep}
+use Rattle.txn_steps.specs.declared.write.WriteStep.TheVariants as writes
+use Rattle.txn_steps.specs.declared.write.WriteOp.{WriteOp}
+use Rattle.txn_steps.specs.declared.latest.LatestOp.{LatestOp}
+use Rattle.txn_steps.specs.declared.latest.LatestOp.TheVariants as latest
+use Rattle.txn_steps.specs.declared.read.ReadOp.{ReadOp}
+use Rattle.txn_steps.specs.declared.read.ReadOp.TheVariants as reads
+use Rattle.txn_steps.specs.declared.seen.ReadSeenOp.{ReadSeenOp}
+use Rattle.txn_steps.specs.declared.seen.ReadSeenOp.TheVariants as seen
 use Rattle.txn_steps.specs.Writes.{unchecked_asked, unchecked_turned, unchecked_latest, write_asked, write_asked_at, write_caches_at}
 use Rattle.txn_steps.specs.Latest.{ReadAnswer, latest_asked, latest_left}
 use Rattle.txn_steps.specs.Reads.{read_asked, read_turned, read_left}
 use Rattle.txn_steps.specs.SeenSteps.{unchecked_turned as value_turned, seen_asked, seen_turned, seen_latest}
-use Rattle.txn_steps.specs.declared.cached.listing.ListOp.{ListOp}
+use Rattle.txn_steps.specs.declared.listing.ListOp.{ListOp}
 use Rattle.txn_steps.specs.Requests.{next_after}
 use Rattle.txn_steps.specs.Listings.{listing_after, listing_turned}
 use Rattle.txn_history.specs.declared.event.Call.{Call}

@@ -9,9 +9,9 @@ use Rattle.txn_caches.specs.declared.boundary_read.BoundaryRead.TheVariants as r
 use Rattle.txn_caches.specs.declared.check.CheckOp.{CheckOp}
 use Rattle.txn_caches.specs.declared.turned.Turned.{Turned}
 use Rattle.txn_caches.specs.declared.turned.Turned.TheVariants.{Goes, Done}
-use Rattle.txn_steps.specs.declared.cached.latest.LatestOp.{LatestOp}
-use Rattle.txn_steps.specs.declared.cached.read.ReadOp.TheVariants as reads
-use Rattle.txn_steps.specs.declared.cached.listing.ListOp.{ListOp}
+use Rattle.txn_steps.specs.declared.latest.LatestOp.{LatestOp}
+use Rattle.txn_steps.specs.declared.read.ReadOp.TheVariants as reads
+use Rattle.txn_steps.specs.declared.listing.ListOp.{ListOp}
 use Rattle.txn_steps.specs.Latest.{ReadAnswer}
 use Rattle.txn_steps.specs.Listed.{Listed}
 use Rattle.txn_steps.specs.Reads.{read_started, reads_turned, checks_turned, IsInRange}

@@ -24,23 +24,23 @@ use Rattle.txn_caches.specs.Checks.{check_asked, IsCheckReply}
 use Rattle.txn_caches.specs.BoundaryAdvances.{boundary_advance_asked, IsBoundaryAdvanceReply}
 use Rattle.txn_caches.specs.Advances.{advance_asked, IsAdvanceReply}
 use Rattle.txn_caches.specs.Steps.{IsPutReply, IsGetReply, IsListReply, IsDeleteReply}
-use Rattle.txn_steps.specs.declared.cached.write.WriteUncheckedOp.{WriteUncheckedOp}
-use Rattle.txn_steps.specs.declared.cached.write.WriteUncheckedOp.TheVariants as unchecked
-use Rattle.txn_steps.specs.declared.cached.write.WriteStep.{WriteStep}
-use Rattle.txn_steps.specs.declared.cached.write.WriteStep.TheVariants as writes
-use Rattle.txn_steps.specs.declared.cached.write.WriteOp.{WriteOp}
-use Rattle.txn_steps.specs.declared.cached.latest.LatestOp.{LatestOp}
-use Rattle.txn_steps.specs.declared.cached.latest.LatestOp.TheVariants as latest
-use Rattle.txn_steps.specs.declared.cached.read.ReadOp.{ReadOp}
-use Rattle.txn_steps.specs.declared.cached.read.ReadOp.TheVariants as reads
-use Rattle.txn_steps.specs.declared.cached.seen.ReadSeenOp.{ReadSeenOp}
-use Rattle.txn_steps.specs.declared.cached.seen.ReadSeenOp.TheVariants as seen
-use Rattle.txn_steps.specs.declared.cached.delete.RemovalStep.{RemovalStep}
-use Rattle.txn_steps.specs.declared.cached.delete.RemovalStep.TheVariants as removals
-use Rattle.txn_steps.specs.declared.cached.delete.DeleteStep.{DeleteStep}
-use Rattle.txn_steps.specs.declared.cached.delete.DeleteStep.TheVariants as deletes
-use Rattle.txn_steps.specs.declared.cached.delete.DeleteUncheckedOp.{DeleteUncheckedOp}
-use Rattle.txn_steps.specs.declared.cached.delete.DeleteOp.{DeleteOp}
+use Rattle.txn_steps.specs.declared.write.WriteUncheckedOp.{WriteUncheckedOp}
+use Rattle.txn_steps.specs.declared.write.WriteUncheckedOp.TheVariants as unchecked
+use Rattle.txn_steps.specs.declared.write.WriteStep.{WriteStep}
+use Rattle.txn_steps.specs.declared.write.WriteStep.TheVariants as writes
+use Rattle.txn_steps.specs.declared.write.WriteOp.{WriteOp}
+use Rattle.txn_steps.specs.declared.latest.LatestOp.{LatestOp}
+use Rattle.txn_steps.specs.declared.latest.LatestOp.TheVariants as latest
+use Rattle.txn_steps.specs.declared.read.ReadOp.{ReadOp}
+use Rattle.txn_steps.specs.declared.read.ReadOp.TheVariants as reads
+use Rattle.txn_steps.specs.declared.seen.ReadSeenOp.{ReadSeenOp}
+use Rattle.txn_steps.specs.declared.seen.ReadSeenOp.TheVariants as seen
+use Rattle.txn_steps.specs.declared.delete.RemovalStep.{RemovalStep}
+use Rattle.txn_steps.specs.declared.delete.RemovalStep.TheVariants as removals
+use Rattle.txn_steps.specs.declared.delete.DeleteStep.{DeleteStep}
+use Rattle.txn_steps.specs.declared.delete.DeleteStep.TheVariants as deletes
+use Rattle.txn_steps.specs.declared.delete.DeleteUncheckedOp.{DeleteUncheckedOp}
+use Rattle.txn_steps.specs.declared.delete.DeleteOp.{DeleteOp}
 use Rattle.txn_steps.specs.Writes.{unchecked_asked, IsUncheckedReply, write_asked, write_asked_at, IsWriteReplyAt}
 use Rattle.txn_steps.specs.Latest.{latest_asked, IsLatestReply}
 use Rattle.txn_steps.specs.Reads.{read_asked, IsReadReply}

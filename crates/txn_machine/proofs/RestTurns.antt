@@ -23,10 +23,10 @@ use Rattle.txn_caches.specs.declared.turned.Turned.TheVariants.{Goes, Done}
 use Rattle.txn_caches.specs.Windows.{held, greatest_held}
 use Rattle.txn_caches.specs.BoundaryChecks.{boundary_check_turned}
 use Rattle.txn_caches.specs.Checks.{check_turned}
-use Rattle.txn_steps.specs.declared.cached.latest.LatestOp.{LatestOp}
-use Rattle.txn_steps.specs.declared.cached.latest.LatestOp.TheVariants as latest
-use Rattle.txn_steps.specs.declared.cached.read.ReadOp.{ReadOp}
-use Rattle.txn_steps.specs.declared.cached.read.ReadOp.TheVariants as reads
+use Rattle.txn_steps.specs.declared.latest.LatestOp.{LatestOp}
+use Rattle.txn_steps.specs.declared.latest.LatestOp.TheVariants as latest
+use Rattle.txn_steps.specs.declared.read.ReadOp.{ReadOp}
+use Rattle.txn_steps.specs.declared.read.ReadOp.TheVariants as reads
 use Rattle.txn_steps.specs.Requests.{version_got, version_page, next_after}
 use Rattle.txn_steps.specs.Latest.{ReadAnswer, greatest_from, latest_turned, paged_turned, unlisted, read_in_hand, probed, keeping, in_hand, held_or_got, chosen, begins_with, found_turned, latest_got, latest_replied}
 use Rattle.txn_steps.specs.Reads.{read_turned, reads_turned, checks_turned}

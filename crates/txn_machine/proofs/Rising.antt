@@ -12,14 +12,14 @@ use Rattle.txn_caches.specs.declared.advance.BoundaryAdvance.{BoundaryAdvance}
 use Rattle.txn_caches.specs.declared.advance.BoundaryAdvance.TheVariants as raising
 use Rattle.txn_caches.specs.declared.advance.AdvanceOp.{AdvanceOp}
 use Rattle.txn_caches.specs.declared.advance.AdvanceOp.TheVariants as advances
-use Rattle.txn_steps.specs.declared.cached.write.WriteStep.{WriteStep}
-use Rattle.txn_steps.specs.declared.cached.write.WriteStep.TheVariants as writes
-use Rattle.txn_steps.specs.declared.cached.write.WriteOp.{WriteOp}
-use Rattle.txn_steps.specs.declared.cached.read.ReadOp.{ReadOp}
-use Rattle.txn_steps.specs.declared.cached.read.ReadOp.TheVariants as reads
-use Rattle.txn_steps.specs.declared.cached.delete.DeleteStep.{DeleteStep}
-use Rattle.txn_steps.specs.declared.cached.delete.DeleteStep.TheVariants as deletes
-use Rattle.txn_steps.specs.declared.cached.delete.DeleteOp.{DeleteOp}
+use Rattle.txn_steps.specs.declared.write.WriteStep.{WriteStep}
+use Rattle.txn_steps.specs.declared.write.WriteStep.TheVariants as writes
+use Rattle.txn_steps.specs.declared.write.WriteOp.{WriteOp}
+use Rattle.txn_steps.specs.declared.read.ReadOp.{ReadOp}
+use Rattle.txn_steps.specs.declared.read.ReadOp.TheVariants as reads
+use Rattle.txn_steps.specs.declared.delete.DeleteStep.{DeleteStep}
+use Rattle.txn_steps.specs.declared.delete.DeleteStep.TheVariants as deletes
+use Rattle.txn_steps.specs.declared.delete.DeleteOp.{DeleteOp}
 use Rattle.txn_history.specs.declared.event.Call.{Call}
 use Rattle.txn_history.specs.declared.trace.Row.{Row}
 use Rattle.txn_history.specs.OneHistory.{Entered, WasNewest}

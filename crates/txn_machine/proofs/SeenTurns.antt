@@ -14,8 +14,8 @@ use Rattle.txn_caches.specs.declared.caches.Cached.{Cached}
 use Rattle.txn_caches.specs.declared.caches.CachedBoundary.{CachedBoundary}
 use Rattle.txn_caches.specs.declared.turned.Turned.TheVariants.{Done}
 use Rattle.txn_caches.specs.Windows.{held}
-use Rattle.txn_steps.specs.declared.cached.seen.ReadUncheckedOp.{ReadUncheckedOp}
-use Rattle.txn_steps.specs.declared.cached.seen.ReadSeenOp.TheVariants as seen
+use Rattle.txn_steps.specs.declared.seen.ReadUncheckedOp.{ReadUncheckedOp}
+use Rattle.txn_steps.specs.declared.seen.ReadSeenOp.TheVariants as seen
 use Rattle.txn_steps.specs.Requests.{version_got}
 use Rattle.txn_steps.specs.SeenSteps.{value_read, as_found, value_got, unchecked_turned as value_turned, seen_turned, seen_looked, seen_keeping, seen_got}
 use Rattle.txn_history.specs.declared.event.Call.{Call}

@@ -7,18 +7,18 @@ use Rattle.txn_store.specs.declared.request.Request.{Request}
 use Rattle.txn_store.specs.declared.request.Reply.{Reply}
 use Rattle.txn_caches.specs.declared.caches.Caches.{Caches}
 use Rattle.txn_caches.specs.Checks.{check_turned}
-use Rattle.txn_steps.specs.declared.cached.write.WriteUncheckedOp.{WriteUncheckedOp}
-use Rattle.txn_steps.specs.declared.cached.write.WriteUncheckedOp.TheVariants as unchecked
-use Rattle.txn_steps.specs.declared.cached.write.WriteStep.{WriteStep}
-use Rattle.txn_steps.specs.declared.cached.write.WriteStep.TheVariants as writes
-use Rattle.txn_steps.specs.declared.cached.write.WriteOp.{WriteOp}
-use Rattle.txn_steps.specs.declared.cached.latest.LatestOp.{LatestOp}
-use Rattle.txn_steps.specs.declared.cached.latest.LatestOp.TheVariants as latest
-use Rattle.txn_steps.specs.declared.cached.read.ReadOp.{ReadOp}
-use Rattle.txn_steps.specs.declared.cached.read.ReadOp.TheVariants as reads
-use Rattle.txn_steps.specs.declared.cached.seen.ReadUncheckedOp.{ReadUncheckedOp}
-use Rattle.txn_steps.specs.declared.cached.seen.ReadSeenOp.{ReadSeenOp}
-use Rattle.txn_steps.specs.declared.cached.seen.ReadSeenOp.TheVariants as seen
+use Rattle.txn_steps.specs.declared.write.WriteUncheckedOp.{WriteUncheckedOp}
+use Rattle.txn_steps.specs.declared.write.WriteUncheckedOp.TheVariants as unchecked
+use Rattle.txn_steps.specs.declared.write.WriteStep.{WriteStep}
+use Rattle.txn_steps.specs.declared.write.WriteStep.TheVariants as writes
+use Rattle.txn_steps.specs.declared.write.WriteOp.{WriteOp}
+use Rattle.txn_steps.specs.declared.latest.LatestOp.{LatestOp}
+use Rattle.txn_steps.specs.declared.latest.LatestOp.TheVariants as latest
+use Rattle.txn_steps.specs.declared.read.ReadOp.{ReadOp}
+use Rattle.txn_steps.specs.declared.read.ReadOp.TheVariants as reads
+use Rattle.txn_steps.specs.declared.seen.ReadUncheckedOp.{ReadUncheckedOp}
+use Rattle.txn_steps.specs.declared.seen.ReadSeenOp.{ReadSeenOp}
+use Rattle.txn_steps.specs.declared.seen.ReadSeenOp.TheVariants as seen
 use Rattle.txn_steps.specs.Requests.{version_got}
 use Rattle.txn_steps.specs.Writes.{unchecked_asked, unchecked_turned, write_asked_at, write_turned_at}
 use Rattle.txn_steps.specs.Latest.{latest_asked, latest_turned}

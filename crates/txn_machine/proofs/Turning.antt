@@ -4,7 +4,7 @@ use Rattle.txn_caches.specs.declared.advance.AdvanceOp.{AdvanceOp}
 use Rattle.txn_caches.specs.declared.turned.Turned.{Turned}
 use Rattle.txn_caches.specs.Steps.{lacks_memory}
 use Rattle.txn_caches.specs.Asking.{unless_lacking}
-use Rattle.txn_steps.specs.declared.cached.read.ReadOp.{ReadOp}
+use Rattle.txn_steps.specs.declared.read.ReadOp.{ReadOp}
 use Rattle.txn_steps.specs.Latest.{ReadAnswer}
 use Rattle.txn_history.specs.declared.event.Answer.{Answer}
 use Rattle.txn_machine.specs.declared.doing.Doing.TheVariants.{Read, Advance}

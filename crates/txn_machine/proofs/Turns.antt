@@ -12,9 +12,9 @@ use Rattle.txn_caches.specs.declared.advance.BoundaryAdvance.{BoundaryAdvance}
 use Rattle.txn_caches.specs.declared.turned.Turned.{Turned}
 use Rattle.txn_caches.specs.declared.turned.Turned.TheVariants.{Goes, Done}
 use Rattle.txn_caches.specs.Boundaries.{Known}
-use Rattle.txn_steps.specs.declared.cached.write.WriteUncheckedOp.{WriteUncheckedOp}
-use Rattle.txn_steps.specs.declared.cached.latest.LatestOp.{LatestOp}
-use Rattle.txn_steps.specs.declared.cached.listing.ListOp.{ListOp}
+use Rattle.txn_steps.specs.declared.write.WriteUncheckedOp.{WriteUncheckedOp}
+use Rattle.txn_steps.specs.declared.latest.LatestOp.{LatestOp}
+use Rattle.txn_steps.specs.declared.listing.ListOp.{ListOp}
 use Rattle.txn_steps.specs.Latest.{ReadAnswer}
 use Rattle.txn_steps.specs.Listed.{Listed}
 use Rattle.txn_history.specs.declared.event.Call.{Call}

@@ -6,8 +6,8 @@ use Rattle.txn_store.specs.Store.{Files, listing, page_of}
 use Rattle.txn_store.specs.declared.page.Page.{Page}
 use Rattle.txn_caches.specs.declared.caches.Cached.{Cached}
 use Rattle.txn_caches.specs.Windows.{Ascends}
-use Rattle.txn_steps.specs.declared.cached.latest.LatestOp.TheVariants as latest
-use Rattle.txn_steps.specs.declared.cached.read.ReadOp.TheVariants as reads
+use Rattle.txn_steps.specs.declared.latest.LatestOp.TheVariants as latest
+use Rattle.txn_steps.specs.declared.read.ReadOp.TheVariants as reads
 use Rattle.txn_steps.specs.Requests.{next_after}
 use Rattle.txn_history.specs.declared.event.Call.TheVariants as calls
 use Rattle.txn_history.specs.declared.event.Told.{Told}

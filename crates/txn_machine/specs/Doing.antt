@@ -18,14 +18,14 @@ use Rattle.txn_caches.specs.declared.turned.Turned.TheVariants as turns
 use Rattle.txn_caches.specs.Asking.{asks, IsGot, IsListed}
 use Rattle.txn_caches.specs.Checks.{check_started, check_asked, check_turned, check_caches, IsCheckReply}
 use Rattle.txn_caches.specs.Advances.{advance_started, advance_asked, advance_turned, advance_caches, IsAdvanceReply}
-use Rattle.txn_steps.specs.declared.cached.write.WriteUncheckedOp.{WriteUncheckedOp}
-use Rattle.txn_steps.specs.declared.cached.write.WriteOp.{WriteOp}
-use Rattle.txn_steps.specs.declared.cached.read.ReadOp.{ReadOp}
-use Rattle.txn_steps.specs.declared.cached.seen.ReadUncheckedOp.{ReadUncheckedOp}
-use Rattle.txn_steps.specs.declared.cached.seen.ReadSeenOp.{ReadSeenOp}
-use Rattle.txn_steps.specs.declared.cached.seen.ReadSeenOp.TheVariants as seen
-use Rattle.txn_steps.specs.declared.cached.listing.ListOp.{ListOp}
-use Rattle.txn_steps.specs.declared.cached.delete.DeleteOp.{DeleteOp}
+use Rattle.txn_steps.specs.declared.write.WriteUncheckedOp.{WriteUncheckedOp}
+use Rattle.txn_steps.specs.declared.write.WriteOp.{WriteOp}
+use Rattle.txn_steps.specs.declared.read.ReadOp.{ReadOp}
+use Rattle.txn_steps.specs.declared.seen.ReadUncheckedOp.{ReadUncheckedOp}
+use Rattle.txn_steps.specs.declared.seen.ReadSeenOp.{ReadSeenOp}
+use Rattle.txn_steps.specs.declared.seen.ReadSeenOp.TheVariants as seen
+use Rattle.txn_steps.specs.declared.listing.ListOp.{ListOp}
+use Rattle.txn_steps.specs.declared.delete.DeleteOp.{DeleteOp}
 use Rattle.txn_steps.specs.Requests.{version_got}
 use Rattle.txn_steps.specs.Latest.{ReadAnswer}
 use Rattle.txn_steps.specs.Writes.{unchecked_started, unchecked_asked, unchecked_turned, unchecked_latest, IsUncheckedReply, write_started, write_asked, write_turned, write_caches, IsWriteReply}

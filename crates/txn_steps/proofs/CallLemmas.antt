@@ -15,19 +15,19 @@ use Rattle.txn_caches.specs.Windows.{held}
 use Rattle.txn_caches.specs.Checks.{check_turned}
 use Rattle.txn_caches.specs.Counts.{Left, nothing_left, both_left, left_after, SpendsOne, check_left}
 use Rattle.txn_caches.proofs.CountLemmas.{after, check_spends}
-use Rattle.txn_steps.specs.declared.cached.write.WriteUncheckedOp.{WriteUncheckedOp}
-use Rattle.txn_steps.specs.declared.cached.write.WriteUncheckedOp.TheVariants as unchecked
-use Rattle.txn_steps.specs.declared.cached.write.WriteStep.{WriteStep}
-use Rattle.txn_steps.specs.declared.cached.write.WriteStep.TheVariants as writes
-use Rattle.txn_steps.specs.declared.cached.write.WriteOp.{WriteOp}
-use Rattle.txn_steps.specs.declared.cached.delete.RemovalStep.{RemovalStep}
-use Rattle.txn_steps.specs.declared.cached.delete.RemovalStep.TheVariants as removals
-use Rattle.txn_steps.specs.declared.cached.delete.DeleteUncheckedOp.{DeleteUncheckedOp}
-use Rattle.txn_steps.specs.declared.cached.delete.DeleteStep.{DeleteStep}
-use Rattle.txn_steps.specs.declared.cached.delete.DeleteStep.TheVariants as deletes
-use Rattle.txn_steps.specs.declared.cached.delete.DeleteOp.{DeleteOp}
-use Rattle.txn_steps.specs.declared.cached.seen.ReadSeenOp.{ReadSeenOp}
-use Rattle.txn_steps.specs.declared.cached.seen.ReadSeenOp.TheVariants as seen
+use Rattle.txn_steps.specs.declared.write.WriteUncheckedOp.{WriteUncheckedOp}
+use Rattle.txn_steps.specs.declared.write.WriteUncheckedOp.TheVariants as unchecked
+use Rattle.txn_steps.specs.declared.write.WriteStep.{WriteStep}
+use Rattle.txn_steps.specs.declared.write.WriteStep.TheVariants as writes
+use Rattle.txn_steps.specs.declared.write.WriteOp.{WriteOp}
+use Rattle.txn_steps.specs.declared.delete.RemovalStep.{RemovalStep}
+use Rattle.txn_steps.specs.declared.delete.RemovalStep.TheVariants as removals
+use Rattle.txn_steps.specs.declared.delete.DeleteUncheckedOp.{DeleteUncheckedOp}
+use Rattle.txn_steps.specs.declared.delete.DeleteStep.{DeleteStep}
+use Rattle.txn_steps.specs.declared.delete.DeleteStep.TheVariants as deletes
+use Rattle.txn_steps.specs.declared.delete.DeleteOp.{DeleteOp}
+use Rattle.txn_steps.specs.declared.seen.ReadSeenOp.{ReadSeenOp}
+use Rattle.txn_steps.specs.declared.seen.ReadSeenOp.TheVariants as seen
 use Rattle.txn_steps.specs.Writes.{put_answered, unchecked_turned, IsUncheckedReply, written_turned, checked_turned, write_turned_at, write_turned, IsWriteReplyAt, IsWriteReply}
 use Rattle.txn_steps.specs.Deletes.{removed, removal_turned_at, removal_turned, IsRemovalReplyAt, IsRemovalReply, checks_turned, removes_turned, delete_turned_at, delete_turned, IsDeleteReplyAt, IsDeleteReply}
 use Rattle.txn_steps.specs.SeenSteps.{seen_looked, seen_keeping, seen_got, seen_turned, IsSeenReply}

@@ -17,10 +17,10 @@ use Rattle.txn_caches.specs.declared.turned.Turned.{Turned}
 use Rattle.txn_caches.specs.declared.turned.Turned.TheVariants.{Goes, Done}
 use Rattle.txn_caches.specs.Windows.{held, greatest_held}
 use Rattle.txn_caches.specs.Checks.{check_turned}
-use Rattle.txn_steps.specs.declared.cached.latest.LatestOp.{LatestOp}
-use Rattle.txn_steps.specs.declared.cached.latest.LatestOp.TheVariants.{Looks, Probes, Finds, Lists, Chooses, Gets, Keeps, Drops, Ended}
-use Rattle.txn_steps.specs.declared.cached.read.ReadOp.{ReadOp}
-use Rattle.txn_steps.specs.declared.cached.read.ReadOp.TheVariants as reads
+use Rattle.txn_steps.specs.declared.latest.LatestOp.{LatestOp}
+use Rattle.txn_steps.specs.declared.latest.LatestOp.TheVariants.{Looks, Probes, Finds, Lists, Chooses, Gets, Keeps, Drops, Ended}
+use Rattle.txn_steps.specs.declared.read.ReadOp.{ReadOp}
+use Rattle.txn_steps.specs.declared.read.ReadOp.TheVariants as reads
 use Rattle.txn_steps.specs.Requests.{next_after}
 use Rattle.txn_steps.specs.Latest.{ReadAnswer, InRange, greatest_from, latest_listing, paged_turned, listed, unlisted, read_in_hand, answered, probed, keeping, in_hand, held_or_got, chosen, begins_with, latest_got, latest_turned}
 use Rattle.txn_steps.specs.Reads.{IsInRange, read_started, reads_turned, checks_turned, read_turned}

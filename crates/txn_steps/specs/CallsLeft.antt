@@ -1,18 +1,18 @@
 -- How many looks and calls of the store an operation has left at most.
 use Rattle.txn_caches.specs.Counts.{Left, nothing_left, both_left, one_look, check_left}
-use Rattle.txn_steps.specs.declared.cached.write.WriteUncheckedOp.{WriteUncheckedOp}
-use Rattle.txn_steps.specs.declared.cached.write.WriteUncheckedOp.TheVariants as unchecked
-use Rattle.txn_steps.specs.declared.cached.write.WriteStep.{WriteStep}
-use Rattle.txn_steps.specs.declared.cached.write.WriteStep.TheVariants as writes
-use Rattle.txn_steps.specs.declared.cached.write.WriteOp.{WriteOp}
-use Rattle.txn_steps.specs.declared.cached.delete.RemovalStep.{RemovalStep}
-use Rattle.txn_steps.specs.declared.cached.delete.RemovalStep.TheVariants as removals
-use Rattle.txn_steps.specs.declared.cached.delete.DeleteUncheckedOp.{DeleteUncheckedOp}
-use Rattle.txn_steps.specs.declared.cached.delete.DeleteStep.{DeleteStep}
-use Rattle.txn_steps.specs.declared.cached.delete.DeleteStep.TheVariants as deletes
-use Rattle.txn_steps.specs.declared.cached.delete.DeleteOp.{DeleteOp}
-use Rattle.txn_steps.specs.declared.cached.seen.ReadSeenOp.{ReadSeenOp}
-use Rattle.txn_steps.specs.declared.cached.seen.ReadSeenOp.TheVariants as seen
+use Rattle.txn_steps.specs.declared.write.WriteUncheckedOp.{WriteUncheckedOp}
+use Rattle.txn_steps.specs.declared.write.WriteUncheckedOp.TheVariants as unchecked
+use Rattle.txn_steps.specs.declared.write.WriteStep.{WriteStep}
+use Rattle.txn_steps.specs.declared.write.WriteStep.TheVariants as writes
+use Rattle.txn_steps.specs.declared.write.WriteOp.{WriteOp}
+use Rattle.txn_steps.specs.declared.delete.RemovalStep.{RemovalStep}
+use Rattle.txn_steps.specs.declared.delete.RemovalStep.TheVariants as removals
+use Rattle.txn_steps.specs.declared.delete.DeleteUncheckedOp.{DeleteUncheckedOp}
+use Rattle.txn_steps.specs.declared.delete.DeleteStep.{DeleteStep}
+use Rattle.txn_steps.specs.declared.delete.DeleteStep.TheVariants as deletes
+use Rattle.txn_steps.specs.declared.delete.DeleteOp.{DeleteOp}
+use Rattle.txn_steps.specs.declared.seen.ReadSeenOp.{ReadSeenOp}
+use Rattle.txn_steps.specs.declared.seen.ReadSeenOp.TheVariants as seen
 
 abbrev pub one_of_each : Left
 one_of_each = record { looks = 1; calls = 1 }

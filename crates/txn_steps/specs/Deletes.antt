@@ -16,12 +16,12 @@ use Rattle.txn_caches.specs.declared.turned.Turned.TheVariants.{Goes, Done}
 use Rattle.txn_caches.specs.Asking.{IsLook, IsDeleted}
 use Rattle.txn_caches.specs.Windows.{without}
 use Rattle.txn_caches.specs.Checks.{check_started, check_asked, check_turned, check_caches, IsCheckReply}
-use Rattle.txn_steps.specs.declared.cached.delete.RemovalStep.{RemovalStep}
-use Rattle.txn_steps.specs.declared.cached.delete.RemovalStep.TheVariants as removal
-use Rattle.txn_steps.specs.declared.cached.delete.DeleteUncheckedOp.{DeleteUncheckedOp}
-use Rattle.txn_steps.specs.declared.cached.delete.DeleteStep.{DeleteStep}
-use Rattle.txn_steps.specs.declared.cached.delete.DeleteStep.TheVariants.{Checks, Removes}
-use Rattle.txn_steps.specs.declared.cached.delete.DeleteOp.{DeleteOp}
+use Rattle.txn_steps.specs.declared.delete.RemovalStep.{RemovalStep}
+use Rattle.txn_steps.specs.declared.delete.RemovalStep.TheVariants as removal
+use Rattle.txn_steps.specs.declared.delete.DeleteUncheckedOp.{DeleteUncheckedOp}
+use Rattle.txn_steps.specs.declared.delete.DeleteStep.{DeleteStep}
+use Rattle.txn_steps.specs.declared.delete.DeleteStep.TheVariants.{Checks, Removes}
+use Rattle.txn_steps.specs.declared.delete.DeleteOp.{DeleteOp}
 
 -- it asks for the removal of the version
 abbrev pub removal_started : Names → ℕ → DeleteUncheckedOp

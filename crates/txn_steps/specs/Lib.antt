@@ -1,8 +1,3 @@
-pub mod CheckSteps
-pub mod WriteSteps
-pub mod ReadSteps
-pub mod AdvanceSteps
-pub mod DeleteSteps
 pub mod Requests
 pub mod Writes
 pub mod Latest

@@ -11,10 +11,10 @@ use Rattle.txn_caches.specs.declared.check.CheckOp.{CheckOp}
 use Rattle.txn_caches.specs.declared.turned.Turned.{Turned}
 use Rattle.txn_caches.specs.declared.turned.Turned.TheVariants.{Goes, Done}
 use Rattle.txn_caches.specs.Checks.{check_of_read, check_asked, check_turned, check_caches, IsCheckReply}
-use Rattle.txn_steps.specs.declared.cached.latest.LatestOp.{LatestOp}
-use Rattle.txn_steps.specs.declared.cached.latest.LatestOp.TheVariants as latest
-use Rattle.txn_steps.specs.declared.cached.read.ReadOp.{ReadOp}
-use Rattle.txn_steps.specs.declared.cached.read.ReadOp.TheVariants.{Reads, Checks, Ended}
+use Rattle.txn_steps.specs.declared.latest.LatestOp.{LatestOp}
+use Rattle.txn_steps.specs.declared.latest.LatestOp.TheVariants as latest
+use Rattle.txn_steps.specs.declared.read.ReadOp.{ReadOp}
+use Rattle.txn_steps.specs.declared.read.ReadOp.TheVariants.{Reads, Checks, Ended}
 use Rattle.txn_steps.specs.Latest.{ReadAnswer, InRange, IsLatestReply, latest_asked, latest_turned, latest_left}
 
 module _ {T : Type 0} where

@@ -13,8 +13,8 @@ use Rattle.txn_caches.specs.declared.turned.Turned.{Turned}
 use Rattle.txn_caches.specs.declared.turned.Turned.TheVariants.{Goes, Done}
 use Rattle.txn_caches.specs.Asking.{IsLook, IsGot}
 use Rattle.txn_caches.specs.Windows.{held, kept}
-use Rattle.txn_steps.specs.declared.cached.seen.ReadSeenOp.{ReadSeenOp}
-use Rattle.txn_steps.specs.declared.cached.seen.ReadSeenOp.TheVariants.{Looks, Gets, Keeps, Ended}
+use Rattle.txn_steps.specs.declared.seen.ReadSeenOp.{ReadSeenOp}
+use Rattle.txn_steps.specs.declared.seen.ReadSeenOp.TheVariants.{Looks, Gets, Keeps, Ended}
 use Rattle.txn_steps.specs.Requests.{version_got}
 
 -- a growth was refused: the refusal 9

@@ -19,11 +19,11 @@ use Rattle.txn_types.specs.Numbers.{number_of}
 use Rattle.txn_caches.specs.Asking.{IsLook, IsPut}
 use Rattle.txn_caches.specs.Windows.{kept}
 use Rattle.txn_caches.specs.Checks.{check_started, check_asked, check_turned, check_caches, IsCheckReply}
-use Rattle.txn_steps.specs.declared.cached.write.WriteUncheckedOp.{WriteUncheckedOp}
-use Rattle.txn_steps.specs.declared.cached.write.WriteUncheckedOp.TheVariants.{Puts, Keeps, Ended}
-use Rattle.txn_steps.specs.declared.cached.write.WriteStep.{WriteStep}
-use Rattle.txn_steps.specs.declared.cached.write.WriteStep.TheVariants.{Writes, Checks}
-use Rattle.txn_steps.specs.declared.cached.write.WriteOp.{WriteOp}
+use Rattle.txn_steps.specs.declared.write.WriteUncheckedOp.{WriteUncheckedOp}
+use Rattle.txn_steps.specs.declared.write.WriteUncheckedOp.TheVariants.{Puts, Keeps, Ended}
+use Rattle.txn_steps.specs.declared.write.WriteStep.{WriteStep}
+use Rattle.txn_steps.specs.declared.write.WriteStep.TheVariants.{Writes, Checks}
+use Rattle.txn_steps.specs.declared.write.WriteOp.{WriteOp}
 
 -- it asks for the create of the version after its base
 abbrev pub unchecked_started : Names → Option ℕ → List ℕ → WriteUncheckedOp

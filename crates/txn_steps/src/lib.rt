@@ -1,4 +1,4 @@
-//! The operations on a transactional object, each as a state that asks one request of the store at a time.
+//! The operations on a transactional object, each as a state that asks for one thing at a time.
 //!
 //! An object is kept as numbered versions, each one file of a store. A client reads the newest version, makes a
 //! candidate from it, and writes the candidate as the version after it, which succeeds for one writer alone. The
@@ -6,19 +6,22 @@
 //! that finds one starts again.
 //!
 //! ## Core types
-//! - `WriteOp`, `ReadOp<T>`, `CheckOp`, `AdvanceOp`, `DeleteOp`: the operations. `ask` is the request that is due,
-//!   and `take` takes the store's reply to it and says by `Turned` of `txn_caches` whether the operation goes on or is
-//!   done. They keep nothing between two calls.
-//! - `Known`: what a get of the boundary file makes known.
-//! - `cached`: the operations of a client that keeps both its caches, which take the place of those.
+//! - `WriteOp`, `WriteUncheckedOp`, `ReadOp<T>`, `LatestOp<T>`, `ReadSeenOp<T>`, `ListOp`, `DeleteOp`,
+//!   `DeleteUncheckedOp`: the operations. `ask` is what is due, a request of the store or a look at the caches of the
+//!   client, and `take` takes the caches and the store's reply, or none for a look, and says by `Turned` of `txn_caches`
+//!   whether the operation goes on or is done.
+//! - `Versions`: what a listing found.
 //!
-//! Ids, errors, codecs and layouts are those of `txn_types`, whose page has the error semantics.
+//! The check of an id and the advance of the boundary, and the caches, are those of `txn_caches`; ids, errors, codecs
+//! and layouts those of `txn_types`, whose page has the error semantics.
 #![tactic(auto)]
 
-pub mod advance;
-pub mod cached;
-pub mod check;
+pub mod counts;
 pub mod delete;
-pub mod known;
+pub mod latest;
+pub mod listing;
 pub mod read;
+pub mod requests;
+pub mod seen;
+pub mod versions;
 pub mod write;

@@ -15,11 +15,11 @@ ghost use Rattle.txn_steps.specs.Deletes.{IsRemovalReply, IsDeleteReply};
 use txn_caches::advance::{AdvanceOp, BoundaryAdvance};
 use txn_caches::boundary_read::BoundaryRead;
 use txn_caches::check::{BoundaryCheck, BoundaryStep, CheckOp};
-use txn_steps::cached::delete::{DeleteOp, DeleteStep, DeleteUncheckedOp, RemovalStep};
-use txn_steps::cached::latest::LatestOp;
-use txn_steps::cached::read::ReadOp;
-use txn_steps::cached::seen::ReadSeenOp;
-use txn_steps::cached::write::{WriteOp, WriteStep, WriteUncheckedOp};
+use txn_steps::delete::{DeleteOp, DeleteStep, DeleteUncheckedOp, RemovalStep};
+use txn_steps::latest::LatestOp;
+use txn_steps::read::ReadOp;
+use txn_steps::seen::ReadSeenOp;
+use txn_steps::write::{WriteOp, WriteStep, WriteUncheckedOp};
 use txn_store::request::Reply;
 
 fn is_look(reply: &Option<Reply>) -> bool

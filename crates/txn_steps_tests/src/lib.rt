@@ -1,6 +1,6 @@
-//! Tests of the caches of a client and of the operations that use them: what no clause says, and that each
-//! call succeeds with ample memory. Most are tables of calls, each with what it says and how many calls of
-//! the store and looks it took, that one function plays. Lines of scripts for the same calls are here too.
+//! Tests of the caches of a client and of the operations: what no clause says, and that each call succeeds with
+//! ample memory. Most are tables of calls, each with what it says and how many calls of the store and looks it
+//! took, that one function plays.
 #![tactic(auto)]
 
 #[cfg(test)]
@@ -12,12 +12,8 @@ mod driven;
 #[cfg(test)]
 mod fits;
 #[cfg(test)]
-mod lines;
-#[cfg(test)]
 mod parts;
 #[cfg(test)]
 mod scenarios;
 #[cfg(test)]
 mod windows;
-#[cfg(test)]
-mod worlds;

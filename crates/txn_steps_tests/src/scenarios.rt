@@ -112,6 +112,9 @@ const FIFTH: &str = "root/test/00000000000000000005.val";
 /// Bytes that a number's codec refuses.
 const REFUSED: &[u8] = b"7 bytes";
 
+/// Eight bytes, which it reads.
+const NOTES: &[u8] = b"8 bytes!";
+
 const SCENARIOS: &[(&str, &[Row])] = &[
     (
         "one client alone knows what it wrote, as far as it holds that",
@@ -343,6 +346,35 @@ const SCENARIOS: &[(&str, &[Row])] = &[
             (A, Read, Found(Some((5, 50))), 5, 11),
             (A, Holds(&[5]), Is(true), 0, 0),
             (A, Knows(Some(4)), Is(true), 0, 0),
+        ],
+    ),
+    (
+        "a read passes over what is no version",
+        &[
+            (
+                A,
+                Put("root/test/00000000000000000009.vat", NOTES),
+                Did,
+                1,
+                0,
+            ),
+            (A, Latest, Found(None), 1, 2),
+            (A, Put("root/test/9.val", NOTES), Did, 1, 0),
+            (A, Latest, Found(None), 1, 2),
+            (A, Put("root/test/notes.txt", NOTES), Did, 1, 0),
+            (A, Latest, Found(None), 1, 2),
+            (
+                A,
+                Put("root/test/a/00000000000000000009.val", NOTES),
+                Did,
+                1,
+                0,
+            ),
+            (A, Latest, Found(None), 1, 2),
+            (A, Put("root/00000000000000000009.val", NOTES), Did, 1, 0),
+            (A, Latest, Found(None), 1, 2),
+            (A, WriteUnchecked(0, 40), Wrote(1), 1, 1),
+            (B, Read, Found(Some((1, 40))), 3, 5),
         ],
     ),
     (

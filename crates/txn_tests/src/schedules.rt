@@ -1,169 +1,227 @@
-//! Schedules of events, as lines of a script: what a world says of them that no printed line shows.
+//! Schedules of store calls: what a world says of them that no printed line shows.
+ghost use Rattle.std.specs.Prelude.{◌≤◌};
+
+use crate::worlds::{Records, event_of, serves};
 use std::alloc::{AllocError, Global};
 use std::test::Fail;
-use txn_model::event::Event;
-use txn_model::trace::Row;
-use txn_script::line::{Line, read_line};
-use txn_script::record::{Record, RecordCodec};
+use txn_history::trace::Row;
+use txn_lines::record::{Record, RecordCodec, RecordEpoch};
 use txn_store::path::Path;
 use txn_store::request::Request;
 use txn_types::boundary::read_boundary;
 use txn_types::layout::PAGE;
 use txn_world::world::World;
 
-/// Events that two clients take, and what comes of them.
+/// What is done in a schedule.
+#[derive(Clone, Copy)]
+enum Step {
+    /// The event of this line.
+    Line(&'static str),
+    /// The operation goes on until the store has served so many of its requests and it asks for another.
+    Serves(u64, u64),
+    /// The operation goes on to its answer.
+    Runs(u64),
+}
+
+use Step::{Line, Runs, Serves};
+
+/// What two clients do, and what comes of it.
 struct Schedule {
     name: &'static str,
-    lines: &'static [&'static str],
-    /// How many of the events are taken.
-    taken: u64,
+    steps: &'static [Step],
     /// How many requests change the store.
     effects: usize,
     /// The numbers that are put in the boundary file, in order.
     raised: &'static [u64],
 }
 
-/// Their answers and end lines stand in the cases of the same names.
 const SCHEDULES: &[Schedule] = &[
     Schedule {
         name: "an advance to where the boundary is puts nothing",
-        lines: &[
-            "begin 1 write - 0:7\nserve 1\nserve 1",
-            "begin 1 write 1 0:8\nserve 2\nserve 2",
-            "begin 1 advance 1\nserve 3\nserve 3",
-            "begin 2 advance 1\nserve 4",
-            "begin 2 advance 0\nserve 5",
+        steps: &[
+            Line("begin 1 write - 0:7"),
+            Runs(1),
+            Line("begin 1 write 1 0:8"),
+            Runs(2),
+            Line("begin 1 advance 1"),
+            Runs(3),
+            Line("begin 2 advance 1"),
+            Runs(4),
+            Line("begin 2 advance 0"),
+            Runs(5),
         ],
-        taken: 13,
         effects: 3,
         raised: &[1],
     },
     Schedule {
         name: "a version removed under a reader",
-        lines: &[
-            "begin 1 write - 0:7\nserve 1\nserve 1",
+        steps: &[
+            Line("begin 1 write - 0:7"),
+            Runs(1),
             // The reader lists version 1.
-            "begin 2 read\nserve 2",
-            "begin 1 write 1 0:8\nserve 3\nserve 3",
-            "begin 1 advance 1\nserve 4\nserve 4",
-            "begin 1 delete 1\nserve 5\nserve 5",
+            Line("begin 2 read"),
+            Serves(2, 1),
+            Line("begin 1 write 1 0:8"),
+            Runs(3),
+            Line("begin 1 advance 1"),
+            Runs(4),
+            Line("begin 1 delete 1"),
+            Runs(5),
             // It finds no version 1, and lists again.
-            "serve 2\nserve 2\nserve 2\nserve 2",
+            Runs(2),
         ],
-        taken: 18,
         effects: 4,
         raised: &[1],
     },
     Schedule {
         name: "a reader overtaken by the boundary",
-        lines: &[
-            "begin 1 write - 0:7\nserve 1\nserve 1",
+        steps: &[
+            Line("begin 1 write - 0:7"),
+            Runs(1),
             // The reader lists version 1 and gets it.
-            "begin 2 read\nserve 2\nserve 2",
-            "begin 1 write 1 0:8\nserve 3\nserve 3",
-            "begin 1 advance 1\nserve 4\nserve 4",
-            // Its check finds the boundary there, and it lists again.
-            "serve 2\nserve 2\nserve 2\nserve 2",
+            Line("begin 2 read"),
+            Serves(2, 2),
+            Line("begin 1 write 1 0:8"),
+            Runs(3),
+            Line("begin 1 advance 1"),
+            Runs(4),
+            // Its check finds the boundary there, and it begins again.
+            Runs(2),
         ],
-        taken: 16,
         effects: 3,
         raised: &[1],
     },
     Schedule {
         name: "the greater of two advances comes first",
-        lines: &[
-            "begin 1 write - 0:7\nserve 1\nserve 1",
-            "begin 1 write 1 0:8\nserve 2\nserve 2",
-            "begin 1 write 2 0:9\nserve 3\nserve 3",
+        steps: &[
+            Line("begin 1 write - 0:7"),
+            Runs(1),
+            Line("begin 1 write 1 0:8"),
+            Runs(2),
+            Line("begin 1 write 2 0:9"),
+            Runs(3),
             // Both find no boundary file.
-            "begin 1 advance 1\nserve 4",
-            "begin 2 advance 2\nserve 5\nserve 5",
+            Line("begin 1 advance 1"),
+            Serves(4, 1),
+            Line("begin 2 advance 2"),
+            Runs(5),
             // The lesser one's put is not taken; it gets the file again.
-            "serve 4\nserve 4",
+            Runs(4),
         ],
-        taken: 16,
         effects: 4,
         raised: &[2],
     },
     Schedule {
         name: "the lesser of two advances comes first",
-        lines: &[
-            "begin 1 write - 0:6\nserve 1\nserve 1",
-            "begin 1 write 1 0:7\nserve 2\nserve 2",
-            "begin 1 write 2 0:8\nserve 3\nserve 3",
-            "begin 1 write 3 0:9\nserve 4\nserve 4",
-            "begin 1 advance 1\nserve 5\nserve 5",
-            // Both find the boundary 1, and put over the same file.
-            "begin 1 advance 3\nserve 6",
-            "begin 2 advance 2\nserve 7\nserve 7",
-            // The greater one's put is not taken; it gets the file again, and puts over that.
-            "serve 6\nserve 6\nserve 6",
+        steps: &[
+            Line("begin 1 write - 0:6"),
+            Runs(1),
+            Line("begin 1 write 1 0:7"),
+            Runs(2),
+            Line("begin 1 write 2 0:8"),
+            Runs(3),
+            Line("begin 1 write 3 0:9"),
+            Runs(4),
+            Line("begin 1 advance 1"),
+            Runs(5),
+            // It knows the boundary 1, and is to put over that.
+            Line("begin 1 advance 3"),
+            Serves(6, 0),
+            Line("begin 2 advance 2"),
+            Runs(7),
+            // Its put is not taken; it gets the file, and puts over that.
+            Runs(6),
         ],
-        taken: 23,
         effects: 7,
         raised: &[1, 2, 3],
     },
     Schedule {
         name: "deletes out of order",
-        lines: &[
-            "begin 1 write - 0:6\nserve 1\nserve 1",
-            "begin 1 write 1 0:7\nserve 2\nserve 2",
-            "begin 1 write 2 0:8\nserve 3\nserve 3",
-            "begin 1 write 3 0:9\nserve 4\nserve 4",
-            "begin 1 advance 3\nserve 5\nserve 5",
-            "begin 1 delete 3\nserve 6\nserve 6",
-            "begin 1 delete 1",
+        steps: &[
+            Line("begin 1 write - 0:6"),
+            Runs(1),
+            Line("begin 1 write 1 0:7"),
+            Runs(2),
+            Line("begin 1 write 2 0:8"),
+            Runs(3),
+            Line("begin 1 write 3 0:9"),
+            Runs(4),
+            Line("begin 1 advance 3"),
+            Runs(5),
             // Two deletes of version 3, of which the second removes nothing.
-            "begin 2 delete 3\nserve 8\nserve 7\nserve 7\nserve 8",
-            "begin 2 delete 2\nserve 9\nserve 9",
+            Line("begin 2 delete 3"),
+            Serves(6, 1),
+            Line("begin 1 delete 3"),
+            Runs(7),
+            Runs(6),
+            Line("begin 1 delete 1"),
+            Runs(8),
+            Line("begin 2 delete 2"),
+            Runs(9),
         ],
-        taken: 27,
         effects: 8,
         raised: &[3],
     },
     Schedule {
         name: "a late write is fenced",
-        lines: &[
-            "begin 2 write - 0:5",
-            "begin 1 write - 0:7\nserve 2\nserve 2",
-            "begin 1 write 1 0:8\nserve 3\nserve 3",
-            "begin 1 advance 1\nserve 4\nserve 4",
-            "begin 1 delete 1\nserve 5\nserve 5",
+        steps: &[
+            Line("begin 2 write - 0:5"),
+            Line("begin 1 write - 0:7"),
+            Runs(2),
+            Line("begin 1 write 1 0:8"),
+            Runs(3),
+            Line("begin 1 advance 1"),
+            Runs(4),
+            Line("begin 1 delete 1"),
+            Runs(5),
             // The first write creates version 1 again, and its check finds the boundary there.
-            "serve 1\nserve 1",
-            "begin 2 read\nserve 6\nserve 6\nserve 6",
+            Runs(1),
+            Line("begin 2 read"),
+            Runs(6),
         ],
-        taken: 19,
         effects: 5,
         raised: &[1],
     },
     Schedule {
-        name: "a run goes past refused events",
-        lines: &[
-            "begin 1 write - 0:1\nserve 2\nserve 1\nserve 1",
-            "begin 1 write 1 0:2",
-            "begin 3 read\nserve 2\nserve 2",
+        name: "requests that land late",
+        steps: &[
+            Line("begin 1 write_unchecked - 0:7"),
+            Line("fail 1 loose"),
+            Line("begin 2 write_unchecked - 0:8"),
+            Line("fail 2 after"),
+            // Version 1 stands, and was removed by none.
+            Line("land 1"),
+            Line("crash 1"),
         ],
-        taken: 6,
-        effects: 2,
+        effects: 1,
         raised: &[],
     },
 ];
 
-/// The events that these lines say.
-fn events(alloc: Global, lines: &[&str]) -> Result<Vec<Event<Record>>, Fail> {
-    let mut events = Vec::new(alloc);
-    for some in lines {
-        for line in some.lines() {
-            let event = match read_line(line) {
-                Some(Line::Begin(client, call)) => Event::Begin(client, call),
-                Some(Line::Serve(op)) => Event::Serve(op),
-                _ => Err("no event")?,
-            };
-            events.push(event)?;
+/// Does what a schedule says.
+fn play(world: &mut Records, steps: &[Step]) -> Result<(), Fail> {
+    for step in steps {
+        match step {
+            Step::Line(line) => {
+                if world.take(event_of(line)?).is_err() {
+                    return Err("a refused event")?;
+                }
+            }
+            Step::Serves(op, requests) => serves(world, *op, *requests),
+            Step::Runs(op) => serves(world, *op, 64),
         }
     }
-    Ok(events)
+    Ok(())
+}
+
+/// A world of so many clients in which a schedule is done.
+fn done(alloc: Global, clients: u64, steps: &[Step]) -> Result<Records, Fail>
+    requires some { 1 ≤ clients }
+    requires few { clients ≤ 64 }
+{
+    let mut world = World::new(alloc, RecordCodec, RecordEpoch, clients, PAGE)?;
+    play(&mut world, steps)?;
+    Ok(world)
 }
 
 /// A row as text.
@@ -231,27 +289,15 @@ fn raised(alloc: Global, rows: &[Row<Record>]) -> Result<Vec<u64>, Fail> {
 /// What a world says of a schedule.
 #[derive(Debug, Drop, PartialEq, Eq)]
 struct Outcome {
-    taken: u64,
     effects: usize,
     boundary: u64,
     raised: Vec<u64>,
 }
 
 fn outcome_of(alloc: Global, schedule: &Schedule) -> Result<Outcome, Fail> {
-    let events = events(alloc, schedule.lines)?;
-    let mut world = World::new(alloc, RecordCodec, 2, PAGE)?;
-    let taken = world.run(events);
-    outcome_in(alloc, &world, taken)
-}
-
-fn outcome_in(
-    alloc: Global,
-    world: &World<Record, RecordCodec>,
-    taken: u64,
-) -> Result<Outcome, Fail> {
+    let world = done(alloc, 2, schedule.steps)?;
     let effects = effect_texts(alloc, world.trace())?.len();
     Ok(Outcome {
-        taken,
         effects,
         boundary: world.boundary(),
         raised: raised(alloc, world.trace())?,
@@ -262,7 +308,6 @@ fn wanted(alloc: Global, schedule: &Schedule) -> Result<Outcome, AllocError> {
     let mut raised = Vec::new(alloc);
     raised.extend_from_slice(schedule.raised)?;
     Ok(Outcome {
-        taken: schedule.taken,
         effects: schedule.effects,
         boundary: schedule.raised.last().copied().unwrap_or(0),
         raised,
@@ -286,7 +331,7 @@ const WRITE_ROWS: &[&str] = &[
     "1 is answered Wrote(1)",
 ];
 
-const WRITE: &[&str] = &["begin 1 write - 0:1\nserve 1\nserve 1"];
+const WRITE: &[Step] = &[Line("begin 1 write - 0:1"), Runs(1)];
 
 /// What changed the store where the boundary was raised twice and a version was removed.
 const EFFECT_ROWS: &[&str] = &[
@@ -298,22 +343,20 @@ const EFFECT_ROWS: &[&str] = &[
     "6 removes root/test/00000000000000000001.val",
 ];
 
-const EFFECTS: &[&str] = &[
-    "begin 1 write - 0:1\nserve 1\nserve 1",
-    "begin 1 write 1 0:2\nserve 2\nserve 2",
-    "begin 1 write 2 0:1\nserve 3\nserve 3",
-    "begin 1 advance 1\nserve 4\nserve 4",
-    "begin 1 advance 2\nserve 5\nserve 5",
-    "begin 1 delete 1\nserve 6\nserve 6",
+const EFFECTS: &[Step] = &[
+    Line("begin 1 write - 0:1"),
+    Runs(1),
+    Line("begin 1 write 1 0:2"),
+    Runs(2),
+    Line("begin 1 write 2 0:1"),
+    Runs(3),
+    Line("begin 1 advance 1"),
+    Runs(4),
+    Line("begin 1 advance 2"),
+    Runs(5),
+    Line("begin 1 delete 1"),
+    Runs(6),
 ];
-
-/// A world with one client after these events.
-fn ran(alloc: Global, lines: &[&str]) -> Result<World<Record, RecordCodec>, Fail> {
-    let events = events(alloc, lines)?;
-    let mut world = World::new(alloc, RecordCodec, 1, PAGE)?;
-    world.run(events);
-    Ok(world)
-}
 
 fn are(texts: &[String], wanted: &[&str]) -> bool {
     for (text, want) in texts.iter().zip(wanted) {
@@ -324,15 +367,15 @@ fn are(texts: &[String], wanted: &[&str]) -> bool {
     texts.len() == wanted.len()
 }
 
-/// Whether these events make these rows.
-fn makes_rows(alloc: Global, lines: &[&str], wanted: &[&str]) -> Result<bool, Fail> {
-    let world = ran(alloc, lines)?;
+/// Whether one client that does this leaves these rows.
+fn makes_rows(alloc: Global, steps: &[Step], wanted: &[&str]) -> Result<bool, Fail> {
+    let world = done(alloc, 1, steps)?;
     Ok(are(&row_texts(alloc, world.trace())?, wanted))
 }
 
-/// Whether these events make these rows of requests that changed the store.
-fn makes_effects(alloc: Global, lines: &[&str], wanted: &[&str]) -> Result<bool, Fail> {
-    let world = ran(alloc, lines)?;
+/// Whether it leaves these rows of requests that changed the store.
+fn makes_effects(alloc: Global, steps: &[Step], wanted: &[&str]) -> Result<bool, Fail> {
+    let world = done(alloc, 1, steps)?;
     Ok(are(&effect_texts(alloc, world.trace())?, wanted))
 }
 

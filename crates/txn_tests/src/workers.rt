@@ -7,8 +7,8 @@ use std::sync::{Mutex, Wait};
 use std::test::Fail;
 use std::thread;
 use std::thread::Threads;
-use txn_model::event::{Call, Event, EventFault, Told};
-use txn_script::record::{Record, RecordCodec};
+use txn_history::event::{Call, Event, EventFault, Told};
+use txn_lines::record::{Record, RecordCodec, RecordEpoch};
 use txn_threads::finish::{FinishFault, finish};
 use txn_threads::gate::{FreeGate, Gate, GateSpent};
 use txn_threads::kept::{Kept, Share};
@@ -16,14 +16,14 @@ use txn_threads::work::{End, Job, Worker, work, work_all};
 use txn_types::layout::PAGE;
 use txn_world::world::World;
 
-type Records = Kept<Record, RecordCodec>;
+type Records = Kept<Record, RecordCodec, RecordEpoch>;
 
 fn kept_by(alloc: Global, workers: u64) -> Result<(Records, Vec<Share>), AllocError>
     requires some { 1 ≤ workers }
     requires few { workers ≤ 64 }
     ensures { IfOk result (λ made. vec_len made.1 ≡ workers) }
 {
-    let world = World::new(alloc, RecordCodec, workers, PAGE)?;
+    let world = World::new(alloc, RecordCodec, RecordEpoch, workers, PAGE)?;
     Kept::new(alloc, world, workers)
 }
 
@@ -42,11 +42,11 @@ const THREE: Record = Record {
     payload: 3,
 };
 
-/// Takes an event, and says whether it was told this.
-fn tells(kept: &mut Records, share: &mut Share, event: Event<Record>, want: &Told<Record>) -> bool {
-    match kept.take(share, event) {
-        Ok(told) => *told == *want,
-        Err(_) => false,
+/// Begins a read of client 1, and says whether it was told that it began as the first operation.
+fn begins(kept: &mut Records, share: &mut Share) -> bool {
+    match kept.take(share, Event::Begin(1, Call::Read)) {
+        Ok(Told::Began(op)) => *op == 1,
+        _ => false,
     }
 }
 
@@ -55,8 +55,7 @@ fn tells(kept: &mut Records, share: &mut Share, event: Event<Record>, want: &Tol
 type Began = (bool, bool, (u64, u64), (usize, usize), usize);
 
 fn began(kept: &mut Records, first: &mut Share) -> Began {
-    let begin = Event::Begin(1, Call::Read);
-    let is_told = tells(kept, first, begin, &Told::Began(1));
+    let is_told = begins(kept, first);
     // No operation has the number 2.
     let is_refused = kept.take(first, Event::Serve(2)).is_err();
     let lengths = (kept.world().trace().len(), kept.journal().len());
@@ -110,8 +109,8 @@ const JOBS: &[JobsRow] = &[
             Job::WriteOnRead(THREE),
         ],
         end: End::Done,
-        // A write is three events, a read four, and a refused delete two.
-        count: 19,
+        // A write is six events, a read of what the worker holds six, and a refused delete four.
+        count: 34,
         // A write makes three rows, and each of the others two.
         rows: 15,
         entries: &[ONE, TWO, THREE],
@@ -192,6 +191,13 @@ fn a_worker_alone_does_its_jobs_in_order(rt: HostRuntime) -> Result<(), Fail> {
     Ok(())
 }
 
+/// The faults of finishing by their numbers.
+const FAULTS: [(FinishFault, u8); 3] = [
+    (FinishFault::ShareMissing, 1),
+    (FinishFault::CountsDiffer, 2),
+    (FinishFault::NoMemory, 3),
+];
+
 /// What finishing gives where a share is lost.
 fn with_a_share_lost(alloc: Global) -> Result<Result<Vec<u64>, FinishFault>, AllocError> {
     let (kept, mut shares) = kept_by(alloc, 2)?;
@@ -227,8 +233,7 @@ fn with_a_share_twice(alloc: Global) -> Result<Result<Vec<u64>, FinishFault>, Al
 /// The shares of a world in which a worker began a read.
 fn shares_of_a_read(alloc: Global) -> Result<Vec<Share>, Fail> {
     let (mut kept, mut shares) = kept_by(alloc, 1)?;
-    let began = Event::Begin(1, Call::Read);
-    if !tells(&mut kept, &mut shares[0], began, &Told::Began(1)) {
+    if !begins(&mut kept, &mut shares[0]) {
         return Err("a begin is refused")?;
     }
     Ok(shares)
@@ -254,6 +259,9 @@ fn shares_that_do_not_finish_the_kept_world(rt: HostRuntime) -> Result<(), Fail>
         in_anothers_place(rt.alloc())?,
         Err(FinishFault::CountsDiffer)
     );
+    for (fault, number) in FAULTS {
+        assert_eq!(rt; fault.number(), number);
+    }
     Ok(())
 }
 

@@ -1,3 +1,6 @@
-pub mod Serving
+pub mod Indexes
 pub mod Ascending
-pub mod Entries
+pub mod Running
+pub mod Acting
+pub mod Stepping
+pub mod Reached

@@ -1,6 +1,7 @@
 //! Clients over one store of versions, one event at a time.
 #![tactic(auto)]
 
+mod clients;
 mod requests;
 mod tables;
 mod trace;

@@ -2,9 +2,9 @@
 ghost use Rattle.std.specs.Prelude.{◌≡◌};
 ghost use Rattle.std.specs.Option.{option_map};
 ghost use Rattle.txn_store.specs.VersionOf.{version_of};
-ghost use Rattle.txn_model.specs.Names.{world_names, world_boundary};
-ghost use Rattle.txn_model.specs.History.{created, removed};
-ghost use Rattle.txn_model.specs.Machine.{boundary_after};
+ghost use Rattle.txn_history.specs.Names.{world_names, world_boundary};
+ghost use Rattle.txn_history.specs.History.{created, removed};
+ghost use Rattle.txn_world.specs.Beside.{boundary_after};
 
 use bytes::Bytes;
 use txn_store::path::Path;
@@ -32,6 +32,17 @@ pub(crate) fn created_version<'a>(
             Some(id) => Some((id, bytes)),
             None => None,
         },
+        _ => None,
+    }
+}
+
+/// The id of the version that a request creates.
+pub(crate) fn created_id(names: &VersionNames, request: &Request) -> Option<u64>
+    requires { names.now ≡ world_names }
+    ensures { result ≡ option_map (λ version. version.0) (created request.now) }
+{
+    match request {
+        Request::Put { path, .. } => version_of(names, path),
         _ => None,
     }
 }

@@ -1,22 +1,31 @@
 //! The rows so far, with what is looked up in them.
-ghost use Rattle.std.specs.Prelude.{◌≡◌, ◌||◌, ◌++◌, ◌∷◌, [], ◌<◌, ◌≤◌, ◌+◌, ℕ, nat_eq, nat_lt, vec_len, vec_capacity};
+ghost use Rattle.std.specs.Prelude.{◌≡◌, ◌||◌, ◌++◌, ◌∷◌, [], ◌<◌, ◌≤◌, ◌+◌, ℕ, length, max, if◌then◌else◌, nat_eq, nat_lt, vec_len, vec_capacity};
 ghost use Rattle.std.specs.HashSet.{contains, spare};
-ghost use Rattle.txn_model.specs.History.{is_id, boundary, was_erased};
-ghost use Rattle.txn_model.specs.Calls.{was_told, is_below_told, id_told};
+ghost use Rattle.std.specs.List.{list_any};
+ghost use Rattle.std.specs.Option.{ForSome};
+ghost use Rattle.txn_history.specs.Names.{world_names, world_boundary};
+ghost use Rattle.txn_history.specs.History.{is_id, boundary, was_erased, has_id, versions_of};
+ghost use Rattle.txn_history.specs.Calls.{was_told, is_below_told, tells_id};
+ghost use Rattle.txn_machine.specs.Doing.{first_of};
+ghost use Rattle.txn_world.specs.Beside.{is_among, epochs_of, told_count, IsAfforded};
 
-use crate::requests::{boundary_after, removed_id};
+use crate::requests::{boundary_after, created_id, created_version, removed_id};
 use std::alloc::{AllocError, Global};
 use std::collections::HashSet;
-use txn_model::event::{Answer, Call};
-use txn_model::trace::Row;
+use txn_history::event::{Answer, Call};
+use txn_history::trace::Row;
 use txn_store::request::Request;
+use txn_types::codec::{CodecFault, ObjectCodec};
+use txn_types::epoch::EpochField;
 use txn_types::layout::Layout;
 use txn_types::room::push_within;
 
-/// The rows so far. What they told, reached and erased stands beside them, so that it is looked up and
-/// not searched for.
+/// The rows so far, where their files lie, and how their values are read. What the rows told, reached, created and
+/// erased stands beside them, so that it is looked up and not searched for.
 #[derive(Drop)]
-pub(crate) struct Trace<T> {
+pub(crate) struct Trace<T: Drop, C: ObjectCodec<T> + Drop, E: EpochField<T>> {
+    pub layout: Layout<C>,
+    pub field: E,
     pub rows: Vec<Row<T>>,
     /// The ids that were told.
     pub told: HashSet<u64>,
@@ -26,28 +35,48 @@ pub(crate) struct Trace<T> {
     pub reached: u64,
     /// The ids whose names were removed.
     pub erased: HashSet<u64>,
+    /// The ids of the versions.
+    pub created: HashSet<u64>,
+    /// The epoch of each version, in the order of creation: 0 where the codec does not read its bytes.
+    pub epochs: Vec<u64>,
+    ghost names: { layout.names ≡ world_names },
+    ghost boundary_file: { layout.boundary ≡ world_boundary },
     ghost all_told: { (n : ℕ) → contains nat_eq told n ≡ was_told rows.items n },
     ghost all_below: { (n : ℕ) → nat_lt n greatest ≡ is_below_told rows.items n },
     ghost is_reached: { reached ≡ boundary rows.items },
     ghost all_erased: { (n : ℕ) → contains nat_eq erased n ≡ was_erased rows.items n },
+    ghost all_created: { (n : ℕ) → contains nat_eq created n ≡ has_id (versions_of rows.items) n },
+    ghost all_epochs: { epochs.items ≡ epochs_of (C.decoded layout.codec) (E.epoch_of field) (versions_of rows.items) },
 }
 
-impl<T: Drop> Trace<T> {
-    ghost use Rattle.std.specs.Prelude.{◌≡◌, ◌++◌, ◌∷◌, [], ◌<◌, ◌≤◌, ◌+◌, OnOk, vec_len, vec_capacity};
+impl<T: Drop, C: ObjectCodec<T> + Drop, E: EpochField<T>> Trace<T, C, E> {
+    ghost use Rattle.std.specs.Prelude.{◌≡◌, ◌++◌, ◌∷◌, [], ◌<◌, ◌≤◌, ◌+◌, IfOk, OnOk, Some, vec_len, vec_capacity};
     ghost use Rattle.std.specs.HashSet.{spare};
-    ghost use Rattle.txn_model.specs.Names.{world_names, world_boundary};
-    ghost use Rattle.txn_model.specs.Calls.{was_told, is_below_told};
-    ghost use Rattle.txn_model.specs.Machine.{effect_rows};
+    ghost use Rattle.std.specs.Option.{ForSome};
+    ghost use Rattle.txn_history.specs.Names.{world_names, world_boundary};
+    ghost use Rattle.txn_history.specs.History.{created, epoch_at};
+    ghost use Rattle.txn_history.specs.Calls.{was_told, is_below_told};
+    ghost use Rattle.txn_machine.specs.Doing.{first_of};
+    ghost use Rattle.txn_machine.specs.Machine.{effect_rows};
+    ghost use Rattle.txn_world.specs.Beside.{epoch_made, told_count, IsAfforded};
 
-    pub fn new(alloc: Global) -> Trace<T>
-        ensures { result.rows.items ≡ [] }
+    pub fn new(alloc: Global, layout: Layout<C>, field: E) -> Trace<T, C, E>
+        requires names { layout.names ≡ world_names }
+        requires boundary { layout.boundary ≡ world_boundary }
+        ensures rows { result.rows.items ≡ [] }
+        ensures layout { result.layout ≡ layout }
+        ensures field { result.field ≡ field }
     {
         Trace {
+            layout,
+            field,
             rows: Vec::new(alloc),
             told: HashSet::new(alloc),
             greatest: 0,
             reached: 0,
             erased: HashSet::new(alloc),
+            created: HashSet::new(alloc),
+            epochs: Vec::new(alloc),
         }
     }
 
@@ -65,21 +94,77 @@ impl<T: Drop> Trace<T> {
         id < self.greatest
     }
 
-    /// Makes room for the rows of one event, of which two are the most, and for an id.
+    /// The epoch of entry `number`, 0 where there is none.
+    pub fn epoch_at(&self, number: u64) -> u64
+        ensures { result ≡ epoch_at (C.decoded self.now.layout.codec) (E.epoch_of self.now.field) self.now.rows.items number }
+    {
+        if number == 0 {
+            return 0;
+        }
+        match self.epochs.get((number - 1) as usize) {
+            Some(epoch) => *epoch,
+            None => 0,
+        }
+    }
+
+    /// The epoch of the version that a request creates: 0 where it creates none, or the codec does not read its bytes.
+    /// The only error is want of memory.
+    pub fn epoch_made(&self, alloc: Global, request: &Request) -> Result<u64, AllocError>
+        ensures { IfOk result (λ epoch. epoch ≡ epoch_made (C.decoded self.now.layout.codec) (E.epoch_of self.now.field) (created request.now)) }
+    {
+        let Some((_, bytes)) = created_version(&self.layout.names, request) else {
+            return Ok(0);
+        };
+        match self.layout.codec.decode(alloc, bytes) {
+            Ok(value) => Ok(self.field.get_epoch(&value)),
+            Err(CodecFault::NoMemory) => Err(AllocError),
+            Err(CodecFault::Refused(_)) => Ok(0),
+        }
+    }
+
+    /// Makes room for the rows of one event, of which two are the most, for an id that is told, and for a version.
     pub fn reserve(&mut self) -> Result<(), AllocError>
+        ensures layout { self.new.layout ≡ self.old.layout }
+        ensures field { self.new.field ≡ self.old.field }
         ensures rows { self.new.rows.items ≡ self.old.rows.items }
         ensures room { OnOk result (vec_len self.new.rows + 2 ≤ vec_capacity self.new.rows) }
         ensures spare { OnOk result (1 ≤ spare self.new.told) }
         ensures spare_erased { OnOk result (1 ≤ spare self.new.erased) }
+        ensures spare_created { OnOk result (1 ≤ spare self.new.created) }
+        ensures room_epochs { OnOk result (vec_len self.new.epochs < vec_capacity self.new.epochs) }
     {
         self.rows.reserve(2)?;
         self.erased.reserve(1)?;
+        self.created.reserve(1)?;
+        self.epochs.reserve(1)?;
         self.told.reserve(1)
+    }
+
+    /// Makes room for the ids of an answer, for one of which there is room. Where that growth is refused the answer
+    /// becomes the refusal 9, which only a list of ids does.
+    pub fn afford(
+        &mut self,
+        answers: Option<(Answer<T>, Answer<T>)>,
+    ) -> Option<(Answer<T>, Answer<T>)>
+        requires room { 1 ≤ spare self.old.told }
+        requires twice { ForSome answers (λ pair. pair.1 ≡ pair.0) }
+        ensures layout { self.new.layout ≡ self.old.layout }
+        ensures field { self.new.field ≡ self.old.field }
+        ensures rows { self.new.rows.items ≡ self.old.rows.items }
+        ensures len { vec_len self.new.rows ≡ vec_len self.old.rows }
+        ensures capacity { vec_capacity self.new.rows ≡ vec_capacity self.old.rows }
+        ensures afforded { IsAfforded (first_of answers) (first_of result) }
+        ensures twice { ForSome result (λ pair. pair.1 ≡ pair.0) }
+        ensures spare { ForSome result (λ pair. told_count pair.0 ≤ spare self.new.told) }
+    {
+        afford(&mut self.told, answers)
     }
 
     /// Adds that an operation began.
     pub fn begin(&mut self, op: u64, call: Call<T>)
         requires { vec_len self.old.rows < vec_capacity self.old.rows }
+        ensures layout { self.new.layout ≡ self.old.layout }
+        ensures field { self.new.field ≡ self.old.field }
         ensures rows { self.new.rows.items ≡ self.old.rows.items ++ Row.Begun op call ∷ [] }
         ensures len { vec_len self.new.rows ≡ vec_len self.old.rows + 1 }
         ensures capacity { vec_capacity self.old.rows ≤ vec_capacity self.new.rows }
@@ -88,20 +173,25 @@ impl<T: Drop> Trace<T> {
         push_within(&mut self.rows, Row::Begun(op, call));
     }
 
-    /// Adds the request of an operation, where one changed the store.
-    pub fn effect<C>(&mut self, layout: &Layout<C>, op: u64, request: Option<Request>)
-        requires names { layout.now.names ≡ world_names }
-        requires boundary { layout.now.boundary ≡ world_boundary }
+    /// Adds the request of an operation, where one changed the store. The epoch is that of the version that it creates.
+    pub fn effect(&mut self, op: u64, request: Option<Request>, epoch: u64)
         requires room { vec_len self.old.rows < vec_capacity self.old.rows }
-        requires spare { 1 ≤ spare self.old.erased }
+        requires spare_erased { 1 ≤ spare self.old.erased }
+        requires spare_created { 1 ≤ spare self.old.created }
+        requires room_epochs { vec_len self.old.epochs < vec_capacity self.old.epochs }
+        requires epoch { ForSome request (λ done. epoch ≡ epoch_made (C.decoded self.old.layout.codec) (E.epoch_of self.old.field) (created done)) }
+        ensures layout { self.new.layout ≡ self.old.layout }
+        ensures field { self.new.field ≡ self.old.field }
         ensures rows { self.new.rows.items ≡ self.old.rows.items ++ effect_rows op request }
         ensures len { vec_len self.new.rows ≤ vec_len self.old.rows + 1 }
         ensures capacity { vec_capacity self.old.rows ≤ vec_capacity self.new.rows }
         ensures spare { spare self.new.told ≡ spare self.old.told }
     {
         if let Some(request) = request {
-            self.reached = boundary_after(&layout.boundary, self.reached, &request);
-            insert_within(&mut self.erased, removed_id(&layout.names, &request));
+            self.reached = boundary_after(&self.layout.boundary, self.reached, &request);
+            insert_within(&mut self.erased, removed_id(&self.layout.names, &request));
+            let id = created_id(&self.layout.names, &request);
+            enter(&mut self.created, &mut self.epochs, id, epoch);
             push_within(&mut self.rows, Row::Effect(op, request));
         }
     }
@@ -109,24 +199,63 @@ impl<T: Drop> Trace<T> {
     /// Adds an operation's answer.
     pub fn answer(&mut self, op: u64, answer: Answer<T>)
         requires room { vec_len self.old.rows < vec_capacity self.old.rows }
-        requires spare { 1 ≤ spare self.old.told }
+        requires spare { told_count answer ≤ spare self.old.told }
+        ensures layout { self.new.layout ≡ self.old.layout }
+        ensures field { self.new.field ≡ self.old.field }
         ensures rows { self.new.rows.items ≡ self.old.rows.items ++ Row.Answered op answer ∷ [] }
     {
-        let id = id_told(&answer);
-        self.greatest = self.greatest.max(id.unwrap_or(0));
-        insert_within(&mut self.told, id);
+        tell(&mut self.told, &mut self.greatest, &answer);
         push_within(&mut self.rows, Row::Answered(op, answer));
     }
 }
 
-/// The id that an answer tells.
-fn id_told<T>(answer: &Answer<T>) -> Option<u64>
-    ensures { result ≡ id_told answer.now }
+/// Makes room for the ids of an answer, or makes the answer the refusal 9.
+fn afford<T: Drop>(
+    told: &mut HashSet<u64>,
+    answers: Option<(Answer<T>, Answer<T>)>,
+) -> Option<(Answer<T>, Answer<T>)>
+    requires room { 1 ≤ spare told.old }
+    requires twice { ForSome answers (λ pair. pair.1 ≡ pair.0) }
+    ensures same { (n : ℕ) → contains nat_eq told.new n ≡ contains nat_eq told.old n }
+    ensures afforded { IsAfforded (first_of answers) (first_of result) }
+    ensures twice { ForSome result (λ pair. pair.1 ≡ pair.0) }
+    ensures spare { ForSome result (λ pair. told_count pair.0 ≤ spare told.new) }
 {
+    let (answer, copy) = answers?;
     match answer {
-        Answer::Wrote(id) => Some(*id),
-        Answer::Read(Some((id, _))) => Some(*id),
-        _ => None,
+        Answer::Ids(ids) => match told.reserve(ids.as_slice().len()) {
+            Ok(()) => Some((Answer::Ids(ids), copy)),
+            Err(_) => Some((Answer::Refused(9), Answer::Refused(9))),
+        },
+        answer => Some((answer, copy)),
+    }
+}
+
+/// Enters the id and the epoch of a version, where one is created and is not there yet, and there is room.
+fn enter(created: &mut HashSet<u64>, epochs: &mut Vec<u64>, id: Option<u64>, epoch: u64)
+    requires spare { 1 ≤ spare created.old }
+    requires room { vec_len epochs.old < vec_capacity epochs.old }
+    ensures created { (n : ℕ) → contains nat_eq created.new n ≡ (contains nat_eq created.old n || is_id n id) }
+    ensures epochs { epochs.new.items ≡ (if is_among (contains nat_eq created.old) id then epochs.old.items else epochs.old.items ++ epoch ∷ []) }
+{
+    match id {
+        Some(id) if !created.contains(&id) => {
+            insert_id(created, id);
+            push_within(epochs, epoch);
+        }
+        _ => {}
+    }
+}
+
+/// Inserts an id where there is room.
+fn insert_id(ids: &mut HashSet<u64>, id: u64)
+    requires { 1 ≤ spare ids.old }
+    ensures has { (n : ℕ) → contains nat_eq ids.new n ≡ (contains nat_eq ids.old n || nat_eq n id) }
+    ensures spare { spare ids.old ≤ spare ids.new + 1 }
+{
+    match ids.insert(id) {
+        Ok(_) => {}
+        Err(_) => unreachable!(),
     }
 }
 
@@ -136,9 +265,42 @@ fn insert_within(ids: &mut HashSet<u64>, id: Option<u64>)
     ensures { (n : ℕ) → contains nat_eq ids.new n ≡ (contains nat_eq ids.old n || is_id n id) }
 {
     if let Some(id) = id {
-        match ids.insert(id) {
-            Ok(_) => {}
-            Err(_) => unreachable!(),
-        }
+        insert_id(ids, id);
+    }
+}
+
+/// Keeps the ids that an answer tells, where there is room.
+fn tell<T>(told: &mut HashSet<u64>, greatest: &mut u64, answer: &Answer<T>)
+    requires { told_count answer.now ≤ spare told.old }
+    ensures told { (n : ℕ) → contains nat_eq told.new n ≡ (contains nat_eq told.old n || tells_id (nat_eq n) answer.now) }
+    ensures greatest { (n : ℕ) → nat_lt n greatest.new ≡ (nat_lt n greatest.old || tells_id (nat_lt n) answer.now) }
+{
+    match answer {
+        Answer::Wrote(id) => tell_one(told, greatest, *id),
+        Answer::Read(Some((id, _))) => tell_one(told, greatest, *id),
+        Answer::Ids(ids) => tell_all(told, greatest, ids.as_slice()),
+        _ => {}
+    }
+}
+
+/// Keeps an id that is told, where there is room.
+fn tell_one(told: &mut HashSet<u64>, greatest: &mut u64, id: u64)
+    requires { 1 ≤ spare told.old }
+    ensures told { (n : ℕ) → contains nat_eq told.new n ≡ (contains nat_eq told.old n || nat_eq n id) }
+    ensures greatest { (n : ℕ) → nat_lt n greatest.new ≡ (nat_lt n greatest.old || nat_lt n id) }
+    ensures spare { spare told.old ≤ spare told.new + 1 }
+{
+    insert_id(told, id);
+    *greatest = (*greatest).max(id);
+}
+
+/// Keeps ids that are told, where there is room.
+fn tell_all(told: &mut HashSet<u64>, greatest: &mut u64, ids: &[u64])
+    requires { length ids.now ≤ spare told.old }
+    ensures told { (n : ℕ) → contains nat_eq told.new n ≡ (contains nat_eq told.old n || list_any (nat_eq n) ids.now) }
+    ensures greatest { (n : ℕ) → nat_lt n greatest.new ≡ (nat_lt n greatest.old || list_any (nat_lt n) ids.now) }
+{
+    for id in ids {
+        tell_one(told, greatest, *id);
     }
 }

@@ -1,8 +1,8 @@
 use Rattle.std.proofs.Common.{◌≡◌, true, false, cond, Some, sym, ap, ◌∙◌, unwrap_or}
 use Rattle.txn_types.specs.BoundaryText.{boundary_read}
-use Rattle.txn_model.specs.History.{is_boundary, boundary_said}
-use Rattle.txn_model.specs.Machine.{boundary_after}
-use Rattle.txn_model.proofs.Apart.{same_path}
+use Rattle.txn_history.specs.History.{is_boundary, boundary_said}
+use Rattle.txn_world.specs.Beside.{boundary_after}
+use Rattle.txn_history.proofs.Apart.{same_path}
 use Rattle.txn_world.proofs.requests.boundary_after.Goals as goal
 
 pub returns-in-Put : goal.returns-in-Put

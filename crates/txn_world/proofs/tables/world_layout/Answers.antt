@@ -1,5 +1,5 @@
 use Rattle.std.proofs.Common.{rules}
-use Rattle.txn_model.specs.Names.{world_names, world_boundary}
+use Rattle.txn_history.specs.Names.{world_names, world_boundary}
 use Rattle.txn_world.proofs.tables.world_layout.Goals as goal
 
 pub returns-in-Ok-new-clause-names : goal.returns-in-Ok-new-clause-names

@@ -1,6 +1,0 @@
-pub mod Indexes
-pub mod Ascending
-pub mod Running
-pub mod Acting
-pub mod Stepping
-pub mod Reached

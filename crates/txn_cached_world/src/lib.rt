@@ -1,8 +1,0 @@
-//! Clients that keep caches over one store of versions, one event at a time.
-#![tactic(auto)]
-
-mod clients;
-mod requests;
-mod tables;
-mod trace;
-pub mod world;

@@ -1,9 +1,0 @@
-pub mod Lists
-pub mod Names
-pub mod History
-pub mod Calls
-pub mod OneHistory
-pub mod Allowed
-pub mod Doing
-pub mod Machine
-pub mod Laws

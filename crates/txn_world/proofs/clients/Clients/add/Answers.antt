@@ -1,0 +1,12 @@
+use Rattle.std.proofs.Common.{◌∙◌, ◌+◌, vec_len, is_ok, arith}
+use Rattle.txn_world.proofs.Running.{running_entered}
+use Rattle.txn_world.proofs.clients.Clients.add.Goals as goal
+
+pub invariant_of-self : goal.invariant_of-self
+invariant_of-self g c =
+    let t = c.args.self.now in
+    record {
+      wide = t.wide;
+      each = c.enter-made.ensures.len ∙ t.each;
+      all_running = running_entered t.running.items c.enter-made.new.running.items t.operations.items c.enter-made.new.operations.items c.push_where.new.items.items (record { client = c.args.client; doing = c.args.doing }) c.runs.result (is_ok c.enter-made.result) (vec_len t.operations + 1) t.all_running (omega (arith, t.operations.ok.0)) c.runs.ensures c.enter-made.ensures.operations c.push_where.ensures.items c.enter-made.ensures.entered;
+    }

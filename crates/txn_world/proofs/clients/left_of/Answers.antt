@@ -1,0 +1,8 @@
+use Rattle.std.proofs.Common.{ap, ◌∙◌}
+use Rattle.txn_world.specs.Running.{loose_of}
+use Rattle.txn_world.proofs.Running.{one_left}
+use Rattle.txn_world.proofs.clients.left_of.Goals as goal
+
+pub loop-op-preserved : goal.loop-op-preserved
+loop-op-preserved g c =
+    one_left c.args.operations.now c.args.ops.now c.loop-op.op-index c.in_ok-copy.copy _ _ c.loop-op-test.true (c.in_ok-copy.ensures ∙ ap loose_of c.asked.ensures) (c.in_ok-reserve.ensures.items ∙ c.loop-op.invariant) c.push_loose.ensures

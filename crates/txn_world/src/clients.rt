@@ -1,0 +1,341 @@
+//! What the clients keep: their caches, their operations, and which of those run.
+ghost use Rattle.std.specs.Prelude.{◌≡◌, ◌||◌, ◌&&◌, ◌==◌, ◌++◌, ◌∷◌, [], ◌<◌, ◌≤◌, ◌+◌, ◌-◌, ℕ, not, true, false, None, IfOk, OnOk, OnErr, IsSome, IfSome, IsTrue, is_some, is_ok, if◌then◌else◌, length, map, replicate, nat_eq, vec_len, vec_capacity};
+ghost use Rattle.std.specs.Ordering.{nat_cmp};
+ghost use Rattle.std.specs.List.{list_any};
+ghost use Rattle.std.specs.BTreeSet.{contains as set_contains, IsEmpty};
+ghost use Rattle.std.specs.HashSet.{contains};
+ghost use Rattle.txn_history.specs.Lists.{AreAscending};
+ghost use Rattle.txn_history.specs.GoesOn.{as_loose};
+ghost use Rattle.txn_machine.specs.Doing.{asked, asks_as};
+ghost use Rattle.txn_machine.specs.Machine.{no_caches};
+ghost use Rattle.txn_history.specs.Lists.{numbered};
+ghost use Rattle.txn_world.specs.Running.{is_in, loose_of, asked_by, runs_for, left_of, ended_where};
+
+use std::alloc::{AllocError, Global};
+use std::collections::{BTreeSet, HashSet};
+use std::mem;
+use txn_caches::ask::Ask;
+use txn_caches::caches::Caches;
+use txn_history::event::Answer;
+use txn_machine::doing::{Doing, Operation};
+use txn_store::request::{Reply, Request};
+use txn_types::codec::ObjectCodec;
+use txn_types::layout::Layout;
+use txn_types::room::push_within;
+
+/// What an operation asks for: nothing where it is not there, or has ended.
+pub(crate) fn asked<T: Drop>(operations: &[Operation<T>], op: u64) -> Option<Ask<'_>>
+    ensures { asks_as result ≡ asked_by operations.now op }
+{
+    if op == 0 {
+        return None;
+    }
+    operations.get((op - 1) as usize)?.doing.ask()
+}
+
+/// Whether an operation has not ended.
+fn runs<T>(doing: &Doing<T>) -> bool
+    ensures { result ≡ is_some (asked doing.now) }
+{
+    !matches!(doing, Doing::Ended)
+}
+
+/// A copy of the put or the delete that is asked for, where one is. The only error is want of memory.
+pub(crate) fn loose_copy(ask: Option<Ask<'_>>) -> Result<Option<Request>, AllocError>
+    ensures { IfOk result (λ copy. copy ≡ loose_of (asks_as ask.entry)) }
+{
+    match ask {
+        Some(Ask::Store(request)) => match request {
+            Request::Put { .. } | Request::Delete { .. } => Ok(Some(request.try_clone()?)),
+            _ => Ok(None),
+        },
+        Some(Ask::Look) => Ok(None),
+        None => Ok(None),
+    }
+}
+
+/// Adds a request as a loose one, where there is one, where there is room.
+pub(crate) fn push_loose(loose: &mut Vec<(u64, Request)>, op: u64, copy: Option<Request>)
+    requires { vec_len loose.old < vec_capacity loose.old }
+    ensures { loose.new.items ≡ loose.old.items ++ as_loose op copy }
+{
+    if let Some(request) = copy {
+        push_within(loose, (op, request));
+    }
+}
+
+/// The requests that these operations leave loose, in this order. The only error is want of memory.
+fn left_of<T: Drop>(
+    alloc: Global,
+    operations: &[Operation<T>],
+    ops: &[u64],
+) -> Result<Vec<(u64, Request)>, AllocError>
+    ensures { IfOk result (λ left. left.items ≡ left_of operations.now ops.now) }
+{
+    let mut left = Vec::new(alloc);
+    for op in ops {
+        let copy = loose_copy(asked(operations, *op))?;
+        left.reserve(1)?;
+        push_loose(&mut left, *op, copy);
+    }
+    Ok(left)
+}
+
+/// The numbers of a set, ascending. The only error is want of memory.
+fn numbers_of(alloc: Global, set: &BTreeSet<u64>) -> Result<Vec<u64>, AllocError>
+    ensures { IfOk result (λ list. AreAscending (set_contains nat_cmp set.now) list.items) }
+{
+    let mut list = Vec::new(alloc);
+    for number in set {
+        list.push(*number)?;
+    }
+    Ok(list)
+}
+
+/// The numbers of a set, ascending. The only error is want of memory.
+pub(crate) fn ascending(alloc: Global, ids: &HashSet<u64>) -> Result<Vec<u64>, AllocError>
+    ensures { IfOk result (λ list. AreAscending (contains nat_eq ids.now) list.items) }
+{
+    let mut sorted = BTreeSet::new(alloc);
+    for id in ids {
+        sorted.insert(*id)?;
+    }
+    numbers_of(alloc, &sorted)
+}
+
+/// Ends an operation that is there.
+fn end_one<T: Drop>(operations: &mut Vec<Operation<T>>, op: u64)
+    requires { IsSome (numbered operations.old.items op) }
+    ensures { (n : ℕ) → numbered operations.new.items n ≡ ended_where (nat_eq n op) (numbered operations.old.items n) }
+{
+    let operation = &mut operations[(op - 1) as usize];
+    drop(mem::replace(&mut operation.doing, Doing::Ended));
+}
+
+/// Ends these operations, which are there.
+fn end_all<T: Drop>(operations: &mut Vec<Operation<T>>, ops: &[u64])
+    requires { (n : ℕ) → list_any (nat_eq n) ops.now ≡ true → IsSome (numbered operations.old.items n) }
+    ensures { (n : ℕ) → numbered operations.new.items n ≡ ended_where (list_any (nat_eq n) ops.now) (numbered operations.old.items n) }
+{
+    for op in ops {
+        end_one(operations, *op);
+    }
+}
+
+/// Enters an operation with its client's, where it runs.
+fn enlist(
+    running: &mut Vec<BTreeSet<u64>>,
+    client: u64,
+    op: u64,
+    runs: bool,
+) -> Result<(), AllocError>
+    requires some { 1 ≤ client }
+    requires within { client ≤ vec_len running.old }
+    ensures entered { (c n : ℕ) → is_in running.new.items c n ≡ (is_in running.old.items c n || ((is_ok result && runs) && ((client == c) && (op == n)))) }
+    ensures len { vec_len running.new ≡ vec_len running.old }
+{
+    if runs {
+        running[(client - 1) as usize].insert(op)?;
+    }
+    Ok(())
+}
+
+/// Makes room for an operation, and enters it with its client's, where it runs.
+fn enter<T: Drop>(
+    operations: &mut Vec<Operation<T>>,
+    running: &mut Vec<BTreeSet<u64>>,
+    client: u64,
+    runs: bool,
+) -> Result<(), AllocError>
+    requires some { 1 ≤ client }
+    requires within { client ≤ vec_len running.old }
+    ensures operations { operations.new.items ≡ operations.old.items }
+    ensures operations_len { vec_len operations.new ≡ vec_len operations.old }
+    ensures room { OnOk result (vec_len operations.new < vec_capacity operations.new) }
+    ensures entered { (c n : ℕ) → is_in running.new.items c n ≡ (is_in running.old.items c n || ((is_ok result && runs) && ((client == c) && (vec_len operations.old + 1 == n)))) }
+    ensures len { vec_len running.new ≡ vec_len running.old }
+{
+    operations.reserve(1)?;
+    enlist(running, client, operations.len() as u64 + 1, runs)
+}
+
+/// Pushes where room was made, and else lets go.
+fn push_where<T: Drop>(
+    items: &mut Vec<T>,
+    item: T,
+    made: Result<(), AllocError>,
+) -> Result<(), AllocError>
+    requires { OnOk made (vec_len items.old < vec_capacity items.old) }
+    ensures items { items.new.items ≡ (if is_ok made then items.old.items ++ item ∷ [] else items.old.items) }
+    ensures result { result ≡ made }
+{
+    made?;
+    push_within(items, item);
+    Ok(())
+}
+
+/// Takes an operation from its client's, where it ends.
+fn delist(running: &mut Vec<BTreeSet<u64>>, client: u64, op: u64, ends: bool)
+    requires some { 1 ≤ client }
+    requires within { client ≤ vec_len running.old }
+    ensures left { (c n : ℕ) → is_in running.new.items c n ≡ (is_in running.old.items c n && not (ends && ((client == c) && (op == n)))) }
+    ensures len { vec_len running.new ≡ vec_len running.old }
+{
+    if ends {
+        running[(client - 1) as usize].remove(&op);
+    }
+}
+
+/// Takes all operations from a client's.
+fn clear(running: &mut Vec<BTreeSet<u64>>, client: u64)
+    requires some { 1 ≤ client }
+    requires within { client ≤ vec_len running.old }
+    ensures left { (c n : ℕ) → is_in running.new.items c n ≡ (is_in running.old.items c n && not (client == c)) }
+    ensures len { vec_len running.new ≡ vec_len running.old }
+{
+    running[(client - 1) as usize].clear();
+}
+
+/// The caches of so many clients, all empty. The only error is want of memory.
+fn new_caches(alloc: Global, count: u64) -> Result<Vec<Caches>, AllocError>
+    ensures { IfOk result (λ caches. caches.items ≡ replicate count no_caches) }
+{
+    let mut caches = Vec::new(alloc);
+    for _ in 0..count {
+        caches.push(Caches::new())?;
+    }
+    Ok(caches)
+}
+
+/// So many empty sets. The only error is want of memory.
+fn new_sets(alloc: Global, count: u64) -> Result<Vec<BTreeSet<u64>>, AllocError>
+    ensures empty { IfOk result (λ sets. (client n : ℕ) → is_in sets.items client n ≡ false) }
+    ensures len { IfOk result (λ sets. vec_len sets ≡ count) }
+{
+    let mut sets = Vec::new(alloc);
+    for _ in 0..count {
+        sets.push(BTreeSet::new(alloc))?;
+    }
+    Ok(sets)
+}
+
+/// The clients, numbered from 1.
+#[derive(Drop)]
+pub(crate) struct Clients<T> {
+    pub count: u64,
+    /// What each client keeps.
+    pub caches: Vec<Caches>,
+    /// The operations of all clients, numbered from 1.
+    pub operations: Vec<Operation<T>>,
+    /// The numbers of each client's operations that have not ended.
+    running: Vec<BTreeSet<u64>>,
+    ghost wide: { vec_len caches ≡ count },
+    ghost each: { vec_len running ≡ count },
+    ghost all_running: { (client op : ℕ) → is_in running.items client op ≡ runs_for operations.items client op },
+}
+
+impl<T: Clone> Clients<T> {
+    ghost use Rattle.std.specs.Prelude.{◌≡◌, ◌≤◌, ◌-◌, ◌++◌, ◌∷◌, [], map, replicate, slice_set, IfOk, OnOk, OnErr, IfSome, IsSome};
+    ghost use Rattle.txn_history.specs.GoesOn.{all_left_loose};
+    ghost use Rattle.txn_history.specs.Names.{world_names, world_boundary};
+    ghost use Rattle.txn_machine.specs.Doing.{first_of};
+    ghost use Rattle.txn_history.specs.Clones.{IsExactClone};
+    ghost use Rattle.txn_machine.specs.Machine.{no_caches, ended_by, seen_operations};
+    ghost use Rattle.txn_world.specs.Running.{asked_by};
+    ghost use Rattle.txn_world.specs.Acting.{TakesReply, Ends, TakesTurn};
+
+    pub fn new(alloc: Global, count: u64) -> Result<Clients<T>, AllocError>
+        ensures count { IfOk result (λ clients. clients.count ≡ count) }
+        ensures caches { IfOk result (λ clients. clients.caches.items ≡ replicate count no_caches) }
+        ensures operations { IfOk result (λ clients. clients.operations.items ≡ []) }
+    {
+        Ok(Clients {
+            count,
+            caches: new_caches(alloc, count)?,
+            operations: Vec::new(alloc),
+            running: new_sets(alloc, count)?,
+        })
+    }
+
+    /// Adds an operation of a client. The only error is want of memory, and then nothing changes.
+    pub fn add(&mut self, client: u64, doing: Doing<T>) -> Result<(), AllocError>
+        requires some { 1 ≤ client }
+        requires within { client ≤ self.old.count }
+        ensures count { self.new.count ≡ self.old.count }
+        ensures caches { self.new.caches.items ≡ self.old.caches.items }
+        ensures ok { OnOk result (self.new.operations.items ≡ self.old.operations.items ++ record { client = client; doing = doing } ∷ []) }
+        ensures err { OnErr result (self.new.operations.items ≡ self.old.operations.items) }
+    {
+        let made = enter(
+            &mut self.operations,
+            &mut self.running,
+            client,
+            runs(&doing),
+        );
+        push_where(&mut self.operations, Operation { client, doing }, made)
+    }
+
+    /// Hands an operation the store's reply, or none for a look. An answer ends it.
+    pub fn turn<C: ObjectCodec<T>>(
+        &mut self,
+        alloc: Global,
+        layout: &Layout<C>,
+        op: u64,
+        reply: Option<Reply>,
+    ) -> Option<(Answer<T>, Answer<T>)>
+        requires exact { IsExactClone T.is_clone }
+        requires names { layout.now.names ≡ world_names }
+        requires boundary { layout.now.boundary ≡ world_boundary }
+        requires takes { TakesReply self.old.operations.items op reply }
+        ensures count { self.new.count ≡ self.old.count }
+        ensures turned { TakesTurn layout.now.page (C.decoded layout.now.codec) self.old.operations.items self.old.caches.items op reply self.new.operations.items self.new.caches.items (first_of result) }
+        ensures twice { IfSome result (λ pair. pair.1 ≡ pair.0) }
+    {
+        let operation = &mut self.operations[(op - 1) as usize];
+        let client = operation.client;
+        let caches = &mut self.caches[(client - 1) as usize];
+        let answers = operation.doing.take(alloc, layout, caches, reply);
+        delist(&mut self.running, client, op, answers.is_some());
+        answers
+    }
+
+    /// Ends an operation that runs.
+    pub fn end(&mut self, op: u64)
+        requires { IsSome (asked_by self.old.operations.items op) }
+        ensures count { self.new.count ≡ self.old.count }
+        ensures caches { self.new.caches.items ≡ self.old.caches.items }
+        ensures ended { Ends self.old.operations.items self.old.caches.items op self.new.operations.items }
+    {
+        let operation = &mut self.operations[(op - 1) as usize];
+        let client = operation.client;
+        drop(mem::replace(&mut operation.doing, Doing::Ended));
+        delist(&mut self.running, client, op, true);
+    }
+
+    /// A client gives up its operations, and loses its caches. What its operations asked for becomes loose. It takes
+    /// time by how many of the client's operations run. The only error is want of memory, and then nothing changes.
+    pub fn crash(
+        &mut self,
+        alloc: Global,
+        client: u64,
+        loose: &mut Vec<(u64, Request)>,
+    ) -> Result<(), AllocError>
+        requires some { 1 ≤ client }
+        requires within { client ≤ self.old.count }
+        ensures count { self.new.count ≡ self.old.count }
+        ensures operations { OnOk result (self.new.operations.items ≡ map (ended_by client) self.old.operations.items) }
+        ensures caches { OnOk result (self.new.caches.items ≡ slice_set self.old.caches.items (client - 1) no_caches) }
+        ensures loose { OnOk result (loose.new.items ≡ loose.old.items ++ all_left_loose client 1 (seen_operations self.old.operations.items)) }
+        ensures err_operations { OnErr result (self.new.operations.items ≡ self.old.operations.items) }
+        ensures err_caches { OnErr result (self.new.caches.items ≡ self.old.caches.items) }
+        ensures err_loose { OnErr result (loose.new.items ≡ loose.old.items) }
+    {
+        let ops = numbers_of(alloc, &self.running[(client - 1) as usize])?;
+        let mut left = left_of(alloc, &self.operations, &ops)?;
+        loose.append(&mut left)?;
+        end_all(&mut self.operations, &ops);
+        clear(&mut self.running, client);
+        self.caches[(client - 1) as usize] = Caches::new();
+        Ok(())
+    }
+}
