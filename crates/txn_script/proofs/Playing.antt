@@ -4,21 +4,23 @@ use Rattle.std.proofs.lemmas.List.{append_assoc, append-nil}
 use Rattle.std.proofs.Math.Seq.{drop-cons}
 use Rattle.std.specs.Prelude.{map}
 use Rattle.std.specs.Io.KnownBytes.{Appends, append_known}
-use Rattle.txn_script.specs.declared.record.Record.{Record}
-use Rattle.txn_model.specs.Machine.{State, opening}
-use Rattle.txn_script.specs.Record.{record_read}
-use Rattle.txn_model.specs.History.{history, boundary, AreErased}
-use Rattle.txn_script.specs.declared.line.Line.{Line}
-use Rattle.txn_script.specs.declared.line.Line.TheVariants as lines
-use Rattle.txn_script.specs.declared.stop.Stop.{Stop}
-use Rattle.txn_script.specs.declared.stop.Stop.TheVariants as stops
-use Rattle.txn_script.specs.Lines.{lines_of, is_skipped, kept}
-use Rattle.txn_script.specs.Grammar.{Says}
-use Rattle.txn_script.specs.Printed.{with_feed, entry_text, entries_text, boundary_text, erased_text, end_text}
+use Rattle.txn_history.specs.History.{history, boundary, AreErased}
+use Rattle.txn_machine.specs.Machine.{State, opening}
+use Rattle.txn_lines.specs.declared.record.Record.{Record}
+use Rattle.txn_lines.specs.declared.line.Line.{Line}
+use Rattle.txn_lines.specs.declared.line.Line.TheVariants as lines
+use Rattle.txn_lines.specs.declared.stop.Stop.{Stop}
+use Rattle.txn_lines.specs.declared.stop.Stop.TheVariants as stops
+use Rattle.txn_lines.specs.Record.{record_read}
+use Rattle.txn_lines.specs.Lines.{lines_of, is_skipped, kept}
+use Rattle.txn_lines.specs.Grammar.{Says}
+use Rattle.txn_lines.specs.Printed.{entry_text, boundary_text, erased_text}
+use Rattle.txn_lines.specs.Reading.{OnBadLine, SkipsTo, NextIs, ReadsNext, MeetsBad}
+use Rattle.txn_script.specs.Printed.{with_feed, entries_text, end_text}
 use Rattle.txn_script.specs.Script.{Stage, IsPage, PageSteps, EventSteps, MayStand, LineSteps, Plays, EndsWith, IsBadNext, IsBadLine, IsFront, IsEndFront, IsPrinted, IsPrintedBefore, IsFrontPrinted, StopsAfter}
-use Rattle.txn_script.proofs.Steps.{both_after}
-use Rattle.txn_script.specs.Reading.{OnBadLine, SkipsTo, NextIs, ReadsNext, MeetsBad, Opens, OpensBad}
+use Rattle.txn_script.specs.Reading.{Opens, OpensBad}
 use Rattle.txn_script.specs.Printing.{Misplaced, StopsLine, StopsInEntries, StopsInEnd}
+use Rattle.txn_script.proofs.Steps.{both_after}
 
 -- what is gathered before it is written
 
@@ -154,8 +156,7 @@ page_follows (Some clients) size text new step = (step.2, step.3)
 may_follow : (old : Stage) (new : State Record) (line : Line) (text : List ℕ) → EventSteps old.opened old.state line text new → MayStand (Some old) line
 may_follow old new (lines.Clients count) text step = step
 may_follow old new (lines.Page size) text step = page_follows old.opened size text new step
-may_follow old new (lines.Begin client call) text step = tt
-may_follow old new (lines.Serve op) text step = tt
+may_follow old new (lines.Event event) text step = tt
 may_follow old new (lines.Run op) text step = tt
 
 pub play_more : (old mid new out now later : Option (List ℕ)) (n m : ℕ) (world : Stage) (next : State Record) (line : Line) (text : List ℕ) → Playing old mid n out now world → ReadsNext mid n new m (Some line) → EventSteps world.opened world.state line text next → Appends now later text → Playing old new m out later (record { state = next; opened = None })
@@ -230,8 +231,7 @@ stops_next stop old mid out now n world on is = stops_by stop old out now (Meets
 no_second : (world : Stage) (line : Line) → Misplaced world.opened line → ¬ (MayStand (Some world) line)
 no_second world (lines.Clients count) misplaced may = may
 no_second world (lines.Page size) misplaced may = misplaced may
-no_second world (lines.Begin client call) misplaced may = misplaced
-no_second world (lines.Serve op) misplaced may = misplaced
+no_second world (lines.Event event) misplaced may = misplaced
 no_second world (lines.Run op) misplaced may = misplaced
 
 play_misplaced : (old mid new out now : Option (List ℕ)) (n m : ℕ) (world : Stage) (line : Line) → Playing old mid n out now world → ReadsNext mid n new m (Some line) → Misplaced world.opened line → IsPrintedBefore m old out now

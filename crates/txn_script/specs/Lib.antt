@@ -1,8 +1,3 @@
-pub mod Numerals
-pub mod Refusal
-pub mod Record
-pub mod Lines
-pub mod Grammar
 pub mod Printed
 pub mod Script
 pub mod Reading

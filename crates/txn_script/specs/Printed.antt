@@ -1,83 +1,17 @@
--- The text of each printed line.
-use Rattle.std.specs.Prelude.{ℕ, List, [], ◌∷◌, ◌++◌, ◌==◌, ◌+◌, if◌then◌else◌, Option, Some, None, codes, decimal}
-use Rattle.txn_script.specs.declared.record.Record.{Record}
-use Rattle.txn_model.specs.declared.event.Answer.{Answer}
-use Rattle.txn_model.specs.declared.event.Answer.TheVariants as answers
-use Rattle.txn_model.specs.declared.event.EventFault.{EventFault}
-use Rattle.txn_model.specs.declared.event.EventFault.TheVariants as faults
-use Rattle.txn_script.specs.Record.{record_text}
-use Rattle.txn_script.specs.declared.stop.Stop.{Stop}
-use Rattle.txn_script.specs.declared.stop.Stop.TheVariants as stops
+-- The printed lines, one after another.
+use Rattle.std.specs.Prelude.{ℕ, List, [], ◌∷◌, ◌++◌, ◌+◌}
+use Rattle.txn_lines.specs.declared.record.Record.{Record}
+use Rattle.txn_lines.specs.Printed.{entry_text, boundary_text, erased_text}
 
 -- a printed line, which ends with a line feed
 abbrev pub with_feed : List ℕ → List ℕ
 with_feed text = text ++ 10 ∷ []
-
-abbrev pub refusal_name : ℕ → List ℕ
-refusal_name number =
-    if number == 1 then codes "IoError" else
-    if number == 2 then codes "ObjectStoreError" else
-    if number == 3 then codes "ObjectUpdateTimeout" else
-    if number == 4 then codes "LatestRecordMissing" else
-    if number == 5 then codes "ObjectVersionExists" else
-    if number == 6 then codes "Fenced" else
-    if number == 7 then codes "InvalidObjectState" else
-    if number == 8 then codes "CallbackError" else
-    if number == 9 then codes "NoMemory" else
-    if number == 10 then codes "IdExhausted" else
-    codes "TurnsExhausted"
-
-abbrev pub read_text : Option (ℕ × Record) → List ℕ
-read_text None = codes "read none"
-read_text (Some found) = codes "read " ++ (decimal found.0 ++ (codes " " ++ record_text found.1))
-
-abbrev pub answered_text : Answer Record → List ℕ
-answered_text (answers.Wrote id) = codes "wrote " ++ decimal id
-answered_text (answers.Read found) = read_text found
-answered_text answers.Done = codes "done"
-answered_text (answers.Refused number) = codes "refused " ++ (decimal number ++ (codes " " ++ refusal_name number))
-
--- the line of an answer
-abbrev pub answer_text : ℕ → Answer Record → List ℕ
-answer_text op answer = codes "op " ++ (decimal op ++ (codes ": " ++ answered_text answer))
-
--- the line of a refused event
-abbrev pub fault_text : EventFault → List ℕ
-fault_text faults.UnknownNumber = codes "fault 1 UnknownNumber"
-fault_text faults.UnknownBase = codes "fault 3 UnknownBase"
-fault_text faults.BoundaryTooHigh = codes "fault 4 BoundaryTooHigh"
-fault_text faults.NoMemory = codes "fault 7 NoMemory"
-
--- the line of an entry of the history
-abbrev pub entry_text : ℕ → Record → List ℕ
-entry_text n value = codes "entry " ++ (decimal n ++ (codes " " ++ record_text value))
 
 -- the lines of the entries, numbered from this number on
 abbrev pub entries_text : ℕ → List Record → List ℕ
 entries_text n [] = []
 entries_text n (value ∷ values) = with_feed (entry_text n value) ++ entries_text (n + 1) values
 
--- the line of the boundary
-abbrev pub boundary_text : ℕ → List ℕ
-boundary_text boundary = codes "boundary " ++ decimal boundary
-
--- ids, each after one space
-abbrev pub ids_text : List ℕ → List ℕ
-ids_text [] = []
-ids_text (id ∷ ids) = codes " " ++ (decimal id ++ ids_text ids)
-
--- the line of the erased ids
-abbrev pub erased_text : List ℕ → List ℕ
-erased_text [] = codes "erased none"
-erased_text (id ∷ ids) = codes "erased" ++ ids_text (id ∷ ids)
-
 -- the end lines: the entries, the boundary and the erased ids
 abbrev pub end_text : List Record → ℕ → List ℕ → List ℕ
 end_text values boundary ids = entries_text 1 values ++ (with_feed (boundary_text boundary) ++ with_feed (erased_text ids))
-
--- the line of a script that stops
-abbrev pub stop_text : Stop → List ℕ
-stop_text (stops.BadLine number) = codes "line " ++ (decimal number ++ codes ": bad line")
-stop_text stops.ReadFailed = codes "read failed"
-stop_text stops.WriteFailed = codes "write failed"
-stop_text stops.NoMemory = codes "no memory"

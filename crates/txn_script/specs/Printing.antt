@@ -1,13 +1,13 @@
 -- How lines are printed and a run stops, for the functions that print them.
 use Rattle.std.specs.Prelude.{◌≡◌, ℕ, List, [], ◌++◌, ◌⊎◌, Option, Some, None}
 use Rattle.std.specs.Io.KnownBytes.{Appends, append_known}
-use Rattle.txn_script.specs.declared.record.Record.{Record}
-use Rattle.txn_model.specs.Machine.{State}
-use Rattle.txn_script.specs.declared.line.Line.{Line}
-use Rattle.txn_script.specs.declared.line.Line.TheVariants as lines
+use Rattle.txn_machine.specs.Machine.{State}
+use Rattle.txn_lines.specs.declared.record.Record.{Record}
+use Rattle.txn_lines.specs.declared.line.Line.{Line}
+use Rattle.txn_lines.specs.declared.line.Line.TheVariants as lines
+use Rattle.txn_lines.specs.declared.stop.Stop.{Stop}
+use Rattle.txn_lines.specs.declared.stop.Stop.TheVariants as stops
 use Rattle.txn_script.specs.declared.printer.Printer.{Printer}
-use Rattle.txn_script.specs.declared.stop.Stop.{Stop}
-use Rattle.txn_script.specs.declared.stop.Stop.TheVariants as stops
 use Rattle.txn_script.specs.Printed.{entries_text}
 use Rattle.txn_script.specs.Script.{IsPage, IsEndFront}
 
@@ -31,8 +31,7 @@ held written printer = append_known written (unwritten printer)
 abbrev pub Misplaced : Option ℕ → Line → Type 0
 Misplaced opened (lines.Clients count) = Unit {0}
 Misplaced opened (lines.Page size) = ¬ (IsPage opened size)
-Misplaced opened (lines.Begin client call) = ⊥
-Misplaced opened (lines.Serve op) = ⊥
+Misplaced opened (lines.Event event) = ⊥
 Misplaced opened (lines.Run op) = ⊥
 
 -- A stop in the end lines, some of which were printed.

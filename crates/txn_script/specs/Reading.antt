@@ -1,74 +1,10 @@
--- How the lines are read, for the functions that read them.
-use Rattle.std.specs.Prelude.{◌≡◌, ℕ, ◌+◌, ◌<◌, ◌≤◌, ◌==◌, List, [], ◌∷◌, ◌++◌, Bool, true, false, Option, Some, None, IfSome, length, ◌⊎◌}
-use Rattle.std.specs.Io.BufRead.{take_through, drop_through, first_piece}
-use Rattle.txn_script.specs.declared.record.Record.{Record}
-use Rattle.txn_model.specs.Machine.{State, opening}
-use Rattle.txn_script.specs.declared.line.Line.{Line}
-use Rattle.txn_script.specs.declared.line.Line.TheVariants as lines
-use Rattle.txn_script.specs.declared.lines.Taken.{Taken}
-use Rattle.txn_script.specs.declared.lines.Taken.TheVariants as taken
-use Rattle.txn_script.specs.declared.stop.Stop.{Stop}
-use Rattle.txn_script.specs.declared.stop.Stop.TheVariants as stops
-use Rattle.txn_script.specs.declared.lines.TheConstants.{MOST_BYTES}
-use Rattle.txn_script.specs.Lines.{lines_of, is_skipped, kept}
-use Rattle.txn_script.specs.Grammar.{Says}
+-- How the first line of a script opens its world.
+use Rattle.std.specs.Prelude.{◌≡◌, ℕ, ◌≤◌, List, Option, Some, None, IfSome}
+use Rattle.txn_lines.specs.declared.record.Record.{Record}
+use Rattle.txn_lines.specs.declared.line.Line.TheVariants as lines
+use Rattle.txn_lines.specs.Reading.{SkipsTo, NextIs}
+use Rattle.txn_machine.specs.Machine.{State, opening}
 use Rattle.txn_script.specs.Script.{IsBadNext}
-
--- a fact of the line's number, where a bad line stops the script
-abbrev pub OnBadLine : Stop → (ℕ → Type 0) → Type 0
-OnBadLine (stops.BadLine n) P = P n
-OnBadLine stops.ReadFailed P = Unit {0}
-OnBadLine stops.WriteFailed P = Unit {0}
-OnBadLine stops.NoMemory P = Unit {0}
-
--- no line feed is among the bytes
-abbrev pub LacksFeed : List ℕ → Type 0
-LacksFeed [] = Unit {0}
-LacksFeed (b ∷ bs) = ((b == 10) ≡ false) × LacksFeed bs
-
--- These bytes of a line end it, by a line feed or at the end of the input, or are followed by more of it.
-abbrev pub Ends : List ℕ → List ℕ → Bool → Type 0
-Ends bytes input true = ((front : List ℕ) × LacksFeed front × (bytes ≡ front ++ 10 ∷ [])) ⊎ ((bytes ≡ []) × (input ≡ []))
-Ends bytes input false = LacksFeed bytes
-
--- A piece of a line went from the reader onto the text.
-abbrev pub TakesPiece : Option (List ℕ) → Option (List ℕ) → List ℕ → List ℕ → Bool → Type 0
-TakesPiece old new text longer ended =
-    IfSome old (λ input. (bytes : List ℕ) × (rest : List ℕ) × (new ≡ Some rest) × (input ≡ bytes ++ rest) × (longer ≡ text ++ bytes) × Ends bytes input ended)
-
--- what was read of the next line, which is this text where it is whole
-abbrev pub LineRead : List ℕ → Option (List ℕ) → List ℕ → Taken → Type 0
-LineRead input new text taken.End = (input ≡ []) × (new ≡ Some [])
-LineRead input new text taken.Line = (0 < length text) × (text ≡ take_through 10 input) × (new ≡ Some (drop_through 10 input))
-LineRead input new text taken.Comment = (0 < length input) × (is_skipped (first_piece 10 input) ≡ true) × (new ≡ Some (drop_through 10 input))
-LineRead input new text taken.TooLong = (0 < length input) × (is_skipped (first_piece 10 input) ≡ false) × (MOST_BYTES < length (first_piece 10 input))
-
-abbrev pub ReadsLine : Option (List ℕ) → Option (List ℕ) → List ℕ → Taken → Type 0
-ReadsLine old new text taken = IfSome old (λ input. LineRead input new text taken)
-
--- From line n of the input lines were skipped, and line m is the first of those left.
-pub record SkipsTo (input : List ℕ) (n m : ℕ) (left : List (List ℕ)) : Type 0 where
-  pub skipped : List (List ℕ)
-  pub lines : lines_of input ≡ skipped ++ left
-  pub none_kept : kept skipped ≡ []
-  pub number : m ≡ n + length skipped + 1
-
--- The bytes say this line, and no other.
-pub record SaysOnly (bytes : List ℕ) (line : Line) : Type 0 where
-  pub says : Says bytes line
-  pub only : (other : Line) → Says bytes other → other ≡ line
-
--- the next kept line, and the bytes after it; or that none is left
-abbrev pub NextIs : List ℕ → ℕ → List ℕ → ℕ → Option Line → Type 0
-NextIs input n after m None = SkipsTo input n m []
-NextIs input n after m (Some line) = (bytes : List ℕ) × SkipsTo input n m (bytes ∷ lines_of after) × (is_skipped bytes ≡ false) × SaysOnly bytes line
-
-abbrev pub ReadsNext : Option (List ℕ) → ℕ → Option (List ℕ) → ℕ → Option Line → Type 0
-ReadsNext old n new m found = IfSome old (λ input. (after : List ℕ) × (new ≡ Some after) × NextIs input n after m found)
-
--- the next kept line, of number m, is no line of a script
-abbrev pub MeetsBad : Option (List ℕ) → ℕ → ℕ → Type 0
-MeetsBad old n m = IfSome old (λ input. (bytes : List ℕ) × (rest : List (List ℕ)) × SkipsTo input n m (bytes ∷ rest) × (is_skipped bytes ≡ false) × ((line : Line) → ¬ (Says bytes line)))
 
 -- The first kept line opens a world for so many clients.
 abbrev pub Opens : Option (List ℕ) → ℕ → Option (List ℕ) → ℕ → ℕ → State Record → Type 0

@@ -1,47 +1,70 @@
 -- What a script prints, as a relation of its bytes over the world's steps.
 use Rattle.std.specs.Prelude.{◌≡◌, ℕ, zero, suc, List, [], ◌∷◌, ◌++◌, ◌+◌, ◌≤◌, ◌⊎◌, Bool, true, false, map, Option, Some, None, IfSome, length}
 use Rattle.std.specs.Io.KnownBytes.{Appends}
-use Rattle.txn_script.specs.declared.record.Record.{Record}
-use Rattle.txn_model.specs.declared.event.Event.{Event}
-use Rattle.txn_model.specs.declared.event.Event.TheVariants as events
-use Rattle.txn_model.specs.declared.event.EventFault.{EventFault}
-use Rattle.txn_model.specs.declared.event.Told.{Told}
-use Rattle.txn_model.specs.declared.event.Told.TheVariants as told
-use Rattle.txn_model.specs.Machine.{State, opening, Takes}
-use Rattle.txn_script.specs.Record.{record_text, record_read}
-use Rattle.txn_model.specs.Allowed.{fault_of}
-use Rattle.txn_model.specs.History.{history, boundary, AreErased}
-use Rattle.txn_script.specs.declared.line.Line.{Line}
-use Rattle.txn_script.specs.declared.line.Line.TheVariants as lines
-use Rattle.txn_script.specs.declared.stop.Stop.{Stop}
-use Rattle.txn_script.specs.declared.stop.Stop.TheVariants as stops
-use Rattle.txn_script.specs.Lines.{lines_of, is_skipped, kept}
-use Rattle.txn_script.specs.Grammar.{Says}
-use Rattle.txn_script.specs.Printed.{with_feed, answer_text, fault_text, end_text}
+use Rattle.txn_history.specs.declared.event.Event.{Event}
+use Rattle.txn_history.specs.declared.event.Event.TheVariants as events
+use Rattle.txn_history.specs.declared.event.EventFault.{EventFault}
+use Rattle.txn_history.specs.declared.event.Told.{Told}
+use Rattle.txn_history.specs.declared.event.Told.TheVariants as told
+use Rattle.txn_history.specs.Allowed.{fault_of}
+use Rattle.txn_history.specs.History.{history, boundary, AreErased}
+use Rattle.txn_history.specs.Seen.{Ask, Store, Look, asks_of}
+use Rattle.txn_machine.specs.Machine.{State, opening, seen_of, Takes}
+use Rattle.txn_lines.specs.declared.record.Record.{Record}
+use Rattle.txn_lines.specs.declared.line.Line.{Line}
+use Rattle.txn_lines.specs.declared.line.Line.TheVariants as lines
+use Rattle.txn_lines.specs.declared.stop.Stop.{Stop}
+use Rattle.txn_lines.specs.declared.stop.Stop.TheVariants as stops
+use Rattle.txn_lines.specs.Record.{record_text, record_read}
+use Rattle.txn_lines.specs.Lines.{lines_of, is_skipped, kept}
+use Rattle.txn_lines.specs.Grammar.{Says}
+use Rattle.txn_lines.specs.Printed.{answer_text, fault_text}
+use Rattle.txn_script.specs.Printed.{with_feed, end_text}
 
 -- what is printed of what an event was told
 abbrev pub told_text : Told Record → List ℕ
-told_text (told.Answered op answer) = with_feed (answer_text op answer)
 told_text (told.Began op) = []
 told_text (told.Went op) = []
+told_text (told.Answered op answer) = with_feed (answer_text op answer)
+told_text (told.GaveUp op) = []
+told_text (told.Landed k changed) = []
+told_text (told.Crashed client) = []
 
+-- no answer was told: after a look or a serve, its operation goes on
 abbrev pub goes_on : Told Record → Bool
-goes_on (told.Answered op answer) = false
-goes_on (told.Began op) = false
+goes_on (told.Began op) = true
 goes_on (told.Went op) = true
+goes_on (told.Answered op answer) = false
+goes_on (told.GaveUp op) = true
+goes_on (told.Landed k changed) = true
+goes_on (told.Crashed client) = true
 
--- An event is taken, or is due its fault: whether its operation goes on, what it prints, and the state after it.
+-- the epoch of a record
+abbrev pub record_epoch : Record → ℕ
+record_epoch value = value.epoch
+
+-- An event is taken, or is due its fault: whether neither an answer nor a fault was told, what is printed, and the state after it.
 abbrev pub Steps : State Record → Event Record → Bool → List ℕ → State Record → Type 0
 Steps old event going text new =
-    ((t : Told Record) × Takes record_text record_read old event t new × (going ≡ goes_on t) × (text ≡ told_text t))
-    ⊎ ((fault : EventFault) × (fault_of old.clients old.trace event ≡ Some fault) × (new ≡ old) × (going ≡ false) × (text ≡ with_feed (fault_text fault)))
+    ((t : Told Record) × Takes record_text record_read record_epoch old event t new × (going ≡ goes_on t) × (text ≡ told_text t))
+    ⊎ ((fault : EventFault) × (fault_of record_read record_epoch (seen_of old) old.trace event ≡ Some fault) × (new ≡ old) × (going ≡ false) × (text ≡ with_feed (fault_text fault)))
 
--- Serves an operation while it goes on, at most n times. It is no abbreviation, so that `Serves 100` stays as it is.
-unfoldable pub Serves : ℕ → State Record → ℕ → List ℕ → State Record → Type 0
-Serves zero old op text new = (text ≡ []) × (new ≡ old)
-Serves (suc n) old op text new =
-    Steps old (events.Serve op) false text new
-    ⊎ ((first : List ℕ) × (middle : State Record) × (rest : List ℕ) × Steps old (events.Serve op) true first middle × Serves n middle op rest new × (text ≡ first ++ rest))
+-- the event that gives an operation what it asks for: a serve or a look; where it asks for nothing a serve, which is refused
+abbrev pub event_for : ℕ → Option Ask → Event Record
+event_for op None = events.Serve op
+event_for op (Some (Store request)) = events.Serve op
+event_for op (Some Look) = events.Look op
+
+-- the same at this state
+abbrev pub asked_event : State Record → ℕ → Event Record
+asked_event s op = event_for op (asks_of (seen_of s) op)
+
+-- An operation gets what it asks for while it goes on, at most n times. It is no abbreviation, so that `RunsOperation 100` stays as it is.
+unfoldable pub RunsOperation : ℕ → State Record → ℕ → List ℕ → State Record → Type 0
+RunsOperation zero old op text new = (text ≡ []) × (new ≡ old)
+RunsOperation (suc n) old op text new =
+    Steps old (asked_event old op) false text new
+    ⊎ ((first : List ℕ) × (middle : State Record) × (rest : List ℕ) × Steps old (asked_event old op) true first middle × RunsOperation n middle op rest new × (text ≡ first ++ rest))
 
 -- How far a script is: its world, and directly after the line `clients N` that N.
 pub record Stage : Type 0 where
@@ -66,29 +89,25 @@ PageSteps (Some clients) size text new = (text ≡ []) × (new ≡ opening clien
 abbrev pub EventSteps : Option ℕ → State Record → Line → List ℕ → State Record → Type 0
 EventSteps opened old (lines.Clients count) text new = ⊥
 EventSteps opened old (lines.Page size) text new = PageSteps opened size text new
-EventSteps opened old (lines.Begin client call) text new = (going : Bool) × Steps old (events.Begin client call) going text new
-EventSteps opened old (lines.Serve op) text new = (going : Bool) × Steps old (events.Serve op) going text new
-EventSteps opened old (lines.Run op) text new = Serves 100 old op text new
+EventSteps opened old (lines.Event event) text new = (going : Bool) × Steps old event going text new
+EventSteps opened old (lines.Run op) text new = RunsOperation 100 old op text new
 
 -- A line may stand at a stage of the script: `clients N` with N from 1 to 64 before there is a world, `page N` directly after it, and each other line where there is a world.
 abbrev pub MayStand : Option Stage → Line → Type 0
 MayStand None (lines.Clients count) = (1 ≤ count) × (count ≤ 64)
 MayStand None (lines.Page size) = ⊥
-MayStand None (lines.Begin client call) = ⊥
-MayStand None (lines.Serve op) = ⊥
+MayStand None (lines.Event event) = ⊥
 MayStand None (lines.Run op) = ⊥
 MayStand (Some stage) (lines.Clients count) = ⊥
 MayStand (Some stage) (lines.Page size) = IsPage stage.opened size
-MayStand (Some stage) (lines.Begin client call) = Unit {0}
-MayStand (Some stage) (lines.Serve op) = Unit {0}
+MayStand (Some stage) (lines.Event event) = Unit {0}
 MayStand (Some stage) (lines.Run op) = Unit {0}
 
 -- What a line prints, and the stage after it. Without a `page` line a page has 1,000 files at most.
 abbrev pub LineSteps : Option Stage → Line → List ℕ → Option Stage → Type 0
 LineSteps None (lines.Clients count) text new = (text ≡ []) × (new ≡ Some (record { state = opening count 1000; opened = Some count }))
 LineSteps None (lines.Page size) text new = ⊥
-LineSteps None (lines.Begin client call) text new = ⊥
-LineSteps None (lines.Serve op) text new = ⊥
+LineSteps None (lines.Event event) text new = ⊥
 LineSteps None (lines.Run op) text new = ⊥
 LineSteps (Some old) line text new = (state : State Record) × (new ≡ Some (record { state = state; opened = None })) × EventSteps old.opened old.state line text state
 
@@ -165,10 +184,3 @@ StopsAfter (stops.BadLine n) input old new = IsPrintedBefore n input old new
 StopsAfter stops.ReadFailed input old new = IsFrontPrinted input old new
 StopsAfter stops.NoMemory input old new = IsFrontPrinted input old new
 StopsAfter stops.WriteFailed input old new = Unit {0}
-
--- the exit status of a script that stops
-abbrev pub status_of : Stop → ℕ
-status_of (stops.BadLine n) = 2
-status_of stops.ReadFailed = 1
-status_of stops.WriteFailed = 1
-status_of stops.NoMemory = 1

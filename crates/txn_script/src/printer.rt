@@ -5,10 +5,10 @@ ghost use Rattle.std.specs.Io.KnownBytes.{Appends};
 ghost use Rattle.txn_script.specs.Printed.{with_feed};
 ghost use Rattle.txn_script.specs.Printing.{unwritten, held, Gathers, IsUnchanged};
 
-use crate::stop::Stop;
 use std::alloc::Global;
 use std::fmt::Display;
 use std::io::Write;
+use txn_lines::stop::Stop;
 
 /// From so many printed bytes on, they are written.
 const FULL: usize = 8192;

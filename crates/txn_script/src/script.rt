@@ -3,22 +3,24 @@
 ghost use Rattle.std.specs.Prelude.{◌≡◌, ℕ, ◌≤◌, ◌++◌, ◌∷◌, [], List, Some, None, IfOk, IfErr, IfSome, IfNone, OnOk};
 ghost use Rattle.std.specs.Io.KnownBytes.{Appends};
 ghost use Rattle.txn_script.specs.Printed.{with_feed, entries_text};
-ghost use Rattle.txn_script.specs.Script.{IsClients, Steps, Serves, PageSteps, EventSteps, MayStand, EndsWith, IsPrinted, IsPrintedBefore, StopsAfter};
-ghost use Rattle.txn_script.specs.Reading.{OnBadLine, Opens, OpensBad};
+ghost use Rattle.txn_script.specs.Script.{IsClients, Steps, asked_event, RunsOperation, PageSteps, EventSteps, MayStand, EndsWith, IsPrinted, IsPrintedBefore, StopsAfter};
+ghost use Rattle.txn_lines.specs.Reading.{reader_of, number_of, OnBadLine};
+ghost use Rattle.txn_script.specs.Reading.{Opens, OpensBad};
 ghost use Rattle.txn_script.specs.Printing.{held, Gathers, IsUnchanged, StopsLine, StopsInEntries, StopsInEnd};
 
-use crate::line::Line;
-use crate::lines::Lines;
-use crate::printed::{AnswerLine, Answered, BoundaryLine, EntryLine, ErasedLine, FaultLine};
 use crate::printer::Printer;
-use crate::record::{Record, RecordCodec};
-use crate::stop::Stop;
 use std::alloc::Global;
 use std::io::{BufRead, BufReader, Read, Write};
 use std::mem;
-use txn_model::event::{Event, EventFault, Told};
-use txn_types::layout::PAGE;
 use txn_world::world::World;
+use txn_caches::ask::Ask;
+use txn_history::event::{Event, EventFault, Told};
+use txn_lines::line::Line;
+use txn_lines::lines::Lines;
+use txn_lines::printed::{AnswerLine, Answered, BoundaryLine, EntryLine, ErasedLine, FaultLine};
+use txn_lines::record::{Record, RecordCodec, RecordEpoch};
+use txn_lines::stop::Stop;
+use txn_types::layout::PAGE;
 
 /// The most clients that a script may have.
 const MOST_CLIENTS: u64 = 64;
@@ -29,9 +31,10 @@ const MOST_PAGE: u64 = 1000;
 /// How many events a `run` makes at most.
 const MOST_TURNS: u64 = 100;
 
-/// Takes an event and prints what it is told, where that is printed. True where its operation goes on.
+/// Takes an event and prints what it is told, where that is printed. True where neither an answer nor a fault was told, so that an
+/// operation that took its turn goes on.
 fn take_event(
-    world: &mut World<Record, RecordCodec>,
+    world: &mut World<Record, RecordCodec, RecordEpoch>,
     event: Event<Record>,
     printer: &mut Printer,
 ) -> Result<bool, Stop>
@@ -47,8 +50,11 @@ fn take_event(
             printer.print_line(AnswerLine { op, answered })?;
             Ok(false)
         }
-        Ok(Told::Began(_)) => Ok(false),
+        Ok(Told::Began(_)) => Ok(true),
         Ok(Told::Went(_)) => Ok(true),
+        Ok(Told::GaveUp(_)) => Ok(true),
+        Ok(Told::Landed(_, _)) => Ok(true),
+        Ok(Told::Crashed(_)) => Ok(true),
         Err(EventFault::NoMemory) => Err(Stop::NoMemory),
         Err(fault) => {
             printer.print_line(FaultLine(fault))?;
@@ -57,20 +63,32 @@ fn take_event(
     }
 }
 
-/// Serves an operation until it is answered.
+/// The event that gives an operation what it asks for. Where it asks for nothing it is a serve, which is refused.
+fn asked_event(world: &World<Record, RecordCodec, RecordEpoch>, op: u64) -> Event<Record>
+    ensures { result ≡ asked_event world.now.state op }
+{
+    match world.asks(op) {
+        Some(Ask::Look) => Event::Look(op),
+        Some(Ask::Store(_)) => Event::Serve(op),
+        None => Event::Serve(op),
+    }
+}
+
+/// Gives an operation what it asks for until it is answered.
 fn run_operation(
-    world: &mut World<Record, RecordCodec>,
+    world: &mut World<Record, RecordCodec, RecordEpoch>,
     op: u64,
     printer: &mut Printer,
 ) -> Result<(), Stop>
     ensures ok { OnOk result ((text : List ℕ)
-        × Serves 100 world.old.state op text world.new.state
+        × RunsOperation 100 world.old.state op text world.new.state
         × Gathers printer.old printer.new text) }
     ensures err { IfErr result
         (λ stop. (stop ≡ Stop.NoMemory) × IsUnchanged printer.old printer.new) }
 {
     for _turn in 0..MOST_TURNS {
-        if !take_event(world, Event::Serve(op), printer)? {
+        let event = asked_event(world, op);
+        if !take_event(world, event, printer)? {
             return Ok(());
         }
     }
@@ -84,7 +102,7 @@ fn paged(
     opened: Option<u64>,
     size: u64,
     bad: Stop,
-) -> Result<World<Record, RecordCodec>, Stop>
+) -> Result<World<Record, RecordCodec, RecordEpoch>, Stop>
     requires { IfSome opened IsClients }
     ensures ok { IfOk result (λ world. PageSteps opened size [] world.state) }
     ensures err { IfErr result (λ stop. StopsLine stop bad opened (Line.Page size)) }
@@ -95,7 +113,7 @@ fn paged(
     if size < 1 || MOST_PAGE < size {
         return Err(bad);
     }
-    match World::new(alloc, RecordCodec, clients, size) {
+    match World::new(alloc, RecordCodec, RecordEpoch, clients, size) {
         Ok(world) => Ok(world),
         Err(_) => Err(Stop::NoMemory),
     }
@@ -105,7 +123,7 @@ fn paged(
 /// `bad` is the line's refusal where it may not stand there.
 fn take_line(
     alloc: Global,
-    world: &mut World<Record, RecordCodec>,
+    world: &mut World<Record, RecordCodec, RecordEpoch>,
     opened: Option<u64>,
     line: Line,
     bad: Stop,
@@ -121,11 +139,8 @@ fn take_line(
     match line {
         Line::Clients(_) => return Err(bad),
         Line::Page(size) => drop(mem::replace(world, paged(alloc, opened, size, bad)?)),
-        Line::Begin(client, call) => {
-            take_event(world, Event::Begin(client, call), printer)?;
-        }
-        Line::Serve(op) => {
-            take_event(world, Event::Serve(op), printer)?;
+        Line::Event(event) => {
+            take_event(world, event, printer)?;
         }
         Line::Run(op) => run_operation(world, op, printer)?,
     }
@@ -156,7 +171,7 @@ fn print_entries<W: Write>(
 /// Prints what is left at the end.
 fn print_end<W: Write>(
     alloc: Global,
-    world: &World<Record, RecordCodec>,
+    world: &World<Record, RecordCodec, RecordEpoch>,
     printer: &mut Printer,
     out: &mut W,
 ) -> Result<(), Stop>
@@ -193,17 +208,17 @@ fn clients_of(line: Option<Line>) -> Option<u64>
 fn open<R: BufRead>(
     alloc: Global,
     lines: &mut Lines<R>,
-) -> Result<(World<Record, RecordCodec>, u64), Stop>
-    ensures ok { IfOk result (λ opened. Opens (R.remaining lines.old.reader) lines.old.number
-        (R.remaining lines.new.reader) lines.new.number opened.1 opened.0.state) }
+) -> Result<(World<Record, RecordCodec, RecordEpoch>, u64), Stop>
+    ensures ok { IfOk result (λ opened. Opens (R.remaining (reader_of lines.old)) (number_of lines.old)
+        (R.remaining (reader_of lines.new)) (number_of lines.new) opened.1 opened.0.state) }
     ensures clients { IfOk result (λ opened. IsClients opened.1) }
     ensures bad { IfErr result (λ stop. OnBadLine stop
-        (OpensBad (R.remaining lines.old.reader) lines.old.number)) }
+        (OpensBad (R.remaining (reader_of lines.old)) (number_of lines.old))) }
 {
     let Some(clients) = clients_of(lines.next_line()?) else {
         return Err(lines.bad());
     };
-    match World::new(alloc, RecordCodec, clients, PAGE) {
+    match World::new(alloc, RecordCodec, RecordEpoch, clients, PAGE) {
         Ok(world) => Ok((world, clients)),
         Err(_) => Err(Stop::NoMemory),
     }
@@ -216,10 +231,10 @@ fn play<R: BufRead, W: Write>(
     printer: &mut Printer,
     out: &mut W,
 ) -> Result<(), Stop>
-    requires { lines.old.number ≡ 0 }
-    ensures ok { OnOk result (IsPrinted (R.remaining lines.old.reader)
+    requires { number_of lines.old ≡ 0 }
+    ensures ok { OnOk result (IsPrinted (R.remaining (reader_of lines.old))
         (held (W.contents out.old) printer.old) (held (W.contents out.new) printer.new)) }
-    ensures stop { IfErr result (λ stop. StopsAfter stop (R.remaining lines.old.reader)
+    ensures stop { IfErr result (λ stop. StopsAfter stop (R.remaining (reader_of lines.old))
         (held (W.contents out.old) printer.old) (held (W.contents out.new) printer.new)) }
 {
     let (mut world, clients) = open(alloc, lines)?;

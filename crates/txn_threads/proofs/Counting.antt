@@ -5,7 +5,7 @@ use Rattle.std.proofs.lemmas.List.{length-take, length-replicate, get_or-replica
 use Rattle.std.proofs.lemmas.List.Sums.{sum_by_more, count_by-le-length}
 use Rattle.std.proofs.lemmas.Option.{get_or_from_slice_get, slice_get-get_or}
 use Rattle.txn_threads.specs.declared.kept.JournalRow.{JournalRow}
-use Rattle.txn_model.specs.Lists.{AreEach}
+use Rattle.txn_threads.specs.Lists.{AreEach}
 use Rattle.txn_threads.specs.Kept.{rows_of, AreCounts, AreZeros}
 
 -- as many copies of 0 as there are workers

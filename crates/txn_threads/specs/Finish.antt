@@ -5,15 +5,15 @@ use Rattle.txn_threads.specs.declared.finish.FinishFault.{FinishFault}
 use Rattle.txn_threads.specs.declared.finish.FinishFault.TheVariants as faults
 use Rattle.txn_threads.specs.Kept.{KeptState, CameOnce, Agree, AreCounts}
 
-module _ {T C : Type 0} where
+module _ {T C E : Type 0} where
   -- each worker's share came once, with the count of its worker's rows; and these are the counts
-  pub record Finished (kept : KeptState T C) (shares : List Share) (counts : List ℕ) : Type 0 where
+  pub record Finished (kept : KeptState T C E) (shares : List Share) (counts : List ℕ) : Type 0 where
     pub once : CameOnce kept.workers shares
     pub agree : Agree kept.journal shares
     pub are_counts : AreCounts kept.workers kept.journal counts
 
   -- The faults are tested in this order: where one is answered, those before it are not due.
-  abbrev pub IsDue : KeptState T C → List Share → FinishFault → Type 0
+  abbrev pub IsDue : KeptState T C E → List Share → FinishFault → Type 0
   IsDue kept shares faults.ShareMissing = CameOnce kept.workers shares → ⊥
   IsDue kept shares faults.CountsDiffer = CameOnce kept.workers shares × (Agree kept.journal shares → ⊥)
   IsDue kept shares faults.NoMemory = CameOnce kept.workers shares × Agree kept.journal shares

@@ -1,9 +1,9 @@
 -- What a worker hears of its events, and how far its share may grow.
 use Rattle.std.specs.Prelude.{ℕ, ◌≡◌, ◌+◌, ◌≤◌, Option, Some, None}
-use Rattle.txn_model.specs.declared.event.Answer.{Answer}
-use Rattle.txn_model.specs.declared.event.Answer.TheVariants as answers
-use Rattle.txn_model.specs.declared.event.Told.{Told}
-use Rattle.txn_model.specs.declared.event.Told.TheVariants as told
+use Rattle.txn_history.specs.declared.event.Answer.{Answer}
+use Rattle.txn_history.specs.declared.event.Answer.TheVariants as answers
+use Rattle.txn_history.specs.declared.event.Told.{Told}
+use Rattle.txn_history.specs.declared.event.Told.TheVariants as told
 use Rattle.txn_threads.specs.declared.kept.Share.{Share}
 use Rattle.txn_threads.specs.declared.work.Heard.{Heard}
 use Rattle.txn_threads.specs.declared.work.Heard.TheVariants.{Goes, Ended}
@@ -15,14 +15,19 @@ module _ {T : Type 0} where
   base_read (answers.Read None) = Some None
   base_read (answers.Read (Some found)) = Some (Some found.0)
   base_read (answers.Wrote id) = None
+  base_read (answers.Value found) = None
+  base_read (answers.Ids ids) = None
   base_read answers.Done = None
   base_read (answers.Refused number) = None
 
-  -- whether the operation goes on or has ended, and with which base
+  -- Whether the operation goes on or has ended, and with which base. What is told of no answer gives none: a worker makes no event that tells it.
   abbrev pub heard_of : Told T → Heard
   heard_of (told.Began op) = Goes op
   heard_of (told.Went op) = Goes op
   heard_of (told.Answered op answer) = Ended (base_read answer)
+  heard_of (told.GaveUp op) = Ended None
+  heard_of (told.Landed k changed) = Ended None
+  heard_of (told.Crashed client) = Ended None
 
 -- the same worker's share, after so many more events at most
 pub record Grows (old : Share) (most : ℕ) (new : Share) : Type 0 where

@@ -6,6 +6,7 @@ ghost use Rattle.txn_threads.specs.Finish.{Finished, IsDue};
 
 use crate::kept::{Kept, Share};
 use txn_types::codec::ObjectCodec;
+use txn_types::epoch::EpochField;
 
 /// Why the shares do not agree with the journal.
 #[derive(Clone, Copy, Debug, PartialEq, Eq)]
@@ -71,8 +72,8 @@ fn agree(shares: &[Share], counts: &[u64]) -> bool
 /// Ends the keeping of a world: how many events each worker took, worker 1 first, where each worker's
 /// share came once, in any order, with the count of its rows in the journal. The faults are tested in the
 /// order [`FinishFault::ShareMissing`], [`FinishFault::CountsDiffer`]. It goes over the journal once.
-pub fn finish<T: Clone, C: ObjectCodec<T> + Drop>(
-    kept: Kept<T, C>,
+pub fn finish<T: Clone, C: ObjectCodec<T> + Drop, E: EpochField<T>>(
+    kept: Kept<T, C, E>,
     shares: Vec<Share>,
 ) -> Result<Vec<u64>, FinishFault>
     ensures ok { IfOk result (λ counts. Finished kept shares.items counts.items) }

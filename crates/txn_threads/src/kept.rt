@@ -1,16 +1,20 @@
 //! A world beside the journal of what its workers did, to be kept under a lock.
 ghost use Rattle.std.specs.Prelude.{◌≡◌, ◌≤◌, ◌<◌, ◌+◌, ◌-◌, ◌^◌, [], IfOk, IfErr, All, Some, length, nat_eq, if◌then◌else◌, slice_get, slice_index};
-ghost use Rattle.txn_model.specs.Doing.{IsExactClone};
-ghost use Rattle.txn_model.specs.Lists.{AreEach};
-ghost use Rattle.txn_model.specs.Machine.{opening};
-ghost use Rattle.txn_threads.specs.Kept.{one_more, AreCounts, AreFirst, AreZeros};
+ghost use Rattle.txn_history.specs.Clones.{IsExactClone};
+ghost use Rattle.txn_history.specs.Seen.{asks_of};
+ghost use Rattle.txn_machine.specs.Doing.{asks_as};
+ghost use Rattle.txn_machine.specs.Machine.{opening, seen_of};
+ghost use Rattle.txn_threads.specs.Lists.{AreEach};
+ghost use Rattle.txn_threads.specs.Kept.{asked_event, one_more, AreCounts, AreFirst, AreZeros};
 
 use std::alloc::{AllocError, Global};
 use std::marker::Model;
-use txn_model::event::{Event, EventFault, Told};
-use txn_types::codec::ObjectCodec;
-use txn_types::room::push_within;
 use txn_world::world::World;
+use txn_caches::ask::Ask;
+use txn_history::event::{Event, EventFault, Told};
+use txn_types::codec::ObjectCodec;
+use txn_types::epoch::EpochField;
+use txn_types::room::push_within;
 
 /// One event that a worker took, and what it told.
 #[derive(Debug, Drop)]
@@ -50,18 +54,18 @@ impl Share {
 /// from a world in which nothing has happened, tells what the journal says and ends in this world. So
 /// whatever threads do to it, it is the world of one client after another.
 #[derive(Drop)]
-pub struct Kept<T: Clone, C: ObjectCodec<T> + Drop> {
-    world: World<T, C>,
+pub struct Kept<T: Clone, C: ObjectCodec<T> + Drop, E: EpochField<T>> {
+    world: World<T, C, E>,
     workers: u64,
     journal: Vec<JournalRow<T>>,
     /// Room for the count of each worker's rows: all 0 until the end of the run.
     counts: Vec<u64>,
 }
 
-impl<T: Clone, C: ObjectCodec<T> + Drop> Model for Kept<T, C> {
+impl<T: Clone, C: ObjectCodec<T> + Drop, E: EpochField<T>> Model for Kept<T, C, E> {
     ghost use Rattle.txn_threads.specs.Kept.{KeptState, Replays, AreZeros};
 
-    ghost Value = { KeptState T C };
+    ghost Value = { KeptState T C E };
 
     ghost use Rattle.std.specs.Coded.{codes};
     ghost use Rattle.txn_store.specs.Memory.{files_code};
@@ -70,7 +74,7 @@ impl<T: Clone, C: ObjectCodec<T> + Drop> Model for Kept<T, C> {
 
     ghost view = { λ kept. record { world = kept.world; workers = kept.workers; journal = kept.journal.items } };
 
-    ghost invariant = { λ kept. Replays (C.encoded kept.world.codec) (C.decoded kept.world.codec) kept.journal.items kept.world.state × AreZeros kept.workers kept.counts.items };
+    ghost invariant = { λ kept. Replays (C.encoded kept.world.codec) (C.decoded kept.world.codec) (E.epoch_of kept.world.epochs) kept.journal.items kept.world.state × AreZeros kept.workers kept.counts.items };
 }
 
 /// The shares of workers 1 to `workers`, each with no event.
@@ -85,6 +89,17 @@ fn first_shares(alloc: Global, workers: u64) -> Result<Vec<Share>, AllocError>
         })?;
     }
     Ok(shares)
+}
+
+/// What an operation that asks for this is given: a look where it asks for a look, and else a serve.
+fn asked_event<T>(ask: Option<Ask<'_>>, op: u64) -> Event<T>
+    ensures { result ≡ asked_event (asks_as ask.entry) op }
+{
+    match ask {
+        Some(Ask::Look) => Event::Look(op),
+        Some(Ask::Store(_)) => Event::Serve(op),
+        None => Event::Serve(op),
+    }
 }
 
 /// Counts a row of this worker. Where the worker has no count, the row counts for nobody.
@@ -110,13 +125,15 @@ fn count_rows<T>(counts: &mut [u64], journal: &[JournalRow<T>])
     }
 }
 
-impl<T: Clone, C: ObjectCodec<T> + Drop> Kept<T, C> {
+impl<T: Clone, C: ObjectCodec<T> + Drop, E: EpochField<T>> Kept<T, C, E> {
     ghost use Rattle.std.specs.Prelude.{◌≡◌, ◌<◌, ◌≤◌, [], IfOk, OnOk, OnErr, MatchResult, length};
     ghost use Rattle.std.specs.Borrow.{sem};
-    ghost use Rattle.txn_model.specs.Doing.{IsExactClone};
-    ghost use Rattle.txn_model.specs.Machine.{opening};
-    ghost use Rattle.txn_model.specs.declared.event.Told.{Told};
-    ghost use Rattle.txn_threads.specs.Kept.{IsRefusedAs, due_fault, one_more, AreFirst, AddsJournalRow, IsLastTold, Replays, AreCounts};
+    ghost use Rattle.txn_history.specs.Clones.{IsExactClone};
+    ghost use Rattle.txn_history.specs.Seen.{asks_of};
+    ghost use Rattle.txn_history.specs.declared.event.Told.{Told};
+    ghost use Rattle.txn_machine.specs.Doing.{asks_as};
+    ghost use Rattle.txn_machine.specs.Machine.{opening, seen_of};
+    ghost use Rattle.txn_threads.specs.Kept.{IsRefusedAs, due_fault, next_event, one_more, AreFirst, AddsJournalRow, IsLastTold, Replays, AreCounts};
     ghost use Rattle.txn_threads.specs.KeptLends.{ends_taken};
 
     /// Keeps a world in which nothing has happened, for workers 1 to `workers`, of which there are as
@@ -124,9 +141,9 @@ impl<T: Clone, C: ObjectCodec<T> + Drop> Kept<T, C> {
     /// memory, and then the world is gone.
     pub fn new(
         alloc: Global,
-        world: World<T, C>,
+        world: World<T, C, E>,
         workers: u64,
-    ) -> Result<(Kept<T, C>, Vec<Share>), AllocError>
+    ) -> Result<(Kept<T, C, E>, Vec<Share>), AllocError>
         requires opening { world.state ≡ opening world.state.clients world.state.page }
         requires some { 1 ≤ workers }
         requires few { workers ≤ world.state.clients }
@@ -147,12 +164,16 @@ impl<T: Clone, C: ObjectCodec<T> + Drop> Kept<T, C> {
     /// the world takes it.
     fn add(&mut self, worker: u64, event: Event<T>) -> Result<(), EventFault>
         requires { IsExactClone T.is_clone }
-        ensures ok { OnOk result ((told : Told T) × AddsJournalRow (C.encoded self.old.world.codec) (C.decoded self.old.world.codec) self.old self.new worker event told) }
-        ensures refused { IsRefusedAs (due_fault self.old.world event) result }
+        ensures ok { OnOk result ((told : Told T) × AddsJournalRow (C.encoded self.old.world.codec) (C.decoded self.old.world.codec) (E.epoch_of self.old.world.epochs) self.old self.new worker event told) }
+        ensures refused { IsRefusedAs (due_fault (C.encoded self.old.world.codec) (C.decoded self.old.world.codec) (E.epoch_of self.old.world.epochs) self.old.world event) result }
         ensures err { OnErr result (self.new ≡ self.old) }
     {
-        self.journal.reserve(1)?;
-        let copy = event.try_clone()?;
+        let Ok(()) = self.journal.reserve(1) else {
+            return Err(EventFault::NoMemory);
+        };
+        let Ok(copy) = event.try_clone() else {
+            return Err(EventFault::NoMemory);
+        };
         let told = self.world.take(event)?;
         push_within(
             &mut self.journal,
@@ -183,20 +204,44 @@ impl<T: Clone, C: ObjectCodec<T> + Drop> Kept<T, C> {
         event: Event<T>,
     ) -> Result<&'a Told<T>, EventFault>
         requires { IsExactClone T.is_clone }
-        ensures refused { IsRefusedAs (due_fault self.old.world event) result }
+        ensures refused { IsRefusedAs (due_fault (C.encoded self.old.world.codec) (C.decoded self.old.world.codec) (E.epoch_of self.old.world.epochs) self.old.world event) result }
         ensures share { MatchResult result (λ _. share.new ≡ one_more share.old) (λ _. share.new ≡ share.old) }
-        ensures* after { sem 𝓛 (ends_taken T.row C.row T.Clone C.ObjectCodec self.entry share.old.worker event result) }
+        ensures* after { sem 𝓛 (ends_taken T.row C.row E.row T.Clone C.ObjectCodec E.EpochField self.entry share.old.worker event result) }
     {
         self.add(share.worker, event)?;
         share.count = share.count.saturating_add(1);
         Ok(self.last_told())
     }
 
+    /// Takes the next event of an operation for the share's worker, and lends what it told: a look where
+    /// the operation asks for a look, and else a serve. The rest is as [`Kept::take`] does it.
+    pub fn take_next<'a>(
+        &'a mut self,
+        share: &mut Share,
+        op: u64,
+    ) -> Result<&'a Told<T>, EventFault>
+        requires { IsExactClone T.is_clone }
+        ensures refused { IsRefusedAs (due_fault (C.encoded self.old.world.codec) (C.decoded self.old.world.codec) (E.epoch_of self.old.world.epochs) self.old.world (next_event self.old.world op)) result }
+        ensures share { MatchResult result (λ _. share.new ≡ one_more share.old) (λ _. share.new ≡ share.old) }
+        ensures* after { sem 𝓛 (ends_taken T.row C.row E.row T.Clone C.ObjectCodec E.EpochField self.entry share.old.worker (next_event self.old.world op) result) }
+    {
+        let event = asked_event(self.asks(op), op);
+        self.take(share, event)
+    }
+
+    /// What an operation asks for: a store call, or a look at its client's caches, and nothing where it is
+    /// not there or has ended. It takes no memory.
+    pub fn asks(&self, op: u64) -> Option<Ask<'_>>
+        ensures { asks_as result ≡ asks_of (seen_of self.now.world.state) op }
+    {
+        self.world.asks(op)
+    }
+
     /// The world.
-    pub fn world(&self) -> &World<T, C>
+    pub fn world(&self) -> &World<T, C, E>
         ensures world { result.now ≡ self.now.world }
         // It is where the journal's events lead.
-        ensures replays { Replays (C.encoded self.now.world.codec) (C.decoded self.now.world.codec) self.now.journal self.now.world.state }
+        ensures replays { Replays (C.encoded self.now.world.codec) (C.decoded self.now.world.codec) (E.epoch_of self.now.world.epochs) self.now.journal self.now.world.state }
     {
         &self.world
     }

@@ -1,6 +1,6 @@
 //! Workers on threads of their own, round one world under a lock.
 ghost use Rattle.std.specs.Prelude.{◌≡◌, ◌*◌, ◌≤◌, ◌<◌, [], IfOk, length, vec_len, slice_get};
-ghost use Rattle.txn_model.specs.Doing.{IsExactClone};
+ghost use Rattle.txn_history.specs.Clones.{IsExactClone};
 ghost use Rattle.txn_threads.specs.Work.{base_read, heard_of, Grows};
 ghost use Rattle.txn_threads.specs.Crew.{EachGrows};
 
@@ -10,8 +10,9 @@ use std::alloc::{AllocError, Global};
 use std::sync::{Mutex, Wait};
 use std::thread;
 use std::thread::Threads;
-use txn_model::event::{Answer, Call, Event, EventFault, Told};
+use txn_history::event::{Answer, Call, Event, EventFault, Told};
 use txn_types::codec::ObjectCodec;
+use txn_types::epoch::EpochField;
 
 /// The most events of one call of a worker, its begin among them.
 pub const EVENTS_OF_A_CALL: u64 = 200;
@@ -72,6 +73,8 @@ fn hear<T>(told: &Told<T>) -> Heard
     match told {
         Told::Began(op) | Told::Went(op) => Heard::Goes(*op),
         Told::Answered(_, answer) => Heard::Ended(base_read(answer)),
+        // A worker makes no event that tells these.
+        Told::GaveUp(_) | Told::Landed(_, _) | Told::Crashed(_) => Heard::Ended(None),
     }
 }
 
@@ -83,48 +86,75 @@ struct Turns {
 }
 
 impl Turns {
-    ghost use Rattle.txn_model.specs.Doing.{IsExactClone};
+    ghost use Rattle.txn_history.specs.Clones.{IsExactClone};
     ghost use Rattle.txn_threads.specs.Work.{Grows};
 
-    /// Takes one event under one lock, where the gate lets it.
-    fn step<R: Wait, T: Clone, C: ObjectCodec<T> + Drop, G: Gate>(
+    /// Asks the gate for one event more.
+    fn pass<G: Gate>(&mut self, gate: &mut G) -> Result<(), End>
+        ensures { self.new.share ≡ self.old.share }
+    {
+        self.turns = self.turns.saturating_add(1);
+        match gate.pass(self.share.worker(), self.turns) {
+            Ok(()) => Ok(()),
+            Err(_) => Err(End::GateSpent),
+        }
+    }
+
+    /// Begins the call under one lock, where the gate lets it.
+    fn begin<R: Wait, T: Clone, C: ObjectCodec<T> + Drop, E: EpochField<T>, G: Gate>(
         &mut self,
         rt: &R,
-        kept: &Mutex<Kept<T, C>>,
+        kept: &Mutex<Kept<T, C, E>>,
         gate: &mut G,
-        event: Event<T>,
+        call: Call<T>,
     ) -> Result<Heard, End>
         requires { IsExactClone T.is_clone }
         ensures { Grows self.old.share 1 self.new.share }
     {
-        self.turns = self.turns.saturating_add(1);
-        if gate.pass(self.share.worker(), self.turns).is_err() {
-            return Err(End::GateSpent);
+        self.pass(gate)?;
+        let begin = Event::Begin(self.share.worker(), call);
+        match kept.lock(rt).take(&mut self.share, begin) {
+            Ok(told) => Ok(hear(told)),
+            Err(fault) => Err(End::Refused(fault)),
         }
-        match kept.lock(rt).take(&mut self.share, event) {
+    }
+
+    /// Takes the operation's next event under one lock, where the gate lets it: a look where the
+    /// operation asks for a look, and else a serve.
+    fn step<R: Wait, T: Clone, C: ObjectCodec<T> + Drop, E: EpochField<T>, G: Gate>(
+        &mut self,
+        rt: &R,
+        kept: &Mutex<Kept<T, C, E>>,
+        gate: &mut G,
+        op: u64,
+    ) -> Result<Heard, End>
+        requires { IsExactClone T.is_clone }
+        ensures { Grows self.old.share 1 self.new.share }
+    {
+        self.pass(gate)?;
+        match kept.lock(rt).take_next(&mut self.share, op) {
             Ok(told) => Ok(hear(told)),
             Err(fault) => Err(End::Refused(fault)),
         }
     }
 
     /// Makes one call, as the client of the worker's number.
-    fn call<R: Wait, T: Clone, C: ObjectCodec<T> + Drop, G: Gate>(
+    fn call<R: Wait, T: Clone, C: ObjectCodec<T> + Drop, E: EpochField<T>, G: Gate>(
         &mut self,
         rt: &R,
-        kept: &Mutex<Kept<T, C>>,
+        kept: &Mutex<Kept<T, C, E>>,
         gate: &mut G,
         call: Call<T>,
     ) -> Result<Option<Option<u64>>, End>
         requires { IsExactClone T.is_clone }
         ensures { Grows self.old.share 200 self.new.share }
     {
-        let begin = Event::Begin(self.share.worker(), call);
-        let op = match self.step(rt, kept, gate, begin)? {
+        let op = match self.begin(rt, kept, gate, call)? {
             Heard::Goes(op) => op,
             Heard::Ended(base) => return Ok(base),
         };
         for _ in 1..EVENTS_OF_A_CALL {
-            match self.step(rt, kept, gate, Event::Serve(op))? {
+            match self.step(rt, kept, gate, op)? {
                 Heard::Goes(_) => {}
                 Heard::Ended(base) => return Ok(base),
             }
@@ -133,10 +163,10 @@ impl Turns {
     }
 
     /// Reads, then writes the value on what it read.
-    fn write_on_read<R: Wait, T: Clone, C: ObjectCodec<T> + Drop, G: Gate>(
+    fn write_on_read<R: Wait, T: Clone, C: ObjectCodec<T> + Drop, E: EpochField<T>, G: Gate>(
         &mut self,
         rt: &R,
-        kept: &Mutex<Kept<T, C>>,
+        kept: &Mutex<Kept<T, C, E>>,
         gate: &mut G,
         value: T,
     ) -> Result<(), End>
@@ -150,10 +180,10 @@ impl Turns {
     }
 
     /// Does one job.
-    fn job<R: Wait, T: Clone, C: ObjectCodec<T> + Drop, G: Gate>(
+    fn job<R: Wait, T: Clone, C: ObjectCodec<T> + Drop, E: EpochField<T>, G: Gate>(
         &mut self,
         rt: &R,
-        kept: &Mutex<Kept<T, C>>,
+        kept: &Mutex<Kept<T, C, E>>,
         gate: &mut G,
         job: &Job<T>,
     ) -> Result<(), End>
@@ -181,9 +211,9 @@ impl Turns {
 /// Does the jobs in order, as the client of the share's number. Each event is taken under one lock, after
 /// the gate was asked. It goes on past a call that is answered with a refusal, and ends at the first job
 /// that could not be done.
-pub fn work<R: Wait, T: Clone, C: ObjectCodec<T> + Drop, G: Gate>(
+pub fn work<R: Wait, T: Clone, C: ObjectCodec<T> + Drop, E: EpochField<T>, G: Gate>(
     rt: &R,
-    kept: &Mutex<Kept<T, C>>,
+    kept: &Mutex<Kept<T, C, E>>,
     share: Share,
     gate: &mut G,
     jobs: &[Job<T>],
@@ -221,8 +251,13 @@ pub fn work_all<
     R: Threads + Wait + Sync,
     T: Clone + Send + Sync,
     C: ObjectCodec<T> + Drop + Send,
+    E: EpochField<T> + Send,
     G: Gate + Drop + Send,
->(rt: &R, kept: &Mutex<Kept<T, C>>, workers: Vec<Worker<T, G>>) -> Result<Vec<Worked>, AllocError>
+>(
+    rt: &R,
+    kept: &Mutex<Kept<T, C, E>>,
+    workers: Vec<Worker<T, G>>,
+) -> Result<Vec<Worked>, AllocError>
     requires { IsExactClone T.is_clone }
     ensures all { IfOk result (λ worked. vec_len worked ≡ vec_len workers) }
     ensures each { IfOk result (λ worked. EachGrows workers.items worked.items) }

@@ -1,8 +1,8 @@
 -- What a run of workers does and prints.
 use Rattle.std.specs.Prelude.{◌≡◌, ℕ, ◌+◌, ◌*◌, List, [], ◌∷◌, ◌++◌, Bool, true, false, Option, None, codes, count_by, decimal, find, map}
 use Rattle.std.specs.Option.{option_map}
-use Rattle.txn_script.specs.declared.record.Record.{Record}
-use Rattle.txn_model.specs.declared.event.Call.TheVariants as calls
+use Rattle.txn_lines.specs.declared.record.Record.{Record}
+use Rattle.txn_history.specs.declared.event.Call.TheVariants as calls
 use Rattle.txn_threads.specs.declared.work.Job.{Job}
 use Rattle.txn_threads.specs.declared.work.Job.TheVariants as jobs
 use Rattle.txn_threads.specs.declared.work.End.{End}
@@ -11,12 +11,12 @@ use Rattle.txn_threads.specs.declared.work.Worked.{Worked}
 use Rattle.txn_threads.specs.declared.work.Worker.{Worker}
 use Rattle.txn_threads.specs.declared.gate.FreeGate.{FreeGate}
 use Rattle.txn_threads.specs.declared.kept.Share.{Share}
-use Rattle.txn_model.specs.declared.trace.Row.{Row}
-use Rattle.txn_model.specs.declared.trace.Row.TheVariants.{Effect, Begun, Answered}
+use Rattle.txn_history.specs.declared.trace.Row.{Row}
+use Rattle.txn_history.specs.declared.trace.Row.TheVariants.{Effect, Begun, Answered}
 use Rattle.txnworld_cli.specs.declared.threads.Tally.{Tally}
 use Rattle.txnworld_cli.specs.declared.threads.Halt.{Halt}
 use Rattle.txnworld_cli.specs.declared.threads.Halt.TheVariants as halts
-use Rattle.txn_script.specs.Printed.{stop_text}
+use Rattle.txn_lines.specs.Printed.{stop_text}
 
 -- the k-th value of a worker, counted from 1
 abbrev pub value_of : ℕ → ℕ → Record

@@ -12,8 +12,8 @@ mod threads;
 use std::io::Write;
 use std::process::ExitCode;
 use std::{env, io};
+use txn_lines::stop::Stop;
 use txn_script::script::run_script;
-use txn_script::stop::Stop;
 
 /// The status of wrong arguments.
 const USAGE: u8 = 2;

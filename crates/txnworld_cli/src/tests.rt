@@ -4,7 +4,7 @@ use crate::threads::{Halt, Tally, run_threads};
 use crate::{Command, command_of};
 use std::str;
 use std::test::Fail;
-use txn_script::stop::Stop;
+use txn_lines::stop::Stop;
 
 #[test]
 fn each_command_has_its_words(rt: HostRuntime) -> Result<(), Fail> {

@@ -2,7 +2,7 @@
 
 ghost use Rattle.std.specs.Prelude.{◌≡◌, ◌≤◌, ◌⊎◌, All, Some, Bool, IfOk, IfErr};
 ghost use Rattle.std.specs.Io.KnownBytes.{Appends};
-ghost use Rattle.txn_script.specs.declared.stop.Stop.TheVariants as stops;
+ghost use Rattle.txn_lines.specs.declared.stop.Stop.TheVariants as stops;
 ghost use Rattle.txnworld_cli.specs.Threads.{job_list, tally_text, halt_text, says_begun, says_answered, begun_count, answered_count, stopped_worker, share_list, IsCrew};
 ghost use Rattle.txnworld_cli.specs.Tallies.{AgreeAs, Tallies, IsTally, PrintsTally, Halts, IsHaltOf, NamesHalt};
 
@@ -11,17 +11,17 @@ use std::io::Write;
 use std::sync::{Mutex, Wait};
 use std::thread::Threads;
 use std::{fmt, io};
-use txn_model::event::Call;
-use txn_model::trace::Row;
+use txn_world::world::World;
+use txn_history::event::Call;
+use txn_history::trace::Row;
+use txn_lines::record::{Record, RecordCodec, RecordEpoch};
+use txn_lines::stop::Stop;
 use txn_script::printer::Printer;
-use txn_script::record::{Record, RecordCodec};
-use txn_script::stop::Stop;
 use txn_threads::finish::finish;
 use txn_threads::gate::FreeGate;
 use txn_threads::kept::{Kept, Share};
 use txn_threads::work::{End, Job, Worked, Worker, work_all};
 use txn_types::layout::PAGE;
-use txn_world::world::World;
 
 /// What a run of workers left.
 #[derive(Clone, Copy, Debug, PartialEq, Eq)]
@@ -79,7 +79,7 @@ impl fmt::Display for Halt {
 
 impl From<AllocError> for Halt {
     ghost use Rattle.std.specs.Prelude.{◌≡◌};
-    ghost use Rattle.txn_script.specs.declared.stop.Stop.TheVariants as stops;
+    ghost use Rattle.txn_lines.specs.declared.stop.Stop.TheVariants as stops;
     ghost use Rattle.txnworld_cli.specs.declared.threads.Halt.TheVariants as halts;
 
     ghost from_gives = { λ _ halt. halt ≡ halts.Stop stops.NoMemory };
@@ -196,7 +196,7 @@ fn answered(rows: &[Row<Record>]) -> u64
 }
 
 /// Whether the shares finish the kept world.
-fn counts_agree(kept: Kept<Record, RecordCodec>, shares: Vec<Share>) -> bool
+fn counts_agree(kept: Kept<Record, RecordCodec, RecordEpoch>, shares: Vec<Share>) -> bool
     ensures { AgreeAs kept shares.items result }
 {
     finish(kept, shares).is_ok()
@@ -206,7 +206,7 @@ fn counts_agree(kept: Kept<Record, RecordCodec>, shares: Vec<Share>) -> bool
 fn tally_of(
     alloc: Global,
     workers: u64,
-    kept: Kept<Record, RecordCodec>,
+    kept: Kept<Record, RecordCodec, RecordEpoch>,
     shares: Vec<Share>,
 ) -> Result<Tally, Stop>
     ensures ok { IfOk result (Tallies workers kept shares.items) }
@@ -235,7 +235,7 @@ fn run_workers<R: Threads + Wait + Sync>(rt: &R, alloc: Global, workers: u64) ->
     ensures tally { IfOk result (IsTally workers) }
     ensures halt { IfErr result (IsHaltOf workers) }
 {
-    let world = World::new(alloc, RecordCodec, workers, PAGE)?;
+    let world = World::new(alloc, RecordCodec, RecordEpoch, workers, PAGE)?;
     let (kept, shares) = Kept::new(alloc, world, workers)?;
     let kept = Mutex::new(kept);
     let worked = work_all(rt, &kept, crew(alloc, shares)?)?;

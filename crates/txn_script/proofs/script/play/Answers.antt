@@ -2,11 +2,11 @@ use Rattle.std.proofs.Common.{ℕ, [], Option, List, sym, subst}
 use Rattle.std.proofs.lemmas.List.{append-nil}
 use Rattle.std.proofs.lemmas.Result.{on_ok_weaker, MatchResult-weaker, err_from_is_err_and}
 use Rattle.std.specs.Io.KnownBytes.{Appends, append_known}
-use Rattle.txn_script.specs.declared.line.Line.{Line}
-use Rattle.txn_script.specs.declared.stop.Stop.{Stop}
-use Rattle.txn_script.specs.declared.stop.Stop.TheVariants as stops
+use Rattle.txn_lines.specs.declared.line.Line.{Line}
+use Rattle.txn_lines.specs.declared.stop.Stop.{Stop}
+use Rattle.txn_lines.specs.declared.stop.Stop.TheVariants as stops
 use Rattle.txn_script.specs.Script.{StopsAfter}
-use Rattle.txn_script.specs.Reading.{ReadsNext}
+use Rattle.txn_lines.specs.Reading.{ReadsNext}
 use Rattle.txn_script.proofs.Playing.{appends_both, gathers, play_first, play_more, play_end, stops_first, stops_next, stops_line, stops_end}
 use Rattle.txn_script.proofs.script.play.Goals as goal
 

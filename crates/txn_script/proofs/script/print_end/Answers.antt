@@ -2,9 +2,10 @@ use Rattle.std.proofs.Common.{ℕ, List, ◌++◌, map, Some, refl, sym, ◌∙�
 use Rattle.std.proofs.lemmas.List.{append_assoc}
 use Rattle.std.proofs.lemmas.Result.{err_from_is_err_and}
 use Rattle.std.specs.Io.KnownBytes.{Appends, append_known}
-use Rattle.txn_script.specs.declared.record.Record.{Record}
-use Rattle.txn_model.specs.History.{boundary}
-use Rattle.txn_script.specs.Printed.{with_feed, entries_text, boundary_text, erased_text}
+use Rattle.txn_lines.specs.declared.record.Record.{Record}
+use Rattle.txn_history.specs.History.{boundary}
+use Rattle.txn_lines.specs.Printed.{boundary_text, erased_text}
+use Rattle.txn_script.specs.Printed.{with_feed, entries_text}
 use Rattle.txn_script.proofs.Playing.{Ended, appends_both, gathers, gathers_end, entries_front, line_front}
 use Rattle.txn_script.proofs.script.print_end.Goals as goal
 

@@ -3,8 +3,9 @@ use Rattle.std.proofs.Common.{ℕ, inr}
 use Rattle.std.proofs.lemmas.Result.{err_from_is_err_and}
 use Rattle.std.proofs.lemmas.List.{append-nil}
 use Rattle.std.proofs.lemmas.List.{append_assoc}
-use Rattle.txn_script.specs.declared.record.Record.{Record}
-use Rattle.txn_script.specs.Printed.{with_feed, entry_text, entries_text}
+use Rattle.txn_lines.specs.declared.record.Record.{Record}
+use Rattle.txn_lines.specs.Printed.{entry_text}
+use Rattle.txn_script.specs.Printed.{with_feed, entries_text}
 use Rattle.std.specs.Io.KnownBytes.{Appends, append_known}
 use Rattle.txn_script.proofs.Playing.{appends_nothing, gathers_line, entries_step}
 use Rattle.txn_script.proofs.script.print_entries.Goals as goal

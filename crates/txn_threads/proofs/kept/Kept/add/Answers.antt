@@ -4,14 +4,14 @@ use Rattle.txn_threads.proofs.kept.Kept.add.Goals as goal
 
 pub invariant_of-self-2 : goal.invariant_of-self-2
 invariant_of-self-2 g c = (
-  rw c.in_ok-told.ensures.codec
-      (replays_push (g.C.ObjectCodec.encoded c.self.inside.world.codec) (g.C.ObjectCodec.decoded c.self.inside.world.codec) c.self.inside.journal.items c.push_within.new.items.items c.self.inside.world.state c.take.new.self.state c.args.worker c.args.event c.in_ok-copy.copy c.in_ok-told.told
-      c.self.invariant.0 c.in_ok-told.ensures.ok c.in_ok-copy.ensures (search rules)),
+  rw (c.in_ok-told.ensures.codec, c.in_ok-told.ensures.epochs)
+      (replays_push (g.C.ObjectCodec.encoded c.self.inside.world.codec) (g.C.ObjectCodec.decoded c.self.inside.world.codec) (g.E.EpochField.epoch_of c.self.inside.world.epochs) c.self.inside.journal.items c.push_within.new.items.items c.self.inside.world.state c.take.new.self.state c.args.worker c.args.event c.in-Ok-try_clone.copy c.in_ok-told.told
+      c.self.invariant.0 c.in_ok-told.ensures.ok c.in-Ok-try_clone.ensures (search rules)),
   c.self.invariant.1,
 )
 
 pub returns-clause-ok : goal.returns-clause-ok
-returns-clause-ok g c = (c.in_ok-told.told, rw (← c.self.view_is) (record { row = search rules; step = c.in_ok-told.ensures.ok; codec = c.in_ok-told.ensures.codec; workers = refl }))
+returns-clause-ok g c = (c.in_ok-told.told, rw (← c.self.view_is) (record { row = search rules; step = c.in_ok-told.ensures.ok; codec = c.in_ok-told.ensures.codec; epochs = c.in_ok-told.ensures.epochs; workers = refl }))
 
 pub returns-in_err-told-clause-refused : goal.returns-in_err-told-clause-refused
 returns-in_err-told-clause-refused g c = rw (← c.self.view_is) (search rules)
