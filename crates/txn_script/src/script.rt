@@ -31,8 +31,8 @@ const MOST_PAGE: u64 = 1000;
 /// How many events a `run` makes at most.
 const MOST_TURNS: u64 = 100;
 
-/// Takes an event and prints what it is told, where that is printed. True where neither an answer nor a fault was told, so that an
-/// operation that took its turn goes on.
+/// Takes an event and prints what it is told, where that is printed. True where neither an answer nor
+/// a fault was told, so that an operation that took its turn goes on.
 fn take_event(
     world: &mut World<Record, RecordCodec, RecordEpoch>,
     event: Event<Record>,
@@ -63,7 +63,8 @@ fn take_event(
     }
 }
 
-/// The event that gives an operation what it asks for. Where it asks for nothing it is a serve, which is refused.
+/// The event that gives an operation what it asks for. Where it asks for nothing it is a serve, which
+/// is refused.
 fn asked_event(world: &World<Record, RecordCodec, RecordEpoch>, op: u64) -> Event<Record>
     ensures { result ≡ asked_event world.now.state op }
 {

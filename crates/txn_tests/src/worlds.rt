@@ -296,6 +296,8 @@ fn calls_run_to_their_answers(rt: HostRuntime) -> Result<(), Fail> {
     assert!(rt; right);
     assert_eq!(rt; world.boundary(), 1);
     assert_eq!(rt; world.erased(rt.alloc())?.as_slice(), [1].as_slice());
+    let entries = world.entries(rt.alloc())?;
+    assert_eq!(rt; entries.as_slice(), [7, 8, u64::MAX].as_slice());
     one_history::<u64, NumberCodec, NumberEpoch>(&NumberCodec, &NumberEpoch);
     boundary_never_falls(&7u64);
     above_boundary_is_not_removed(&7u64);
