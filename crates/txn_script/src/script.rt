@@ -12,7 +12,6 @@ use crate::printer::Printer;
 use std::alloc::Global;
 use std::io::{BufRead, BufReader, Read, Write};
 use std::mem;
-use txn_world::world::World;
 use txn_caches::ask::Ask;
 use txn_history::event::{Event, EventFault, Told};
 use txn_lines::line::Line;
@@ -21,6 +20,7 @@ use txn_lines::printed::{AnswerLine, Answered, BoundaryLine, EntryLine, ErasedLi
 use txn_lines::record::{Record, RecordCodec, RecordEpoch};
 use txn_lines::stop::Stop;
 use txn_types::layout::PAGE;
+use txn_world::world::World;
 
 /// The most clients that a script may have.
 const MOST_CLIENTS: u64 = 64;

@@ -9,12 +9,12 @@ ghost use Rattle.txn_threads.specs.Kept.{asked_event, one_more, AreCounts, AreFi
 
 use std::alloc::{AllocError, Global};
 use std::marker::Model;
-use txn_world::world::World;
 use txn_caches::ask::Ask;
 use txn_history::event::{Event, EventFault, Told};
 use txn_types::codec::ObjectCodec;
 use txn_types::epoch::EpochField;
 use txn_types::room::push_within;
+use txn_world::world::World;
 
 /// One event that a worker took, and what it told.
 #[derive(Debug, Drop)]

@@ -11,7 +11,6 @@ use std::io::Write;
 use std::sync::{Mutex, Wait};
 use std::thread::Threads;
 use std::{fmt, io};
-use txn_world::world::World;
 use txn_history::event::Call;
 use txn_history::trace::Row;
 use txn_lines::record::{Record, RecordCodec, RecordEpoch};
@@ -22,6 +21,7 @@ use txn_threads::gate::FreeGate;
 use txn_threads::kept::{Kept, Share};
 use txn_threads::work::{End, Job, Worked, Worker, work_all};
 use txn_types::layout::PAGE;
+use txn_world::world::World;
 
 /// What a run of workers left.
 #[derive(Clone, Copy, Debug, PartialEq, Eq)]
