@@ -4,3 +4,4 @@ pub mod Running
 pub mod Acting
 pub mod Stepping
 pub mod Reached
+pub mod Making

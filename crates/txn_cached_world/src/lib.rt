@@ -2,6 +2,7 @@
 #![tactic(auto)]
 
 mod clients;
+mod entries;
 mod requests;
 mod tables;
 mod trace;

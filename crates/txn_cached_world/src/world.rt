@@ -1,6 +1,6 @@
 //! Clients that keep caches over one store, one event at a time.
-ghost use Rattle.std.specs.Prelude.{◌≡◌, ◌≤◌, IfOk, OnErr};
-ghost use Rattle.txn_history.specs.History.{stored, boundary, AreErased};
+ghost use Rattle.std.specs.Prelude.{◌≡◌, ◌≤◌, map, IfOk, OnErr, Some};
+ghost use Rattle.txn_history.specs.History.{history, stored, boundary, AreErased};
 ghost use Rattle.txn_history.specs.OneHistory.{IsOneHistory};
 ghost use Rattle.txn_history.specs.Seen.{asks_of};
 ghost use Rattle.txn_history.specs.Allowed.{fault_of};
@@ -10,6 +10,7 @@ ghost use Rattle.txn_machine.specs.Doing.{asks_as};
 ghost use Rattle.txn_history.specs.Clones.{IsExactClone};
 ghost use Rattle.txn_machine.specs.Machine.{HasContents, opening, seen_of, fault_met, Takes, RunsPast};
 
+use crate::entries::entries_of;
 use crate::tables::Tables;
 use std::alloc::{AllocError, Global};
 use std::marker::Model;
@@ -125,6 +126,20 @@ impl<T: Clone, C: ObjectCodec<T> + Drop, E: EpochField<T>> World<T, C, E> {
         ensures { asks_as result ≡ asks_of (seen_of self.now.state) op }
     {
         self.tables.asks(op)
+    }
+
+    /// The history: the values of the versions, in the order of their first creation. It goes over the rows once. The only
+    /// error is want of memory; the world is as it was.
+    pub fn entries(&self, alloc: Global) -> Result<Vec<T>, AllocError>
+        ensures { IfOk result (λ entries. map Some entries.items ≡ history (C.decoded self.now.codec) self.now.state.trace) }
+    {
+        entries_of(
+            alloc,
+            &self.tables.trace.layout,
+            &self.tables.trace.field,
+            self.tables.failed(),
+            self.tables.rows(),
+        )
     }
 
     /// The boundary: the number that its file says, 0 where it is missing. It takes no memory.

@@ -1,0 +1,7 @@
+use Rattle.txn_cached_world.specs.Shown.{shown}
+use Rattle.txn_machine.proofs.Runs.{reached_history}
+use Rattle.txn_cached_world.proofs.world.World.entries.Goals as goal
+
+pub entries_of-requires-clause-good : goal.entries_of-requires-clause-good
+entries_of-requires-clause-good g c =
+    rw (c.failed.ensures, c.rows.ensures) (reached_history (g.C.ObjectCodec.encoded c.self.inside.tables.trace.layout.codec) (g.C.ObjectCodec.decoded c.self.inside.tables.trace.layout.codec) (g.E.EpochField.epoch_of c.self.inside.tables.trace.field) (shown c.self.inside.tables) c.self.invariant)
