@@ -48,6 +48,15 @@ def texts_of(crate):
     return texts
 
 
+def linked(file, to):
+    """Gives a file that nothing writes into a second name, which takes no room, or copies it where it cannot have one.
+    A built library may have hundreds of megabytes, and each copy of a crate above wants it."""
+    try:
+        os.link(file, to)
+    except OSError:
+        shutil.copy2(file, to)
+
+
 class Commands:
     """Runs commands and counts the processor time of each with all that it started."""
 
@@ -86,16 +95,17 @@ class Copies:
         self.texts = texts_of(f"{root}/crates/{name}")
         self.free, self.made, self.lock, self.seconds = [], 0, threading.Lock(), 0.0
 
-    def new(self, source, libraries):
-        """Makes a copy of the crate's folder `source` with what was kept there, and of its libraries' folders."""
+    def new(self, source, libraries, kept=("out/incremental",)):
+        """Makes a copy of the crate's folder `source` with these parts of what was kept there, and of its libraries'
+        folders."""
         with self.lock:
             self.made += 1
             top = f"{self.room}/{self.name}-{self.made}"
         os.makedirs(top)
         self.write_list_of_crates(f"{top}/crates.txt")
-        self.copy_parts(source, f"{top}/crates/{self.name}", [*PARTS, "out/incremental", "out/rlib"])
+        self.copy_parts(source, f"{top}/crates/{self.name}", [*PARTS, *kept])
         for name in self.below:
-            self.copy_parts(libraries[name], f"{top}/crates/{name}", [*PARTS, "out/rlib"])
+            self.copy_parts(libraries[name], f"{top}/crates/{name}", [*PARTS, "out/rlib"], linked)
         return f"{top}/crates/{self.name}"
 
     def remove_but_library(self, prepared):
@@ -112,14 +122,14 @@ class Copies:
             file.writelines(it for it in lines if (it.partition("#")[0].partition(":")[0].split() or [""])[0] in names)
 
     @staticmethod
-    def copy_parts(crate, to, parts):
-        """Copies parts of a crate's folder while no `rt` works in it."""
+    def copy_parts(crate, to, parts, copy=shutil.copy2):
+        """Copies parts of a crate's folder while no `rt` works in it, each file by `copy`."""
         held = os.open(crate, os.O_RDONLY)
         try:
             fcntl.flock(held, fcntl.LOCK_EX)
             for part in parts:
                 if os.path.isdir(f"{crate}/{part}"):
-                    shutil.copytree(f"{crate}/{part}", f"{to}/{part}", symlinks=True)
+                    shutil.copytree(f"{crate}/{part}", f"{to}/{part}", symlinks=True, copy_function=copy)
         finally:
             os.close(held)
 

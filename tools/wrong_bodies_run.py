@@ -125,7 +125,7 @@ class Run:
         lacking = [it for it in copies.below if not self.crates[it].is_proved]
         if lacking:
             return "", f"NOT TRIED: its library {lacking[0]} is not proved"
-        copy = copies.new(f"{copies.root}/crates/{crate.name}", self.folders)
+        copy = copies.new(f"{copies.root}/crates/{crate.name}", self.folders, ("out/incremental", "out/rlib"))
         status, said = copies.run(copy, "check")
         if not status and self.above(crate):
             status, said = copies.run(copy, "lib")
