@@ -10,6 +10,8 @@ from dataclasses import dataclass
 
 # How the names of the two builds of a program end that `rt ci` leaves in its out/: LLVM's, and Rattle's own compiler's.
 BUILDS = ("", ".by-rattle")
+# The program whose scripts the cases are. What any other prints, `rt ci` holds against its own stdout.
+PROGRAM_OF_CASES = "txnworld_cli"
 LAST_LINE = re.compile(r"(\d+) passed, (\d+) failed")
 TESTS_LINE = re.compile(r"^test result: \w+\. (\d+) passed; (\d+) failed", re.M)
 
@@ -112,15 +114,16 @@ def ci_steps(root):
 
 
 def case_steps(root):
-    """Replays the cases on the builds of each program. A build that was not made is a failure."""
-    for program in programs_in(root):
+    """Looks for the builds of each program, and replays the cases on those of theirs. A build that was not made is a
+    failure."""
+    for program in sorted({*programs_in(root), PROGRAM_OF_CASES}):
         made = [it for it in builds_of(root, program) if os.path.isfile(it)]
         lacking = [os.path.basename(it) for it in builds_of(root, program) if it not in made]
         if lacking:
             say(f"FAILED: rt ci built no {' and no '.join(lacking)}")
             yield Step(f"builds of {program}", 0, len(lacking), 1)
-        if made:
-            yield step(f"cases of {program}", [f"{root}/tools/replay-cases", *made], root)
+        if made and program == PROGRAM_OF_CASES:
+            yield step("cases", [f"{root}/tools/replay-cases", *made], root)
 
 
 def table(steps):

@@ -33,6 +33,11 @@ class Owner:
     def fit(self, segment):
         """How many letters of a log's name of such a block this owner explains, 0 where it is not this owner."""
         if not self.trait_name:
+            # A log names the block of some forms of a type alone with all arguments, as Kept+T+Id.
+            name, *arguments = segment.split("+")
+            rest = iter(arguments)
+            if arguments and name == self.type_name and all(it in rest for it in self.type_arguments):
+                return len("".join([self.type_name, *self.type_arguments]))
             whole = "".join([self.type_name, *self.type_arguments])
             return len(segment) if segment in (self.type_name, whole) else 0
         arguments = "".join(f"(?:{it})?" for it in self.type_arguments)
@@ -117,11 +122,12 @@ def without_parameters(head):
 
 
 def words_of_type(text, parameters):
-    """The names in a type as a log joins them: without paths, lifetimes and parameters, each with a capital."""
+    """The names in a type as a log joins them: without paths, lifetimes and parameters, each with a capital; Any where
+    that leaves none."""
     text = re.sub(r"'\w+|\w+\s*::\s*|\b(?:dyn|mut|const)\b", " ", text)
     kind = "Array" if re.match(r"\s*\[.*;", text, re.S) else "Slice" if re.match(r"\s*\[", text) else ""
     words = [it for it in re.findall(r"[A-Za-z_]\w*", text) if it not in parameters]
-    words = [it[0].upper() + it[1:] for it in words] or [""]
+    words = [it[0].upper() + it[1:] for it in words] or ["Any"]
     return [kind + words[0], *words[1:]]
 
 

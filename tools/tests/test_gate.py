@@ -82,18 +82,30 @@ class Steps(unittest.TestCase):
 
     def test_cases_on_both_builds(self):
         self.file("crates/low/src/lib.rt")
-        self.file("crates/app/src/main.rt")
+        self.file("crates/txnworld_cli/src/main.rt")
         self.file("tools/replay-cases", "#!/bin/sh\necho \"$# passed, 0 failed\"\n", 0o755)
         steps = silently(lambda: list(case_steps(self.room)))
         self.assertEqual([(it.passed, it.failed) for it in steps], [(0, 2)])
-        self.file("crates/app/out/app")
+        self.file("crates/txnworld_cli/out/txnworld_cli")
         steps = silently(lambda: list(case_steps(self.room)))
         self.assertEqual([(it.passed, it.failed) for it in steps], [(0, 1), (1, 0)])
-        self.file("crates/app/out/app.by-rattle")
+        self.file("crates/txnworld_cli/out/txnworld_cli.by-rattle")
         steps = silently(lambda: list(case_steps(self.room)))
         self.assertEqual([(it.passed, it.failed) for it in steps], [(2, 0)])
         gate_steps.remove_builds(self.room)
-        self.assertEqual(os.listdir(f"{self.room}/crates/app/out"), [])
+        self.assertEqual(os.listdir(f"{self.room}/crates/txnworld_cli/out"), [])
+
+    def test_no_cases_on_another_program(self):
+        self.file("tools/replay-cases", "#!/bin/sh\necho \"$# passed, 0 failed\"\n", 0o755)
+        for build in ("txnworld_cli", "txnworld_cli.by-rattle"):
+            self.file(f"crates/txnworld_cli/out/{build}")
+        self.file("crates/app/src/main.rt")
+        self.file("crates/app/out/app")
+        steps = silently(lambda: list(case_steps(self.room)))
+        self.assertEqual([(it.name, it.passed, it.failed) for it in steps], [("builds of app", 0, 1), ("cases", 2, 0)])
+        self.file("crates/app/out/app.by-rattle")
+        steps = silently(lambda: list(case_steps(self.room)))
+        self.assertEqual([it.name for it in steps], ["cases"])
 
     def test_table(self):
         lines = list(table([Step("proofs", 20, 0, 0, 61.4, 200.6), Step("cases", 3, 1)]))

@@ -124,9 +124,17 @@ class Reading(unittest.TestCase):
                  " Add<u64> for Id ": "IdAddU64", "<const N: usize> FromHex for [u8; N] ": "ArrayU8FromHex",
                  " Read for Broken<'_> ": "BrokenRead",
                  "<T: Clone, C: Codec<T> + Drop> Model for Kept<T, C> ": "KeptModel",
-                 "<C> Codec<Record> for R<C> where C: Copy ": "RCodecRecord"}
+                 "<C> Codec<Record> for R<C> where C: Copy ": "RCodecRecord",
+                 "<T, P: Calls<T>> Protocol<T, Id> for P ": "AnyProtocolId", "<T> Kept<T, Id> ": "KeptId"}
         for head, label in heads.items():
             self.assertEqual(owner_of_impl(head).label, label)
+
+    def test_a_block_of_some_forms_of_a_type(self):
+        every, some = owner_of_impl("<T, C> Kept<T, C> "), owner_of_impl("<T> Kept<T, Id> ")
+        self.assertGreater(some.fit("Kept+T+Id"), every.fit("Kept+T+Id"))
+        self.assertEqual(some.fit("Kept+T+Other"), 0)
+        self.assertEqual(some.fit("Left+T+Id"), 0)
+        self.assertEqual(every.fit("Kept"), len("Kept"))
 
 
 class Places(unittest.TestCase):
