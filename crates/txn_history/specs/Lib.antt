@@ -1,4 +1,3 @@
-pub mod Clones
 pub mod Names
 pub mod Lists
 pub mod History

@@ -1,6 +1,6 @@
 //! What comes into the world, and what it says of it.
 ghost use Rattle.std.specs.Prelude.{◌≡◌, IfOk};
-ghost use Rattle.txn_history.specs.Clones.{IsExactClone};
+ghost use Rattle.txn_types.specs.Clones.{IsExactClone};
 
 use crate::ids::Ids;
 use std::alloc::AllocError;

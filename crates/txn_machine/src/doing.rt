@@ -1,7 +1,7 @@
 //! The operations of a world's clients, as states of `txn_steps`.
 ghost use Rattle.std.specs.Prelude.{◌≡◌, false, None, Some, IfOk, IfSome};
 ghost use Rattle.txn_caches.specs.Steps.{turned_by_number};
-ghost use Rattle.txn_history.specs.Clones.{IsExactClone};
+ghost use Rattle.txn_types.specs.Clones.{IsExactClone};
 ghost use Rattle.txn_history.specs.Names.{world_names, world_boundary};
 ghost use Rattle.txn_machine.specs.Doing.{is_write, started, write_answer, read_answer, value_answer, ids_answer, done_answer, refusal_of_number, first_of, ids_of, IsTold, ReadsBack, FitsWord};
 
@@ -157,7 +157,7 @@ impl<T: Drop> Doing<T> {
 
 impl<T: Clone> Doing<T> {
     ghost use Rattle.std.specs.Prelude.{◌≡◌, IfSome};
-    ghost use Rattle.txn_history.specs.Clones.{IsExactClone};
+    ghost use Rattle.txn_types.specs.Clones.{IsExactClone};
     ghost use Rattle.txn_history.specs.Names.{world_names, world_boundary};
     ghost use Rattle.txn_machine.specs.Doing.{caches_left, first_of, InRange, IsReply, Turns};
 

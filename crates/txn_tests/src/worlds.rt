@@ -1,5 +1,5 @@
 //! Worlds: what each event is told, and calls that run to their answers.
-ghost use Rattle.txn_history.specs.Clones.{IsExactClone};
+ghost use Rattle.txn_types.specs.Clones.{IsExactClone};
 
 use std::alloc::{AllocError, Global};
 use std::test::Fail;

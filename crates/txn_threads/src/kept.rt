@@ -1,6 +1,6 @@
 //! A world beside the journal of what its workers did, to be kept under a lock.
 ghost use Rattle.std.specs.Prelude.{◌≡◌, ◌≤◌, ◌<◌, ◌+◌, ◌-◌, ◌^◌, [], IfOk, IfErr, All, Some, length, nat_eq, if◌then◌else◌, slice_get, slice_index};
-ghost use Rattle.txn_history.specs.Clones.{IsExactClone};
+ghost use Rattle.txn_types.specs.Clones.{IsExactClone};
 ghost use Rattle.txn_history.specs.Seen.{asks_of};
 ghost use Rattle.txn_machine.specs.Doing.{asks_as};
 ghost use Rattle.txn_machine.specs.Machine.{opening, seen_of};
@@ -128,7 +128,7 @@ fn count_rows<T>(counts: &mut [u64], journal: &[JournalRow<T>])
 impl<T: Clone, C: ObjectCodec<T> + Drop, E: EpochField<T>> Kept<T, C, E> {
     ghost use Rattle.std.specs.Prelude.{◌≡◌, ◌<◌, ◌≤◌, [], IfOk, OnOk, OnErr, MatchResult, length};
     ghost use Rattle.std.specs.Borrow.{sem};
-    ghost use Rattle.txn_history.specs.Clones.{IsExactClone};
+    ghost use Rattle.txn_types.specs.Clones.{IsExactClone};
     ghost use Rattle.txn_history.specs.Seen.{asks_of};
     ghost use Rattle.txn_history.specs.declared.event.Told.{Told};
     ghost use Rattle.txn_machine.specs.Doing.{asks_as};

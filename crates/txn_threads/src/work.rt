@@ -1,6 +1,6 @@
 //! Workers on threads of their own, round one world under a lock.
 ghost use Rattle.std.specs.Prelude.{◌≡◌, ◌*◌, ◌≤◌, ◌<◌, [], IfOk, length, vec_len, slice_get};
-ghost use Rattle.txn_history.specs.Clones.{IsExactClone};
+ghost use Rattle.txn_types.specs.Clones.{IsExactClone};
 ghost use Rattle.txn_threads.specs.Work.{base_read, heard_of, Grows};
 ghost use Rattle.txn_threads.specs.Crew.{EachGrows};
 
@@ -86,7 +86,7 @@ struct Turns {
 }
 
 impl Turns {
-    ghost use Rattle.txn_history.specs.Clones.{IsExactClone};
+    ghost use Rattle.txn_types.specs.Clones.{IsExactClone};
     ghost use Rattle.txn_threads.specs.Work.{Grows};
 
     /// Asks the gate for one event more.

@@ -1,8 +1,10 @@
 //! The error of every call.
 ghost use Rattle.std.specs.Prelude.{◌≡◌, ◌↔◌, IsTrue};
 ghost use Rattle.txn_types.specs.declared.error.TransactionalObjectError.TheVariants.{NoMemory};
+ghost use Rattle.txn_types.specs.Callbacks.{error_of_callback};
 ghost use Rattle.txn_types.specs.Errors.{error_number, store_error_number, error_of_store, error_of_fault};
 
+use crate::callback::CallbackFault;
 use crate::codec::CodecFault;
 use std::alloc::AllocError;
 use thiserror::Error;
@@ -107,6 +109,17 @@ impl From<CodecFault> for TransactionalObjectError {
         match fault {
             CodecFault::Refused(error) => TransactionalObjectError::CallbackError(error),
             CodecFault::NoMemory => TransactionalObjectError::NoMemory,
+        }
+    }
+}
+
+impl From<CallbackFault> for TransactionalObjectError {
+    ghost from_gives = { λ fault made. made ≡ error_of_callback fault };
+
+    fn from(fault: CallbackFault) -> TransactionalObjectError {
+        match fault {
+            CallbackFault::Refused(error) => TransactionalObjectError::CallbackError(error),
+            CallbackFault::NoMemory => TransactionalObjectError::NoMemory,
         }
     }
 }

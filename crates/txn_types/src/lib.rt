@@ -3,9 +3,11 @@
 //!
 //! ## Core types
 //! - `MonotonicId`: the id of a version. The first is 1, and each later one is the one before plus 1.
+//! - `CallbackFault`: how an invariant or a mutator refuses.
 //! - `DirtyObject<T, Id>`: a local candidate `{ id, value }`, with the id of the version that it is made from.
 //! - `EpochField<T>`: where a value keeps its epoch. What is set, it reads.
 //! - `IdentifiedObjectMetadata<Id>`: a listed file with the id of its version.
+//! - `Invariant<T>`: what has to hold between a new value and the current one; `NoInvariant` always holds.
 //! - `ObjectCodec<T>`: how values are written as bytes and read back. What it writes, it reads as the same value.
 //! - `TransactionalObjectError`: the error of every call, of eleven kinds with stated numbers.
 //! - `Layout<C>`: where the versions and the boundary file of an object lie, and the codec of its values.
@@ -21,12 +23,14 @@
 #![tactic(auto)]
 
 pub mod boundary;
+pub mod callback;
 pub mod codec;
 pub mod dirty;
 pub mod epoch;
 pub mod error;
 pub mod id;
 pub mod identified;
+pub mod invariant;
 pub mod layout;
 pub mod room;
 pub mod test_utils;

@@ -239,7 +239,7 @@ impl<T: Clone> Clients<T> {
     ghost use Rattle.txn_history.specs.GoesOn.{all_left_loose};
     ghost use Rattle.txn_history.specs.Names.{world_names, world_boundary};
     ghost use Rattle.txn_machine.specs.Doing.{first_of};
-    ghost use Rattle.txn_history.specs.Clones.{IsExactClone};
+    ghost use Rattle.txn_types.specs.Clones.{IsExactClone};
     ghost use Rattle.txn_machine.specs.Machine.{no_caches, ended_by, seen_operations};
     ghost use Rattle.txn_world.specs.Running.{asked_by};
     ghost use Rattle.txn_world.specs.Acting.{TakesReply, Ends, TakesTurn};

@@ -205,7 +205,7 @@ impl<T: Clone, C: ObjectCodec<T> + Drop, E: EpochField<T>> Tables<T, C, E> {
     ghost use Rattle.txn_history.specs.Allowed.{is_client, begin_fault, fault_of};
     ghost use Rattle.txn_history.specs.declared.event.Failure.TheVariants as failures;
     ghost use Rattle.txn_machine.specs.Doing.{asks_as};
-    ghost use Rattle.txn_history.specs.Clones.{IsExactClone};
+    ghost use Rattle.txn_types.specs.Clones.{IsExactClone};
     ghost use Rattle.txn_machine.specs.Machine.{opening, seen_of, refusal_of, fault_met, Begins, Looks, Served, FailsFirst, FailsAfter, GivesUp, Lands, Crashes, Steps, Takes};
     ghost use Rattle.txn_world.specs.Running.{asked_by};
     ghost use Rattle.txn_world.specs.Answering.{IsAnswerable, ToldFailure, request_of};

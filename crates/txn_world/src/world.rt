@@ -7,7 +7,7 @@ ghost use Rattle.txn_history.specs.Allowed.{fault_of};
 ghost use Rattle.txn_history.specs.Added.{AddsRows};
 ghost use Rattle.txn_history.specs.GoesOn.{GoesOn};
 ghost use Rattle.txn_machine.specs.Doing.{asks_as};
-ghost use Rattle.txn_history.specs.Clones.{IsExactClone};
+ghost use Rattle.txn_types.specs.Clones.{IsExactClone};
 ghost use Rattle.txn_machine.specs.Machine.{HasContents, opening, seen_of, fault_met, Takes, RunsPast};
 
 use crate::entries::entries_of;
