@@ -1,0 +1,181 @@
+-- The ids of the versions within bounds, of all files below the directory.
+use Rattle.std.proofs.Common.{◌≡◌, ◌⊎◌, ℕ, ◌<◌, ◌^◌, ◌==◌, Bool, true, false, T, List, [], ◌∷◌, map, Option, Some, None, refl, sym, ap, subst, ◌∙◌, inl, inr, arith}
+use Rattle.std.specs.List.{list_any, AllByRecursion}
+use Rattle.std.specs.List.Sorted.{IsStrictlySortedBy}
+use Rattle.std.specs.FinMap.{entries, is_sorted, entries_sorted, contains_key-keys}
+use Rattle.std.specs.FinMap.Entries.{below_all}
+use Rattle.std.specs.Ordering.{eq_by_cmp, is_eq, is_lt, nat_cmp}
+use Rattle.std.specs.Cmp.{tied_itself, nat_cmp_is}
+use Rattle.std.specs.declared.cmp.Ordering.{Ordering}
+use Rattle.std.specs.declared.cmp.Ordering.TheVariants.{Less, Equal, Greater}
+use Rattle.std.specs.declared.ops.Bound.{Bound}
+use Rattle.std.proofs.lemmas.Bool.{cases_Bool, cases_eq, cases_lt, or_cases, or_left, or_right, eqb-true, eq-eqb}
+use Rattle.txn_store.specs.Paths.{Segments, path_cmp, is_below}
+use Rattle.txn_store.specs.VersionName.{Names, version_path}
+use Rattle.txn_store.specs.VersionOf.{version_of}
+use Rattle.txn_store.specs.Store.{Files, listing}
+use Rattle.txn_store.specs.declared.store.Got.{Got}
+use Rattle.txn_store.proofs.FileLemmas.{path_cmp_total, path_cmp-IsAntisymmetric}
+use Rattle.txn_store.proofs.SortedLemmas.{reversed}
+use Rattle.txn_store.proofs.VersionOfLemmas.{version_of_path, path_of_version, version_below, one_path}
+use Rattle.txn_store.proofs.VersionOrder.{version_order}
+use Rattle.txn_types.specs.Numbers.{is_within}
+use Rattle.txn_steps.specs.Listed.{Listed}
+use Rattle.txn_steps.specs.Picked.{picked}
+use Rattle.txn_drivers.specs.PageCount.{files_below}
+use Rattle.txn_drivers.proofs.NextPages.{first_part, rest_part, is_less}
+use Rattle.txn_drivers.specs.ListRuns.{ids_of, is_listed, AreStored}
+
+tied : (o : Ordering) → is_eq o ≡ true → o ≡ Equal
+tied Less h = cc
+tied Equal h = refl
+tied Greater h = cc
+
+-- a path is among the entries
+abbrev is_at : Segments → List (Segments × Got) → Bool
+is_at path es = list_any (eq_by_cmp path_cmp path) (map (λ e. e.0) es)
+
+at_first : (e : Segments × Got) (es : List (Segments × Got)) (path : Segments) → path ≡ e.0 → is_at path (e ∷ es) ≡ true
+at_first e es path is = or_left (eq_by_cmp path_cmp path e.0) (is_at path es) (ap (λ p. eq_by_cmp path_cmp p e.0) is ∙ ap is_eq (tied_itself path_cmp_total e.0))
+
+at_rest : (e : Segments × Got) (es : List (Segments × Got)) (path : Segments) → is_at path es ≡ true → is_at path (e ∷ es) ≡ true
+at_rest e es path h = or_right (eq_by_cmp path_cmp path e.0) (is_at path es) h
+
+at_cases : (e : Segments × Got) (es : List (Segments × Got)) (path : Segments) → is_at path (e ∷ es) ≡ true → (path ≡ e.0) ⊎ (is_at path es ≡ true)
+at_cases e es path h = elim (or_cases (eq_by_cmp path_cmp path e.0) (is_at path es) h) [ inl here ↦ inl (path_cmp-IsAntisymmetric path e.0 (tied (path_cmp path e.0) here)) | inr rest ↦ inr rest ]
+
+-- what comes after an entry stands behind its path
+later : (path : Segments) (es : List (Segments × Got)) → T (below_all path_cmp path es) → (q : Segments) → is_at q es ≡ true → path_cmp path q ≡ Less
+later path [] h q at = cc
+later path (e ∷ es) h q at =
+    elim (at_cases e es q at) [
+      | inl here ↦ ap (path_cmp path) here ∙ is_less (path_cmp path e.0) (first_part (is_lt (path_cmp path e.0)) (below_all path_cmp path es) h)
+      | inr rest ↦ later path es (rest_part (is_lt (path_cmp path e.0)) (below_all path_cmp path es) h) q rest
+    ]
+
+-- a version whose path stands behind another's has a greater id
+path_up : (names : Names) (n m : ℕ) → n < 2 ^ 64 → path_cmp (version_path names n) (version_path names m) ≡ Less → n < m
+path_up names n m fits up =
+    elim (cases_lt n m) [
+      | inl lt ↦ lt
+      | inr ge ↦ elim (cases_eq m n) [
+        | inl same ↦
+            let level : path_cmp (version_path names n) (version_path names m) ≡ Equal = ap (λ k. path_cmp (version_path names n) (version_path names k)) same ∙ tied_itself path_cmp_total (version_path names n) in
+            let clash : Less ≡ Equal = sym up ∙ level in
+            absurd (cc)
+        | inr apart ↦
+            let back = reversed (version_path names m) (version_path names n) Less (version_order names m n (omega (arith, ge, apart)) fits) in
+            let clash : Less ≡ Greater = sym up ∙ back in
+            absurd (cc)
+      ]
+    ]
+
+-- an id among others
+
+in_first : (n id : ℕ) (ids : List ℕ) → n ≡ id → list_any (λ m. n == m) (id ∷ ids) ≡ true
+in_first n id ids e = or_left (n == id) (list_any (λ m. n == m) ids) (eq-eqb n id e)
+
+in_rest : (n id : ℕ) (ids : List ℕ) → list_any (λ m. n == m) ids ≡ true → list_any (λ m. n == m) (id ∷ ids) ≡ true
+in_rest n id ids h = or_right (n == id) (list_any (λ m. n == m) ids) h
+
+in_cases : (n id : ℕ) (ids : List ℕ) → list_any (λ m. n == m) (id ∷ ids) ≡ true → (n ≡ id) ⊎ (list_any (λ m. n == m) ids ≡ true)
+in_cases n id ids h = elim (or_cases (n == id) (list_any (λ m. n == m) ids) h) [ inl here ↦ inl (eqb-true n id here) | inr rest ↦ inr rest ]
+
+all_in : (low : ℕ) (ids : List ℕ) → ((n : ℕ) → list_any (λ m. n == m) ids ≡ true → low < n) → AllByRecursion (λ n. nat_cmp low n ≡ Less) ids
+all_in low [] up = tt
+all_in low (id ∷ ids) up = (sym (nat_cmp_is low id Less (up id (in_first id id ids refl))), all_in low ids (λ n h. up n (in_rest n id ids h)))
+
+module _ (names : Names) (from to : Bound ℕ) where
+  abbrev chosen : List (Segments × Got) → List Listed
+  chosen es = picked names from to (listing names.dir None es)
+
+  -- one more entry: it is a version within the bounds, whose id comes first, or nothing comes of it
+  record IsChosen (e : Segments × Got) (es : List (Segments × Got)) : Type 0 where
+    id : ℕ
+    fits : id < 2 ^ 64
+    within : is_within from to id ≡ true
+    path : e.0 ≡ version_path names id
+    ids : ids_of (chosen (e ∷ es)) ≡ id ∷ ids_of (chosen es)
+
+  record IsPassed (e : Segments × Got) (es : List (Segments × Got)) : Type 0 where
+    ids : ids_of (chosen (e ∷ es)) ≡ ids_of (chosen es)
+    none : (n : ℕ) → n < 2 ^ 64 → is_within from to n ≡ true → version_path names n ≡ e.0 → ⊥
+
+  by_version : (e : Segments × Got) (es : List (Segments × Got)) → is_below names.dir e.0 ≡ true → (version : Option ℕ) → version_of names e.0 ≡ version → IsChosen e es ⊎ IsPassed e es
+  by_version e es below None is = inr (record {
+    ids = rw (below, is) refl;
+    none = λ n fits within path. let named : version_of names e.0 ≡ Some n = ap (version_of names) (sym path) ∙ version_of_path names n fits in let clash : None ≡ Some n = sym is ∙ named in absurd (cc);
+  })
+  by_version e es below (Some id) is =
+      let path = path_of_version names e.0 id is in
+      elim (cases_Bool (is_within from to id)) [
+        | inl within ↦ inl (record { id = id; fits = path.1; within = within; path = path.0; ids = rw (below, is, within) refl })
+        | inr outside ↦ inr (record {
+          ids = rw (below, is, outside) refl;
+          none = λ n fits within at.
+              let same : n ≡ id = one_path names n id fits path.1 (at ∙ path.0) in
+              let clash : true ≡ false = sym within ∙ (ap (is_within from to) same ∙ outside) in
+              absurd (cc);
+        })
+      ]
+
+  one_more : (e : Segments × Got) (es : List (Segments × Got)) → IsChosen e es ⊎ IsPassed e es
+  one_more e es =
+      elim (cases_Bool (is_below names.dir e.0)) [
+        | inl below ↦ by_version e es below (version_of names e.0) refl
+        | inr other ↦ inr (record {
+          ids = rw other refl;
+          none = λ n fits within path. let below : is_below names.dir e.0 ≡ true = ap (is_below names.dir) (sym path) ∙ version_below names n in let clash : true ≡ false = sym below ∙ other in absurd (cc);
+        })
+      ]
+
+  abbrev is_chosen : ℕ → List (Segments × Got) → Bool
+  is_chosen n es = is_listed n (chosen es)
+
+  -- each id is that of an entry
+  each_stored : (es : List (Segments × Got)) (n : ℕ) → is_chosen n es ≡ true → (n < 2 ^ 64) × (is_within from to n ≡ true) × (is_at (version_path names n) es ≡ true)
+  each_stored [] n h = cc
+  each_stored (e ∷ es) n h = elim (one_more e es) [
+    | inl one ↦
+        elim (in_cases n one.id (ids_of (chosen es)) (subst (λ ids. list_any (λ m. n == m) ids ≡ true) one.ids h)) [
+          | inl here ↦
+              let fits = one.fits in
+              (omega (arith, here, fits), ap (is_within from to) here ∙ one.within, at_first e es (version_path names n) (ap (version_path names) here ∙ sym one.path))
+          | inr rest ↦ (let s = each_stored es n rest in (s.0, s.1, at_rest e es (version_path names n) s.2))
+        ]
+    | inr none ↦ (let s = each_stored es n (subst (λ ids. list_any (λ m. n == m) ids ≡ true) none.ids h) in (s.0, s.1, at_rest e es (version_path names n) s.2))
+  ]
+
+  -- each version within the bounds is there
+  all_stored : (es : List (Segments × Got)) (n : ℕ) → n < 2 ^ 64 → is_within from to n ≡ true → is_at (version_path names n) es ≡ true → is_chosen n es ≡ true
+  all_stored [] n fits within at = cc
+  all_stored (e ∷ es) n fits within at = elim (one_more e es) [
+    | inl one ↦ subst (λ ids. list_any (λ m. n == m) ids ≡ true) (sym one.ids) (elim (at_cases e es (version_path names n) at) [
+      | inl here ↦ in_first n one.id (ids_of (chosen es)) (one_path names n one.id fits one.fits (here ∙ one.path))
+      | inr rest ↦ in_rest n one.id (ids_of (chosen es)) (all_stored es n fits within rest)
+    ])
+    | inr none ↦ subst (λ ids. list_any (λ m. n == m) ids ≡ true) (sym none.ids) (elim (at_cases e es (version_path names n) at) [
+      | inl here ↦ absurd (none.none n fits within here)
+      | inr rest ↦ all_stored es n fits within rest
+    ])
+  ]
+
+  -- they ascend
+  ascending : (es : List (Segments × Got)) → T (is_sorted path_cmp es) → IsStrictlySortedBy nat_cmp (ids_of (chosen es))
+  unfolding IsStrictlySortedBy
+  ascending [] sorted = tt
+  ascending (e ∷ es) sorted =
+      let rest = ascending es (rest_part (below_all path_cmp e.0 es) (is_sorted path_cmp es) sorted) in
+      let first : T (below_all path_cmp e.0 es) = subst T (sym (first_part (below_all path_cmp e.0 es) (is_sorted path_cmp es) sorted)) tt in
+      elim (one_more e es) [
+        | inl one ↦ subst (IsStrictlySortedBy nat_cmp) (sym one.ids)
+            (all_in one.id (ids_of (chosen es)) (λ n h. path_up names one.id n one.fits (ap (λ p. path_cmp p (version_path names n)) (sym one.path) ∙ later e.0 es first (version_path names n) (each_stored es n h).2)), rest)
+        | inr none ↦ subst (IsStrictlySortedBy nat_cmp) (sym none.ids) rest
+      ]
+
+  pub are_stored : (files : Files) → AreStored names from to files (picked names from to (files_below names files))
+  are_stored files = record {
+    ascend = ascending (entries files) (entries_sorted files);
+    stored = λ n h. (let s = each_stored (entries files) n h in (s.0, s.1, contains_key-keys files (version_path names n) ∙ s.2));
+    all = λ n fits within there. all_stored (entries files) n fits within (sym (contains_key-keys files (version_path names n)) ∙ there);
+  }

@@ -1,0 +1,85 @@
+-- Which error an operation tells, by its number and the store's error.
+use Rattle.std.proofs.Common.{◌≡◌, ℕ, Some, Result, Ok, Err, refl, sym, ap, arith}
+use Rattle.std.proofs.lemmas.Option.{same_Some}
+use Rattle.txn_store.specs.declared.store.StoreError.{StoreError}
+use Rattle.txn_store.specs.declared.store.StoreError.TheVariants as errors
+use Rattle.txn_types.specs.Errors.{error_number, store_error_number, error_of_store}
+use Rattle.txn_types.specs.declared.error.TransactionalObjectError.{TransactionalObjectError}
+use Rattle.txn_types.specs.declared.error.TransactionalObjectError.TheVariants as kinds
+use Rattle.txn_caches.specs.declared.turned.Turned.{Turned}
+use Rattle.txn_caches.specs.declared.turned.Turned.TheVariants.{Goes, Done}
+use Rattle.txn_caches.specs.Steps.{turned_by_number, IsErrorOf, TellsErrorOf}
+
+pub is_no_memory : (error : TransactionalObjectError) → error_number error ≡ 9 → error ≡ kinds.NoMemory
+is_no_memory kinds.NoMemory is = refl
+is_no_memory kinds.IoError is = absurd (omega (arith, is))
+is_no_memory (kinds.ObjectStoreError e) is = absurd (omega (arith, is))
+is_no_memory (kinds.ObjectUpdateTimeout timeout) is = absurd (omega (arith, is))
+is_no_memory kinds.LatestRecordMissing is = absurd (omega (arith, is))
+is_no_memory kinds.ObjectVersionExists is = absurd (omega (arith, is))
+is_no_memory kinds.Fenced is = absurd (omega (arith, is))
+is_no_memory kinds.InvalidObjectState is = absurd (omega (arith, is))
+is_no_memory (kinds.CallbackError e) is = absurd (omega (arith, is))
+is_no_memory kinds.IdExhausted is = absurd (omega (arith, is))
+is_no_memory kinds.TurnsExhausted is = absurd (omega (arith, is))
+
+pub is_conflict : (error : TransactionalObjectError) → error_number error ≡ 5 → error ≡ kinds.ObjectVersionExists
+is_conflict kinds.ObjectVersionExists is = refl
+is_conflict kinds.IoError is = absurd (omega (arith, is))
+is_conflict (kinds.ObjectStoreError e) is = absurd (omega (arith, is))
+is_conflict (kinds.ObjectUpdateTimeout timeout) is = absurd (omega (arith, is))
+is_conflict kinds.LatestRecordMissing is = absurd (omega (arith, is))
+is_conflict kinds.Fenced is = absurd (omega (arith, is))
+is_conflict kinds.InvalidObjectState is = absurd (omega (arith, is))
+is_conflict (kinds.CallbackError e) is = absurd (omega (arith, is))
+is_conflict kinds.NoMemory is = absurd (omega (arith, is))
+is_conflict kinds.IdExhausted is = absurd (omega (arith, is))
+is_conflict kinds.TurnsExhausted is = absurd (omega (arith, is))
+
+is_stores : (e : StoreError) (error : TransactionalObjectError) → error_number error ≡ 2 → IsErrorOf (Some e) error → error ≡ kinds.ObjectStoreError e
+is_stores e (kinds.ObjectStoreError own) is told = ap kinds.ObjectStoreError (sym (same_Some e own told))
+is_stores e kinds.IoError is told = absurd (omega (arith, is))
+is_stores e (kinds.ObjectUpdateTimeout timeout) is told = absurd (omega (arith, is))
+is_stores e kinds.LatestRecordMissing is told = absurd (omega (arith, is))
+is_stores e kinds.ObjectVersionExists is told = absurd (omega (arith, is))
+is_stores e kinds.Fenced is told = absurd (omega (arith, is))
+is_stores e kinds.InvalidObjectState is told = absurd (omega (arith, is))
+is_stores e (kinds.CallbackError f) is told = absurd (omega (arith, is))
+is_stores e kinds.NoMemory is told = absurd (omega (arith, is))
+is_stores e kinds.IdExhausted is told = absurd (omega (arith, is))
+is_stores e kinds.TurnsExhausted is told = absurd (omega (arith, is))
+
+-- an error that has the number of the store's error, and holds no other, is what that becomes
+is_told : (e : StoreError) (error : TransactionalObjectError) → error_number error ≡ store_error_number e → IsErrorOf (Some e) error → error ≡ error_of_store e
+is_told errors.NotFound error is told = is_stores errors.NotFound error is told
+is_told errors.AlreadyExists error is told = is_stores errors.AlreadyExists error is told
+is_told errors.Precondition error is told = is_stores errors.Precondition error is told
+is_told errors.NotModified error is told = is_stores errors.NotModified error is told
+is_told errors.Failed error is told = is_stores errors.Failed error is told
+is_told errors.NoMemory error is told = is_no_memory error is
+is_told errors.TokensExhausted error is told = is_stores errors.TokensExhausted error is told
+
+module _ {A : Type 0} where
+  -- what goes on by number goes on
+  pub goes : (told : Turned (Result A TransactionalObjectError)) → turned_by_number told ≡ Goes → told ≡ Goes
+  goes Goes is = refl
+  goes (Done (Ok x)) is = absurd (cc)
+  goes (Done (Err error)) is = absurd (cc)
+
+  -- what answers by number answers
+  pub answers : (told : Turned (Result A TransactionalObjectError)) (x : A) → turned_by_number told ≡ Done (Ok x) → told ≡ Done (Ok x)
+  answers Goes x is = absurd (cc)
+  answers (Done (Ok y)) x is = let same : y ≡ x = cc in ap (λ (k : A). Done (Ok k)) same
+  answers (Done (Err error)) x is = absurd (cc)
+
+  -- what refuses by number refuses
+  pub refuses : (told : Turned (Result A TransactionalObjectError)) (number : ℕ) → turned_by_number told ≡ Done (Err number) → (error : TransactionalObjectError) × (told ≡ Done (Err error)) × (error_number error ≡ number)
+  refuses Goes number is = absurd (cc)
+  refuses (Done (Ok x)) number is = absurd (cc)
+  refuses (Done (Err error)) number is = (error, refl, cc)
+
+  -- an operation that ends with the number of the store's error tells what that becomes
+  pub tells_store : (told : Turned (Result A TransactionalObjectError)) (e : StoreError) → turned_by_number told ≡ Done (Err (store_error_number e)) → TellsErrorOf (Some e) told → told ≡ Done (Err (error_of_store e))
+  tells_store Goes e is own = absurd (cc)
+  tells_store (Done (Ok x)) e is own = absurd (cc)
+  tells_store (Done (Err error)) e is own = ap (λ (k : TransactionalObjectError). Done (Err k)) (is_told e error (cc) own)

@@ -1,0 +1,140 @@
+//! A check of an id against the boundary, and an advance of the boundary.
+ghost use Rattle.std.specs.Prelude.{ℕ, ◌≡◌, ◌+◌, Some, true};
+ghost use Rattle.std.specs.Bool.{OnTrue, OnFalse};
+ghost use Rattle.std.specs.Fmt.{decimal};
+ghost use Rattle.txn_store.specs.Paths.{Segments};
+ghost use Rattle.txn_types.specs.BoundaryText.{boundary_read};
+ghost use Rattle.txn_caches.specs.Boundaries.{refused_by};
+ghost use Rattle.txn_caches.specs.BoundaryAdvances.{asks_put};
+ghost use Rattle.txn_drivers.specs.Calls.{one_if};
+ghost use Rattle.txn_drivers.specs.BoundaryRuns.{CheckFormed, IsCheckStep};
+ghost use Rattle.txn_drivers.specs.Checking.{Checked};
+ghost use Rattle.txn_drivers.specs.AdvanceRuns.{AdvanceFormed, IsAdvanceStep};
+ghost use Rattle.txn_drivers.specs.Advancing.{Advanced};
+
+use crate::replies::reply_to;
+use crate::turns::Turns;
+use std::alloc::Global;
+use txn_caches::advance::BoundaryAdvance;
+use txn_caches::caches::CachedBoundary;
+use txn_caches::check::BoundaryCheck;
+use txn_caches::turned::Turned;
+use txn_store::path::Path;
+use txn_store::store::ObjectStore;
+use txn_types::error::TransactionalObjectError;
+use txn_types::id::MonotonicId;
+
+/// Whether the cached boundary is at or above the id.
+fn is_reached(id: MonotonicId, cached: &Option<CachedBoundary>) -> bool
+    ensures { result ≡ refused_by id cached.now }
+{
+    match cached {
+        Some(known) => id.id() <= known.number,
+        None => false,
+    }
+}
+
+/// One look or one call of the store, of a check of some id against the file of some path.
+fn check_step<S: ObjectStore>(
+    alloc: Global,
+    cached: &mut Option<CachedBoundary>,
+    store: &mut S,
+    op: &mut BoundaryCheck,
+) -> Turned<Result<(), TransactionalObjectError>>
+    requires { (path : Segments) × (id : ℕ) × CheckFormed path cached.old id op.old }
+    ensures { (path : Segments) (id : ℕ) → CheckFormed path cached.old id op.old → IsCheckStep path id (S.state store.old) (S.state store.new) cached.old cached.new op.old op.new result }
+{
+    let reply = reply_to(alloc, store, op.ask());
+    op.take(cached, reply)
+}
+
+/// Checks that an id is above the boundary that the file of this path says, 0 where it is missing. A cached boundary at or
+/// above the id refuses it with no call of the store; an id is accepted by one get alone, which asks for the file only
+/// where it is not as it is cached. What was read is cached, unless a greater boundary is. An id at or below the boundary is
+/// `ObjectVersionExists`, and a file that says no number is `InvalidObjectState`; a growth that is refused is `NoMemory`, and
+/// any other error of the store is `ObjectStoreError`. Each answer leaves the files as they were, and what stood for a
+/// boundary stands for it.
+pub fn check_boundary<S: ObjectStore>(
+    alloc: Global,
+    path: &Path,
+    cached: &mut Option<CachedBoundary>,
+    store: &mut S,
+    id: MonotonicId,
+) -> Result<(), TransactionalObjectError>
+    ensures { Checked path.now id (S.state store.old) (S.state store.new) cached.old cached.new result }
+{
+    // Nothing grows where the cached boundary is the answer.
+    if is_reached(id, cached) {
+        return Err(TransactionalObjectError::ObjectVersionExists);
+    }
+    let mut op = BoundaryCheck::start(path, id)?;
+    'steps: loop {
+        match check_step(alloc, cached, store, &mut op) {
+            Turned::Goes => {}
+            Turned::Done(answer) => return answer,
+        }
+    }
+}
+
+/// The law that a boundary's text says it.
+fn reads_back(target: u64)
+    ensures { boundary_read (decimal target) ≡ Some target }
+{}
+
+/// Spends the turn of a put. It answers false, and changes nothing, where one is due and none is left.
+fn pay(op: &BoundaryAdvance, turns: &mut Turns) -> bool
+    ensures paid { OnTrue result (turns.old ≡ turns.new + one_if (asks_put op.now)) }
+    ensures lacks { OnFalse result ((asks_put op.now ≡ true) × (turns.old ≡ 0) × (turns.new ≡ 0)) }
+{
+    !matches!(op, BoundaryAdvance::Puts(..)) || turns.spend()
+}
+
+/// One look or one call of the store, of an advance to this target.
+fn advance_step<S: ObjectStore>(
+    alloc: Global,
+    path: &Path,
+    target: MonotonicId,
+    cached: &mut Option<CachedBoundary>,
+    store: &mut S,
+    op: &mut BoundaryAdvance,
+) -> Turned<Result<(), TransactionalObjectError>>
+    requires { AdvanceFormed path.now target cached.old (S.state store.old) op.old }
+    ensures { IsAdvanceStep path.now target (S.state store.old) (S.state store.new) cached.old cached.new op.old op.new result }
+{
+    reads_back(target.id());
+    let reply = reply_to(alloc, store, op.ask());
+    op.take(alloc, path, cached, reply)
+}
+
+/// Raises the boundary that the file of this path says, 0 where it is missing, to the target. A cached boundary at or above
+/// the target is the answer, with no call of the store and no turn. Each put spends a turn, replaces the file only where
+/// that is as it is cached, and creates it only where it is missing; a put that came too late leads to a read of the file and
+/// another put. What was read or put is cached, unless a greater boundary is. `TurnsExhausted` comes where a put is due and no
+/// turn is left, and a file that says no number is `InvalidObjectState`; a growth that is refused is `NoMemory`, and any other
+/// error of the store is `ObjectStoreError`. Each error leaves what stood for a boundary standing for that one or for the
+/// greater of it and the target: a put that was taken stands, also where its answer was a failure.
+pub fn advance_boundary<S: ObjectStore>(
+    alloc: Global,
+    path: &Path,
+    cached: &mut Option<CachedBoundary>,
+    store: &mut S,
+    target: MonotonicId,
+    turns: &mut Turns,
+) -> Result<(), TransactionalObjectError>
+    ensures { Advanced path.now target (S.state store.old) (S.state store.new) turns.old turns.new cached.old cached.new result }
+{
+    // Nothing grows where the cached boundary is the answer.
+    if is_reached(target, cached) {
+        return Ok(());
+    }
+    let mut op = BoundaryAdvance::start(target);
+    'steps: loop {
+        if !pay(&op, turns) {
+            return Err(TransactionalObjectError::TurnsExhausted);
+        }
+        match advance_step(alloc, path, target, cached, store, &mut op) {
+            Turned::Goes => {}
+            Turned::Done(answer) => return answer,
+        }
+    }
+}

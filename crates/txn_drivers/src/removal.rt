@@ -1,0 +1,49 @@
+//! A delete of a version, driven to its end.
+ghost use Rattle.txn_drivers.specs.RemovalRuns.{CanRemove, IsRemovalStep, Deleted};
+
+use crate::replies::reply_to;
+use std::alloc::Global;
+use txn_caches::turned::Turned;
+use txn_caches::window::Window;
+use txn_steps::delete::{DeleteAnswer, DeleteUncheckedOp};
+use txn_store::store::ObjectStore;
+use txn_types::codec::ObjectCodec;
+use txn_types::id::MonotonicId;
+use txn_types::layout::Layout;
+
+/// One look or one store call of a delete.
+pub(crate) fn removal_step<S: ObjectStore>(
+    alloc: Global,
+    latest: &mut Window,
+    store: &mut S,
+    op: &mut DeleteUncheckedOp,
+) -> Turned<DeleteAnswer>
+    requires { CanRemove op.old.step op.old.request }
+    ensures { IsRemovalStep (S.state store.old) (S.state store.new) latest.old latest.new op.old op.new result }
+{
+    let reply = reply_to(alloc, store, op.ask());
+    op.take(latest, reply)
+}
+
+/// Removes the version of this id, whether it is stored or not, and drops the held version of that id alone. No boundary
+/// is read: the caller knows that the id is at or below it. It makes one store call at most, and takes no token.
+///
+/// `ObjectStoreError(Failed)` comes only where the store failed: the version may have been removed. `NoMemory` comes where
+/// a growth was refused, and leaves the files. No error changes what is held.
+pub fn delete_version<T, C: ObjectCodec<T>, S: ObjectStore>(
+    alloc: Global,
+    layout: &Layout<C>,
+    latest: &mut Window,
+    store: &mut S,
+    id: MonotonicId,
+) -> DeleteAnswer
+    ensures { Deleted layout.now.names (C.decoded layout.now.codec) id (S.state store.old) (S.state store.new) latest.old latest.new result }
+{
+    let mut op = DeleteUncheckedOp::start(alloc, layout, id)?;
+    'steps: loop {
+        match removal_step(alloc, latest, store, &mut op) {
+            Turned::Goes => {}
+            Turned::Done(answer) => return answer,
+        }
+    }
+}

@@ -1,0 +1,19 @@
+//! What a store does of what an operation asks for.
+ghost use Rattle.txn_caches.specs.Asking.{asks};
+ghost use Rattle.txn_drivers.specs.Asked.{CanServe, Replies};
+
+use std::alloc::Global;
+use txn_caches::ask::Ask;
+use txn_store::request::{Reply, serve};
+use txn_store::store::ObjectStore;
+
+/// The store's reply to a request, and none to a look.
+pub fn reply_to<S: ObjectStore>(alloc: Global, store: &mut S, ask: Ask<'_>) -> Option<Reply>
+    requires { CanServe (asks ask) }
+    ensures { Replies (asks ask.entry) (S.state store.old) result (S.state store.new) }
+{
+    match ask {
+        Ask::Store(request) => Some(serve(alloc, store, request)),
+        Ask::Look => None,
+    }
+}

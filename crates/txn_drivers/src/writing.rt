@@ -1,0 +1,54 @@
+//! A write of a version, driven to its end.
+ghost use Rattle.txn_drivers.specs.WriteRuns.{CanWrite, IsWriteStep, Written};
+
+use crate::replies::reply_to;
+use std::alloc::Global;
+use txn_caches::turned::Turned;
+use txn_caches::window::Window;
+use txn_steps::write::{WriteAnswer, WriteUncheckedOp};
+use txn_store::store::ObjectStore;
+use txn_types::codec::ObjectCodec;
+use txn_types::id::MonotonicId;
+use txn_types::layout::Layout;
+
+/// One look or one store call of a write.
+pub(crate) fn write_step<S: ObjectStore>(
+    alloc: Global,
+    latest: &mut Window,
+    store: &mut S,
+    op: &mut WriteUncheckedOp,
+) -> Turned<WriteAnswer>
+    requires { CanWrite op.old }
+    ensures { IsWriteStep (S.state store.old) (S.state store.new) latest.old latest.new op.old op.new result }
+{
+    let reply = reply_to(alloc, store, op.ask());
+    op.take(latest, reply)
+}
+
+/// Creates the version directly after a base, or the first version where there is none, as the bytes that the codec writes
+/// of the value, and answers its id. No boundary is read: the caller checks the id. It makes one store call at most, and
+/// takes one token at most.
+///
+/// `ObjectVersionExists` comes where a version of that id is stored already, and `IdExhausted` exactly where the base is
+/// the greatest u64; neither changes the files. `ObjectStoreError(Failed)` comes only where the store failed: the version
+/// may have been created. `ObjectStoreError(TokensExhausted)` comes only where the store has no token left, and `NoMemory`
+/// where a growth was refused; neither changes the files. Where it answers the id the version is held, and no error
+/// changes what is held.
+pub fn write_version<T, C: ObjectCodec<T>, S: ObjectStore>(
+    alloc: Global,
+    layout: &Layout<C>,
+    latest: &mut Window,
+    store: &mut S,
+    base: Option<MonotonicId>,
+    value: &T,
+) -> WriteAnswer
+    ensures { Written layout.now.names (C.decoded layout.now.codec) base (C.encoded layout.now.codec value.now) value.now (S.state store.old) (S.state store.new) latest.old latest.new result }
+{
+    let mut op = WriteUncheckedOp::start(alloc, layout, base, value)?;
+    'steps: loop {
+        match write_step(alloc, latest, store, &mut op) {
+            Turned::Goes => {}
+            Turned::Done(answer) => return answer,
+        }
+    }
+}
