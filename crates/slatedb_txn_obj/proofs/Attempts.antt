@@ -1,0 +1,43 @@
+-- What attempts of an update spend and fail for.
+use Rattle.std.proofs.Common.{Bool, true, false, List, length, arith, refl, ◌≡◌, ℕ, ◌+◌, ◌-◌, ◌*◌, ◌≤◌}
+use Rattle.txn_store.specs.Store.{State}
+use Rattle.txn_drivers.specs.Calls.{Spends, SpendsTurns}
+use Rattle.txn_drivers.specs.LatestReads.{IsLatest}
+use Rattle.slatedb_txn_obj.specs.Protocol.{Stays, Overtaken}
+use Rattle.slatedb_txn_obj.specs.Views.{IsVersion}
+
+-- an update that spends a turn, after other attempts
+pub spends-update : (first turns left : ℕ) (old middle new : State) → turns ≡ left + 1 → SpendsTurns 7 0 (first - turns) first turns old middle → Spends 2 1 middle new → SpendsTurns 7 0 (first - left) first left old new
+spends-update first turns left old middle new spent before update = record {
+  turns_fall = omega (arith, spent, before.turns_fall);
+  calls_rise = omega (arith, before.calls_rise, update.calls_rise);
+  calls_most = omega (arith, spent, before.calls_most, update.calls_most);
+  failures_rise = omega (arith, before.failures_rise, update.failures_rise);
+  left_falls = omega (arith, before.left_falls, update.left_falls);
+  left_least = omega (arith, spent, before.turns_fall, before.left_least, update.left_least);
+}
+
+-- a refresh after other attempts
+pub spends-refresh : (first turns left : ℕ) (old middle new : State) → SpendsTurns 7 0 (first - turns) first turns old middle → SpendsTurns 7 0 0 turns left middle new → SpendsTurns 7 0 (first - left) first left old new
+spends-refresh first turns left old middle new before refresh = record {
+  turns_fall = omega (arith, refresh.turns_fall, before.turns_fall);
+  calls_rise = omega (arith, before.calls_rise, refresh.calls_rise);
+  calls_most = omega (arith, before.calls_most, refresh.calls_most);
+  failures_rise = omega (arith, before.failures_rise, refresh.failures_rise);
+  left_falls = omega (arith, before.left_falls, refresh.left_falls);
+  left_least = omega (arith, refresh.turns_fall, before.turns_fall, before.left_least, refresh.left_least);
+}
+
+module _ {T : Type 0} (before after : List T → ℕ → Type 0) (number : ℕ) where
+  -- a conflict moves nothing, whether its candidate was made of the object's version or not
+  pub conflict-stays : (same : Bool) → (same ≡ false → Stays before after) → (same ≡ true → Overtaken before after number) → (h : List T) (b : ℕ) → before h b → number ≤ length h → after h b
+  conflict-stays false other overtaken h b stands within = other refl h b stands
+  conflict-stays true other overtaken h b stands within = (overtaken refl).stands h b stands within
+
+  -- the newest version is not overtaken
+  pub latest-not_overtaken : (h : List T) (b : ℕ) (value : T) → Overtaken before after number → before h b → IsVersion h number value → IsLatest h number value → ⊥
+  latest-not_overtaken h b value overtaken stands version latest = omega (arith, overtaken.newer h b stands version.within, latest.id_is)
+
+-- what a first attempt has spent after a conflict and its refresh, by turns, pages and tokens left
+pub first-spent : (t0 t t1 t2 p0 p p1 l0 l l1 l2 : ℕ) → (t ≡ t0) × (p ≡ p0) × (l0 ≤ l) → t ≡ t1 + 1 → p1 ≤ p + 1 → t1 ≤ t2 + 2 * p1 → l ≤ l1 + 1 → l1 ≤ l2 + 0 → (t0 ≤ t2 + 3 + 2 * p0) × (l0 ≤ l2 + 1)
+first-spent t0 t t1 t2 p0 p p1 l0 l l1 l2 first spent paged few took took' = (omega (arith, first.0, first.1, spent, paged, few), omega (arith, first.2, took, took'))

@@ -1,0 +1,46 @@
+-- What the calls of an object give, of what those of its protocol give.
+use Rattle.std.proofs.Common.{suc, zero, slice_get, ◌≡◌, ℕ, ◌+◌, ◌<◌, List, [], ◌∷◌, ◌++◌, length, take, drop, All, Some, Err, refl, sym, ap, subst, arith}
+use Rattle.std.proofs.Math.ListN.{get_or}
+use Rattle.std.proofs.lemmas.List.{length_push, get_or-take, length-take}
+use Rattle.txn_types.specs.declared.callback.CallbackFault.{CallbackFault}
+use Rattle.txn_drivers.specs.LatestReads.{IsLatest}
+use Rattle.slatedb_txn_obj.specs.Protocol.{Appended}
+use Rattle.slatedb_txn_obj.specs.Views.{IsVersion, Updated, Tested}
+
+entry_appended : {T : Type 0} (h : List T) (value : T) → slice_get (h ++ value ∷ []) (length h) ≡ Some value
+entry_appended [] value = refl
+entry_appended (x ∷ xs) value = entry_appended xs value
+
+-- the last entry of a list with one more
+pub latest-appended : {T : Type 0} (h : List T) (id : ℕ) (value : T) → id ≡ length h + 1 → IsLatest (h ++ value ∷ []) id value
+latest-appended h id value is = record {
+  some = omega (arith, length_push h value);
+  id_is = omega (arith, is, length_push h value);
+  entry = subst (λ n. slice_get (h ++ value ∷ []) n ≡ Some value) (omega (arith, is)) (entry_appended h value);
+}
+
+pub version-of_latest : {T : Type 0} {h : List T} {id : ℕ} {value : T} → IsLatest h id value → IsVersion h id value
+version-of_latest latest = record { positive = omega (arith, latest.some, latest.id_is); within = omega (arith, latest.id_is); entry = latest.entry }
+
+pub updated-of_appended : {T : Type 0} (before after : List T → ℕ → Type 0) (number number' : ℕ) (value value' : T) → Appended before after number value' number' → Updated before after number number' value value'
+updated-of_appended before after number number' value value' appended = record {
+  newest = λ h b stands version. record { some = omega (arith, version.positive, version.within); id_is = appended.newest h b stands version.within; entry = version.entry };
+  stands = λ h b stands version. appended.stands h b stands version.within;
+  next = λ h b stands version. latest-appended h number' value' (omega (arith, appended.id_is h b stands version.within, appended.newest h b stands version.within));
+}
+
+-- a list at one of its places
+pub split_at : {X : Type 0} (xs : List X) (k : ℕ) (d : X) → k < length xs → xs ≡ take k xs ++ get_or xs k d ∷ drop (suc k) xs
+split_at {X} [] k d within = absurd (omega (arith, within))
+split_at (x ∷ xs) zero d within = refl
+split_at (x ∷ xs) (suc k) d within = ap (λ rest. x ∷ rest) (split_at xs k d (omega (arith, within)))
+
+-- each invariant before this place holds, and the one there fails
+pub failed_at : {I : Type 0} (holds : I → Type 0) (fails : I → CallbackFault → Type 0) (xs : List I) (k : ℕ) (it : I) (fault : CallbackFault) → k < length xs → it ≡ get_or xs k it → ((j : ℕ) (d : I) → j < k → holds (get_or xs j d)) → fails it fault → Tested holds fails xs (Err fault)
+failed_at holds fails xs k it fault within is so_far failed =
+    (take k xs, it, drop (suc k) xs, subst (λ x. xs ≡ take k xs ++ x ∷ drop (suc k) xs) (sym is) (split_at xs k it within), before, failed)
+  where
+    before : All holds (take k xs)
+    before j d below =
+        let early : j < k = omega (arith, below, length-take k xs) in
+        rw (get_or-take k xs j d early) (so_far j d early)

@@ -1,0 +1,26 @@
+-- Nothing moved so far, and the view is a version of the history. At rest, the second attempt is made of the newest version.
+use Rattle.std.proofs.Common.{◌≡◌, ◌⊎◌, ℕ, ◌+◌, ◌-◌, ◌*◌, ◌<◌, ◌≤◌, List, length}
+use Rattle.txn_drivers.specs.Calls.{SpendsTurns}
+use Rattle.txn_drivers.specs.LatestReads.{IsLatest}
+use Rattle.slatedb_txn_obj.specs.Claims.{ReadsInTime}
+use Rattle.slatedb_txn_obj.specs.Views.{IsVersion}
+use Rattle.slatedb_txn_obj.proofs.fenceable.claim.Given as goal
+
+abbrev pub invariant-loop-asked : goal.invariant-loop-asked
+invariant-loop-asked g l =
+    let protocol = g.P.TransactionalStorageProtocol in
+    let state = g.S.ObjectStore.state in
+    record {
+      timeout : l.deadline.timeout ≡ l.timeout;
+      invariants : l.view.invariants ≡ l.fn.view.invariants;
+      unmoved : (h : List _) (b : ℕ) → protocol.stands l.fn.protocol l.fn.store h b → IsVersion h (protocol.number l.fn.view.id) l.fn.view.object
+          → protocol.stands l.protocol l.store h b × IsVersion h (protocol.number l.view.id) l.view.object;
+      spends : SpendsTurns 7 0 (l.fn.turns - l.turns) l.fn.turns l.turns (state l.fn.store) (state l.store);
+      timed : (later : List ℕ) × ReadsInTime l.deadline.start l.deadline.timeout later (g.K.SystemClock.readings l.fn.clock) (g.K.SystemClock.readings l.clock)
+          × ((h : List _) (b : ℕ) → protocol.stands l.fn.protocol l.fn.store h b → IsVersion h (protocol.number l.fn.view.id) l.fn.view.object
+          → ((l.turns ≡ l.fn.turns) × (protocol.pages l.protocol l.store ≡ protocol.pages l.fn.protocol l.fn.store) × ((state l.fn.store).left ≤ (state l.store).left) × (protocol.number l.view.id ≡ protocol.number l.fn.view.id) × (length later ≡ 0))
+          ⊎ ((l.fn.turns ≤ l.turns + 3 + 2 * protocol.pages l.fn.protocol l.fn.store) × IsLatest h (protocol.number l.view.id) l.view.object × ((state l.fn.store).left ≤ (state l.store).left + 1) × (protocol.number l.fn.view.id < length h) × (length later ≡ 2)));
+    }
+
+abbrev pub decreases-loop-asked : goal.decreases-loop-asked
+decreases-loop-asked g l = l.turns

@@ -1,0 +1,97 @@
+-- What the last answer of the mutator and its update gave, and what an attempt spends.
+use Rattle.std.proofs.Common.{arith, refl, sym, ap, ◌∙◌, Err, inl, inr, ◌≡◌}
+use Rattle.std.proofs.lemmas.Result.{err_from_is_err_and, IfErr-at_err}
+use Rattle.slatedb_txn_obj.specs.Views.{IsVersion, Nothing, Entered, Unmoved, Written}
+use Rattle.slatedb_txn_obj.proofs.Attempts.{spends-update, spends-refresh, first-spent, conflict-stays, latest-not_overtaken}
+use Rattle.slatedb_txn_obj.proofs.Views.{version-of_latest}
+use Rattle.slatedb_txn_obj.proofs.object.TransactionalObject.maybe_apply_update.Goals as goal
+
+pub returns-in-Ok-None-clause-applied : goal.returns-in-Ok-None-clause-applied
+returns-in-Ok-None-clause-applied g c h b stands version =
+    let here = c.loop-self.invariant.unmoved h b stands version in
+    Nothing here.1 (record { shown = _; shows = refl; says = record { met = rw c.in-Ok-None.field-0-is at c.in-Ok-None.ensures } }) here.0
+
+pub returns-in-Ok-clause-applied : goal.returns-in-Ok-clause-applied
+returns-in-Ok-clause-applied g c h b stands version =
+    let here = c.loop-self.invariant.unmoved h b stands version in
+    let updated = c.in-Ok.ensures.updated in
+    Entered c.loop-self.self c.in-Ok-Some.dirty (updated.newest h b here.0 here.1) (record { shown = _; shows = refl; says = record { met = rw c.in-Ok-Some.field-0-is at c.in-Ok-Some.ensures } }) (updated.stands h b here.0 here.1) (rw c.in-Ok.ensures.moved.1 (updated.next h b here.0 here.1))
+
+pub loop-self-preserved : goal.loop-self-preserved
+loop-self-preserved g c =
+    let inv = c.loop-self.invariant in
+    let conflict = c.in-Err-update.ensures in
+    let refresh = c.refresh.ensures in
+    let exists = ap Err (c.is_sequenced_write_conflict.ensures.kind.0 c.if-is_sequenced_write_conflict.true) in
+    let shown = rw c.in_ok-refresh-in-Err-update.was at c.refresh.follows.holds-at-none in
+    let stays = conflict-stays (g.P.TransactionalStorageProtocol.stands c.loop-self.protocol c.loop-self.store) (g.P.TransactionalStorageProtocol.stands c.update.new.protocol c.update.new.store) (g.P.TransactionalStorageProtocol.number (g.Self.TransactionalObject.at c.loop-self.self)) (g.Id.PartialEq.eq c.in-Ok-Some.dirty.id (g.Self.TransactionalObject.at c.loop-self.self)) (λ no h b stands. rw (conflict.other no).1 (rw (conflict.other no).2 stands)) (conflict.conflict exists) in
+    record {
+      callable = inv.callable;
+      unmoved = λ h b stands version.
+          let here = inv.unmoved h b stands version in
+          let after = stays h b here.0 here.1.within in
+          (refresh.kept h b after, version-of_latest (shown.2 h b after));
+      spends = spends-refresh _ _ _ _ _ _ (spends-update _ _ _ _ _ _ c.loop-self-test.ensures.spent inv.spends conflict.spends) refresh.spends;
+      attempts = λ h b stands version keeps.
+          let here = inv.unmoved h b stands version in
+          let overtaken = conflict.conflict exists (keeps c.loop-self.self c.in-Ok-Some.dirty (record { shown = _; shows = refl; says = record { met = rw c.in-Ok-Some.field-0-is at c.in-Ok-Some.ensures } })) in
+          elim (inv.attempts h b stands version keeps) [
+            | inl first ↦ (let spent = (first-spent _ _ _ _ _ _ _ _ _ _ _ first c.loop-self-test.ensures.spent (conflict.paged h b here.0 here.1.within) (refresh.few h b (overtaken.stands h b here.0 here.1.within)) conflict.spends.left_least refresh.spends.left_least) in inr (spent.0, shown.2 h b (overtaken.stands h b here.0 here.1.within), spent.1))
+            | inr second ↦ absurd (latest-not_overtaken _ _ _ h b _ overtaken here.0 here.1 second.1)
+          ];
+    }
+
+pub returns-in_err-refresh-in-Err-update-clause-failed :
+    goal.returns-in_err-refresh-in-Err-update-clause-failed
+returns-in_err-refresh-in-Err-update-clause-failed g c =
+    let p = err_from_is_err_and c.from_residual.result c.from_residual.ensures.1 in
+    let conflict = c.in-Err-update.ensures in
+    let exists = ap Err (c.is_sequenced_write_conflict.ensures.kind.0 c.if-is_sequenced_write_conflict.true) in
+    let stays = conflict-stays (g.P.TransactionalStorageProtocol.stands c.loop-self.protocol c.loop-self.store) (g.P.TransactionalStorageProtocol.stands c.update.new.protocol c.update.new.store) (g.P.TransactionalStorageProtocol.number (g.Self.TransactionalObject.at c.loop-self.self)) (g.Id.PartialEq.eq c.in-Ok-Some.dirty.id (g.Self.TransactionalObject.at c.loop-self.self)) (λ no h b stands. rw (conflict.other no).1 (rw (conflict.other no).2 stands)) (conflict.conflict exists) in
+    rw p.1 (λ h b stands version.
+    let here = c.loop-self.invariant.unmoved h b stands version in
+    let still = stays h b here.0 here.1.within in
+    let after = c.refresh.ensures.kept h b still in
+    elim (rw c.in_err-refresh-in-Err-update.was at c.refresh.follows.holds-at-none) [
+      | inl same ↦ Unmoved (rw same.0 (rw conflict.left here.1)) after
+      | inr shut ↦ Unmoved (version-of_latest (shut.3 h b still)) after
+    ])
+
+pub returns-in_err-refresh-in-Err-update-clause-few :
+    goal.returns-in_err-refresh-in-Err-update-clause-few
+returns-in_err-refresh-in-Err-update-clause-few g c h b stands version keeps =
+    let inv = c.loop-self.invariant in
+    let conflict = c.in-Err-update.ensures in
+    let refresh = c.refresh.ensures in
+    let here = inv.unmoved h b stands version in
+    let exists = ap Err (c.is_sequenced_write_conflict.ensures.kind.0 c.if-is_sequenced_write_conflict.true) in
+    let overtaken = conflict.conflict exists (keeps c.loop-self.self c.in-Ok-Some.dirty (record { shown = _; shows = refl; says = record { met = rw c.in-Ok-Some.field-0-is at c.in-Ok-Some.ensures } })) in
+    elim (inv.attempts h b stands version keeps) [
+      | inl first ↦ (let spent = (first-spent _ _ _ _ _ _ _ _ _ _ _ first c.loop-self-test.ensures.spent (conflict.paged h b here.0 here.1.within) (refresh.few h b (overtaken.stands h b here.0 here.1.within)) conflict.spends.left_least refresh.spends.left_least) in (omega (arith, spent.0), omega (arith, spent.1)))
+      | inr second ↦ absurd (latest-not_overtaken _ _ _ h b _ overtaken here.0 here.1 second.1)
+    ]
+
+pub returns-in_err-refresh-in-Err-update-clause-enough :
+    goal.returns-in_err-refresh-in-Err-update-clause-enough
+returns-in_err-refresh-in-Err-update-clause-enough g c h b stands version keeps many is =
+    let p = err_from_is_err_and c.from_residual.result c.from_residual.ensures.1 in
+    let inv = c.loop-self.invariant in
+    let conflict = c.in-Err-update.ensures in
+    let refresh = c.refresh.ensures in
+    let here = inv.unmoved h b stands version in
+    let exists = ap Err (c.is_sequenced_write_conflict.ensures.kind.0 c.if-is_sequenced_write_conflict.true) in
+    let overtaken = conflict.conflict exists (keeps c.loop-self.self c.in-Ok-Some.dirty (record { shown = _; shows = refl; says = record { met = rw c.in-Ok-Some.field-0-is at c.in-Ok-Some.ensures } })) in
+    elim (inv.attempts h b stands version keeps) [
+      | inl first ↦ refresh.enough h b (overtaken.stands h b here.0 here.1.within) (omega (arith, many, first.0, first.1, c.loop-self-test.ensures.spent, conflict.paged h b here.0 here.1.within)) (c.in_err-refresh-in-Err-update.was ∙ ap Err (IfErr-at_err (λ e. c.in_err-refresh-in-Err-update.field-0.0 ≡ e) (ap Err (sym p.2) ∙ sym p.1 ∙ is) refl))
+      | inr second ↦ absurd (latest-not_overtaken _ _ _ h b _ overtaken here.0 here.1 second.1)
+    ]
+
+pub returns-in-Err-2-clause-failed : goal.returns-in-Err-2-clause-failed
+returns-in-Err-2-clause-failed g c h b stands version =
+    let update = c.in-Err-update.ensures in
+    let here = c.loop-self.invariant.unmoved h b stands version in
+    let now : IsVersion h (g.P.TransactionalStorageProtocol.number (g.Self.TransactionalObject.at c.update.new.self)) (g.Self.TransactionalObject.value c.update.new.self) = rw update.left here.1 in
+    elim (update.err h b here.0 here.1.within) [
+      | inl after ↦ Unmoved now after
+      | inr after ↦ Written c.loop-self.self c.in-Ok-Some.dirty here.1 (record { shown = _; shows = refl; says = record { met = rw c.in-Ok-Some.field-0-is at c.in-Ok-Some.ensures } }) after now
+    ]

@@ -1,0 +1,26 @@
+-- Nothing moved so far, and the object is a version of the history. At rest, the second attempt is made of the newest version.
+use Rattle.std.proofs.Common.{◌≡◌, ◌⊎◌, ℕ, ◌+◌, ◌-◌, ◌*◌, ◌≤◌, List}
+use Rattle.std.specs.Fn.{FnReturnsAt}
+use Rattle.txn_drivers.specs.Calls.{SpendsTurns}
+use Rattle.txn_drivers.specs.LatestReads.{IsLatest}
+use Rattle.slatedb_txn_obj.specs.Views.{IsVersion, KeepsIds}
+use Rattle.slatedb_txn_obj.proofs.object.TransactionalObject.maybe_apply_update.Given as goal
+
+abbrev pub invariant-loop-self : goal.invariant-loop-self
+invariant-loop-self g l =
+    let protocol = g.P.TransactionalStorageProtocol in
+    let object = g.Self.TransactionalObject in
+    let state = g.S.ObjectStore.state in
+    record {
+      callable : goal.F-IsAlwaysCallable g l.mutator;
+      unmoved : (h : List _) (b : ℕ) → protocol.stands l.fn.protocol l.fn.store h b → IsVersion h (protocol.number (object.at l.fn.self)) (object.value l.fn.self)
+          → protocol.stands l.protocol l.store h b × IsVersion h (protocol.number (object.at l.self)) (object.value l.self);
+      spends : SpendsTurns 7 0 (l.fn.turns - l.turns) l.fn.turns l.turns (state l.fn.store) (state l.store);
+      attempts : (h : List _) (b : ℕ) → protocol.stands l.fn.protocol l.fn.store h b → IsVersion h (protocol.number (object.at l.fn.self)) (object.value l.fn.self)
+          → KeepsIds (λ v r. FnReturnsAt g.F.Fn l.mutator v r) (λ v. protocol.number (object.at v)) object.value object.at g.Id.PartialEq.eq
+          → ((l.turns ≡ l.fn.turns) × (protocol.pages l.protocol l.store ≡ protocol.pages l.fn.protocol l.fn.store) × ((state l.fn.store).left ≤ (state l.store).left))
+          ⊎ ((l.fn.turns ≤ l.turns + 3 + 2 * protocol.pages l.fn.protocol l.fn.store) × IsLatest h (protocol.number (object.at l.self)) (object.value l.self) × ((state l.fn.store).left ≤ (state l.store).left + 1));
+    }
+
+abbrev pub decreases-loop-self : goal.decreases-loop-self
+decreases-loop-self g l = l.turns

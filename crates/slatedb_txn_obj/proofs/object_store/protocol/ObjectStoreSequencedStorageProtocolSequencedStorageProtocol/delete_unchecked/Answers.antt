@@ -1,0 +1,6 @@
+-- A delete leaves the file of the boundary.
+use Rattle.slatedb_txn_obj.proofs.Wholes.{whole-deleted}
+use Rattle.slatedb_txn_obj.proofs.object_store.protocol.ObjectStoreSequencedStorageProtocolSequencedStorageProtocol.delete_unchecked.Goals as goal
+
+pub returns-clause-kept : goal.returns-clause-kept
+returns-clause-kept g c = rw (← c.self.view_is) (whole-deleted _ _ _ _ _ _ _ _ _ (λ b same bounds. g.met.B.BoundaryObject.bounds_frame c.self.inside.boundary c.args.store.now c.delete_version.new.store b same bounds) c.args.id c.delete_version.result c.number_fits.ensures c.delete_version.ensures)

@@ -1,0 +1,16 @@
+-- A write leaves the file of the boundary.
+use Rattle.slatedb_txn_obj.proofs.Wholes.{whole-answered, whole-conflict, whole-refused}
+use Rattle.slatedb_txn_obj.proofs.PageCounts.{pages_written}
+use Rattle.slatedb_txn_obj.proofs.object_store.protocol.ObjectStoreSequencedStorageProtocolSequencedStorageProtocol.write_unchecked.Goals as goal
+
+pub returns-clause-entered : goal.returns-clause-entered
+returns-clause-entered g c = rw (← c.self.view_is) (whole-answered _ _ _ _ _ _ _ _ _ _ _ _ (λ b same bounds. g.met.B.BoundaryObject.bounds_frame c.self.inside.boundary c.args.store.now c.write_version.new.store b same bounds) c.write_version.result c.write_version.ensures)
+
+pub returns-clause-conflict : goal.returns-clause-conflict
+returns-clause-conflict g c = rw (← c.self.view_is) (whole-conflict _ _ _ _ _ _ _ _ _ _ _ _ (λ b same bounds. g.met.B.BoundaryObject.bounds_frame c.self.inside.boundary c.args.store.now c.write_version.new.store b same bounds) c.write_version.result c.write_version.ensures)
+
+pub returns-clause-err : goal.returns-clause-err
+returns-clause-err g c = rw (← c.self.view_is) (whole-refused _ _ _ _ _ _ _ _ _ _ _ _ (λ b same bounds. g.met.B.BoundaryObject.bounds_frame c.self.inside.boundary c.args.store.now c.write_version.new.store b same bounds) c.write_version.result c.write_version.ensures)
+
+pub returns-clause-paged : goal.returns-clause-paged
+returns-clause-paged g c = rw (← c.self.view_is) (pages_written _ c.self.inside.layout.page _ _ _ _ _ _ _ _ _ c.self.invariant c.write_version.ensures)

@@ -1,0 +1,91 @@
+-- Epochs, and the claims of holders.
+use Rattle.std.specs.Prelude.{◌≡◌, ◌⊎◌, ℕ, ◌+◌, ◌-◌, ◌^◌, ◌<◌, ◌≤◌, List, [], ◌∷◌, ◌++◌, All, length, Option, Some, None}
+use Rattle.txn_types.specs.declared.error.TransactionalObjectError.{TransactionalObjectError}
+use Rattle.txn_types.specs.declared.error.TransactionalObjectError.TheVariants.{Fenced, InvalidObjectState, ObjectVersionExists, ObjectUpdateTimeout, CallbackError, IdExhausted, TurnsExhausted}
+use Rattle.txn_store.specs.Store.{State}
+use Rattle.txn_drivers.specs.Calls.{HasCause}
+use Rattle.txn_drivers.specs.LatestReads.{IsLatest}
+use Rattle.slatedb_txn_obj.specs.Views.{IsVersion}
+
+-- the clock was read once, and the reading is such
+abbrev pub ReadsOne : (ℕ → Type 0) → List ℕ → List ℕ → Type 0
+ReadsOne is old new = (r : ℕ) × (new ≡ old ++ r ∷ []) × is r
+
+-- a greater epoch shuts a holder out, and a smaller one must not be there
+abbrev pub IsEpochError : ℕ → ℕ → TransactionalObjectError → Type 0
+IsEpochError local stored Fenced = local < stored
+IsEpochError local stored InvalidObjectState = stored < local
+IsEpochError local stored error = ⊥
+
+-- The epoch that a claim sets where this one stands: one more, or the one asked for where that is greater.
+abbrev pub NextEpoch : Option ℕ → ℕ → ℕ → Type 0
+NextEpoch None stored epoch = epoch ≡ stored + 1
+NextEpoch (Some asked) stored epoch = (epoch ≡ asked) × (stored < asked)
+
+-- why there is none: the stored epoch is the greatest, or the one asked for is not greater
+abbrev pub HasNoEpoch : Option ℕ → ℕ → TransactionalObjectError → Type 0
+HasNoEpoch None stored IdExhausted = stored + 1 ≡ 2 ^ 64
+HasNoEpoch (Some asked) stored Fenced = asked ≤ stored
+HasNoEpoch asked stored error = ⊥
+
+-- a holder's value has another epoch than its own
+abbrev pub IsUnlike : ℕ → ℕ → TransactionalObjectError → Type 0
+IsUnlike local epoch InvalidObjectState = epoch ≡ local → ⊥
+IsUnlike local epoch error = ⊥
+
+-- the clock was read as a call began, and then these times, each before its end
+abbrev pub ReadsInTime : ℕ → ℕ → List ℕ → List ℕ → List ℕ → Type 0
+ReadsInTime start timeout later old new = (new ≡ old ++ start ∷ later) × All (λ r. r - start < timeout) later
+
+-- How often a claim on a version of this number reads its clock after its start: before its update where that is the newest; else also before the refresh, and before the update after it.
+abbrev pub IsReadFor : ℕ → ℕ → ℕ → Type 0
+IsReadFor number newest times = (number ≡ newest → times ≡ 1) × (number < newest → times ≡ 3)
+
+-- the last reading was at its end or past it
+abbrev pub ReadsLate : ℕ → List ℕ → List ℕ → Type 0
+ReadsLate timeout old new = (start : ℕ) × (later : List ℕ) × (last : ℕ) × (new ≡ old ++ start ∷ later ++ last ∷ []) × (timeout ≤ last - start)
+
+-- Why an attempt of a claim failed: its time was over, there is no next epoch, or its update failed. `fails` says why an invariant did.
+abbrev pub HasCauseOfAttempt : (asked : Option ℕ) (stored timeout number : ℕ) (late : Type 0) (fails : TransactionalObjectError → Type 0) (unheld : Type 0) → State → State → TransactionalObjectError → Type 0
+HasCauseOfAttempt asked stored timeout number late fails unheld old new (ObjectUpdateTimeout t) = (t ≡ timeout) × late
+HasCauseOfAttempt asked stored timeout number late fails unheld old new Fenced = HasNoEpoch asked stored Fenced
+HasCauseOfAttempt asked stored timeout number late fails unheld old new IdExhausted = HasNoEpoch asked stored IdExhausted ⊎ (number + 1 ≡ 2 ^ 64)
+HasCauseOfAttempt asked stored timeout number late fails unheld old new (CallbackError error) = fails (CallbackError error)
+HasCauseOfAttempt asked stored timeout number late fails unheld old new InvalidObjectState = unheld
+HasCauseOfAttempt asked stored timeout number late fails unheld old new ObjectVersionExists = Unit {0}
+HasCauseOfAttempt asked stored timeout number late fails unheld old new error = HasCause old new error
+
+-- Why a claim failed. `blocked` says that a version has no next epoch, `full` that none has a next number. It is never a conflict.
+abbrev pub HasCauseOfClaim : (timeout : ℕ) (late : Type 0) (blocked : TransactionalObjectError → Type 0) (full unheld : Type 0) (left : ℕ) → State → State → TransactionalObjectError → Type 0
+HasCauseOfClaim timeout late blocked full unheld left old new (ObjectUpdateTimeout t) = (t ≡ timeout) × late
+HasCauseOfClaim timeout late blocked full unheld left old new Fenced = blocked Fenced
+HasCauseOfClaim timeout late blocked full unheld left old new IdExhausted = blocked IdExhausted ⊎ full
+HasCauseOfClaim timeout late blocked full unheld left old new (CallbackError error) = Unit {0}
+HasCauseOfClaim timeout late blocked full unheld left old new InvalidObjectState = unheld
+HasCauseOfClaim timeout late blocked full unheld left old new TurnsExhausted = left ≡ 0
+HasCauseOfClaim timeout late blocked full unheld left old new error = HasCause old new error
+
+-- `epoch_of` and `with_epoch` read and set the epoch of a value.
+module _ {T : Type 0} (epoch_of : T → ℕ) (with_epoch : T → ℕ → T) where
+  -- nothing moved, or the value was written with its next epoch
+  abbrev pub MayClaim : (before after : List T → ℕ → Type 0) → ℕ → T → Option ℕ → Type 0
+  MayClaim before after number value asked = (h : List T) (b : ℕ) → before h b → number ≤ length h → after h b ⊎ ((epoch : ℕ) × NextEpoch asked (epoch_of value) epoch × after (h ++ with_epoch value epoch ∷ []) b)
+
+  -- What a claim over a history leaves: the newest value, with the holder's epoch set, stands straight on it, and the holder is at it. `allows` says which value may follow which.
+  pub record Claimed (allows : T → T → Type 0) (h : List T) (b : ℕ) (after : List T → ℕ → Type 0) (asked : Option ℕ) (number : ℕ) (held : T) (epoch : ℕ) : Type 0 where
+    pub newest : T
+    pub latest : IsLatest h (length h) newest
+    pub next : NextEpoch asked (epoch_of newest) epoch
+    pub value : held ≡ with_epoch newest epoch
+    pub own : epoch_of held ≡ epoch
+    pub allowed : allows held newest
+    pub stands : after (h ++ held ∷ []) b
+    pub at : IsLatest (h ++ held ∷ []) number held
+
+  -- what stands where a claim failed: nothing moved, or a version's value was written with its next epoch
+  abbrev pub NotClaimed : (h : List T) (b : ℕ) (after : List T → ℕ → Type 0) (asked : Option ℕ) → Type 0
+  NotClaimed h b after asked = after h b ⊎ ((number : ℕ) × (value : T) × (epoch : ℕ) × IsVersion h number value × NextEpoch asked (epoch_of value) epoch × after (h ++ with_epoch value epoch ∷ []) b)
+
+  -- a version of the history has no next epoch
+  abbrev pub IsBlocked : (h : List T) (asked : Option ℕ) → TransactionalObjectError → Type 0
+  IsBlocked h asked error = (number : ℕ) × (value : T) × IsVersion h number value × HasNoEpoch asked (epoch_of value) error

@@ -1,0 +1,6 @@
+pub mod Protocol
+pub mod Whole
+pub mod Boundaries
+pub mod WholeLaws
+pub mod Views
+pub mod Claims

@@ -1,0 +1,92 @@
+-- Objects that hold a version, and what their calls answer and move.
+-- `before` and `after` say for which histories and boundaries a protocol and its store stand, before a call and after it.
+use Rattle.std.specs.Prelude.{◌≡◌, ◌⊎◌, ℕ, ◌-◌, ◌≤◌, Bool, true, List, [], ◌∷◌, ◌++◌, All, length, slice_get, Option, Some, None, Result, Ok, Err}
+use Rattle.txn_store.specs.Store.{State}
+use Rattle.txn_types.specs.Callbacks.{error_of_callback}
+use Rattle.txn_types.specs.declared.callback.CallbackFault.{CallbackFault}
+use Rattle.txn_types.specs.declared.dirty.DirtyObject.{DirtyObject}
+use Rattle.txn_types.specs.declared.error.TransactionalObjectError.{TransactionalObjectError}
+use Rattle.txn_types.specs.declared.error.TransactionalObjectError.TheVariants.{Fenced, InvalidObjectState, CallbackError, LatestRecordMissing, IdExhausted, TurnsExhausted}
+use Rattle.txn_drivers.specs.Calls.{HasCause}
+use Rattle.txn_drivers.specs.LatestReads.{IsLatest}
+use Rattle.slatedb_txn_obj.specs.Protocol.{HasCauseOfWrite, HasCauseOfLatest}
+
+module _ {T : Type 0} where
+  -- the value is the entry of that number
+  pub record IsVersion (h : List T) (number : ℕ) (value : T) : Type 0 where
+    pub positive : 1 ≤ number
+    pub within : number ≤ length h
+    pub entry : slice_get h (number - 1) ≡ Some value
+
+  -- the value was the newest entry; another stands straight on it, as the newest
+  pub record Updated (before after : List T → ℕ → Type 0) (number number' : ℕ) (value value' : T) : Type 0 where
+    pub newest : (h : List T) (b : ℕ) → before h b → IsVersion h number value → IsLatest h number value
+    pub stands : (h : List T) (b : ℕ) → before h b → IsVersion h number value → after (h ++ value' ∷ []) b
+    pub next : (h : List T) (b : ℕ) → before h b → IsVersion h number value → IsLatest (h ++ value' ∷ []) number' value'
+
+  -- the value is the newest entry, under this number
+  abbrev pub ShowsLatest : (before : List T → ℕ → Type 0) → ℕ → T → Type 0
+  ShowsLatest before number value = (h : List T) (b : ℕ) → before h b → IsLatest h number value
+
+  -- nothing was stored
+  abbrev pub IsEmpty : (before : List T → ℕ → Type 0) → Type 0
+  IsEmpty before = (h : List T) (b : ℕ) → before h b → h ≡ []
+
+  -- nothing was stored, or what a read of the newest fails for
+  abbrev pub HasCauseOfRefresh : (before : List T → ℕ → Type 0) → ℕ → State → State → TransactionalObjectError → Type 0
+  HasCauseOfRefresh before left old new InvalidObjectState = IsEmpty before
+  HasCauseOfRefresh before left old new error = HasCauseOfLatest ⊥ left old new error
+
+-- every invariant holds; or each one before some does, which fails with this
+abbrev pub Tested : {I : Type 0} → (I → Type 0) → (I → CallbackFault → Type 0) → List I → Result (Unit {0}) CallbackFault → Type 0
+Tested holds fails invariants (Ok _) = All holds invariants
+Tested {I} holds fails invariants (Err fault) = (front : List I) × (it : I) × (rest : List I) × (invariants ≡ front ++ it ∷ rest) × All holds front × fails it fault
+
+-- the first invariant that does not hold fails with what this error is made of
+abbrev pub IsTestFailure : {I : Type 0} → (I → Type 0) → (I → CallbackFault → Type 0) → List I → TransactionalObjectError → Type 0
+IsTestFailure holds fails invariants error = (fault : CallbackFault) × (error ≡ error_of_callback fault) × Tested holds fails invariants (Err fault)
+
+-- an error by which an object is shut
+abbrev pub IsShutting : TransactionalObjectError → Type 0
+IsShutting Fenced = Unit {0}
+IsShutting InvalidObjectState = Unit {0}
+IsShutting error = ⊥
+
+-- a refusal before the write, a conflict, no number above the version, a boundary file that says no boundary where none stood, or a failure with its cause
+abbrev pub HasCauseOfUpdate : (TransactionalObjectError → Type 0) → Type 0 → ℕ → State → State → TransactionalObjectError → Type 0
+HasCauseOfUpdate refuses unheld number old new (CallbackError error) = refuses (CallbackError error)
+HasCauseOfUpdate refuses unheld number old new Fenced = refuses Fenced
+HasCauseOfUpdate refuses unheld number old new InvalidObjectState = refuses InvalidObjectState ⊎ unheld
+HasCauseOfUpdate refuses unheld number old new error = HasCauseOfWrite unheld number old new error
+
+-- nothing was stored, or what a read of the newest fails for
+abbrev pub HasCauseOfLoad : Type 0 → ℕ → State → State → TransactionalObjectError → Type 0
+HasCauseOfLoad unheld left old new LatestRecordMissing = Unit {0}
+HasCauseOfLoad unheld left old new error = HasCauseOfLatest unheld left old new error
+
+-- An object is a view of a version: `at` says of which number, `value` of which value. `answers` says what a mutator may answer to a view.
+module _ {T Id View : Type 0} (answers : View → Result (Option (DirtyObject T Id)) CallbackFault → Type 0) (at : View → ℕ) (value : View → T) where
+  -- what stands after a mutator was applied, and which version is viewed then
+  pub data Applied (h : List T) (b : ℕ) (after : List T → ℕ → Type 0) (now : View) : Type 0 where
+    -- it answered nothing to a version of the history
+    Nothing : IsVersion h (at now) (value now) → answers now (Ok None) → after h b → Applied h b after now
+    -- its candidate, made of the newest version, stands straight on it
+    Entered : (view : View) (dirty : DirtyObject T Id) → IsLatest h (at view) (value view) → answers view (Ok (Some dirty)) → after (h ++ dirty.value ∷ []) b → IsLatest (h ++ dirty.value ∷ []) (at now) (value now) → Applied h b after now
+
+  -- what stands where applying it failed: nothing moved, or a candidate of it was written
+  pub data NotApplied (h : List T) (b : ℕ) (after : List T → ℕ → Type 0) (now : View) : Type 0 where
+    Unmoved : IsVersion h (at now) (value now) → after h b → NotApplied h b after now
+    Written : (view : View) (dirty : DirtyObject T Id) → IsVersion h (at view) (value view) → answers view (Ok (Some dirty)) → after (h ++ dirty.value ∷ []) b → IsVersion h (at now) (value now) → NotApplied h b after now
+
+  -- each candidate that it answers has the id of what it was made of
+  abbrev pub KeepsIds : (id : View → Id) (eq : Id → Id → Bool) → Type 0
+  KeepsIds id eq = (view : View) (dirty : DirtyObject T Id) → answers view (Ok (Some dirty)) → eq dirty.id (id view) ≡ true
+
+-- Turns that were spent, a mutator, an invariant or a codec that refused, an object that was shut, no number above a version, or a failure with its cause. It is never a conflict.
+abbrev pub HasCauseOfApply : (TransactionalObjectError → Type 0) → Type 0 → Type 0 → ℕ → State → State → TransactionalObjectError → Type 0
+HasCauseOfApply shut full unheld left old new TurnsExhausted = left ≡ 0
+HasCauseOfApply shut full unheld left old new (CallbackError error) = Unit {0}
+HasCauseOfApply shut full unheld left old new Fenced = shut Fenced
+HasCauseOfApply shut full unheld left old new InvalidObjectState = shut InvalidObjectState ⊎ unheld
+HasCauseOfApply shut full unheld left old new IdExhausted = full
+HasCauseOfApply shut full unheld left old new error = HasCause old new error

@@ -1,0 +1,58 @@
+-- What a check and an advance make of what a protocol over an object store stands for.
+use Rattle.std.specs.Prelude.{◌≡◌, ◌⊎◌, ℕ, ◌<◌, ◌≤◌, List, [], length, Option, Result, Ok, Err}
+use Rattle.std.proofs.Common.{refl, ◌∙◌}
+use Rattle.txn_store.specs.Paths.{Segments}
+use Rattle.txn_store.specs.VersionName.{version_path}
+use Rattle.txn_store.specs.Store.{Files, State}
+use Rattle.txn_types.specs.declared.error.TransactionalObjectError.{TransactionalObjectError}
+use Rattle.txn_types.specs.declared.error.TransactionalObjectError.TheVariants as kinds
+use Rattle.txn_caches.specs.declared.caches.Cached.{Cached}
+use Rattle.txn_drivers.specs.Calls.{SameBut}
+use Rattle.txn_drivers.specs.LatestReads.{UpTo}
+use Rattle.txn_drivers.specs.PageCount.{pages_below}
+use Rattle.txn_drivers.specs.Standing.{WindowFits}
+use Rattle.txn_drivers.proofs.Effects.{raised_window}
+use Rattle.txn_drivers.proofs.Standings.{files_same, files_raised, none_above}
+use Rattle.txn_drivers.proofs.Windows.{above_fits}
+use Rattle.slatedb_txn_obj.specs.Whole.{Protocol, Whole, after_check, after_advance, Checks, Advances}
+
+module _ {T : Type 0} (decode : List ℕ → Option T) (h : List T) (b : ℕ) where
+  checked_fits : (id : ℕ) (result : Result (Unit {0}) TransactionalObjectError) (latest : List Cached) → WindowFits decode h b latest → WindowFits decode h b (after_check id result latest)
+  checked_fits id (Err kinds.ObjectVersionExists) latest fits = above_fits decode h b id latest fits
+  checked_fits id result latest fits = fits
+
+  advanced_fits : (id : ℕ) (result : Result (Unit {0}) TransactionalObjectError) (latest : List Cached) → WindowFits decode h b latest → WindowFits decode h b (after_advance id result latest)
+  advanced_fits id (Ok done) latest fits = above_fits decode h b id latest fits
+  advanced_fits id (Err error) latest fits = fits
+
+module _ {T C B : Type 0} (decoded : C → List ℕ → Option T) (p q : Protocol C B) (old new : State) (h : List T) (b : ℕ) where
+  -- a check leaves what stands
+  pub whole-checked : (bounds bounds' : ℕ → Type 0) (file file' : Segments) (inner : Type 0) (id : ℕ) (result : Result (Unit {0}) TransactionalObjectError) → file' ≡ file → new.files ≡ old.files → (bounds b → bounds' b) → Checks inner id result p q
+      → Whole bounds file p.layout.names (decoded p.layout.codec) p.latest old.files h b → Whole bounds' file' q.layout.names (decoded q.layout.codec) q.latest new.files h b
+  whole-checked bounds bounds' file file' inner id result same_file same_files keeps checks whole =
+      rw (checks.same_layout, checks.latest_is, same_file, same_files) (record {
+        bounded = keeps whole.bounded;
+        apart = whole.apart;
+        versions = record { files_stand = whole.versions.files_stand; window_fits = checked_fits (decoded p.layout.codec) h b id result p.latest whole.versions.window_fits };
+      })
+
+  -- an advance leaves the history
+  pub whole-advanced : (c : ℕ) (bounds bounds' : ℕ → Type 0) (file file' : Segments) (inner : Type 0) (id : ℕ) (result : Result (Unit {0}) TransactionalObjectError) → file' ≡ file → SameBut file old new → b ≤ c → (c ≡ b) ⊎ (c < length h) → bounds' c → Advances inner id result p q
+      → Whole bounds file p.layout.names (decoded p.layout.codec) p.latest old.files h b → Whole bounds' file' q.layout.names (decoded q.layout.codec) q.latest new.files h c
+  whole-advanced c bounds bounds' file file' inner id result same_file others le newest now advances whole =
+      rw (advances.same_layout, advances.latest_is, same_file) (record {
+        bounded = now;
+        apart = whole.apart;
+        versions = record {
+          files_stand = files_same p.layout.names (decoded p.layout.codec) h c old.files new.files (λ n small. others (version_path p.layout.names n) (whole.apart n small)) (files_raised p.layout.names (decoded p.layout.codec) h b c old.files le newest whole.versions.files_stand);
+          window_fits = advanced_fits (decoded p.layout.codec) h c id result p.latest (raised_window p.layout.names (decoded p.layout.codec) h b c c p.latest le whole.versions.window_fits);
+        };
+      })
+
+-- a check that refuses an id leaves nothing held that is not above it
+pub refused-fresh : {C B : Type 0} (inner : Type 0) (id : ℕ) (p q : Protocol C B) → Checks inner id (Err kinds.ObjectVersionExists) p q → UpTo id p.latest → q.latest ≡ []
+refused-fresh inner id p q checks up = checks.latest_is ∙ none_above id p.latest up
+
+-- a check leaves the pages of a listing
+pub pages-checked : {C B : Type 0} (inner : Type 0) (id : ℕ) (result : Result (Unit {0}) TransactionalObjectError) (p q : Protocol C B) (files files' : Files) → files' ≡ files → Checks inner id result p q → pages_below q.layout.names q.layout.page files' ≡ pages_below p.layout.names p.layout.page files
+pages-checked inner id result p q files files' same checks = rw (checks.same_layout, same) refl

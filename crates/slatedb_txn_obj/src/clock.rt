@@ -1,0 +1,52 @@
+//! Clocks, and how long a claim may take.
+ghost use Rattle.std.specs.Prelude.{◌≡◌, ◌≤◌, ◌<◌, ◌-◌, [], ◌∷◌, ◌++◌, OnOk, IfErr};
+ghost use Rattle.slatedb_txn_obj.specs.Claims.{ReadsOne};
+
+use txn_types::error::TransactionalObjectError;
+
+/// A clock. Its meaning is the list of the readings that it has given, the first first.
+pub trait SystemClock {
+    ghost use Rattle.std.specs.Prelude.{ℕ, List, [], ◌≡◌, ◌∷◌, ◌++◌};
+
+    /// The readings so far.
+    ghost readings: { Self → List ℕ };
+
+    /// The time, in milliseconds. It may go back.
+    fn now_millis(&mut self) -> u64
+        ensures { readings self.new ≡ readings self.old ++ result ∷ [] };
+}
+
+/// When a call began, and how long it may take, in milliseconds.
+#[derive(Clone, Copy, Debug)]
+pub(crate) struct Deadline {
+    start: u64,
+    timeout: u64,
+}
+
+impl Deadline {
+    /// From the time on that the clock reads.
+    pub(crate) fn starting<K: SystemClock>(clock: &mut K, timeout: u64) -> Deadline
+        ensures timeout { result.timeout ≡ timeout }
+        ensures read { K.readings clock.new ≡ K.readings clock.old ++ result.start ∷ [] }
+    {
+        let start = clock.now_millis();
+        Deadline { start, timeout }
+    }
+
+    /// Reads the clock. At the start plus the timeout or later it is `ObjectUpdateTimeout`; a reading below the start counts
+    /// as the start.
+    pub(crate) fn check<K: SystemClock>(
+        &self,
+        clock: &mut K,
+    ) -> Result<(), TransactionalObjectError>
+        ensures in_time { OnOk result (ReadsOne (λ r. r - self.now.start < self.now.timeout) (K.readings clock.old) (K.readings clock.new)) }
+        ensures late { IfErr result (λ e. (e ≡ TransactionalObjectError.ObjectUpdateTimeout self.now.timeout) × ReadsOne (λ r. self.now.timeout ≤ r - self.now.start) (K.readings clock.old) (K.readings clock.new)) }
+    {
+        if clock.now_millis().saturating_sub(self.start) >= self.timeout {
+            return Err(TransactionalObjectError::ObjectUpdateTimeout {
+                timeout: self.timeout,
+            });
+        }
+        Ok(())
+    }
+}

@@ -1,0 +1,304 @@
+//! The fenced holder: an object whose value has the holder's epoch.
+ghost use Rattle.std.specs.Prelude.{ℕ, List, length, true, false, nat_eq, None, Some, ◌≡◌, ◌⊎◌, ◌+◌, ◌-◌, ◌*◌, ◌^◌, ◌<◌, ◌≤◌, [], ◌∷◌, ◌++◌, All, OnOk, OnErr, IfOk, IfErr, IsErr, IsErrOf};
+ghost use Rattle.txn_types.specs.Callbacks.{IsCallback};
+ghost use Rattle.txn_types.specs.Clones.{IsExactClone};
+ghost use Rattle.txn_drivers.specs.Calls.{Spends, SpendsTurns};
+ghost use Rattle.slatedb_txn_obj.specs.Claims.{IsReadFor, IsEpochError, IsUnlike, NextEpoch, HasNoEpoch, ReadsOne, ReadsInTime, ReadsLate, HasCauseOfAttempt, HasCauseOfClaim, MayClaim, Claimed, NotClaimed, IsBlocked};
+ghost use Rattle.slatedb_txn_obj.specs.Protocol.{Overtaken, MayAppend, UnheldAt};
+ghost use Rattle.slatedb_txn_obj.specs.Views.{IsVersion, Updated, IsTestFailure, HasCauseOfUpdate};
+
+use crate::clock::{Deadline, SystemClock};
+use crate::object::TransactionalObject;
+use crate::protocol::TransactionalStorageProtocol;
+use crate::simple::SimpleTransactionalObject;
+use txn_drivers::turns::Turns;
+use txn_store::store::ObjectStore;
+use txn_types::dirty::DirtyObject;
+use txn_types::epoch::EpochField;
+use txn_types::error::TransactionalObjectError;
+use txn_types::id::MonotonicId;
+use txn_types::invariant::Invariant;
+
+/// An object that its holder has claimed: the epoch of each version that it writes is its own, and a greater one shuts it out.
+#[derive(Debug, Drop)]
+pub struct FenceableTransactionalObject<T, I, X> {
+    delegate: SimpleTransactionalObject<T, MonotonicId, I>,
+    local_epoch: u64,
+    epochs: X,
+}
+
+impl<T, I, X> FenceableTransactionalObject<T, I, X> {
+    /// The epoch of its claim.
+    pub fn local_epoch(&self) -> u64
+        ensures { result ≡ self.now.local_epoch }
+    {
+        self.local_epoch
+    }
+}
+
+impl<T: Clone, I: Invariant<T> + Drop, X: EpochField<T>> FenceableTransactionalObject<T, I, X> {
+    /// Claims the object: its newest version with the next epoch in it is written straight on it, and the holder is at that.
+    /// An attempt that is overtaken refreshes, and makes another. Each attempt spends a turn, and so does each pass and page of a
+    /// refresh; where one is due and none is left, it is `TurnsExhausted`. The clock is read at the start and before each update
+    /// and each refresh: at the start plus the timeout (in milliseconds) or later it is `ObjectUpdateTimeout`. Where the epoch
+    /// is the greatest it is `IdExhausted`. A failed claim drops the delegate; its value may have been written. It asks that a
+    /// clone is the same value.
+    pub fn init<S: ObjectStore, P: TransactionalStorageProtocol<T, MonotonicId, S>, K: SystemClock>(
+        delegate: SimpleTransactionalObject<T, MonotonicId, I>,
+        protocol: &mut P,
+        store: &mut S,
+        turns: &mut Turns,
+        object_update_timeout: u64,
+        system_clock: &mut K,
+        epochs: X,
+    ) -> Result<FenceableTransactionalObject<T, I, X>, TransactionalObjectError>
+        requires { IsExactClone T.is_clone }
+        ensures claimed { IfOk result (λ holder. (h : List T) (b : ℕ) → P.stands protocol.old store.old h b → IsVersion h (P.number delegate.id) delegate.object → Claimed (λ v. X.epoch_of epochs v) (λ v e. X.with_epoch epochs v e) (λ v c. All (λ i. I.holds i v c) delegate.invariants.items) h b (P.stands protocol.new store.new) None (P.number holder.delegate.id) holder.delegate.object holder.local_epoch) }
+        ensures holder { IfOk result (λ holder. (holder.epochs ≡ epochs) × (holder.delegate.invariants ≡ delegate.invariants)) }
+        ensures timely { IfOk result (λ _. (start : ℕ) × (later : List ℕ) × ReadsInTime start object_update_timeout later (K.readings system_clock.old) (K.readings system_clock.new) × ((h : List T) (b : ℕ) → P.stands protocol.old store.old h b → IsVersion h (P.number delegate.id) delegate.object → IsReadFor (P.number delegate.id) (length h) (length later))) }
+        ensures failed { IfErr result (λ _. (h : List T) (b : ℕ) → P.stands protocol.old store.old h b → IsVersion h (P.number delegate.id) delegate.object → NotClaimed (λ v. X.epoch_of epochs v) (λ v e. X.with_epoch epochs v e) h b (P.stands protocol.new store.new) None) }
+        ensures spends { SpendsTurns 7 0 (turns.old - turns.new) turns.old turns.new (S.state store.old) (S.state store.new) }
+        ensures few { (h : List T) (b : ℕ) → P.stands protocol.old store.old h b → IsVersion h (P.number delegate.id) delegate.object
+            → (turns.old ≤ turns.new + 4 + 2 * P.pages protocol.old store.old) × ((S.state store.old).left ≤ (S.state store.new).left + 2) }
+        ensures enough { (h : List T) (b : ℕ) → P.stands protocol.old store.old h b → IsVersion h (P.number delegate.id) delegate.object → 4 + 2 * P.pages protocol.old store.old ≤ turns.old → IsErrOf result TransactionalObjectError.TurnsExhausted → ⊥ }
+        ensures cause { IfErr result (HasCauseOfClaim object_update_timeout (ReadsLate object_update_timeout (K.readings system_clock.old) (K.readings system_clock.new)) (λ e. (h : List T) (b : ℕ) → P.stands protocol.old store.old h b → IsVersion h (P.number delegate.id) delegate.object → IsBlocked (λ v. X.epoch_of epochs v) (λ v e. X.with_epoch epochs v e) h None e) ((h : List T) (b : ℕ) → P.stands protocol.old store.old h b → IsVersion h (P.number delegate.id) delegate.object → 2 ^ 64 ≤ length h + 1) ((h : List T) (b : ℕ) → P.stands protocol.old store.old h b → IsVersion h (P.number delegate.id) delegate.object → ⊥) turns.new (S.state store.old) (S.state store.new)) }
+    {
+        claim(
+            delegate,
+            protocol,
+            store,
+            turns,
+            object_update_timeout,
+            system_clock,
+            epochs,
+            None,
+        )
+    }
+
+    /// The same with this epoch in place of the next one. Where the epoch of the version that an attempt is made on isn't
+    /// below it, it is `Fenced`.
+    pub fn init_with_epoch<
+        S: ObjectStore,
+        P: TransactionalStorageProtocol<T, MonotonicId, S>,
+        K: SystemClock,
+    >(
+        delegate: SimpleTransactionalObject<T, MonotonicId, I>,
+        protocol: &mut P,
+        store: &mut S,
+        turns: &mut Turns,
+        object_update_timeout: u64,
+        system_clock: &mut K,
+        epoch: u64,
+        epochs: X,
+    ) -> Result<FenceableTransactionalObject<T, I, X>, TransactionalObjectError>
+        requires { IsExactClone T.is_clone }
+        ensures claimed { IfOk result (λ holder. (h : List T) (b : ℕ) → P.stands protocol.old store.old h b → IsVersion h (P.number delegate.id) delegate.object → Claimed (λ v. X.epoch_of epochs v) (λ v e. X.with_epoch epochs v e) (λ v c. All (λ i. I.holds i v c) delegate.invariants.items) h b (P.stands protocol.new store.new) (Some epoch) (P.number holder.delegate.id) holder.delegate.object holder.local_epoch) }
+        ensures holder { IfOk result (λ holder. (holder.epochs ≡ epochs) × (holder.delegate.invariants ≡ delegate.invariants)) }
+        ensures timely { IfOk result (λ _. (start : ℕ) × (later : List ℕ) × ReadsInTime start object_update_timeout later (K.readings system_clock.old) (K.readings system_clock.new) × ((h : List T) (b : ℕ) → P.stands protocol.old store.old h b → IsVersion h (P.number delegate.id) delegate.object → IsReadFor (P.number delegate.id) (length h) (length later))) }
+        ensures failed { IfErr result (λ _. (h : List T) (b : ℕ) → P.stands protocol.old store.old h b → IsVersion h (P.number delegate.id) delegate.object → NotClaimed (λ v. X.epoch_of epochs v) (λ v e. X.with_epoch epochs v e) h b (P.stands protocol.new store.new) (Some epoch)) }
+        ensures spends { SpendsTurns 7 0 (turns.old - turns.new) turns.old turns.new (S.state store.old) (S.state store.new) }
+        ensures few { (h : List T) (b : ℕ) → P.stands protocol.old store.old h b → IsVersion h (P.number delegate.id) delegate.object
+            → (turns.old ≤ turns.new + 4 + 2 * P.pages protocol.old store.old) × ((S.state store.old).left ≤ (S.state store.new).left + 2) }
+        ensures enough { (h : List T) (b : ℕ) → P.stands protocol.old store.old h b → IsVersion h (P.number delegate.id) delegate.object → 4 + 2 * P.pages protocol.old store.old ≤ turns.old → IsErrOf result TransactionalObjectError.TurnsExhausted → ⊥ }
+        ensures cause { IfErr result (HasCauseOfClaim object_update_timeout (ReadsLate object_update_timeout (K.readings system_clock.old) (K.readings system_clock.new)) (λ e. (h : List T) (b : ℕ) → P.stands protocol.old store.old h b → IsVersion h (P.number delegate.id) delegate.object → IsBlocked (λ v. X.epoch_of epochs v) (λ v e. X.with_epoch epochs v e) h (Some epoch) e) ((h : List T) (b : ℕ) → P.stands protocol.old store.old h b → IsVersion h (P.number delegate.id) delegate.object → 2 ^ 64 ≤ length h + 1) ((h : List T) (b : ℕ) → P.stands protocol.old store.old h b → IsVersion h (P.number delegate.id) delegate.object → ⊥) turns.new (S.state store.old) (S.state store.new)) }
+    {
+        claim(
+            delegate,
+            protocol,
+            store,
+            turns,
+            object_update_timeout,
+            system_clock,
+            epochs,
+            Some(epoch),
+        )
+    }
+
+    /// Whether the epoch of its version is its own: a greater one is `Fenced`, and a smaller one `InvalidObjectState`.
+    fn check_epoch(&self) -> Result<(), TransactionalObjectError>
+        ensures own { OnOk result (X.epoch_of self.now.epochs self.now.delegate.object ≡ self.now.local_epoch) }
+        ensures other { IfErr result (IsEpochError self.now.local_epoch (X.epoch_of self.now.epochs self.now.delegate.object)) }
+    {
+        let stored_epoch = self.epochs.get_epoch(self.delegate.object());
+        if self.local_epoch < stored_epoch {
+            return Err(TransactionalObjectError::Fenced);
+        }
+        if self.local_epoch > stored_epoch {
+            return Err(TransactionalObjectError::InvalidObjectState);
+        }
+        Ok(())
+    }
+}
+
+/// The epoch that a claim sets where this one is stored: one more, or the one asked for.
+fn next_epoch(asked: Option<u64>, stored: u64) -> Result<u64, TransactionalObjectError>
+    ensures next { IfOk result (NextEpoch asked stored) }
+    ensures none { IfErr result (HasNoEpoch asked stored) }
+{
+    match asked {
+        None => stored
+            .checked_add(1)
+            .ok_or(TransactionalObjectError::IdExhausted),
+        Some(epoch) if epoch <= stored => Err(TransactionalObjectError::Fenced),
+        Some(epoch) => Ok(epoch),
+    }
+}
+
+/// One attempt of a claim: sets the next epoch in a copy of the value, and updates by it where time is left.
+fn attempt<
+    T: Clone,
+    I: Invariant<T> + Drop,
+    X: EpochField<T>,
+    S: ObjectStore,
+    P: TransactionalStorageProtocol<T, MonotonicId, S>,
+    K: SystemClock,
+>(
+    view: &mut SimpleTransactionalObject<T, MonotonicId, I>,
+    protocol: &mut P,
+    store: &mut S,
+    deadline: &Deadline,
+    clock: &mut K,
+    epochs: &X,
+    asked: Option<u64>,
+) -> Result<u64, TransactionalObjectError>
+    requires { IsExactClone T.is_clone }
+    ensures next { IfOk result (NextEpoch asked (X.epoch_of epochs.now view.old.object)) }
+    ensures moved { IfOk result (λ e. (view.new ≡ record view.old { id = view.new.id; object = X.with_epoch epochs.now view.old.object e }) × (X.epoch_of epochs.now view.new.object ≡ e)) }
+    ensures updated { IfOk result (λ e. Updated (P.stands protocol.old store.old) (P.stands protocol.new store.new) (P.number view.old.id) (P.number view.new.id) view.old.object (X.with_epoch epochs.now view.old.object e)) }
+    ensures allowed { IfOk result (λ e. All (λ i. I.holds i (X.with_epoch epochs.now view.old.object e) view.old.object) view.old.invariants.items) }
+    ensures left { OnErr result (view.new ≡ view.old) }
+    ensures conflict { IsErrOf result TransactionalObjectError.ObjectVersionExists → Overtaken (P.stands protocol.old store.old) (P.stands protocol.new store.new) (P.number view.old.id) }
+    ensures err { IfErr result (λ _. MayClaim (λ v. X.epoch_of epochs.now v) (λ v e. X.with_epoch epochs.now v e) (P.stands protocol.old store.old) (P.stands protocol.new store.new) (P.number view.old.id) view.old.object asked) }
+    ensures in_time { OnOk result (ReadsOne (λ r. r - deadline.now.start < deadline.now.timeout) (K.readings clock.old) (K.readings clock.new)) }
+    ensures conflict_in_time { IsErrOf result TransactionalObjectError.ObjectVersionExists → ReadsOne (λ r. r - deadline.now.start < deadline.now.timeout) (K.readings clock.old) (K.readings clock.new) }
+    ensures cause { IfErr result (HasCauseOfAttempt asked (X.epoch_of epochs.now view.old.object) deadline.now.timeout (P.number view.old.id) (ReadsOne (λ r. deadline.now.timeout ≤ r - deadline.now.start) (K.readings clock.old) (K.readings clock.new)) (λ error. (e : ℕ) × NextEpoch asked (X.epoch_of epochs.now view.old.object) e × IsTestFailure (λ i. I.holds i (X.with_epoch epochs.now view.old.object e) view.old.object) (λ i. I.fails i (X.with_epoch epochs.now view.old.object e) view.old.object) view.old.invariants.items error) (UnheldAt (P.stands protocol.old store.old) (P.number view.old.id)) (S.state store.old) (S.state store.new)) }
+    ensures spends { Spends 2 1 (S.state store.old) (S.state store.new) }
+    ensures paged { (h : List T) (b : ℕ) → P.stands protocol.old store.old h b → P.number view.old.id ≤ length h → P.pages protocol.new store.new ≤ P.pages protocol.old store.old + 1 }
+{
+    let epoch = next_epoch(asked, epochs.get_epoch(view.object()))?;
+    let mut dirty = view.prepare_dirty()?;
+    epochs.set_epoch(&mut dirty.value, epoch);
+    deadline.check(clock)?;
+    view.update(protocol, store, dirty)?;
+    Ok(epoch)
+}
+
+/// A claim: attempts, each on the newest version after a conflict, until one is no conflict.
+fn claim<
+    T: Clone,
+    I: Invariant<T> + Drop,
+    X: EpochField<T>,
+    S: ObjectStore,
+    P: TransactionalStorageProtocol<T, MonotonicId, S>,
+    K: SystemClock,
+>(
+    mut view: SimpleTransactionalObject<T, MonotonicId, I>,
+    protocol: &mut P,
+    store: &mut S,
+    turns: &mut Turns,
+    timeout: u64,
+    clock: &mut K,
+    epochs: X,
+    asked: Option<u64>,
+) -> Result<FenceableTransactionalObject<T, I, X>, TransactionalObjectError>
+    requires { IsExactClone T.is_clone }
+    ensures claimed { IfOk result (λ holder. (h : List T) (b : ℕ) → P.stands protocol.old store.old h b → IsVersion h (P.number view.id) view.object → Claimed (λ v. X.epoch_of epochs v) (λ v e. X.with_epoch epochs v e) (λ v c. All (λ i. I.holds i v c) view.invariants.items) h b (P.stands protocol.new store.new) asked (P.number holder.delegate.id) holder.delegate.object holder.local_epoch) }
+    ensures holder { IfOk result (λ holder. (holder.epochs ≡ epochs) × (holder.delegate.invariants ≡ view.invariants)) }
+    ensures timely { IfOk result (λ _. (start : ℕ) × (later : List ℕ) × ReadsInTime start timeout later (K.readings clock.old) (K.readings clock.new) × ((h : List T) (b : ℕ) → P.stands protocol.old store.old h b → IsVersion h (P.number view.id) view.object → IsReadFor (P.number view.id) (length h) (length later))) }
+    ensures failed { IfErr result (λ _. (h : List T) (b : ℕ) → P.stands protocol.old store.old h b → IsVersion h (P.number view.id) view.object → NotClaimed (λ v. X.epoch_of epochs v) (λ v e. X.with_epoch epochs v e) h b (P.stands protocol.new store.new) asked) }
+    ensures spends { SpendsTurns 7 0 (turns.old - turns.new) turns.old turns.new (S.state store.old) (S.state store.new) }
+    ensures few { (h : List T) (b : ℕ) → P.stands protocol.old store.old h b → IsVersion h (P.number view.id) view.object
+        → (turns.old ≤ turns.new + 4 + 2 * P.pages protocol.old store.old) × ((S.state store.old).left ≤ (S.state store.new).left + 2) }
+    ensures enough { (h : List T) (b : ℕ) → P.stands protocol.old store.old h b → IsVersion h (P.number view.id) view.object → 4 + 2 * P.pages protocol.old store.old ≤ turns.old → IsErrOf result TransactionalObjectError.TurnsExhausted → ⊥ }
+    ensures cause { IfErr result (HasCauseOfClaim timeout (ReadsLate timeout (K.readings clock.old) (K.readings clock.new)) (λ e. (h : List T) (b : ℕ) → P.stands protocol.old store.old h b → IsVersion h (P.number view.id) view.object → IsBlocked (λ v. X.epoch_of epochs v) (λ v e. X.with_epoch epochs v e) h asked e) ((h : List T) (b : ℕ) → P.stands protocol.old store.old h b → IsVersion h (P.number view.id) view.object → 2 ^ 64 ≤ length h + 1) ((h : List T) (b : ℕ) → P.stands protocol.old store.old h b → IsVersion h (P.number view.id) view.object → ⊥) turns.new (S.state store.old) (S.state store.new)) }
+{
+    let deadline = Deadline::starting(clock, timeout);
+    while turns.spend() {
+        match attempt(&mut view, protocol, store, &deadline, clock, &epochs, asked) {
+            Err(error) if error.is_sequenced_write_conflict() => {
+                deadline.check(clock)?;
+                view.refresh(protocol, store, turns)?;
+            }
+            Err(error) => return Err(error),
+            Ok(local_epoch) => return Ok(FenceableTransactionalObject {
+                delegate: view,
+                local_epoch,
+                epochs,
+            }),
+        }
+    }
+    Err(TransactionalObjectError::TurnsExhausted)
+}
+
+impl<T: Clone, I: Invariant<T> + Drop, X: EpochField<T>> TransactionalObject<T, MonotonicId>
+    for FenceableTransactionalObject<T, I, X> {
+    ghost use Rattle.std.specs.Prelude.{◌≡◌, ◌⊎◌, All};
+    ghost use Rattle.slatedb_txn_obj.specs.Claims.{IsEpochError, IsUnlike};
+    ghost use Rattle.slatedb_txn_obj.specs.Views.{IsTestFailure};
+
+    ghost at = { λ v. v.delegate.id };
+
+    ghost value = { λ v. v.delegate.object };
+
+    ghost moved = { λ v id object. record v { delegate = record v.delegate { id = id; object = object } } };
+
+    ghost allows = { λ v dirty. (X.epoch_of v.epochs v.delegate.object ≡ v.local_epoch) × (X.epoch_of v.epochs dirty ≡ v.local_epoch) × All (λ i. I.holds i dirty v.delegate.object) v.delegate.invariants.items };
+
+    ghost is_open = { λ v. X.epoch_of v.epochs v.delegate.object ≡ v.local_epoch };
+
+    ghost is_shut = { λ v e. IsEpochError v.local_epoch (X.epoch_of v.epochs v.delegate.object) e };
+
+    ghost refuses = { λ v dirty e. IsEpochError v.local_epoch (X.epoch_of v.epochs v.delegate.object) e ⊎ (IsUnlike v.local_epoch (X.epoch_of v.epochs dirty) e ⊎ IsTestFailure (λ i. I.holds i dirty v.delegate.object) (λ i. I.fails i dirty v.delegate.object) v.delegate.invariants.items e) };
+
+    fn id(&self) -> MonotonicId {
+        self.delegate.id()
+    }
+
+    fn object(&self) -> &T {
+        self.delegate.object()
+    }
+
+    fn prepare_dirty(&self) -> Result<DirtyObject<T, MonotonicId>, TransactionalObjectError> {
+        self.check_epoch()?;
+        self.delegate.prepare_dirty()
+    }
+
+    fn refresh<S: ObjectStore, P: TransactionalStorageProtocol<T, MonotonicId, S>>(
+        &mut self,
+        protocol: &mut P,
+        store: &mut S,
+        turns: &mut Turns,
+    ) -> Result<&T, TransactionalObjectError> {
+        self.delegate.refresh(protocol, store, turns)?;
+        self.check_epoch()?;
+        Ok(self.delegate.object())
+    }
+
+    fn update<S: ObjectStore, P: TransactionalStorageProtocol<T, MonotonicId, S>>(
+        &mut self,
+        protocol: &mut P,
+        store: &mut S,
+        dirty: DirtyObject<T, MonotonicId>,
+    ) -> Result<(), TransactionalObjectError>
+        ensures updated { OnOk result (Updated (P.stands protocol.old store.old) (P.stands protocol.new store.new) (P.number self.old.delegate.id) (P.number self.new.delegate.id) self.old.delegate.object dirty.value) }
+        ensures moved { OnOk result ((self.new ≡ record self.old { delegate = record self.old.delegate { id = self.new.delegate.id; object = dirty.value } }) × (self.new.delegate.object ≡ dirty.value)) }
+        ensures allowed { OnOk result ((X.epoch_of self.old.epochs self.old.delegate.object ≡ self.old.local_epoch) × (X.epoch_of self.old.epochs dirty.value ≡ self.old.local_epoch) × All (λ i. I.holds i dirty.value self.old.delegate.object) self.old.delegate.invariants.items) }
+        ensures left { OnErr result (self.new ≡ self.old) }
+        ensures shut { (X.epoch_of self.old.epochs self.old.delegate.object ≡ self.old.local_epoch → ⊥) → IfErr result (IsEpochError self.old.local_epoch (X.epoch_of self.old.epochs self.old.delegate.object)) × IsErr result × (protocol.new ≡ protocol.old) × (store.new ≡ store.old) }
+        ensures unlike { X.epoch_of self.old.epochs self.old.delegate.object ≡ self.old.local_epoch → (X.epoch_of self.old.epochs dirty.value ≡ self.old.local_epoch → ⊥) → IsErrOf result TransactionalObjectError.InvalidObjectState × (protocol.new ≡ protocol.old) × (store.new ≡ store.old) }
+        ensures refused { IfErr result (λ e. IsCallback e → (protocol.new ≡ protocol.old) × (store.new ≡ store.old)) }
+        ensures other { nat_eq dirty.id self.old.delegate.id ≡ false → IsErr result × (protocol.new ≡ protocol.old) × (store.new ≡ store.old) }
+        ensures barred { ((X.epoch_of self.old.epochs self.old.delegate.object ≡ self.old.local_epoch) × (X.epoch_of self.old.epochs dirty.value ≡ self.old.local_epoch) × All (λ i. I.holds i dirty.value self.old.delegate.object) self.old.delegate.invariants.items → ⊥) → IsErr result × (protocol.new ≡ protocol.old) × (store.new ≡ store.old) }
+        ensures conflict { IsErrOf result TransactionalObjectError.ObjectVersionExists → nat_eq dirty.id self.old.delegate.id ≡ true → Overtaken (P.stands protocol.old store.old) (P.stands protocol.new store.new) (P.number self.old.delegate.id) }
+        ensures err { IfErr result (λ _. MayAppend (P.stands protocol.old store.old) (P.stands protocol.new store.new) (P.number self.old.delegate.id) dirty.value) }
+        ensures cause { IfErr result (HasCauseOfUpdate (λ e. IsEpochError self.old.local_epoch (X.epoch_of self.old.epochs self.old.delegate.object) e ⊎ (IsUnlike self.old.local_epoch (X.epoch_of self.old.epochs dirty.value) e ⊎ IsTestFailure (λ i. I.holds i dirty.value self.old.delegate.object) (λ i. I.fails i dirty.value self.old.delegate.object) self.old.delegate.invariants.items e)) (UnheldAt (P.stands protocol.old store.old) (P.number self.old.delegate.id)) (P.number self.old.delegate.id) (S.state store.old) (S.state store.new)) }
+        ensures spends { Spends 2 1 (S.state store.old) (S.state store.new) }
+        ensures paged { (h : List T) (b : ℕ) → P.stands protocol.old store.old h b → P.number self.old.delegate.id ≤ length h → P.pages protocol.new store.new ≤ P.pages protocol.old store.old + 1 }
+    {
+        self.check_epoch()?;
+        if self.epochs.get_epoch(&dirty.value) != self.local_epoch {
+            return Err(TransactionalObjectError::InvalidObjectState);
+        }
+        self.delegate.update(protocol, store, dirty)
+    }
+}

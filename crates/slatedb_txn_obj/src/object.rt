@@ -1,0 +1,148 @@
+//! Objects that hold a version of a value, and write their next.
+ghost use Rattle.std.specs.Prelude.{true, false, ◌≡◌, ◌⊎◌, ◌+◌, ◌-◌, ◌*◌, ◌^◌, ◌≤◌, IfOk, IfErr, OnOk, OnErr, IsErrOf};
+
+use crate::protocol::TransactionalStorageProtocol;
+use txn_drivers::turns::Turns;
+use txn_store::store::ObjectStore;
+use txn_types::callback::CallbackFault;
+use txn_types::dirty::DirtyObject;
+use txn_types::error::TransactionalObjectError;
+
+/// A version of a value with its id, which its holder updates where it is the newest, and refreshes where it isn't.
+///
+/// It holds no protocol and no store: each call is lent them. Where they stand for a history that has the object's value
+/// under its id, they stand afterwards for one that has the new value under the new id.
+pub trait TransactionalObject<T: Clone, Id: Copy + Eq> {
+    ghost use Rattle.std.specs.Prelude.{ℕ, List, length, true, false, ⊤, ◌≡◌, ◌⊎◌, ◌+◌, ◌-◌, ◌*◌, ◌^◌, ◌≤◌, IfOk, IfErr, OnOk, OnErr, IsErr, IsErrOf, MatchResult};
+    ghost use Rattle.std.specs.Borrow.{sem};
+    ghost use Rattle.std.specs.Fn.{FnReturnsAt};
+    ghost use denote.Follow.{follows_so};
+    ghost use mathlib.Core.Option.{none};
+    ghost use Rattle.txn_types.specs.Clones.{IsExactClone};
+    ghost use Rattle.txn_types.specs.declared.error.TransactionalObjectError.{TransactionalObjectError};
+    ghost use Rattle.txn_drivers.specs.Calls.{Spends, SpendsTurns};
+    ghost use Rattle.slatedb_txn_obj.specs.Protocol.{Overtaken, MayAppend, Stays, UnheldAt};
+    ghost use Rattle.slatedb_txn_obj.specs.Views.{IsVersion, Updated, ShowsLatest, IsShutting, HasCauseOfUpdate, HasCauseOfRefresh, Applied, NotApplied, KeepsIds, HasCauseOfApply};
+
+    /// The id that the object is at.
+    ghost at: { Self → Id };
+
+    /// The value there.
+    ghost value: { Self → T };
+
+    /// The object at another version.
+    ghost moved: { Self → Id → T → Self };
+
+    /// The object may be followed by this value.
+    ghost allows: { Self → T → Type 0 };
+
+    /// Its holder may write on it.
+    ghost is_open: { Self → Type 0 };
+
+    /// Why it is shut, where its holder may not.
+    ghost is_shut: { Self → TransactionalObjectError → Type 0 };
+
+    /// Why an update by this value is refused before anything is written.
+    ghost refuses: { Self → T → TransactionalObjectError → Type 0 };
+
+    /// The id that the object is at.
+    fn id(&self) -> Id
+        ensures { result ≡ at self.now };
+
+    /// The value of the object.
+    fn object(&self) -> &T
+        ensures { result.now ≡ value self.now };
+
+    /// A copy of the value, with its id, to be changed and given to `update`. It asks that a clone is the same value.
+    /// It is an error where the object is shut, and `NoMemory` where a growth was refused.
+    fn prepare_dirty(&self) -> Result<DirtyObject<T, Id>, TransactionalObjectError>
+        requires { IsExactClone T.is_clone }
+        ensures dirty { IfOk result (λ dirty. (dirty.id ≡ at self.now) × (dirty.value ≡ value self.now) × is_open self.now) }
+        ensures err { IfErr result (λ e. (e ≡ TransactionalObjectError.NoMemory) ⊎ is_shut self.now e) };
+
+    /// Reads the newest version, and is at it then. Each pass of the read spends a turn, and so does each page after the
+    /// first that it lists; where one is due and none is left, it is `TurnsExhausted`. Where nothing is stored, it is
+    /// `InvalidObjectState`. After an error the object is as it was; only where the version that it read shuts it is it at that version.
+    fn refresh<S: ObjectStore, P: TransactionalStorageProtocol<T, Id, S>>(
+        &mut self,
+        protocol: &mut P,
+        store: &mut S,
+        turns: &mut Turns,
+    ) -> Result<&T, TransactionalObjectError>
+        ensures* after { sem 𝓛 (follows_so Self.row Self.row self.entry.ghost_name none (λ _ _. ⊤) (λ object. MatchResult result
+            (λ shown. (shown.now ≡ value object) × (object ≡ moved self.old (at object) (value object)) × ShowsLatest (P.stands protocol.old store.old) (P.number (at object)) (value object) × is_open object)
+            (λ e. ((object ≡ self.old) × HasCauseOfRefresh (P.stands protocol.old store.old) turns.new (S.state store.old) (S.state store.new) e)
+            ⊎ (IsShutting e × is_shut object e × (object ≡ moved self.old (at object) (value object)) × ShowsLatest (P.stands protocol.old store.old) (P.number (at object)) (value object))))) }
+        ensures kept { Stays (P.stands protocol.old store.old) (P.stands protocol.new store.new) }
+        ensures few { (h : List T) (b : ℕ) → P.stands protocol.old store.old h b → turns.old ≤ turns.new + 2 * P.pages protocol.old store.old }
+        ensures enough { (h : List T) (b : ℕ) → P.stands protocol.old store.old h b → 2 * P.pages protocol.old store.old ≤ turns.old → IsErrOf result TransactionalObjectError.TurnsExhausted → ⊥ }
+        ensures spends { SpendsTurns 7 0 0 turns.old turns.new (S.state store.old) (S.state store.new) }
+        ensures paged { (h : List T) (b : ℕ) → P.stands protocol.old store.old h b → P.pages protocol.new store.new ≡ P.pages protocol.old store.old };
+
+    /// Writes the candidate's value on the version that the object is at, and is at the new version then. A candidate of
+    /// another id, and a version that isn't the newest, is `ObjectVersionExists`. After an error the object is as it was;
+    /// the value may have been written, unless the error is a refusal before the write. It makes at most two calls of the
+    /// store and takes at most one token.
+    fn update<S: ObjectStore, P: TransactionalStorageProtocol<T, Id, S>>(
+        &mut self,
+        protocol: &mut P,
+        store: &mut S,
+        dirty: DirtyObject<T, Id>,
+    ) -> Result<(), TransactionalObjectError>
+        ensures updated { OnOk result (Updated (P.stands protocol.old store.old) (P.stands protocol.new store.new) (P.number (at self.old)) (P.number (at self.new)) (value self.old) dirty.value) }
+        ensures moved { OnOk result ((self.new ≡ moved self.old (at self.new) dirty.value) × (value self.new ≡ dirty.value)) }
+        ensures allowed { OnOk result (allows self.old dirty.value) }
+        ensures left { OnErr result (self.new ≡ self.old) }
+        ensures other { Id.eq dirty.id (at self.old) ≡ false → IsErr result × (protocol.new ≡ protocol.old) × (store.new ≡ store.old) }
+        ensures barred { (allows self.old dirty.value → ⊥) → IsErr result × (protocol.new ≡ protocol.old) × (store.new ≡ store.old) }
+        ensures conflict { IsErrOf result TransactionalObjectError.ObjectVersionExists → Id.eq dirty.id (at self.old) ≡ true → Overtaken (P.stands protocol.old store.old) (P.stands protocol.new store.new) (P.number (at self.old)) }
+        ensures err { IfErr result (λ _. MayAppend (P.stands protocol.old store.old) (P.stands protocol.new store.new) (P.number (at self.old)) dirty.value) }
+        ensures cause { IfErr result (HasCauseOfUpdate (refuses self.old dirty.value) (UnheldAt (P.stands protocol.old store.old) (P.number (at self.old))) (P.number (at self.old)) (S.state store.old) (S.state store.new)) }
+        ensures spends { Spends 2 1 (S.state store.old) (S.state store.new) }
+        ensures paged { (h : List T) (b : ℕ) → P.stands protocol.old store.old h b → P.number (at self.old) ≤ length h → P.pages protocol.new store.new ≤ P.pages protocol.old store.old + 1 };
+
+    /// Asks the mutator for a candidate made of the object, and updates by it. After a conflict it refreshes, and asks once
+    /// more. Nothing asked for is Ok, and the mutator's refusal is `CallbackError`. Each attempt spends a turn, and so does
+    /// each pass and page of a refresh; where one is due and none is left, it is `TurnsExhausted`. After an error the last
+    /// candidate may have been written.
+    final fn maybe_apply_update<
+        S: ObjectStore,
+        P: TransactionalStorageProtocol<T, Id, S>,
+        F: Fn(&Self) -> Result<Option<DirtyObject<T, Id>>, CallbackFault>,
+    >(
+        &mut self,
+        protocol: &mut P,
+        store: &mut S,
+        turns: &mut Turns,
+        mutator: &F,
+    ) -> Result<(), TransactionalObjectError>
+        requires { F.IsAlwaysCallable mutator.now }
+        ensures applied { OnOk result ((h : List T) (b : ℕ) → P.stands protocol.old store.old h b → IsVersion h (P.number (at self.old)) (value self.old)
+            → Applied (λ v r. FnReturnsAt F.Fn mutator.now v r) (λ v. P.number (at v)) value h b (P.stands protocol.new store.new) self.new) }
+        ensures failed { OnErr result ((h : List T) (b : ℕ) → P.stands protocol.old store.old h b → IsVersion h (P.number (at self.old)) (value self.old)
+            → NotApplied (λ v r. FnReturnsAt F.Fn mutator.now v r) (λ v. P.number (at v)) value h b (P.stands protocol.new store.new) self.new) }
+        ensures spends { SpendsTurns 7 0 (turns.old - turns.new) turns.old turns.new (S.state store.old) (S.state store.new) }
+        ensures few { (h : List T) (b : ℕ) → P.stands protocol.old store.old h b → IsVersion h (P.number (at self.old)) (value self.old)
+            → KeepsIds (λ v r. FnReturnsAt F.Fn mutator.now v r) (λ v. P.number (at v)) value at Id.eq
+            → (turns.old ≤ turns.new + 4 + 2 * P.pages protocol.old store.old) × ((S.state store.old).left ≤ (S.state store.new).left + 2) }
+        ensures enough { (h : List T) (b : ℕ) → P.stands protocol.old store.old h b → IsVersion h (P.number (at self.old)) (value self.old)
+            → KeepsIds (λ v r. FnReturnsAt F.Fn mutator.now v r) (λ v. P.number (at v)) value at Id.eq
+            → 4 + 2 * P.pages protocol.old store.old ≤ turns.old → IsErrOf result TransactionalObjectError.TurnsExhausted → ⊥ }
+        ensures cause { IfErr result (HasCauseOfApply (λ e. (v : Self) × (is_shut v e ⊎ ((d : T) × refuses v d e))) ((v : Self) × (P.number (at v) + 1 ≡ 2 ^ 64)) ((h : List T) (b : ℕ) → P.stands protocol.old store.old h b → IsVersion h (P.number (at self.old)) (value self.old) → ⊥) turns.new (S.state store.old) (S.state store.new)) }
+    {
+        while turns.spend() {
+            match mutator(self) {
+                Err(fault) => return Err(TransactionalObjectError::from(fault)),
+                Ok(None) => return Ok(()),
+                Ok(Some(dirty)) => match self.update(protocol, store, dirty) {
+                    Err(error) if error.is_sequenced_write_conflict() => {
+                        self.refresh(protocol, store, turns)?;
+                    }
+                    Err(error) => return Err(error),
+                    Ok(()) => return Ok(()),
+                },
+            }
+        }
+        Err(TransactionalObjectError::TurnsExhausted)
+    }
+}

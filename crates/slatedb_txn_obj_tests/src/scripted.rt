@@ -1,0 +1,265 @@
+//! Types that do as they are told, and count their calls. They keep the traits, and stand for nothing.
+ghost use Rattle.std.specs.Prelude.{◌≡◌, IfErr};
+ghost use Rattle.txn_types.specs.declared.error.TransactionalObjectError.TheVariants.{ObjectVersionExists};
+
+use slatedb_txn_obj::boundary::BoundaryObject;
+use slatedb_txn_obj::protocol::SequencedStorageProtocol;
+use std::alloc::Global;
+use std::ops::Bound;
+use txn_drivers::turns::Turns;
+use txn_store::store::ObjectStore;
+use txn_types::error::TransactionalObjectError;
+use txn_types::id::MonotonicId;
+use txn_types::identified::IdentifiedObjectMetadata;
+
+/// A boundary in memory, which counts its checks.
+#[derive(Drop)]
+pub struct TestBoundary {
+    boundary: u64,
+    checks: u64,
+}
+
+impl TestBoundary {
+    /// This boundary, and no check yet.
+    pub fn new(boundary: u64) -> TestBoundary {
+        TestBoundary {
+            boundary,
+            checks: 0,
+        }
+    }
+
+    /// How many checks it made.
+    pub fn checks(&self) -> u64
+        ensures { result ≡ self.now.checks }
+    {
+        self.checks
+    }
+
+    fn decide(&mut self, id: MonotonicId) -> Result<(), TransactionalObjectError>
+        ensures { IfErr result (λ error. error ≡ ObjectVersionExists) }
+    {
+        self.checks = self.checks.saturating_add(1);
+        if id.id() <= self.boundary {
+            return Err(TransactionalObjectError::ObjectVersionExists);
+        }
+        Ok(())
+    }
+
+    fn raise(&mut self, id: MonotonicId) {
+        self.boundary = self.boundary.max(id.id());
+    }
+}
+
+impl<S: ObjectStore> BoundaryObject<S> for TestBoundary {
+    ghost use Rattle.std.specs.Prelude.{refl, [], ◌≡◌, Contains};
+    ghost use Rattle.std.proofs.Common.{ap, subst, sym};
+    ghost use Rattle.std.specs.FinMap.{get};
+
+    ghost bounds = { λ _ _ _. ⊥ };
+
+    ghost file = { λ _. [] };
+
+    ghost checks_to = { λ p s _ _ q t. S.state t ≡ S.state s };
+
+    ghost advances_to = { λ p s _ _ q t. S.state t ≡ S.state s };
+
+    ghost check_file = { λ _ _ _ _ _ _ _. refl };
+
+    ghost check_frame = { λ _ _ _ _ _ _ same. ap (λ s. s.files) same };
+
+    ghost check_given = { λ _ _ s t _ token _ same given. subst (λ state. Contains state.given token) (sym same) given };
+
+    ghost check_keeps = { λ _ _ _ _ _ _ _ _ h. h };
+
+    ghost advance_file = { λ _ _ _ _ _ _ _. refl };
+
+    ghost advance_frame = { λ _ _ _ _ _ _ same other _. ap (λ s. get s.files other) same };
+
+    ghost advance_given = { λ _ _ s t _ token _ same given. subst (λ state. Contains state.given token) (sym same) given };
+
+    ghost bounds_frame = { λ _ _ _ _ _ h. h };
+
+    fn check(&mut self, _store: &mut S, id: MonotonicId) -> Result<(), TransactionalObjectError> {
+        self.decide(id)
+    }
+
+    fn advance(
+        &mut self,
+        _store: &mut S,
+        id: MonotonicId,
+        _turns: &mut Turns,
+    ) -> Result<(), TransactionalObjectError> {
+        self.raise(id);
+        Ok(())
+    }
+}
+
+/// Reads of the newest version that are told beforehand, over a boundary in memory. Once they are through it reads
+/// nothing. A write is a conflict, and every other call finds nothing.
+#[derive(Drop)]
+pub struct ScriptedReadLatestStore {
+    alloc: Global,
+    reads: &'static [(u64, u64)],
+    calls: usize,
+    boundary: TestBoundary,
+}
+
+impl ScriptedReadLatestStore {
+    /// These reads, each an id and a value, and this boundary.
+    pub fn new(
+        alloc: Global,
+        reads: &'static [(u64, u64)],
+        boundary: u64,
+    ) -> ScriptedReadLatestStore {
+        ScriptedReadLatestStore {
+            alloc,
+            reads,
+            calls: 0,
+            boundary: TestBoundary::new(boundary),
+        }
+    }
+
+    /// How often the newest version was read.
+    pub fn calls(&self) -> usize
+        ensures { result ≡ self.now.calls }
+    {
+        self.calls
+    }
+
+    /// How many checks its boundary made.
+    pub fn checks(&self) -> u64
+        ensures { result ≡ self.now.boundary.checks }
+    {
+        self.boundary.checks()
+    }
+}
+
+impl<S: ObjectStore> BoundaryObject<S> for ScriptedReadLatestStore {
+    ghost use Rattle.std.specs.Prelude.{refl, [], ◌≡◌, Contains};
+    ghost use Rattle.std.proofs.Common.{ap, subst, sym};
+    ghost use Rattle.std.specs.FinMap.{get};
+
+    ghost bounds = { λ _ _ _. ⊥ };
+
+    ghost file = { λ _. [] };
+
+    ghost checks_to = { λ p s _ _ q t. S.state t ≡ S.state s };
+
+    ghost advances_to = { λ p s _ _ q t. S.state t ≡ S.state s };
+
+    ghost check_file = { λ _ _ _ _ _ _ _. refl };
+
+    ghost check_frame = { λ _ _ _ _ _ _ same. ap (λ s. s.files) same };
+
+    ghost check_given = { λ _ _ s t _ token _ same given. subst (λ state. Contains state.given token) (sym same) given };
+
+    ghost check_keeps = { λ _ _ _ _ _ _ _ _ h. h };
+
+    ghost advance_file = { λ _ _ _ _ _ _ _. refl };
+
+    ghost advance_frame = { λ _ _ _ _ _ _ same other _. ap (λ s. get s.files other) same };
+
+    ghost advance_given = { λ _ _ s t _ token _ same given. subst (λ state. Contains state.given token) (sym same) given };
+
+    ghost bounds_frame = { λ _ _ _ _ _ h. h };
+
+    fn check(&mut self, _store: &mut S, id: MonotonicId) -> Result<(), TransactionalObjectError> {
+        self.boundary.decide(id)
+    }
+
+    fn advance(
+        &mut self,
+        _store: &mut S,
+        id: MonotonicId,
+        _turns: &mut Turns,
+    ) -> Result<(), TransactionalObjectError> {
+        self.boundary.raise(id);
+        Ok(())
+    }
+}
+
+impl<S: ObjectStore> SequencedStorageProtocol<u64, S> for ScriptedReadLatestStore {
+    ghost use Rattle.std.proofs.Common.{refl};
+    ghost use Rattle.std.proofs.Math.Nat.{le_refl};
+
+    ghost stands = { λ _ _ _ _. ⊥ };
+
+    ghost is_fresh = { λ _. Unit {0} };
+
+    ghost freshens = { λ _ _. Unit {0} };
+
+    ghost at_hand = { λ _ _. ⊥ };
+
+    ghost pages = { λ _ _. 1 };
+
+    ghost stands_bounded = { λ _ _ _ _ h. h };
+
+    ghost stands_below = { λ _ _ _ _ h. absurd h };
+
+    ghost stands_above = { λ _ _ _ _ h _. absurd h };
+
+    ghost stands_checked = { λ _ _ _ _ _ _ _ _ _ h. h };
+
+    ghost pages_some = { λ _ _. le_refl 1 };
+
+    ghost pages_checked = { λ _ _ _ _ _ _ _ _ _ _. refl };
+
+    ghost refused_fresh = { λ _ _ _ _ _ _ _. tt };
+
+    ghost stands_advanced = { λ _ _ _ _ _ _ _ _ _ _ h _ _ _. h };
+
+    fn write_unchecked(
+        &mut self,
+        _store: &mut S,
+        _base: Option<MonotonicId>,
+        _value: &u64,
+    ) -> Result<MonotonicId, TransactionalObjectError> {
+        Err(TransactionalObjectError::ObjectVersionExists)
+    }
+
+    fn try_read_latest_unchecked(
+        &mut self,
+        _store: &mut S,
+        _turns: &mut Turns,
+    ) -> Result<Option<(MonotonicId, u64)>, TransactionalObjectError> {
+        let place = self.calls;
+        self.calls = place.saturating_add(1);
+        match self.reads.get(place) {
+            None => Ok(None),
+            Some((id, value)) => Ok(Some((MonotonicId::new(*id), *value))),
+        }
+    }
+
+    fn try_read_unchecked(
+        &mut self,
+        _store: &mut S,
+        _id: MonotonicId,
+    ) -> Result<Option<u64>, TransactionalObjectError> {
+        Ok(None)
+    }
+
+    fn try_read_seen(
+        &mut self,
+        _store: &mut S,
+        _id: MonotonicId,
+    ) -> Result<Option<u64>, TransactionalObjectError> {
+        Ok(None)
+    }
+
+    fn list(
+        &mut self,
+        _store: &mut S,
+        _from: Bound<MonotonicId>,
+        _to: Bound<MonotonicId>,
+    ) -> Result<Vec<IdentifiedObjectMetadata<MonotonicId>>, TransactionalObjectError> {
+        Ok(Vec::new(self.alloc))
+    }
+
+    fn delete_unchecked(
+        &mut self,
+        _store: &mut S,
+        _id: MonotonicId,
+    ) -> Result<(), TransactionalObjectError> {
+        Ok(())
+    }
+}
