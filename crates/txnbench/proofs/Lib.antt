@@ -1,0 +1,5 @@
+pub mod CommandWords
+pub mod Numbers
+pub mod Ids
+pub mod Objects
+pub mod Printing

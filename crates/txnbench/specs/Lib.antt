@@ -1,0 +1,5 @@
+pub mod Workloads
+pub mod Objects
+pub mod Rounds
+pub mod Commands
+pub mod Printed

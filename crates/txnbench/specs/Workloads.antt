@@ -1,0 +1,29 @@
+-- What each workload is.
+use Rattle.std.specs.Prelude.{ℕ, zero, suc, List, [], ◌∷◌, ◌++◌, codes}
+use Rattle.txnbench.specs.declared.workload.Workload.{Workload}
+use Rattle.txnbench.specs.declared.workload.Workload.TheVariants as workloads
+
+abbrev pub workload_name : Workload → List ℕ
+workload_name workloads.Update = codes "update"
+workload_name workloads.ReadWarm = codes "read_warm"
+workload_name workloads.LoadCold100 = codes "load_cold_100"
+workload_name workloads.List10000 = codes "list_10000"
+
+-- how many versions stand before its first call
+abbrev pub versions_before : Workload → ℕ
+versions_before workloads.Update = 0
+versions_before workloads.ReadWarm = 1
+versions_before workloads.LoadCold100 = 100
+versions_before workloads.List10000 = 10000
+
+-- how many calls a round makes
+abbrev pub calls_of_round : Workload → ℕ
+calls_of_round workloads.Update = 10000
+calls_of_round workloads.ReadWarm = 20000
+calls_of_round workloads.LoadCold100 = 1000
+calls_of_round workloads.List10000 = 20
+
+-- the values of so many versions, each its id
+abbrev pub numbers_to : ℕ → List ℕ
+numbers_to zero = []
+numbers_to (suc n) = numbers_to n ++ suc n ∷ []

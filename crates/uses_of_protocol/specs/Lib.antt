@@ -1,0 +1,4 @@
+pub mod Registered
+pub mod OneClient
+pub mod Listed
+pub mod ListFields

@@ -1,0 +1,25 @@
+//! Calls through the traits.
+ghost use Rattle.std.specs.Prelude.{◌≡◌, List, ℕ, length, ◌+◌, ◌++◌, ◌∷◌, [], ◌≤◌, IfOk, IsErrOf};
+
+use slatedb_txn_obj::protocol::TransactionalStorageProtocol;
+use txn_drivers::turns::Turns;
+use txn_store::store::ObjectStore;
+use txn_types::error::TransactionalObjectError;
+
+/// Writes a value on the newest version. One client is never overtaken, so it is never a conflict.
+pub fn append<T: Drop, Id, S: ObjectStore, P: TransactionalStorageProtocol<T, Id, S>>(
+    protocol: &mut P,
+    store: &mut S,
+    turns: &mut Turns,
+    value: &T,
+) -> Result<Id, TransactionalObjectError>
+    ensures appended { IfOk result (λ id. (h : List T) (b : ℕ) → P.stands protocol.old store.old h b → (P.number id ≡ length h + 1) × P.stands protocol.new store.new (h ++ value.now ∷ []) b) }
+    ensures no_conflict { IsErrOf result TransactionalObjectError.ObjectVersionExists → (h : List T) (b : ℕ) → P.stands protocol.old store.old h b → ⊥ }
+{
+    let newest = protocol.try_read_latest(store, turns)?;
+    let base = match newest {
+        None => None,
+        Some((id, _value)) => Some(id),
+    };
+    protocol.write(store, base, value)
+}
