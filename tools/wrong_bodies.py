@@ -242,7 +242,7 @@ class Trial:
         return read_log(self.crate, self.check(changed), changed)
 
     def together(self, batch):
-        """Tries a batch in one check. Returns the outcomes of the edits that it refuses, and the edits to try alone."""
+        """Tries a batch in one check. Returns the outcomes of the edits that it decides, and the other edits."""
         if len(batch) == 1:
             return [self.alone(batch[0])], []
         log = self.log_of(batch)

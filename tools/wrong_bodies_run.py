@@ -9,7 +9,7 @@ import traceback
 from concurrent.futures import FIRST_COMPLETED, ThreadPoolExecutor, wait
 
 from crate_copies import Commands, Copies, all_below, crates_listed
-from wrong_bodies import BadEdit, Outcome, Trial, batches, read_edit
+from wrong_bodies import MOST_IN_A_CHECK, BadEdit, Outcome, Trial, batches, read_edit
 
 
 def say(text):
@@ -35,7 +35,8 @@ class CrateRun:
     def __init__(self, copies, folders, only):
         self.copies, self.name = copies, copies.name
         self.edits, self.failed = [], []
-        self.passed = self.checks = self.alone = self.left = 0
+        self.passed = self.checks = self.alone = self.left = self.rounds = 0
+        self.undecided = []
         self.is_proved = False
         crate = f"{copies.root}/crates/{self.name}"
         files, strange = edit_files(crate, folders)
@@ -90,9 +91,12 @@ class Run:
         return sum(crate.name in all_below(it, self.uses) for it in self.crates)
 
     def rank(self, task):
-        """What runs first: the crates that most others wait for, then the edits of the crate with the most left."""
+        """What runs first: the crates that most others wait for, then what needs no new copy of its crate, since each
+        copy is checked once more at the end, then the edits of the crate with the most left."""
         kind, crate = task[0], task[1]
-        return (0, -self.above(crate)) if kind == "prepare" else (1, -crate.left)
+        if kind == "prepare":
+            return 0, False, -self.above(crate)
+        return 1, not crate.copies.free, -crate.left
 
     def is_ready(self, task):
         return task[0] != "prepare" or all(it in self.folders for it in task[1].copies.below)
@@ -120,15 +124,13 @@ class Run:
             getattr(self, f"{task[0]}_ended")(*task[1:], future.result())
 
     def prepare(self, crate):
-        """Checks a crate without edits, and builds it for the crates above. Returns its copy and why it failed."""
+        """Checks a crate without edits, in building it where crates stand above. Returns its copy and why it failed."""
         copies = crate.copies
         lacking = [it for it in copies.below if not self.crates[it].is_proved]
         if lacking:
             return "", f"NOT TRIED: its library {lacking[0]} is not proved"
         copy = copies.new(f"{copies.root}/crates/{crate.name}", self.folders, ("out/incremental", "out/rlib"))
-        status, said = copies.run(copy, "check")
-        if not status and self.above(crate):
-            status, said = copies.run(copy, "lib")
+        status, said = copies.run(copy, "lib" if self.above(crate) else "check")
         return copy, "" if not status else f"NOT PROVED without an edit:\n{said[-2000:]}"
 
     def prepare_ended(self, crate, result):
@@ -151,21 +153,31 @@ class Run:
             copy = copies.free.pop() if copies.free else None
         copy = copy or copies.new(self.folders[crate.name], self.folders)
         trial = Trial(crate.name, copies.texts, lambda changed: copies.check_in(copy, changed)[1])
-        outcomes, alone = trial.together(batch)
+        outcomes, rest = trial.together(batch)
         with copies.lock:
             copies.free.append(copy)
-        return outcomes, alone
+        return outcomes, rest
 
     def attempt_ended(self, crate, batch, result):
-        outcomes, alone = result
+        outcomes, rest = result
         crate.left -= 1
         crate.checks += 1
         for outcome in outcomes:
             crate.take(outcome)
-        for edit in alone:
-            self.add(crate, [edit])
+        crate.undecided += rest
         if not crate.left:
+            self.try_again(crate)
+
+    def try_again(self, crate):
+        """Tries once more together what a shared check could not decide, as an edit of a function that calls another
+        edited one, and then alone. Ends with a check without edits."""
+        edits, crate.undecided = crate.undecided, []
+        if not edits:
             self.waiting.append(("recheck", crate))
+            return
+        crate.rounds += 1
+        for batch in batches(crate.copies.texts, edits, MOST_IN_A_CHECK if crate.rounds == 1 else 1):
+            self.add(crate, batch)
 
     def recheck(self, crate):
         """Checks the crate without edits over what the checks of its edits kept, so that none was refused for that."""

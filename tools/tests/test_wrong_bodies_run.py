@@ -13,16 +13,18 @@ sys.path.insert(0, os.path.dirname(os.path.dirname(os.path.realpath(__file__))))
 from crate_copies import all_below, crates_listed  # noqa: E402
 import wrong_bodies_run  # noqa: E402
 
-# It refuses first where src/ has WRONG_FIRST, second where it has WRONG_SECOND, and a text with UNREAD before all.
+# It refuses first where src/ has WRONG_first, and so the others, but lets those wait that CALL_second where it refuses
+# second. It refuses a text with UNREAD before all.
 RT = """\
 #!/bin/sh
 name=$(basename "$PWD")
 echo "$name $1" >> "$CALLS"
 grep -q UNREAD src/lib.rt && echo "src/lib.rt:1:1: error: expected a word" && exit 1
 status=0
-for it in first second; do
+for it in first second third; do
   said=proved
   grep -q "WRONG_$it" src/lib.rt && said="not proved" && status=1
+  grep -q "CALLS_second_$it" src/lib.rt && grep -q WRONG_second src/lib.rt && said="no proof: it calls second"
   echo "fn $name::$it: $said"
 done
 [ $status = 0 ] && echo "logic=proved" || echo "logic=not-proved"
@@ -81,12 +83,28 @@ class Runs(unittest.TestCase):
         self.assertEqual((status, last), (0, "4 passed, 0 failed"))
         self.assertIn("high: 2 edits in 1 checks, 0 tried alone, 0 failed", said)
         # each crate without edits, with its batch, and without edits over what that kept; and the library for high
-        self.assertEqual(sorted(calls), ["high check"] * 3 + ["low check"] * 3 + ["low lib"])
+        self.assertEqual(sorted(calls), ["high check"] * 3 + ["low check"] * 2 + ["low lib"])
+
+    def test_what_waits_for_another_edit_is_tried_together_again(self):
+        waiting = "fn first() -> u8 {\n    CALLS_second_first()\n}\n\nfn third() -> u8 {\n    CALLS_second_third()\n}\n"
+        self.file("repository/crates/high/src/lib.rt", SOURCE.replace("fn first() -> u8 {\n    1\n}\n", waiting))
+        for name in ("first", "third"):
+            self.edit("high", name, f"    CALLS_second_{name}()", f"    CALLS_second_{name}() + WRONG_{name}")
+        status, last, said, _ = self.run_command("high")
+        self.assertEqual((status, last), (0, "3 passed, 0 failed"))
+        self.assertIn("high: 3 edits in 2 checks, 0 tried alone, 0 failed", said)
+
+    def test_what_is_never_refused_together_is_tried_alone(self):
+        self.edit("high", "first", "    1", "    WRONG_first UNREAD")
+        status, last, said, _ = self.run_command("high")
+        self.assertEqual((status, last), (1, "1 passed, 1 failed"))
+        self.assertIn("high/wrong-bodies/second.edit: refused, tried alone", said)
+        self.assertIn("high: 2 edits in 4 checks, 2 tried alone, 1 failed", said)
 
     def test_one_crate_and_one_name(self):
         status, last, said, calls = self.run_command("high", "--only", "sec")
         self.assertEqual((status, last), (0, "1 passed, 0 failed"))
-        self.assertEqual(calls.count("low check"), 1)
+        self.assertEqual((calls.count("low lib"), calls.count("low check")), (1, 0))
         self.assertEqual(self.run_command("--only", "none")[:2], (1, "0 passed, 1 failed"))
         self.assertEqual(self.run_command("other")[:2], (1, "0 passed, 1 failed"))
 
