@@ -126,13 +126,15 @@ def read_edit(name, text, texts):
 
 def add_place(edit, pair, text):
     """Adds to an edit the function and the module of a pair that changes this text of src/."""
-    path, old, _ = pair
+    path, old, new = pair
     start = text.index(old)
     end = start + len(old)
     inside = [it for it in places_in(text, module_of(path)) if it.start <= start and end <= it.end]
     edit.functions.update(it.function for it in inside[-1:])
     edit.modules.add(module_of(path))
-    edit.is_of_bodies &= bool(inside) and inside[-1].body < start
+    # (an old text may begin with the line of the function, to stand once in its file)
+    changed = start + len(os.path.commonprefix([old, new]))
+    edit.is_of_bodies &= bool(inside) and inside[-1].body < changed
 
 
 def functions_in(texts):

@@ -163,6 +163,12 @@ class Places(unittest.TestCase):
         contract = edit("a", ("result ≡ is_dots text.now", "1 ≡ 1"))
         self.assertEqual((labels(contract), contract.is_of_bodies), ({"path::is_dots"}, False))
 
+    def test_a_first_statement_is_of_a_body(self):
+        line = "pub fn fmt(&self) -> u8 {"
+        found = edit("a", (line, f"{line} return 0;"))
+        self.assertEqual((labels(found), found.is_of_bodies), ({"path::Path::fmt"}, True))
+        self.assertFalse(edit("a", (line, "pub fn fmt(&self) -> u16 { return 0;")).is_of_bodies)
+
 
 class Batches(unittest.TestCase):
     def names(self, edits, **how):
