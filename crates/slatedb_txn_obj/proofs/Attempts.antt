@@ -1,6 +1,8 @@
 -- What attempts of an update spend and fail for.
-use Rattle.std.proofs.Common.{Bool, true, false, List, length, arith, refl, ◌≡◌, ℕ, ◌+◌, ◌-◌, ◌*◌, ◌≤◌}
+use Rattle.std.proofs.Common.{Bool, true, false, List, length, Option, Some, Result, Ok, inl, inr, arith, refl, subst, ◌≡◌, ◌⊎◌, ℕ, ◌+◌, ◌-◌, ◌*◌, ◌≤◌}
 use Rattle.txn_store.specs.Store.{State}
+use Rattle.txn_types.specs.declared.callback.CallbackFault.{CallbackFault}
+use Rattle.txn_types.specs.declared.dirty.DirtyObject.{DirtyObject}
 use Rattle.txn_drivers.specs.Calls.{Spends, SpendsTurns}
 use Rattle.txn_drivers.specs.LatestReads.{IsLatest}
 use Rattle.slatedb_txn_obj.specs.Protocol.{Stays, Overtaken}
@@ -37,6 +39,16 @@ module _ {T : Type 0} (before after : List T → ℕ → Type 0) (number : ℕ) 
   -- the newest version is not overtaken
   pub latest-not_overtaken : (h : List T) (b : ℕ) (value : T) → Overtaken before after number → before h b → IsVersion h number value → IsLatest h number value → ⊥
   latest-not_overtaken h b value overtaken stands version latest = omega (arith, overtaken.newer h b stands version.within, latest.id_is)
+
+module _ {T Id View : Type 0} (answers : View → Result (Option (DirtyObject T Id)) CallbackFault → Type 0) where
+  -- a mutator's first answer was a candidate
+  abbrev pub IsCandidateFirst : View → Type 0
+  IsCandidateFirst start = (dirty : DirtyObject T Id) × answers start (Ok (Some dirty))
+
+  -- so it was where this answer, the first or a later one, is a candidate
+  pub candidate-first : (start view : View) (B C D : Type 0) (dirty : DirtyObject T Id) → ((view ≡ start) × B × C × D) ⊎ IsCandidateFirst start → answers view (Ok (Some dirty)) → IsCandidateFirst start
+  candidate-first start view B C D dirty (inl first) answered = (dirty, subst (λ v. answers v (Ok (Some dirty))) first.0 answered)
+  candidate-first start view B C D dirty (inr earlier) answered = earlier
 
 -- what a first attempt has spent after a conflict and its refresh, by turns, pages and tokens left
 pub first-spent : (t0 t t1 t2 p0 p p1 l0 l l1 l2 : ℕ) → (t ≡ t0) × (p ≡ p0) × (l0 ≤ l) → t ≡ t1 + 1 → p1 ≤ p + 1 → t1 ≤ t2 + 2 * p1 → l ≤ l1 + 1 → l1 ≤ l2 + 0 → (t0 ≤ t2 + 3 + 2 * p0) × (l0 ≤ l2 + 1)

@@ -22,6 +22,10 @@ latest-appended h id value is = record {
 pub version-of_latest : {T : Type 0} {h : List T} {id : ℕ} {value : T} → IsLatest h id value → IsVersion h id value
 version-of_latest latest = record { positive = omega (arith, latest.some, latest.id_is); within = omega (arith, latest.id_is); entry = latest.entry }
 
+-- a history with a version is not empty
+pub none-empty : {T : Type 0} (h : List T) {number : ℕ} {value : T} → h ≡ [] → IsVersion h number value → ⊥
+none-empty h empty version = let none = ap length empty in absurd (omega (arith, none, version.positive, version.within))
+
 pub updated-of_appended : {T : Type 0} (before after : List T → ℕ → Type 0) (number number' : ℕ) (value value' : T) → Appended before after number value' number' → Updated before after number number' value value'
 updated-of_appended before after number number' value value' appended = record {
   newest = λ h b stands version. record { some = omega (arith, version.positive, version.within); id_is = appended.newest h b stands version.within; entry = version.entry };

@@ -73,14 +73,26 @@ module _ {T Id View : Type 0} (answers : View → Result (Option (DirtyObject T 
     -- its candidate, made of the newest version, stands straight on it
     Entered : (view : View) (dirty : DirtyObject T Id) → IsLatest h (at view) (value view) → answers view (Ok (Some dirty)) → after (h ++ dirty.value ∷ []) b → IsLatest (h ++ dirty.value ∷ []) (at now) (value now) → Applied h b after now
 
-  -- what stands where applying it failed: nothing moved, or a candidate of it was written
-  pub data NotApplied (h : List T) (b : ℕ) (after : List T → ℕ → Type 0) (now : View) : Type 0 where
-    Unmoved : IsVersion h (at now) (value now) → after h b → NotApplied h b after now
-    Written : (view : View) (dirty : DirtyObject T Id) → IsVersion h (at view) (value view) → answers view (Ok (Some dirty)) → after (h ++ dirty.value ∷ []) b → IsVersion h (at now) (value now) → NotApplied h b after now
+  -- Why applying it failed, what stands then, and which version is viewed, the last that it was asked about or the one read after it. `shut` says why a version shuts its holder out.
+  pub data NotApplied (shut : View → TransactionalObjectError → Type 0) (h : List T) (b : ℕ) (after : List T → ℕ → Type 0) (now : View) (error : TransactionalObjectError) : Type 0 where
+    -- no turn was left
+    Spent : IsVersion h (at now) (value now) → error ≡ TurnsExhausted → after h b → NotApplied shut h b after now error
+    -- the newest version shuts its holder out
+    Shut : IsLatest h (at now) (value now) → IsShutting error → shut now error → after h b → NotApplied shut h b after now error
+    -- it refused that version
+    Refused : (fault : CallbackFault) → IsVersion h (at now) (value now) → answers now (Err fault) → error ≡ error_of_callback fault → after h b → NotApplied shut h b after now error
+    -- its candidate for that version was not written, or it was, and an error followed
+    Failed : (dirty : DirtyObject T Id) → IsVersion h (at now) (value now) → answers now (Ok (Some dirty)) → after h b ⊎ after (h ++ dirty.value ∷ []) b → NotApplied shut h b after now error
 
   -- each candidate that it answers has the id of what it was made of
   abbrev pub KeepsIds : (id : View → Id) (eq : Id → Id → Bool) → Type 0
   KeepsIds id eq = (view : View) (dirty : DirtyObject T Id) → answers view (Ok (Some dirty)) → eq dirty.id (id view) ≡ true
+
+-- What a mutator's first answer decides at once: its refusal is the error, and nothing asked for is Ok. `same` says that nothing changed.
+abbrev pub DecidedBy : {T Id : Type 0} → Result (Option (DirtyObject T Id)) CallbackFault → (same : Type 0) → Result (Unit {0}) TransactionalObjectError → Type 0
+DecidedBy (Err fault) same result = (result ≡ Err (error_of_callback fault)) × same
+DecidedBy (Ok None) same result = (result ≡ Ok tt) × same
+DecidedBy (Ok (Some dirty)) same result = Unit {0}
 
 -- Turns that were spent, a mutator, an invariant or a codec that refused, an object that was shut, no number above a version, or a failure with its cause. It is never a conflict.
 abbrev pub HasCauseOfApply : (TransactionalObjectError → Type 0) → Type 0 → Type 0 → ℕ → State → State → TransactionalObjectError → Type 0

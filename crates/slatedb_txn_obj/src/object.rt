@@ -22,7 +22,7 @@ pub trait TransactionalObject<T: Clone, Id: Copy + Eq> {
     ghost use Rattle.txn_types.specs.declared.error.TransactionalObjectError.{TransactionalObjectError};
     ghost use Rattle.txn_drivers.specs.Calls.{Spends, SpendsTurns};
     ghost use Rattle.slatedb_txn_obj.specs.Protocol.{Overtaken, MayAppend, Stays, UnheldAt};
-    ghost use Rattle.slatedb_txn_obj.specs.Views.{IsVersion, Updated, ShowsLatest, IsShutting, HasCauseOfUpdate, HasCauseOfRefresh, Applied, NotApplied, KeepsIds, HasCauseOfApply};
+    ghost use Rattle.slatedb_txn_obj.specs.Views.{IsVersion, Updated, ShowsLatest, IsShutting, HasCauseOfUpdate, HasCauseOfRefresh, Applied, NotApplied, DecidedBy, KeepsIds, HasCauseOfApply};
 
     /// The id that the object is at.
     ghost at: { Self → Id };
@@ -102,9 +102,9 @@ pub trait TransactionalObject<T: Clone, Id: Copy + Eq> {
         ensures paged { (h : List T) (b : ℕ) → P.stands protocol.old store.old h b → P.number (at self.old) ≤ length h → P.pages protocol.new store.new ≤ P.pages protocol.old store.old + 1 };
 
     /// Asks the mutator for a candidate made of the object, and updates by it. After a conflict it refreshes, and asks once
-    /// more. Nothing asked for is Ok, and the mutator's refusal is `CallbackError`. Each attempt spends a turn, and so does
-    /// each pass and page of a refresh; where one is due and none is left, it is `TurnsExhausted`. After an error the last
-    /// candidate may have been written.
+    /// more. Nothing asked for is Ok, and the mutator's refusal is `CallbackError`, or `NoMemory`, and writes nothing. Each
+    /// attempt spends a turn, and so does each pass and page of a refresh; where one is due and none is left, it is
+    /// `TurnsExhausted`. After any other error the last candidate may have been written.
     final fn maybe_apply_update<
         S: ObjectStore,
         P: TransactionalStorageProtocol<T, Id, S>,
@@ -119,8 +119,9 @@ pub trait TransactionalObject<T: Clone, Id: Copy + Eq> {
         requires { F.IsAlwaysCallable mutator.now }
         ensures applied { OnOk result ((h : List T) (b : ℕ) → P.stands protocol.old store.old h b → IsVersion h (P.number (at self.old)) (value self.old)
             → Applied (λ v r. FnReturnsAt F.Fn mutator.now v r) (λ v. P.number (at v)) value h b (P.stands protocol.new store.new) self.new) }
-        ensures failed { OnErr result ((h : List T) (b : ℕ) → P.stands protocol.old store.old h b → IsVersion h (P.number (at self.old)) (value self.old)
-            → NotApplied (λ v r. FnReturnsAt F.Fn mutator.now v r) (λ v. P.number (at v)) value h b (P.stands protocol.new store.new) self.new) }
+        ensures failed { IfErr result (λ e. (h : List T) (b : ℕ) → P.stands protocol.old store.old h b → IsVersion h (P.number (at self.old)) (value self.old)
+            → NotApplied (λ v r. FnReturnsAt F.Fn mutator.now v r) (λ v. P.number (at v)) value is_shut h b (P.stands protocol.new store.new) self.new e) }
+        ensures first { 1 ≤ turns.old → (answer : _) × FnReturnsAt F.Fn mutator.now self.old answer × DecidedBy answer ((self.new ≡ self.old) × (protocol.new ≡ protocol.old) × (store.new ≡ store.old) × (turns.old ≡ turns.new + 1)) result }
         ensures spends { SpendsTurns 7 0 (turns.old - turns.new) turns.old turns.new (S.state store.old) (S.state store.new) }
         ensures few { (h : List T) (b : ℕ) → P.stands protocol.old store.old h b → IsVersion h (P.number (at self.old)) (value self.old)
             → KeepsIds (λ v r. FnReturnsAt F.Fn mutator.now v r) (λ v. P.number (at v)) value at Id.eq

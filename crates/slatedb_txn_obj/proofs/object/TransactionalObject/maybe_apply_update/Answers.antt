@@ -1,9 +1,12 @@
 -- What the last answer of the mutator and its update gave, and what an attempt spends.
-use Rattle.std.proofs.Common.{arith, refl, sym, ap, ◌∙◌, Err, inl, inr, ◌≡◌}
+use Rattle.std.proofs.Common.{arith, refl, sym, subst, ap, ◌∙◌, Ok, Err, Some, None, inl, inr, ◌≡◌, ◌⊎◌, ◌+◌, ◌^◌, ℕ, List}
+use Rattle.std.specs.Fn.{FnReturnsAt}
 use Rattle.std.proofs.lemmas.Result.{err_from_is_err_and, IfErr-at_err}
-use Rattle.slatedb_txn_obj.specs.Views.{IsVersion, Nothing, Entered, Unmoved, Written}
-use Rattle.slatedb_txn_obj.proofs.Attempts.{spends-update, spends-refresh, first-spent, conflict-stays, latest-not_overtaken}
-use Rattle.slatedb_txn_obj.proofs.Views.{version-of_latest}
+use Rattle.txn_types.specs.declared.error.TransactionalObjectError.{TransactionalObjectError}
+use Rattle.slatedb_txn_obj.specs.Views.{IsVersion, Nothing, Entered, Shut, Refused, Failed}
+use Rattle.slatedb_txn_obj.proofs.AttemptCauses.{apply-shut, apply-refresh}
+use Rattle.slatedb_txn_obj.proofs.Attempts.{spends-update, spends-refresh, first-spent, conflict-stays, latest-not_overtaken, candidate-first}
+use Rattle.slatedb_txn_obj.proofs.Views.{version-of_latest, none-empty}
 use Rattle.slatedb_txn_obj.proofs.object.TransactionalObject.maybe_apply_update.Goals as goal
 
 pub returns-in-Ok-None-clause-applied : goal.returns-in-Ok-None-clause-applied
@@ -39,7 +42,75 @@ loop-self-preserved g c =
             | inl first ↦ (let spent = (first-spent _ _ _ _ _ _ _ _ _ _ _ first c.loop-self-test.ensures.spent (conflict.paged h b here.0 here.1.within) (refresh.few h b (overtaken.stands h b here.0 here.1.within)) conflict.spends.left_least refresh.spends.left_least) in inr (spent.0, shown.2 h b (overtaken.stands h b here.0 here.1.within), spent.1))
             | inr second ↦ absurd (latest-not_overtaken _ _ _ h b _ overtaken here.0 here.1 second.1)
           ];
+      first = inr (candidate-first (λ v r. FnReturnsAt g.F.Fn c.args.mutator.now v r) _ _ _ _ _ c.in-Ok-Some.dirty c.loop-self.invariant.first (record { shown = _; shows = refl; says = record { met = rw c.in-Ok-Some.field-0-is at c.in-Ok-Some.ensures } }));
     }
+
+pub returns-in-Err-clause-failed : goal.returns-in-Err-clause-failed
+returns-in-Err-clause-failed g c h b stands version =
+    let here = c.loop-self.invariant.unmoved h b stands version in
+    Refused c.in-Err.fault here.1 (record { shown = _; shows = refl; says = record { met = c.in-Err.ensures } }) c.from.ensures here.0
+
+pub returns-in-Err-clause-first : goal.returns-in-Err-clause-first
+returns-in-Err-clause-first g c some =
+    elim c.loop-self.invariant.first [
+      | inl same ↦ (
+        Err c.in-Err.fault,
+        subst (λ v. FnReturnsAt g.F.Fn c.args.mutator.now v (Err c.in-Err.fault)) same.0 (record { shown = _; shows = refl; says = record { met = c.in-Err.ensures } }),
+        (ap Err c.from.ensures, (same.0, same.1, same.2, sym same.3 ∙ c.loop-self-test.ensures.spent)),
+      )
+      | inr earlier ↦ (Ok (Some earlier.0), earlier.1, tt)
+    ]
+
+pub returns-in-Ok-None-clause-first : goal.returns-in-Ok-None-clause-first
+returns-in-Ok-None-clause-first g c some =
+    elim c.loop-self.invariant.first [
+      | inl same ↦ (
+        Ok None,
+        subst (λ v. FnReturnsAt g.F.Fn c.args.mutator.now v (Ok None)) same.0 (record { shown = _; shows = refl; says = record { met = rw c.in-Ok-None.field-0-is at c.in-Ok-None.ensures } }),
+        (refl, (same.0, same.1, same.2, sym same.3 ∙ c.loop-self-test.ensures.spent)),
+      )
+      | inr earlier ↦ (Ok (Some earlier.0), earlier.1, tt)
+    ]
+
+pub returns-in-Ok-clause-first : goal.returns-in-Ok-clause-first
+returns-in-Ok-clause-first g c some =
+    let candidate = candidate-first (λ v r. FnReturnsAt g.F.Fn c.args.mutator.now v r) _ _ _ _ _ c.in-Ok-Some.dirty c.loop-self.invariant.first (record { shown = _; shows = refl; says = record { met = rw c.in-Ok-Some.field-0-is at c.in-Ok-Some.ensures } }) in
+    (Ok (Some candidate.0), candidate.1, tt)
+
+pub returns-in-Err-2-clause-first : goal.returns-in-Err-2-clause-first
+returns-in-Err-2-clause-first g c some =
+    let candidate = candidate-first (λ v r. FnReturnsAt g.F.Fn c.args.mutator.now v r) _ _ _ _ _ c.in-Ok-Some.dirty c.loop-self.invariant.first (record { shown = _; shows = refl; says = record { met = rw c.in-Ok-Some.field-0-is at c.in-Ok-Some.ensures } }) in
+    (Ok (Some candidate.0), candidate.1, tt)
+
+pub returns-in_err-refresh-in-Err-update-clause-first :
+    goal.returns-in_err-refresh-in-Err-update-clause-first
+returns-in_err-refresh-in-Err-update-clause-first g c some =
+    let candidate = candidate-first (λ v r. FnReturnsAt g.F.Fn c.args.mutator.now v r) _ _ _ _ _ c.in-Ok-Some.dirty c.loop-self.invariant.first (record { shown = _; shows = refl; says = record { met = rw c.in-Ok-Some.field-0-is at c.in-Ok-Some.ensures } }) in
+    (Ok (Some candidate.0), candidate.1, tt)
+
+pub returns-in_err-refresh-in-Err-update-clause-cause :
+    goal.returns-in_err-refresh-in-Err-update-clause-cause
+returns-in_err-refresh-in-Err-update-clause-cause g c =
+    let p = err_from_is_err_and c.from_residual.result c.from_residual.ensures.1 in
+    let inv = c.loop-self.invariant in
+    let conflict = c.in-Err-update.ensures in
+    let exists = ap Err (c.is_sequenced_write_conflict.ensures.kind.0 c.if-is_sequenced_write_conflict.true) in
+    let stays = conflict-stays (g.P.TransactionalStorageProtocol.stands c.loop-self.protocol c.loop-self.store) (g.P.TransactionalStorageProtocol.stands c.update.new.protocol c.update.new.store) (g.P.TransactionalStorageProtocol.number (g.Self.TransactionalObject.at c.loop-self.self)) (g.Id.PartialEq.eq c.in-Ok-Some.dirty.id (g.Self.TransactionalObject.at c.loop-self.self)) (λ no h b stands. rw (conflict.other no).1 (rw (conflict.other no).2 stands)) (conflict.conflict exists) in
+    let object = g.Self.TransactionalObject in
+    let protocol = g.P.TransactionalStorageProtocol in
+    let state = g.S.ObjectStore.state in
+    let shut : TransactionalObjectError → Type 0 = λ e. (v : g.row.Self.Denot) × (object.is_shut v e ⊎ ((d : g.row.T.Denot) × object.refuses v d e)) in
+    let full : Type 0 = (v : g.row.Self.Denot) × (protocol.number (object.at v) + 1 ≡ 2 ^ 64) in
+    let unheld : Type 0 = (h : List g.row.T.Denot) (b : ℕ) → protocol.stands c.args.protocol.now c.args.store.now h b → IsVersion h (protocol.number (object.at c.args.self.now)) (object.value c.args.self.now) → ⊥ in
+    rw p.1 (rw p.2 (elim (rw c.in_err-refresh-in-Err-update.was at c.refresh.follows.holds-at-none) [
+      | inl same ↦ apply-refresh shut full unheld c.refresh.new.turns (state c.args.store.now) (state c.update.new.store) (state c.refresh.new.store) (protocol.stands c.update.new.protocol c.update.new.store)
+          (omega (arith, inv.spends.failures_rise, conflict.spends.failures_rise))
+          (λ empty h b stands version.
+          let here = inv.unmoved h b stands version in
+          none-empty h (empty h b (stays h b here.0 here.1.within)) version)
+          _ same.1
+      | inr shuts ↦ apply-shut shut full unheld c.refresh.new.turns (state c.args.store.now) (state c.update.new.store) (state c.refresh.new.store) _ shuts.0 (c.refresh.follows.lender-at-none, inl shuts.1)
+    ]))
 
 pub returns-in_err-refresh-in-Err-update-clause-failed :
     goal.returns-in_err-refresh-in-Err-update-clause-failed
@@ -48,14 +119,14 @@ returns-in_err-refresh-in-Err-update-clause-failed g c =
     let conflict = c.in-Err-update.ensures in
     let exists = ap Err (c.is_sequenced_write_conflict.ensures.kind.0 c.if-is_sequenced_write_conflict.true) in
     let stays = conflict-stays (g.P.TransactionalStorageProtocol.stands c.loop-self.protocol c.loop-self.store) (g.P.TransactionalStorageProtocol.stands c.update.new.protocol c.update.new.store) (g.P.TransactionalStorageProtocol.number (g.Self.TransactionalObject.at c.loop-self.self)) (g.Id.PartialEq.eq c.in-Ok-Some.dirty.id (g.Self.TransactionalObject.at c.loop-self.self)) (λ no h b stands. rw (conflict.other no).1 (rw (conflict.other no).2 stands)) (conflict.conflict exists) in
-    rw p.1 (λ h b stands version.
+    rw p.1 (rw p.2 (λ h b stands version.
     let here = c.loop-self.invariant.unmoved h b stands version in
     let still = stays h b here.0 here.1.within in
     let after = c.refresh.ensures.kept h b still in
     elim (rw c.in_err-refresh-in-Err-update.was at c.refresh.follows.holds-at-none) [
-      | inl same ↦ Unmoved (rw same.0 (rw conflict.left here.1)) after
-      | inr shut ↦ Unmoved (version-of_latest (shut.3 h b still)) after
-    ])
+      | inl same ↦ Failed c.in-Ok-Some.dirty (rw same.0 (rw conflict.left here.1)) (rw same.0 (rw conflict.left (record { shown = _; shows = refl; says = record { met = rw c.in-Ok-Some.field-0-is at c.in-Ok-Some.ensures } }))) (inl after)
+      | inr shut ↦ Shut (shut.3 h b still) shut.0 shut.1 after
+    ]))
 
 pub returns-in_err-refresh-in-Err-update-clause-few :
     goal.returns-in_err-refresh-in-Err-update-clause-few
@@ -91,7 +162,8 @@ returns-in-Err-2-clause-failed g c h b stands version =
     let update = c.in-Err-update.ensures in
     let here = c.loop-self.invariant.unmoved h b stands version in
     let now : IsVersion h (g.P.TransactionalStorageProtocol.number (g.Self.TransactionalObject.at c.update.new.self)) (g.Self.TransactionalObject.value c.update.new.self) = rw update.left here.1 in
+    let answered : FnReturnsAt g.F.Fn c.args.mutator.now c.update.new.self (Ok (Some c.in-Ok-Some.dirty)) = rw update.left (record { shown = _; shows = refl; says = record { met = rw c.in-Ok-Some.field-0-is at c.in-Ok-Some.ensures } }) in
     elim (update.err h b here.0 here.1.within) [
-      | inl after ↦ Unmoved now after
-      | inr after ↦ Written c.loop-self.self c.in-Ok-Some.dirty here.1 (record { shown = _; shows = refl; says = record { met = rw c.in-Ok-Some.field-0-is at c.in-Ok-Some.ensures } }) after now
+      | inl after ↦ Failed c.in-Ok-Some.dirty now answered (inl after)
+      | inr after ↦ Failed c.in-Ok-Some.dirty now answered (inr after)
     ]

@@ -1,5 +1,5 @@
--- Nothing moved so far, and the object is a version of the history. At rest, the second attempt is made of the newest version.
-use Rattle.std.proofs.Common.{◌≡◌, ◌⊎◌, ℕ, ◌+◌, ◌-◌, ◌*◌, ◌≤◌, List}
+-- Nothing moved so far, and the object is a version of the history. At rest, the second attempt is made of the newest version. It is the first attempt, or the first was made of a candidate.
+use Rattle.std.proofs.Common.{◌≡◌, ◌⊎◌, ℕ, ◌+◌, ◌-◌, ◌*◌, ◌≤◌, List, Ok, Some}
 use Rattle.std.specs.Fn.{FnReturnsAt}
 use Rattle.txn_drivers.specs.Calls.{SpendsTurns}
 use Rattle.txn_drivers.specs.LatestReads.{IsLatest}
@@ -20,6 +20,7 @@ invariant-loop-self g l =
           → KeepsIds (λ v r. FnReturnsAt g.F.Fn l.mutator v r) (λ v. protocol.number (object.at v)) object.value object.at g.Id.PartialEq.eq
           → ((l.turns ≡ l.fn.turns) × (protocol.pages l.protocol l.store ≡ protocol.pages l.fn.protocol l.fn.store) × ((state l.fn.store).left ≤ (state l.store).left))
           ⊎ ((l.fn.turns ≤ l.turns + 3 + 2 * protocol.pages l.fn.protocol l.fn.store) × IsLatest h (protocol.number (object.at l.self)) (object.value l.self) × ((state l.fn.store).left ≤ (state l.store).left + 1));
+      first : ((l.self ≡ l.fn.self) × (l.protocol ≡ l.fn.protocol) × (l.store ≡ l.fn.store) × (l.turns ≡ l.fn.turns)) ⊎ ((dirty : _) × FnReturnsAt g.F.Fn l.mutator l.fn.self (Ok (Some dirty)));
     }
 
 abbrev pub decreases-loop-self : goal.decreases-loop-self
