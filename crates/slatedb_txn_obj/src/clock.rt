@@ -1,7 +1,9 @@
 //! Clocks, and how long a claim may take.
-ghost use Rattle.std.specs.Prelude.{◌≡◌, ◌≤◌, ◌<◌, ◌-◌, [], ◌∷◌, ◌++◌, OnOk, IfErr};
+ghost use Rattle.std.specs.Prelude.{◌≡◌, ◌≤◌, ◌<◌, ◌-◌, ℕ, List, [], ◌∷◌, ◌++◌, OnOk, IfErr};
+ghost use Rattle.std.specs.Borrow.{ftrue};
 ghost use Rattle.slatedb_txn_obj.specs.Claims.{ReadsOne};
 
+use std::marker::Model;
 use txn_types::error::TransactionalObjectError;
 
 /// A clock. Its meaning is the list of the readings that it has given, the first first.
@@ -14,6 +16,63 @@ pub trait SystemClock {
     /// The time, in milliseconds. It may go back.
     fn now_millis(&mut self) -> u64
         ensures { readings self.new ≡ readings self.old ++ result ∷ [] };
+}
+
+/// Numbers in no field.
+#[derive(Drop)]
+struct Unread {
+    ghost values: { List ℕ },
+}
+
+impl Model for Unread {
+    ghost also_owns = { λ _. ftrue };
+}
+
+impl Unread {
+    fn new() -> Unread
+        ensures { result.values ≡ [] }
+    {
+        Unread {}
+    }
+
+    fn then(&self, _value: u64) -> Unread
+        ensures { result.values ≡ self.now.values ++ _value ∷ [] }
+    {
+        Unread {}
+    }
+}
+
+/// The readings that a clock has given, the first first, by which a clock of one's own keeps `SystemClock`: it adds each
+/// reading that it gives. Clauses alone read them. They take no memory, and nothing of them runs.
+#[derive(Drop)]
+pub struct Readings {
+    unread: Unread,
+}
+
+impl Model for Readings {
+    ghost use Rattle.std.specs.Prelude.{ℕ, List};
+
+    ghost Value = { List ℕ };
+
+    ghost view = { λ r. r.unread.values };
+}
+
+impl Readings {
+    /// None yet.
+    pub fn new() -> Readings
+        ensures { result ≡ [] }
+    {
+        Readings {
+            unread: Unread::new(),
+        }
+    }
+
+    /// One more.
+    pub fn push(&mut self, reading: u64)
+        ensures { self.new ≡ self.old ++ reading ∷ [] }
+    {
+        self.unread = self.unread.then(reading);
+    }
 }
 
 /// When a call began, and how long it may take, in milliseconds.

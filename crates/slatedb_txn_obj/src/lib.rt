@@ -11,7 +11,7 @@ pub mod protocol;
 pub mod simple;
 
 pub use boundary::BoundaryObject;
-pub use clock::SystemClock;
+pub use clock::{Readings, SystemClock};
 pub use fenceable::FenceableTransactionalObject;
 pub use object::TransactionalObject;
 pub use protocol::{SequencedStorageProtocol, TransactionalStorageProtocol};

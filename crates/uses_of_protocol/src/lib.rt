@@ -8,3 +8,4 @@ mod listed;
 pub mod one_client;
 pub mod register;
 pub mod through;
+pub mod ticking;
