@@ -1,11 +1,13 @@
 -- Epochs, and the claims of holders.
-use Rattle.std.specs.Prelude.{◌≡◌, ◌⊎◌, ℕ, ◌+◌, ◌-◌, ◌^◌, ◌<◌, ◌≤◌, List, [], ◌∷◌, ◌++◌, All, length, Option, Some, None}
+use Rattle.std.specs.Prelude.{◌≡◌, ◌⊎◌, ℕ, ◌+◌, ◌-◌, ◌*◌, ◌^◌, ◌<◌, ◌≤◌, List, [], ◌∷◌, ◌++◌, All, length, Option, Some, None, Result, IfOk, IfErr, IsErrOf}
 use Rattle.txn_types.specs.declared.error.TransactionalObjectError.{TransactionalObjectError}
 use Rattle.txn_types.specs.declared.error.TransactionalObjectError.TheVariants.{Fenced, InvalidObjectState, ObjectVersionExists, ObjectUpdateTimeout, CallbackError, IdExhausted, TurnsExhausted}
 use Rattle.txn_store.specs.Store.{State}
-use Rattle.txn_drivers.specs.Calls.{HasCause}
+use Rattle.txn_drivers.specs.Calls.{HasCause, SpendsTurns}
 use Rattle.txn_drivers.specs.LatestReads.{IsLatest}
 use Rattle.slatedb_txn_obj.specs.Views.{IsVersion}
+use Rattle.slatedb_txn_obj.specs.declared.fenceable.FenceableTransactionalObject.{FenceableTransactionalObject}
+use Rattle.slatedb_txn_obj.specs.declared.simple.SimpleTransactionalObject.{SimpleTransactionalObject}
 
 -- the clock was read once, and the reading is such
 abbrev pub ReadsOne : (ℕ → Type 0) → List ℕ → List ℕ → Type 0
@@ -89,3 +91,26 @@ module _ {T : Type 0} (epoch_of : T → ℕ) (with_epoch : T → ℕ → T) wher
   -- a version of the history has no next epoch
   abbrev pub IsBlocked : (h : List T) (asked : Option ℕ) → TransactionalObjectError → Type 0
   IsBlocked h asked error = (number : ℕ) × (value : T) × IsVersion h number value × HasNoEpoch asked (epoch_of value) error
+
+-- A claim on a view: `number_of` is the number of an id, and `before` and `after` say for which histories and boundaries the protocol and the store stand, before it and after it.
+module _ {T I X : Type 0} (epoch_of : X → T → ℕ) (with_epoch : X → T → ℕ → T) (holds : I → T → T → Type 0) (number_of : ℕ → ℕ) (epochs : X) (view : SimpleTransactionalObject T ℕ I) (before after : List T → ℕ → Type 0) where
+  -- a fact of each history and boundary that stood with the view in it
+  abbrev pub WhereItStood : (List T → ℕ → Type 0) → Type 0
+  WhereItStood fact = (h : List T) (b : ℕ) → before h b → IsVersion h (number_of view.id) view.object → fact h b
+
+  -- What it answers and leaves, by the epoch that is asked for, if any, the `pages` of a listing, and the turns, the store and the readings of the clock, each before it and after it.
+  pub record ClaimEnds (asked : Option ℕ) (timeout pages turns left : ℕ) (old new : State) (readings readings' : List ℕ) (result : Result (FenceableTransactionalObject T I X) TransactionalObjectError) : Type 0 where
+    -- the newest value, with the holder's epoch in it, stands straight on it, and the holder is at that
+    pub claimed : IfOk result (λ holder. WhereItStood (λ h b. Claimed (epoch_of epochs) (with_epoch epochs) (λ v c. All (λ i. holds i v c) view.invariants.items) h b after asked (number_of holder.delegate.id) holder.delegate.object holder.local_epoch))
+    -- it has the view's invariants, and what reads and sets epochs
+    pub holder : IfOk result (λ holder. (holder.epochs ≡ epochs) × (holder.delegate.invariants ≡ view.invariants))
+    -- the clock was read as often as it has to be, each time before the end
+    pub timely : IfOk result (λ _. (start : ℕ) × (later : List ℕ) × ReadsInTime start timeout later readings readings' × WhereItStood (λ h b. IsReadFor (number_of view.id) (length h) (length later)))
+    -- nothing moved, or a version's value was written with its next epoch
+    pub failed : IfErr result (λ _. WhereItStood (λ h b. NotClaimed (epoch_of epochs) (with_epoch epochs) h b after asked))
+    pub spends : SpendsTurns 7 0 (turns - left) turns left old new
+    -- two attempts are enough
+    pub few : WhereItStood (λ h b. (turns ≤ left + 4 + 2 * pages) × (old.left ≤ new.left + 2))
+    pub enough : WhereItStood (λ h b. 4 + 2 * pages ≤ turns → IsErrOf result TurnsExhausted → ⊥)
+    -- what it says of a next epoch, a next number and the boundary is said where it stood
+    pub cause : IfErr result (HasCauseOfClaim timeout (ReadsLate timeout readings readings') (λ e. WhereItStood (λ h b. IsBlocked (epoch_of epochs) (with_epoch epochs) h asked e)) (WhereItStood (λ h b. 2 ^ 64 ≤ length h + 1)) (WhereItStood (λ h b. ⊥)) left old new)

@@ -3,7 +3,7 @@ ghost use Rattle.std.specs.Prelude.{ℕ, List, length, true, false, nat_eq, None
 ghost use Rattle.txn_types.specs.Callbacks.{IsCallback};
 ghost use Rattle.txn_types.specs.Clones.{IsExactClone};
 ghost use Rattle.txn_drivers.specs.Calls.{Spends, SpendsTurns};
-ghost use Rattle.slatedb_txn_obj.specs.Claims.{IsReadFor, IsEpochError, IsUnlike, NextEpoch, HasNoEpoch, ReadsOne, ReadsInTime, ReadsLate, HasCauseOfAttempt, HasCauseOfClaim, MayClaim, Claimed, NotClaimed, IsBlocked};
+ghost use Rattle.slatedb_txn_obj.specs.Claims.{IsEpochError, IsUnlike, NextEpoch, HasNoEpoch, ReadsOne, HasCauseOfAttempt, MayClaim, ClaimEnds};
 ghost use Rattle.slatedb_txn_obj.specs.Protocol.{Overtaken, MayAppend, UnheldAt};
 ghost use Rattle.slatedb_txn_obj.specs.Views.{IsVersion, Updated, IsTestFailure, HasCauseOfUpdate};
 
@@ -53,15 +53,7 @@ impl<T: Clone, I: Invariant<T> + Drop, X: EpochField<T>> FenceableTransactionalO
         epochs: X,
     ) -> Result<FenceableTransactionalObject<T, I, X>, TransactionalObjectError>
         requires { IsExactClone T.is_clone }
-        ensures claimed { IfOk result (λ holder. (h : List T) (b : ℕ) → P.stands protocol.old store.old h b → IsVersion h (P.number delegate.id) delegate.object → Claimed (λ v. X.epoch_of epochs v) (λ v e. X.with_epoch epochs v e) (λ v c. All (λ i. I.holds i v c) delegate.invariants.items) h b (P.stands protocol.new store.new) None (P.number holder.delegate.id) holder.delegate.object holder.local_epoch) }
-        ensures holder { IfOk result (λ holder. (holder.epochs ≡ epochs) × (holder.delegate.invariants ≡ delegate.invariants)) }
-        ensures timely { IfOk result (λ _. (start : ℕ) × (later : List ℕ) × ReadsInTime start object_update_timeout later (K.readings system_clock.old) (K.readings system_clock.new) × ((h : List T) (b : ℕ) → P.stands protocol.old store.old h b → IsVersion h (P.number delegate.id) delegate.object → IsReadFor (P.number delegate.id) (length h) (length later))) }
-        ensures failed { IfErr result (λ _. (h : List T) (b : ℕ) → P.stands protocol.old store.old h b → IsVersion h (P.number delegate.id) delegate.object → NotClaimed (λ v. X.epoch_of epochs v) (λ v e. X.with_epoch epochs v e) h b (P.stands protocol.new store.new) None) }
-        ensures spends { SpendsTurns 7 0 (turns.old - turns.new) turns.old turns.new (S.state store.old) (S.state store.new) }
-        ensures few { (h : List T) (b : ℕ) → P.stands protocol.old store.old h b → IsVersion h (P.number delegate.id) delegate.object
-            → (turns.old ≤ turns.new + 4 + 2 * P.pages protocol.old store.old) × ((S.state store.old).left ≤ (S.state store.new).left + 2) }
-        ensures enough { (h : List T) (b : ℕ) → P.stands protocol.old store.old h b → IsVersion h (P.number delegate.id) delegate.object → 4 + 2 * P.pages protocol.old store.old ≤ turns.old → IsErrOf result TransactionalObjectError.TurnsExhausted → ⊥ }
-        ensures cause { IfErr result (HasCauseOfClaim object_update_timeout (ReadsLate object_update_timeout (K.readings system_clock.old) (K.readings system_clock.new)) (λ e. (h : List T) (b : ℕ) → P.stands protocol.old store.old h b → IsVersion h (P.number delegate.id) delegate.object → IsBlocked (λ v. X.epoch_of epochs v) (λ v e. X.with_epoch epochs v e) h None e) ((h : List T) (b : ℕ) → P.stands protocol.old store.old h b → IsVersion h (P.number delegate.id) delegate.object → 2 ^ 64 ≤ length h + 1) ((h : List T) (b : ℕ) → P.stands protocol.old store.old h b → IsVersion h (P.number delegate.id) delegate.object → ⊥) turns.new (S.state store.old) (S.state store.new)) }
+        ensures { ClaimEnds X.epoch_of X.with_epoch I.holds P.number epochs delegate (P.stands protocol.old store.old) (P.stands protocol.new store.new) None object_update_timeout (P.pages protocol.old store.old) turns.old turns.new (S.state store.old) (S.state store.new) (K.readings system_clock.old) (K.readings system_clock.new) result }
     {
         claim(
             delegate,
@@ -92,15 +84,7 @@ impl<T: Clone, I: Invariant<T> + Drop, X: EpochField<T>> FenceableTransactionalO
         epochs: X,
     ) -> Result<FenceableTransactionalObject<T, I, X>, TransactionalObjectError>
         requires { IsExactClone T.is_clone }
-        ensures claimed { IfOk result (λ holder. (h : List T) (b : ℕ) → P.stands protocol.old store.old h b → IsVersion h (P.number delegate.id) delegate.object → Claimed (λ v. X.epoch_of epochs v) (λ v e. X.with_epoch epochs v e) (λ v c. All (λ i. I.holds i v c) delegate.invariants.items) h b (P.stands protocol.new store.new) (Some epoch) (P.number holder.delegate.id) holder.delegate.object holder.local_epoch) }
-        ensures holder { IfOk result (λ holder. (holder.epochs ≡ epochs) × (holder.delegate.invariants ≡ delegate.invariants)) }
-        ensures timely { IfOk result (λ _. (start : ℕ) × (later : List ℕ) × ReadsInTime start object_update_timeout later (K.readings system_clock.old) (K.readings system_clock.new) × ((h : List T) (b : ℕ) → P.stands protocol.old store.old h b → IsVersion h (P.number delegate.id) delegate.object → IsReadFor (P.number delegate.id) (length h) (length later))) }
-        ensures failed { IfErr result (λ _. (h : List T) (b : ℕ) → P.stands protocol.old store.old h b → IsVersion h (P.number delegate.id) delegate.object → NotClaimed (λ v. X.epoch_of epochs v) (λ v e. X.with_epoch epochs v e) h b (P.stands protocol.new store.new) (Some epoch)) }
-        ensures spends { SpendsTurns 7 0 (turns.old - turns.new) turns.old turns.new (S.state store.old) (S.state store.new) }
-        ensures few { (h : List T) (b : ℕ) → P.stands protocol.old store.old h b → IsVersion h (P.number delegate.id) delegate.object
-            → (turns.old ≤ turns.new + 4 + 2 * P.pages protocol.old store.old) × ((S.state store.old).left ≤ (S.state store.new).left + 2) }
-        ensures enough { (h : List T) (b : ℕ) → P.stands protocol.old store.old h b → IsVersion h (P.number delegate.id) delegate.object → 4 + 2 * P.pages protocol.old store.old ≤ turns.old → IsErrOf result TransactionalObjectError.TurnsExhausted → ⊥ }
-        ensures cause { IfErr result (HasCauseOfClaim object_update_timeout (ReadsLate object_update_timeout (K.readings system_clock.old) (K.readings system_clock.new)) (λ e. (h : List T) (b : ℕ) → P.stands protocol.old store.old h b → IsVersion h (P.number delegate.id) delegate.object → IsBlocked (λ v. X.epoch_of epochs v) (λ v e. X.with_epoch epochs v e) h (Some epoch) e) ((h : List T) (b : ℕ) → P.stands protocol.old store.old h b → IsVersion h (P.number delegate.id) delegate.object → 2 ^ 64 ≤ length h + 1) ((h : List T) (b : ℕ) → P.stands protocol.old store.old h b → IsVersion h (P.number delegate.id) delegate.object → ⊥) turns.new (S.state store.old) (S.state store.new)) }
+        ensures { ClaimEnds X.epoch_of X.with_epoch I.holds P.number epochs delegate (P.stands protocol.old store.old) (P.stands protocol.new store.new) (Some epoch) object_update_timeout (P.pages protocol.old store.old) turns.old turns.new (S.state store.old) (S.state store.new) (K.readings system_clock.old) (K.readings system_clock.new) result }
     {
         claim(
             delegate,
@@ -202,15 +186,7 @@ fn claim<
     asked: Option<u64>,
 ) -> Result<FenceableTransactionalObject<T, I, X>, TransactionalObjectError>
     requires { IsExactClone T.is_clone }
-    ensures claimed { IfOk result (λ holder. (h : List T) (b : ℕ) → P.stands protocol.old store.old h b → IsVersion h (P.number view.id) view.object → Claimed (λ v. X.epoch_of epochs v) (λ v e. X.with_epoch epochs v e) (λ v c. All (λ i. I.holds i v c) view.invariants.items) h b (P.stands protocol.new store.new) asked (P.number holder.delegate.id) holder.delegate.object holder.local_epoch) }
-    ensures holder { IfOk result (λ holder. (holder.epochs ≡ epochs) × (holder.delegate.invariants ≡ view.invariants)) }
-    ensures timely { IfOk result (λ _. (start : ℕ) × (later : List ℕ) × ReadsInTime start timeout later (K.readings clock.old) (K.readings clock.new) × ((h : List T) (b : ℕ) → P.stands protocol.old store.old h b → IsVersion h (P.number view.id) view.object → IsReadFor (P.number view.id) (length h) (length later))) }
-    ensures failed { IfErr result (λ _. (h : List T) (b : ℕ) → P.stands protocol.old store.old h b → IsVersion h (P.number view.id) view.object → NotClaimed (λ v. X.epoch_of epochs v) (λ v e. X.with_epoch epochs v e) h b (P.stands protocol.new store.new) asked) }
-    ensures spends { SpendsTurns 7 0 (turns.old - turns.new) turns.old turns.new (S.state store.old) (S.state store.new) }
-    ensures few { (h : List T) (b : ℕ) → P.stands protocol.old store.old h b → IsVersion h (P.number view.id) view.object
-        → (turns.old ≤ turns.new + 4 + 2 * P.pages protocol.old store.old) × ((S.state store.old).left ≤ (S.state store.new).left + 2) }
-    ensures enough { (h : List T) (b : ℕ) → P.stands protocol.old store.old h b → IsVersion h (P.number view.id) view.object → 4 + 2 * P.pages protocol.old store.old ≤ turns.old → IsErrOf result TransactionalObjectError.TurnsExhausted → ⊥ }
-    ensures cause { IfErr result (HasCauseOfClaim timeout (ReadsLate timeout (K.readings clock.old) (K.readings clock.new)) (λ e. (h : List T) (b : ℕ) → P.stands protocol.old store.old h b → IsVersion h (P.number view.id) view.object → IsBlocked (λ v. X.epoch_of epochs v) (λ v e. X.with_epoch epochs v e) h asked e) ((h : List T) (b : ℕ) → P.stands protocol.old store.old h b → IsVersion h (P.number view.id) view.object → 2 ^ 64 ≤ length h + 1) ((h : List T) (b : ℕ) → P.stands protocol.old store.old h b → IsVersion h (P.number view.id) view.object → ⊥) turns.new (S.state store.old) (S.state store.new)) }
+    ensures { ClaimEnds X.epoch_of X.with_epoch I.holds P.number epochs view (P.stands protocol.old store.old) (P.stands protocol.new store.new) asked timeout (P.pages protocol.old store.old) turns.old turns.new (S.state store.old) (S.state store.new) (K.readings clock.old) (K.readings clock.new) result }
 {
     let deadline = Deadline::starting(clock, timeout);
     while turns.spend() {

@@ -1,15 +1,15 @@
 -- The new value has no readings. Assumes `Logic`.
 use Rattle.std.proofs.Common.{[], ◌∷◌, refl}
 use Rattle.std.proofs.raw_atomic.Walks.{proved}
-use types.Kit.{raw, ‵, ◌⊛◌, ◌$◌, ◌∵◌, !, qed, move, keep, split, fjoin, suffices, done}
 use base.Fml.{ftrue}
+use types.Kit.{raw, ‵, ◌⊛◌, ◌$◌, ◌∵◌, !, qed, move, keep, split, fjoin, suffices, done}
 use types.Part.{agg}
 use types.Run.{enter, returns, no_more}
 use types.ByLocal.{alloc_all, pass_all, free_all, look_at, sets}
+use denote.RattleType.{owns}
 use denote.Signature.{types_at}
 use denote.Steps.{nothing}
 use denote.Triple.Entry.{alive}
-use denote.RattleType.{owns}
 use denote.Triple.Walked.{Stays, says, ends_at, walk_of}
 use Rattle.txn_store.proofs.Walks.{none, none_made}
 use Rattle.slatedb_txn_obj.specs.contracts.clock.Unread as Unread

@@ -10,11 +10,11 @@ use types.ByLocal.{alloc_all, pass_all, free_all, look_at, sets}
 use denote.Builtin.{RefOf, u64}
 use denote.Exit.{yes}
 use denote.Plain.{uint_vals, uint_Tells}
+use denote.RattleType.{owns}
 use denote.Ref.{shr_vals, shr_Tells}
 use denote.Signature.{plain, types_at}
 use denote.Steps.{nothing}
 use denote.Triple.Entry.{alive}
-use denote.RattleType.{owns}
 use denote.Triple.Walked.{Stays, stay_dropped, Goes-dropped, says, ends_at, walk_of}
 use Rattle.txn_store.proofs.Walks.{none, none_made}
 use Rattle.slatedb_txn_obj.specs.contracts.clock.Unread as Unread
