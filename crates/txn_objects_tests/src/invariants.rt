@@ -1,0 +1,31 @@
+//! Invariants for tests.
+ghost use Rattle.std.specs.Prelude.{◌≤◌};
+
+use anyhow::anyhow;
+use slatedb_txn_obj::{CallbackFault, Invariant};
+use txn_lines::record::Record;
+
+/// The payload is at most so much. It says which of two invariants it is where it is not.
+#[derive(Clone, Copy, Debug)]
+pub struct Ceiling {
+    pub is_first: bool,
+    pub ceiling: u64,
+}
+
+impl Invariant<Record> for Ceiling {
+    ghost use Rattle.std.specs.Prelude.{◌≤◌};
+
+    ghost holds = { λ i dirty _. dirty.payload ≤ i.ceiling };
+
+    ghost fails = { λ _ _ _ _. Unit {0} };
+
+    fn test(&self, dirty: &Record, _current: &Record) -> Result<(), CallbackFault> {
+        if dirty.payload <= self.ceiling {
+            return Ok(());
+        }
+        if self.is_first {
+            return Err(CallbackFault::Refused(anyhow!("first")));
+        }
+        Err(CallbackFault::Refused(anyhow!("second")))
+    }
+}

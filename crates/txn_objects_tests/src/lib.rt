@@ -1,0 +1,20 @@
+//! Tests of the objects and their holders: what no clause says, and that each call succeeds with ample memory. Most are
+//! tables of steps, each with what it tells, that one function plays.
+#![tactic(auto)]
+
+#[cfg(test)]
+mod calls;
+pub mod clocks;
+#[cfg(test)]
+mod failing;
+#[cfg(test)]
+mod game;
+#[cfg(test)]
+mod holders;
+pub mod invariants;
+#[cfg(test)]
+mod register;
+#[cfg(test)]
+mod steps;
+#[cfg(test)]
+mod views;

@@ -1,0 +1,77 @@
+//! Calls of views and holders as values, and what they tell.
+use crate::invariants::Ceiling;
+
+/// Which of the two objects of a game makes a call.
+#[derive(Clone, Copy, Debug, PartialEq, Eq)]
+pub(crate) enum Seat {
+    A,
+    B,
+}
+
+/// A call of an object, or something done beside it.
+#[derive(Clone, Copy)]
+pub(crate) enum Step {
+    /// The protocol writes a record, by its epoch and payload, on a base.
+    Write(u64, u64, u64),
+    /// The protocol reads the newest version.
+    Newest,
+    Advance(u64),
+    Delete(u64),
+    /// From here on there are so many turns.
+    Give(u64),
+    /// How many turns are left.
+    Left,
+    /// From here on the store is another one, with nothing in it, and so is the protocol.
+    Anew,
+    /// A holder claims what is stored, and another holder after it: whether the older one is fenced.
+    Fences,
+    /// A view of the first version, a record by its epoch and payload, which it writes.
+    Init(u64, u64),
+    TryLoad,
+    Load,
+    /// A copy of the other seat's view.
+    Copy,
+    /// The view is given these invariants.
+    Keep(&'static [Ceiling]),
+    /// The view is claimed, with ample time.
+    Claim,
+    /// The view is claimed, with so many milliseconds.
+    ClaimIn(u64),
+    /// The view is claimed with this epoch.
+    ClaimAt(u64),
+    /// The view adds 100 to the newest payload.
+    Apply,
+    /// What the object is at.
+    Shows,
+    /// What its candidate is.
+    Prepare,
+    Refresh,
+    /// An update to this payload.
+    Update(u64),
+    /// An update whose candidate has this id, and this payload.
+    UpdateOf(u64, u64),
+    /// An update whose candidate has this epoch, and this payload.
+    UpdateAs(u64, u64),
+}
+
+/// What a step tells, an error as its number.
+#[derive(Clone, Copy, Debug, PartialEq, Eq)]
+pub(crate) enum Told {
+    Did,
+    Is(bool),
+    Nothing,
+    /// An id, and the epoch and payload of its record.
+    At(u64, u64, u64),
+    Wrote(u64),
+    /// The id that a holder is at after its claim, and its epoch.
+    Claimed(u64, u64),
+    Turns(u64),
+    Fails(u8),
+    /// A callback's error, with the text of the first invariant.
+    RefusedByFirst,
+    /// The seat has no such object.
+    Misplaced,
+}
+
+/// A seat's step, and what it tells.
+pub(crate) type Row = (Seat, Step, Told);
