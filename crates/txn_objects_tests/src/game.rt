@@ -1,6 +1,5 @@
 //! A game: two objects over one store, and their steps, one at a time.
 use crate::calls::{Holder, View, applied, call, claimed, opened, stored};
-use crate::clocks::TickingClock;
 use crate::invariants::Ceiling;
 use crate::steps::{Row, Seat, Step, Told};
 use slatedb_txn_obj::object_store::{
@@ -13,6 +12,7 @@ use txn_lines::record::{Record, RecordCodec};
 use txn_store::failing::{FailingStore, When};
 use txn_store::in_memory::InMemory;
 use txn_store::path::{Path, PathFault};
+use uses_of_protocol::ticking::TickingClock;
 
 type Store = FailingStore<InMemory>;
 
@@ -59,7 +59,7 @@ fn a_setting(alloc: Global, store: Store) -> Result<Setting, PathFault> {
         store,
         protocol,
         turns: Turns::new(AMPLE),
-        clock: TickingClock::new(alloc),
+        clock: TickingClock::new(),
     })
 }
 

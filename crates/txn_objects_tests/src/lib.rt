@@ -4,7 +4,6 @@
 
 #[cfg(test)]
 mod calls;
-pub mod clocks;
 #[cfg(test)]
 mod failing;
 #[cfg(test)]
