@@ -1,6 +1,4 @@
 //! Invariants for tests.
-ghost use Rattle.std.specs.Prelude.{◌≤◌};
-
 use anyhow::anyhow;
 use slatedb_txn_obj::{CallbackFault, Invariant};
 use txn_lines::record::Record;
