@@ -3,6 +3,7 @@ use Rattle.std.proofs.Common.{◌≡◌, ℕ, zero, suc, ◌+◌, ◌-◌, ◌<�
 use Rattle.std.proofs.lemmas.List.{length-append}
 use Rattle.std.proofs.lemmas.Option.{same_Some, slice_get_read}
 use Rattle.std.proofs.Math.Seq.{get_or-append_seam}
+use Rattle.txn_drivers.specs.LatestReads.{IsLatest}
 use Rattle.slatedb_txn_obj.specs.Protocol.{base_number, Appended, Overtaken, LatestBy}
 use Rattle.txnbench.specs.Workloads.{numbers_to}
 
@@ -39,12 +40,15 @@ last_number m =
     slice_get_read (numbers_to (suc m)) (suc m) m (suc m) (sym len) (omega arith)
     (sym (ap (λ i. get_or (numbers_to (suc m)) i (suc m)) (sym (length-numbers_to m)) ∙ get_or-append_seam (numbers_to m) (suc m) [] (suc m)))
 
+-- the value of the newest version is this number
+pub last_is : (newest id value : ℕ) → IsLatest (numbers_to newest) id value → value ≡ newest
+last_is zero id value latest = absurd (omega (arith, latest.some))
+last_is (suc m) id value latest =
+    let is : id ≡ suc m = latest.id_is ∙ length-numbers_to (suc m) in
+    let at : id - 1 ≡ m = omega (arith, is) in
+    same_Some value (suc m) (sym latest.entry ∙ (ap (λ i. slice_get (numbers_to (suc m)) i) at ∙ last_number m))
+
 -- the newest version and its value are this number
 pub newest_is : (newest : ℕ) (read : Option (ℕ × ℕ)) → 0 < newest → LatestBy {T = ℕ} {Id = ℕ} (λ n. n) (numbers_to newest) read → read ≡ Some (newest, newest)
 newest_is newest None some none = let len : newest ≡ 0 = sym (length-numbers_to newest) ∙ ap length none in absurd (omega (arith, some, len))
-newest_is zero (Some read) some latest = absurd (omega (arith, some))
-newest_is (suc m) (Some (id, value)) some latest =
-    let is : id ≡ suc m = latest.id_is ∙ length-numbers_to (suc m) in
-    let at : id - 1 ≡ m = omega (arith, is) in
-    let value_is : value ≡ suc m = same_Some value (suc m) (sym latest.entry ∙ (ap (λ i. slice_get (numbers_to (suc m)) i) at ∙ last_number m)) in
-    ap (λ i. Some (i, value)) is ∙ ap (λ v. Some (suc m, v)) value_is
+newest_is newest (Some (id, value)) some latest = ap (λ i. Some (i, value)) (latest.id_is ∙ length-numbers_to newest) ∙ ap (λ v. Some (newest, v)) (last_is newest id value latest)

@@ -4,7 +4,7 @@ use Rattle.std.specs.Io.KnownBytes.{Appends}
 use Rattle.txnbench.specs.declared.Command.{Command}
 use Rattle.txnbench.specs.declared.Command.TheVariants as commands
 use Rattle.txnbench.specs.declared.workload.Workload.{Workload}
-use Rattle.txnbench.specs.declared.workload.Workload.TheVariants.{Update, ReadWarm, LoadCold100, List10000}
+use Rattle.txnbench.specs.declared.workload.Workload.TheVariants.{Update, ReadWarm, LoadCold100, List10000, LoadClaimFresh}
 use Rattle.txnbench.specs.Workloads.{workload_name}
 
 -- a workload's name and its figure, and a workload whose calls were made
@@ -24,7 +24,7 @@ PrintsLine commands.Check workload old new = Appends old new (with_feed (passed_
 
 -- the lines of all workloads are printed, and nothing else
 abbrev pub Prints : Command → Option (List ℕ) → Option (List ℕ) → Type 0
-Prints commands.Run old new = (update read load listing : ℕ) × Appends old new
-    (with_feed (figure_text Update update) ++ (with_feed (figure_text ReadWarm read) ++ (with_feed (figure_text LoadCold100 load) ++ with_feed (figure_text List10000 listing))))
+Prints commands.Run old new = (update read load listing claim : ℕ) × Appends old new
+    (with_feed (figure_text Update update) ++ (with_feed (figure_text ReadWarm read) ++ (with_feed (figure_text LoadCold100 load) ++ (with_feed (figure_text List10000 listing) ++ with_feed (figure_text LoadClaimFresh claim)))))
 Prints commands.Check old new = Appends old new
-    (with_feed (passed_text Update) ++ (with_feed (passed_text ReadWarm) ++ (with_feed (passed_text LoadCold100) ++ with_feed (passed_text List10000))))
+    (with_feed (passed_text Update) ++ (with_feed (passed_text ReadWarm) ++ (with_feed (passed_text LoadCold100) ++ (with_feed (passed_text List10000) ++ with_feed (passed_text LoadClaimFresh)))))

@@ -50,17 +50,18 @@ fn now(clock: &impl Clock) -> Result<Instant, Fault> {
     }
 }
 
-/// The time that so many calls of a workload take. The time of what they stand on is not counted.
-fn time_of(
-    clock: &impl Clock,
-    alloc: Global,
-    workload: Workload,
-    calls: u64,
-) -> Result<Duration, Fault> {
-    let mut setting = Setting::new(alloc, workload.versions())?;
-    let start = now(clock)?;
-    setting.perform(workload, calls)?;
-    Ok(now(clock)?.duration_since(start))
+/// The time that the calls of a round take. The time of what they stand on is not counted.
+fn time_of_round(clock: &impl Clock, alloc: Global, workload: Workload) -> Result<Duration, Fault> {
+    let stores = workload.stores();
+    let calls = workload.calls() / stores;
+    let mut time = Duration::ZERO;
+    for _ in 0..stores {
+        let mut setting = Setting::new(alloc, workload.versions())?;
+        let start = now(clock)?;
+        setting.perform(workload, calls)?;
+        time = time.saturating_add(now(clock)?.duration_since(start));
+    }
+    Ok(time)
 }
 
 /// The nanoseconds of a workload's call: the middle of its rounds.
@@ -68,7 +69,7 @@ fn measure(clock: &impl Clock, alloc: Global, workload: Workload) -> Result<u128
     let calls = workload.calls();
     let mut figures = [0; ROUNDS];
     for figure in figures.iter_mut() {
-        *figure = nanos_a_call(time_of(clock, alloc, workload, calls)?, calls);
+        *figure = nanos_a_call(time_of_round(clock, alloc, workload)?, calls);
     }
     Ok(middle_of(&mut figures))
 }
@@ -138,7 +139,8 @@ fn print_lines<R: Clock, W: Write>(
     print_or_halt(clock, alloc, command, Workload::Update, out)?;
     print_or_halt(clock, alloc, command, Workload::ReadWarm, out)?;
     print_or_halt(clock, alloc, command, Workload::LoadCold100, out)?;
-    print_or_halt(clock, alloc, command, Workload::List10000, out)
+    print_or_halt(clock, alloc, command, Workload::List10000, out)?;
+    print_or_halt(clock, alloc, command, Workload::LoadClaimFresh, out)
 }
 
 /// The same as `run_command`. The only error is that of `err`.

@@ -7,6 +7,7 @@ ghost use Rattle.txnbench.specs.Commands.{command_words};
 
 mod bench;
 mod calls;
+mod clock;
 mod fault;
 mod rounds;
 mod setting;

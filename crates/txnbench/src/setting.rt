@@ -1,11 +1,11 @@
 //! An object of numbers in a store in memory, and the calls of each workload on it.
-ghost use Rattle.std.specs.Prelude.{◌≡◌, ◌<◌, ℕ, [], IfOk, OnOk, IsErrOf};
-ghost use Rattle.txnbench.specs.Workloads.{numbers_to, versions_before};
+ghost use Rattle.std.specs.Prelude.{◌≡◌, ◌<◌, ◌≤◌, ℕ, [], IfOk, OnOk, IsErrOf};
+ghost use Rattle.txnbench.specs.Workloads.{numbers_to, versions_before, IsByNew};
 ghost use Rattle.txnbench.specs.Objects.{ObjectStands, Stands, IsNew};
 ghost use Rattle.txnbench.specs.declared.fault.Fault.TheVariants as faults;
 ghost use Rattle.txnbench.specs.declared.workload.Workload.TheVariants as workloads;
 
-use crate::calls::{list_all, read_newest, write_versions};
+use crate::calls::{claim_newest, list_all, read_newest, update_versions, write_versions};
 use crate::fault::Fault;
 use crate::workload::Workload;
 use slatedb_txn_obj::object_store::boundary::ObjectStoreBoundaryObject;
@@ -43,6 +43,20 @@ pub fn load_newest<S: ObjectStore>(
     read_newest(&mut protocol, store, newest, 1)
 }
 
+/// Loads the newest version by a new protocol, and claims it by that. Any other epoch than the one above this id is
+/// `WrongAnswer`.
+pub fn load_claim<S: ObjectStore>(
+    alloc: Global,
+    root: &Path,
+    store: &mut S,
+    newest: u64,
+) -> Result<(), Fault>
+    ensures right { IsErrOf result faults.WrongAnswer → (b : ℕ) → ObjectStands root.now (S.state store.old) (numbers_to newest) b → ⊥ }
+{
+    let mut protocol = new_protocol(alloc, root)?;
+    claim_newest(alloc, &mut protocol, store, newest)
+}
+
 /// An object's store in memory, and a protocol that wrote its versions.
 #[derive(Drop)]
 pub struct Setting {
@@ -69,16 +83,16 @@ impl Setting {
         })
     }
 
-    /// Makes so many calls of a workload, where its versions stand. Then `WrongAnswer` can come of a load alone, since no trait
-    /// says that the protocol of an earlier load left the files.
+    /// Makes so many calls of a workload, where its versions stand, and at least one update. Then `WrongAnswer` can come of a
+    /// load by a new protocol alone, since no trait says that the protocol of an earlier call left the files.
     pub fn perform(&mut self, workload: Workload, calls: u64) -> Result<(), Fault>
-        ensures wrote { OnOk result (workload ≡ workloads.Update → Stands self.old.protocol self.old.store [] 0 → Stands self.new.protocol self.new.store (numbers_to calls) 0) }
-        ensures right { IsErrOf result faults.WrongAnswer → Stands self.old.protocol self.old.store (numbers_to (versions_before workload)) 0 → workload ≡ workloads.LoadCold100 }
+        ensures wrote { OnOk result (workload ≡ workloads.Update → 1 ≤ calls → Stands self.old.protocol self.old.store [] 0 → Stands self.new.protocol self.new.store (numbers_to calls) 0) }
+        ensures right { IsErrOf result faults.WrongAnswer → Stands self.old.protocol self.old.store (numbers_to (versions_before workload)) 0 → IsByNew workload }
     {
         let newest = workload.versions();
         match workload {
             Workload::Update => {
-                write_versions(&mut self.protocol, &mut self.store, calls)?;
+                update_versions(self.alloc, &mut self.protocol, &mut self.store, calls)?;
                 Ok(())
             }
             Workload::ReadWarm => read_newest(&mut self.protocol, &mut self.store, newest, calls),
@@ -89,6 +103,12 @@ impl Setting {
                 Ok(())
             }
             Workload::List10000 => list_all(&mut self.protocol, &mut self.store, newest, calls),
+            Workload::LoadClaimFresh => {
+                for before in 0..calls {
+                    load_claim(self.alloc, &self.root, &mut self.store, newest + before)?;
+                }
+                Ok(())
+            }
         }
     }
 }

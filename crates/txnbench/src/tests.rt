@@ -4,7 +4,7 @@ use crate::bench::run_command;
 use crate::calls::{list_all, read_newest};
 use crate::fault::{Fault, Halt};
 use crate::rounds::{middle_of, nanos_a_call};
-use crate::setting::{Setting, load_newest};
+use crate::setting::{Setting, load_claim, load_newest};
 use crate::workload::Workload;
 use crate::{Command, command_of};
 use std::str;
@@ -65,6 +65,11 @@ fn another_newest_version_is_a_wrong_answer(rt: HostRuntime) -> Result<(), Fail>
                 load_newest(rt.alloc(), &root, store, newest),
             ),
             (Workload::List10000, list_all(protocol, store, newest, 2)),
+            // The last, since it writes a version.
+            (
+                Workload::LoadClaimFresh,
+                load_claim(rt.alloc(), &root, store, newest),
+            ),
         ] {
             let want = format!(in rt.alloc(); "{workload}: {tail}")?;
             let told = named(&rt, workload, answer)?;
@@ -83,7 +88,7 @@ fn check_prints_that_each_workload_is_ok(rt: HostRuntime) -> Result<(), Fail> {
     let text = str::from_utf8(&out).expect(&rt, "a text");
     assert_eq!(rt;
         text,
-        "update ok\nread_warm ok\nload_cold_100 ok\nlist_10000 ok\n"
+        "update ok\nread_warm ok\nload_cold_100 ok\nlist_10000 ok\nload_claim_fresh ok\n"
     );
     Ok(())
 }
@@ -95,7 +100,13 @@ fn run_prints_a_figure_for_each_workload(rt: HostRuntime) -> Result<(), Fail> {
     let status = run_command(&rt, rt.alloc(), Command::Run, &mut out, &mut err);
     assert_eq!(rt; (status, err.len()), (0, 0));
     let mut lines = str::from_utf8(&out).expect(&rt, "a text").lines();
-    for name in ["update", "read_warm", "load_cold_100", "list_10000"] {
+    for name in [
+        "update",
+        "read_warm",
+        "load_cold_100",
+        "list_10000",
+        "load_claim_fresh",
+    ] {
         let (first, number) = lines
             .next()
             .and_then(|line| line.split_once(' '))

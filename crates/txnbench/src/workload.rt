@@ -1,13 +1,13 @@
 //! What is measured.
 ghost use Rattle.std.specs.Prelude.{◌≡◌, ◌≤◌, Some};
-ghost use Rattle.txnbench.specs.Workloads.{workload_name, versions_before, calls_of_round};
+ghost use Rattle.txnbench.specs.Workloads.{workload_name, versions_before, stores_of_round, calls_of_round};
 
 use std::fmt;
 
 /// A call that is made again and again over a store in memory.
 #[derive(Clone, Copy, Debug, PartialEq, Eq)]
 pub enum Workload {
-    /// A checked write on the version before it.
+    /// An update of an object, which wrote the version before it.
     Update,
     /// A checked read of the newest version, which the protocol holds.
     ReadWarm,
@@ -15,6 +15,8 @@ pub enum Workload {
     LoadCold100,
     /// A listing of 10,000 versions.
     List10000,
+    /// A load and a claim by a new protocol, where one version stands.
+    LoadClaimFresh,
 }
 
 impl Workload {
@@ -27,6 +29,18 @@ impl Workload {
             Workload::ReadWarm => 1,
             Workload::LoadCold100 => 100,
             Workload::List10000 => 10_000,
+            Workload::LoadClaimFresh => 1,
+        }
+    }
+
+    /// How many stores a round has, one after another. Each has as many of its calls.
+    pub fn stores(&self) -> u64
+        ensures exact { result ≡ stores_of_round self.now }
+        ensures some { 1 ≤ result }
+    {
+        match self {
+            Workload::LoadClaimFresh => 1000,
+            _ => 1,
         }
     }
 
@@ -40,6 +54,7 @@ impl Workload {
             Workload::ReadWarm => 20_000,
             Workload::LoadCold100 => 1000,
             Workload::List10000 => 20,
+            Workload::LoadClaimFresh => 1000,
         }
     }
 }
@@ -54,6 +69,7 @@ impl fmt::Display for Workload {
             Workload::ReadWarm => write!(f, "read_warm"),
             Workload::LoadCold100 => write!(f, "load_cold_100"),
             Workload::List10000 => write!(f, "list_10000"),
+            Workload::LoadClaimFresh => write!(f, "load_claim_fresh"),
         }
     }
 }
