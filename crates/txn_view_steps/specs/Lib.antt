@@ -1,0 +1,3 @@
+pub mod Lacking
+pub mod Entries
+pub mod Inits

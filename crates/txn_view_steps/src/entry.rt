@@ -1,0 +1,96 @@
+//! A write of a value that a view then shows.
+ghost use Rattle.std.specs.Prelude.{◌≡◌, ◌<◌, ◌^◌, ◌-◌, Some, OnOk};
+ghost use Rattle.txn_types.specs.Clones.{IsExactClone};
+ghost use Rattle.txn_types.specs.Numbers.{number_of};
+ghost use Rattle.txn_caches.specs.Steps.{by_number, turned_by_number, TellsErrorOf};
+ghost use Rattle.txn_caches.specs.Asking.{asks, reply_told};
+ghost use Rattle.txn_view_steps.specs.Lacking.{lacks, or_lacking};
+ghost use Rattle.txn_view_steps.specs.Entries.{entry_started, entry_asked, entry_value, entry_turned, entry_caches, IsWriting, IsEntryReply};
+
+use crate::copies::Copies;
+use crate::outcome::{Outcome, ViewAnswer};
+use std::alloc::Global;
+use std::mem;
+use txn_caches::ask::Ask;
+use txn_caches::caches::Caches;
+use txn_caches::turned::Turned;
+use txn_steps::write::WriteOp;
+use txn_store::request::Reply;
+use txn_types::codec::ObjectCodec;
+use txn_types::error::TransactionalObjectError;
+use txn_types::id::MonotonicId;
+use txn_types::layout::Layout;
+
+/// A write of a value that a view then shows. The copies for the answer are made beforehand, so that nothing grows once
+/// it is made.
+#[derive(Drop)]
+pub enum EntryOp<T> {
+    /// It writes this value.
+    Writes(WriteOp, Copies<T>),
+    /// It was answered.
+    Ended,
+}
+
+impl<T: Clone> EntryOp<T> {
+    /// A write of the value directly on the version of this id, or as the first version where there is none. A base of the
+    /// greatest u64 is `IdExhausted`; the other error is `NoMemory`. It asks that a clone is the same value.
+    pub fn start<C: ObjectCodec<T>>(
+        alloc: Global,
+        layout: &Layout<C>,
+        base: Option<MonotonicId>,
+        value: &T,
+    ) -> Result<EntryOp<T>, TransactionalObjectError>
+        requires { IsExactClone T.is_clone }
+        ensures started { by_number result ≡ or_lacking (lacks (by_number result)) (entry_started layout.now.names layout.now.boundary (C.encoded layout.now.codec) base value.now) }
+        ensures last { OnOk result (number_of base < 2 ^ 64 - 1) }
+        ensures reads_back { OnOk result (C.decoded layout.now.codec (C.encoded layout.now.codec value.now) ≡ Some value.now) }
+    {
+        let write = WriteOp::start(alloc, layout, base, value)?;
+        Ok(EntryOp::Writes(write, Copies::of(value.clone()?)?))
+    }
+}
+
+impl<T: Drop> EntryOp<T> {
+    /// What it asks for. It takes no memory.
+    pub fn ask(&self) -> Ask<'_>
+        ensures { asks result ≡ entry_asked self.now }
+    {
+        match self {
+            EntryOp::Writes(write, _) => write.ask(),
+            EntryOp::Ended => Ask::Look,
+        }
+    }
+
+    /// Ends, and gives its value. It takes no memory.
+    fn end(&mut self) -> Copies<T>
+        requires { IsWriting self.old }
+        ensures next { self.new ≡ EntryOp.Ended }
+        ensures value { Some result ≡ entry_value self.old }
+    {
+        let EntryOp::Writes(_, copies) = mem::replace(self, EntryOp::Ended) else {
+            unreachable!()
+        };
+        copies
+    }
+
+    /// Takes the store's reply to what it asks, or none for a look. Where the write answers its id, the view is at that,
+    /// with the value; an error of the write is answered. An answer ends it. It takes no memory.
+    pub fn take(&mut self, caches: &mut Caches, reply: Option<Reply>) -> Turned<ViewAnswer<T>>
+        requires { IsEntryReply self.old reply }
+        ensures turned { (self.new, turned_by_number result) ≡ entry_turned self.old caches.old reply }
+        ensures caches { caches.new ≡ entry_caches self.old caches.old }
+        ensures store_error { TellsErrorOf (reply_told reply) result }
+    {
+        match self {
+            EntryOp::Writes(write, _) => match write.take(caches, reply) {
+                Turned::Goes => Turned::Goes,
+                Turned::Done(Ok(id)) => Turned::Done(Ok(Outcome::Viewed(id, self.end()))),
+                Turned::Done(Err(error)) => {
+                    self.end();
+                    Turned::Done(Err(error))
+                }
+            },
+            EntryOp::Ended => unreachable!(),
+        }
+    }
+}
