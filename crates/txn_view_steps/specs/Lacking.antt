@@ -1,10 +1,11 @@
 -- Answers, errors by their numbers, where a growth may have been refused.
-use Rattle.std.specs.Prelude.{ℕ, ◌==◌, Bool, true, false, Result, Ok, Err}
+use Rattle.std.specs.Prelude.{ℕ, Bool, true, false, Result, Err}
+use Rattle.txn_caches.specs.declared.turned.Turned.TheVariants.{Done}
+use Rattle.txn_caches.specs.Steps.{lacks_memory}
 
 -- it is the refusal 9
 abbrev pub lacks : {A : Type 0} → Result A ℕ → Bool
-lacks (Ok x) = false
-lacks (Err number) = number == 9
+lacks answer = lacks_memory (Done answer)
 
 -- a growth was refused, and it is the refusal 9
 abbrev pub or_lacking : {A : Type 0} → Bool → Result A ℕ → Result A ℕ

@@ -1,3 +1,5 @@
 pub mod Lacking
 pub mod Entries
 pub mod Inits
+pub mod Readings
+pub mod Loads

@@ -18,4 +18,6 @@
 pub mod copies;
 pub mod entry;
 pub mod init;
+pub mod load;
 pub mod outcome;
+mod reading;
