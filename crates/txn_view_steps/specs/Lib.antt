@@ -3,3 +3,6 @@ pub mod Entries
 pub mod Inits
 pub mod Readings
 pub mod Loads
+pub mod Refreshes
+pub mod Updates
+pub mod Epochs

@@ -17,7 +17,10 @@
 
 pub mod copies;
 pub mod entry;
+pub mod epochs;
 pub mod init;
 pub mod load;
 pub mod outcome;
 mod reading;
+pub mod refresh;
+pub mod update;
