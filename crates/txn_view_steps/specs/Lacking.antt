@@ -1,5 +1,5 @@
 -- Answers, errors by their numbers, where a growth may have been refused.
-use Rattle.std.specs.Prelude.{ℕ, Bool, true, false, Result, Err}
+use Rattle.std.specs.Prelude.{ℕ, Bool, true, false, Result, Ok, Err}
 use Rattle.txn_caches.specs.declared.turned.Turned.TheVariants.{Done}
 use Rattle.txn_caches.specs.Steps.{lacks_memory}
 
@@ -11,3 +11,8 @@ lacks answer = lacks_memory (Done answer)
 abbrev pub or_lacking : {A : Type 0} → Bool → Result A ℕ → Result A ℕ
 or_lacking false answer = answer
 or_lacking true answer = Err 9
+
+-- a state as a part of another one
+abbrev pub started_as : {A B : Type 0} → (A → B) → Result A ℕ → Result B ℕ
+started_as whole (Ok part) = Ok (whole part)
+started_as whole (Err number) = Err number

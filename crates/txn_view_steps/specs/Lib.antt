@@ -6,3 +6,5 @@ pub mod Loads
 pub mod Refreshes
 pub mod Updates
 pub mod Epochs
+pub mod Attempts
+pub mod Claims

@@ -15,6 +15,8 @@
 //! for a look. A state knows neither the number of its call nor that of its view.
 #![tactic(auto)]
 
+pub mod claim;
+pub mod claiming;
 pub mod copies;
 pub mod entry;
 pub mod epochs;

@@ -1,0 +1,257 @@
+//! The attempts of a claim.
+ghost use Rattle.std.specs.Prelude.{◌≡◌, Some, None, Option, IfOk};
+ghost use Rattle.txn_store.specs.declared.store.StoreError.{StoreError};
+ghost use Rattle.txn_types.specs.Clones.{IsExactClone};
+ghost use Rattle.txn_caches.specs.Steps.{by_number, turned_by_number, lacks_memory, HasErrorOf, TellsErrorOf};
+ghost use Rattle.txn_caches.specs.Asking.{asks, reply_told, unless_lacking};
+ghost use Rattle.txn_view_steps.specs.Lacking.{lacks, or_lacking};
+ghost use Rattle.txn_view_steps.specs.Attempts.{entered, attempted, attempted_again, followed, held_at, refreshing, GoesAs, attempt_told, refresh_told, claiming_asked, claiming_turned, claiming_left, IsMade, IsAttempting, IsRefreshing, IsClaimingReply, IsClaimingInRange};
+
+use crate::copies::Copies;
+use crate::epochs::next_epoch;
+use crate::outcome::{Outcome, ViewAnswer};
+use crate::reading::read_on;
+use std::alloc::Global;
+use std::mem;
+use txn_caches::ask::Ask;
+use txn_caches::caches::Caches;
+use txn_caches::turned::Turned;
+use txn_steps::latest::ReadAnswer;
+use txn_steps::read::ReadOp;
+use txn_steps::write::{WriteAnswer, WriteOp};
+use txn_store::request::Reply;
+use txn_types::codec::ObjectCodec;
+use txn_types::epoch::EpochField;
+use txn_types::error::TransactionalObjectError;
+use txn_types::id::MonotonicId;
+use txn_types::layout::Layout;
+
+/// Where a claim is.
+#[derive(Drop)]
+pub enum Claiming<T> {
+    /// Its attempt writes this value, which has this epoch.
+    Writes(WriteOp, Copies<T>, u64),
+    /// Its attempt was overtaken, and it reads the newest version for the next one.
+    Reads(ReadOp<T>),
+    /// It was answered.
+    Ended,
+}
+
+/// What a claim does next, or the refusal that it answers.
+pub(crate) type Attempt<T> = Result<Claiming<T>, TransactionalObjectError>;
+
+/// Writes the value, with this epoch set, directly on the version of this id.
+fn enter<T: Clone, C: ObjectCodec<T>, X: EpochField<T>>(
+    alloc: Global,
+    layout: &Layout<C>,
+    epochs: &X,
+    epoch: u64,
+    id: MonotonicId,
+    mut value: T,
+) -> Attempt<T>
+    requires { IsExactClone T.is_clone }
+    ensures entered { by_number result ≡ or_lacking (lacks (by_number result)) (entered layout.now.names layout.now.boundary (C.encoded layout.now.codec) (X.with_epoch epochs.now) epoch id value) }
+    ensures made { IfOk result (IsMade (C.encoded layout.now.codec) (C.decoded layout.now.codec) (X.epoch_of epochs.now)) }
+    ensures store_error { HasErrorOf None result }
+{
+    epochs.set_epoch(&mut value, epoch);
+    let write = WriteOp::start(alloc, layout, Some(id), &value)?;
+    Ok(Claiming::Writes(write, Copies::of(value)?, epoch))
+}
+
+/// An attempt of a claim on this version: it writes its value with the epoch that the claim sets there.
+fn attempt<T: Clone, C: ObjectCodec<T>, X: EpochField<T>>(
+    alloc: Global,
+    layout: &Layout<C>,
+    epochs: &X,
+    asked: Option<u64>,
+    id: MonotonicId,
+    value: T,
+) -> Attempt<T>
+    requires { IsExactClone T.is_clone }
+    ensures attempted { by_number result ≡ or_lacking (lacks (by_number result)) (attempted layout.now.names layout.now.boundary (C.encoded layout.now.codec) (X.epoch_of epochs.now) (X.with_epoch epochs.now) asked id value) }
+    ensures made { IfOk result (IsMade (C.encoded layout.now.codec) (C.decoded layout.now.codec) (X.epoch_of epochs.now)) }
+    ensures store_error { HasErrorOf None result }
+{
+    let epoch = next_epoch(asked, epochs.get_epoch(&value))?;
+    enter(alloc, layout, epochs, epoch, id, value)
+}
+
+/// The first attempt, on the view's version.
+pub(crate) fn begin<T: Clone, C: ObjectCodec<T>, X: EpochField<T>>(
+    alloc: Global,
+    layout: &Layout<C>,
+    epochs: &X,
+    asked: Option<u64>,
+    id: MonotonicId,
+    object: &T,
+) -> Attempt<T>
+    requires { IsExactClone T.is_clone }
+    ensures attempted { by_number result ≡ or_lacking (lacks (by_number result)) (attempted layout.now.names layout.now.boundary (C.encoded layout.now.codec) (X.epoch_of epochs.now) (X.with_epoch epochs.now) asked id object.now) }
+    ensures made { IfOk result (IsMade (C.encoded layout.now.codec) (C.decoded layout.now.codec) (X.epoch_of epochs.now)) }
+{
+    let epoch = next_epoch(asked, epochs.get_epoch(object))?;
+    enter(alloc, layout, epochs, epoch, id, object.clone()?)
+}
+
+/// The next attempt, on the version that was found, which has to be there.
+fn attempt_again<T: Clone, C: ObjectCodec<T>, X: EpochField<T>>(
+    alloc: Global,
+    layout: &Layout<C>,
+    epochs: &X,
+    asked: Option<u64>,
+    found: Option<(MonotonicId, T)>,
+) -> Attempt<T>
+    requires { IsExactClone T.is_clone }
+    ensures attempted { by_number result ≡ or_lacking (lacks (by_number result)) (attempted_again layout.now.names layout.now.boundary (C.encoded layout.now.codec) (X.epoch_of epochs.now) (X.with_epoch epochs.now) asked found) }
+    ensures made { IfOk result (IsMade (C.encoded layout.now.codec) (C.decoded layout.now.codec) (X.epoch_of epochs.now)) }
+    ensures store_error { HasErrorOf None result }
+{
+    match found {
+        Some((id, value)) => attempt(alloc, layout, epochs, asked, id, value),
+        None => Err(TransactionalObjectError::InvalidObjectState),
+    }
+}
+
+/// It reads the newest version.
+fn refresh<T: Drop, C>(layout: &Layout<C>) -> Attempt<T>
+    ensures refreshing { by_number result ≡ or_lacking (lacks (by_number result)) (refreshing layout.now.boundary) }
+    ensures store_error { HasErrorOf None result }
+{
+    Ok(Claiming::Reads(ReadOp::start(layout)?))
+}
+
+impl<T: Drop> Claiming<T> {
+    /// What it asks for. It takes no memory.
+    pub fn ask(&self) -> Ask<'_>
+        ensures { asks result ≡ claiming_asked self.now }
+    {
+        match self {
+            Claiming::Writes(write, _, _) => write.ask(),
+            Claiming::Reads(read) => read.ask(),
+            Claiming::Ended => Ask::Look,
+        }
+    }
+
+    /// Its attempt was written as the version of this id, and it ends. It takes no memory.
+    fn hold(&mut self, id: MonotonicId) -> Outcome<T>
+        requires { IsAttempting self.old }
+        ensures next { self.new ≡ Claiming.Ended }
+        ensures held { Some result ≡ held_at id self.old }
+    {
+        let Claiming::Writes(_, copies, epoch) = mem::replace(self, Claiming::Ended) else {
+            unreachable!()
+        };
+        Outcome::Held(id, copies, epoch)
+    }
+
+    /// It goes on so, or is answered the refusal. It takes no memory.
+    fn follow(&mut self, next: Attempt<T>) -> Turned<ViewAnswer<T>>
+        ensures followed { (self.new, turned_by_number result) ≡ followed (by_number next) }
+        ensures store_error { (told : Option StoreError) → HasErrorOf told next → TellsErrorOf told result }
+    {
+        match next {
+            Ok(next) => {
+                *self = next;
+                Turned::Goes
+            }
+            Err(error) => {
+                *self = Claiming::Ended;
+                Turned::Done(Err(error))
+            }
+        }
+    }
+}
+
+impl<T: Drop> Claiming<T> {
+    /// It was answered. It takes no memory.
+    fn end(&mut self)
+        ensures { self.new ≡ Claiming.Ended }
+    {
+        *self = Claiming::Ended;
+    }
+
+    /// Its attempt's write says this: a conflict leads to a read of the newest version.
+    fn after_write<C>(
+        &mut self,
+        layout: &Layout<C>,
+        told: Turned<WriteAnswer>,
+    ) -> Turned<ViewAnswer<T>>
+        requires { IsAttempting self.old }
+        ensures turned { (self.new, turned_by_number result) ≡ unless_lacking (lacks_memory (turned_by_number result)) Claiming.Ended (attempt_told layout.now.boundary self.old (turned_by_number told)) }
+        ensures store_error { (error : Option StoreError) → TellsErrorOf error told → TellsErrorOf error result }
+    {
+        match told {
+            Turned::Goes => Turned::Goes,
+            Turned::Done(Ok(id)) => Turned::Done(Ok(self.hold(id))),
+            Turned::Done(Err(TransactionalObjectError::ObjectVersionExists)) => {
+                self.follow(refresh(layout))
+            }
+            Turned::Done(Err(error)) => {
+                self.end();
+                Turned::Done(Err(error))
+            }
+        }
+    }
+}
+
+impl<T: Clone> Claiming<T> {
+    /// Its read says this: what it finds leads to the next attempt.
+    fn after_read<C: ObjectCodec<T>, X: EpochField<T>>(
+        &mut self,
+        alloc: Global,
+        layout: &Layout<C>,
+        epochs: &X,
+        asked: Option<u64>,
+        told: Turned<ReadAnswer<T>>,
+    ) -> Turned<ViewAnswer<T>>
+        requires exact { IsExactClone T.is_clone }
+        requires reading { IsRefreshing self.old }
+        ensures turned { (self.new, turned_by_number result) ≡ unless_lacking (lacks_memory (turned_by_number result)) Claiming.Ended (refresh_told layout.now.names layout.now.boundary (C.encoded layout.now.codec) (X.epoch_of epochs.now) (X.with_epoch epochs.now) asked self.old (turned_by_number told)) }
+        ensures goes { GoesAs (turned_by_number told) (turned_by_number result) }
+        ensures made { IsMade (C.encoded layout.now.codec) (C.decoded layout.now.codec) (X.epoch_of epochs.now) self.new }
+        ensures store_error { (error : Option StoreError) → TellsErrorOf error told → TellsErrorOf error result }
+    {
+        match told {
+            Turned::Goes => Turned::Goes,
+            Turned::Done(Ok(found)) => {
+                self.follow(attempt_again(alloc, layout, epochs, asked, found))
+            }
+            Turned::Done(Err(error)) => {
+                self.end();
+                Turned::Done(Err(error))
+            }
+        }
+    }
+
+    /// Takes the store's reply to what it asks, or none for a look, in a claim that asks for this epoch, or for the next one.
+    pub(crate) fn take<C: ObjectCodec<T>, X: EpochField<T>>(
+        &mut self,
+        alloc: Global,
+        layout: &Layout<C>,
+        epochs: &X,
+        asked: Option<u64>,
+        caches: &mut Caches,
+        reply: Option<Reply>,
+    ) -> Turned<ViewAnswer<T>>
+        requires exact { IsExactClone T.is_clone }
+        requires reply { IsClaimingReply self.old reply }
+        requires range { IsClaimingInRange self.old }
+        ensures turned { (self.new, turned_by_number result) ≡ unless_lacking (lacks_memory (turned_by_number result)) Claiming.Ended (claiming_turned layout.now.names layout.now.boundary layout.now.page (C.encoded layout.now.codec) (C.decoded layout.now.codec) (X.epoch_of epochs.now) (X.with_epoch epochs.now) asked self.old caches.old reply) }
+        ensures made { IsRefreshing self.old → IsMade (C.encoded layout.now.codec) (C.decoded layout.now.codec) (X.epoch_of epochs.now) self.new }
+        ensures caches { caches.new ≡ claiming_left self.old caches.old (turned_by_number result) }
+        ensures store_error { TellsErrorOf (reply_told reply) result }
+    {
+        match self {
+            Claiming::Writes(write, _, _) => {
+                let told = write.take(caches, reply);
+                self.after_write(layout, told)
+            }
+            Claiming::Reads(read) => {
+                let told = read_on(read, alloc, layout, caches, reply);
+                self.after_read(alloc, layout, epochs, asked, told)
+            }
+            Claiming::Ended => unreachable!(),
+        }
+    }
+}
