@@ -8,3 +8,4 @@ pub mod Updates
 pub mod Epochs
 pub mod Attempts
 pub mod Claims
+pub mod Holders

@@ -20,6 +20,7 @@ pub mod claiming;
 pub mod copies;
 pub mod entry;
 pub mod epochs;
+pub mod holder;
 pub mod init;
 pub mod load;
 pub mod outcome;
