@@ -9,7 +9,7 @@ use Rattle.txn_view_steps.specs.declared.outcome.Outcome.{Outcome}
 use Rattle.txn_view_steps.specs.declared.claiming.Claiming.{Claiming}
 use Rattle.txn_view_steps.specs.declared.claiming.Claiming.TheVariants.{Ended}
 use Rattle.txn_view_steps.specs.declared.claim.ClaimOp.{ClaimOp}
-use Rattle.txn_view_steps.specs.declared.claim.ClaimAtOp.{ClaimAtOp}
+use Rattle.txn_view_steps.specs.declared.claim_at.ClaimAtOp.{ClaimAtOp}
 use Rattle.txn_view_steps.specs.Lacking.{started_as}
 use Rattle.txn_view_steps.specs.Attempts.{attempted, claiming_turned}
 

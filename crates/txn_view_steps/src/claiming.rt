@@ -133,16 +133,23 @@ impl<T: Drop> Claiming<T> {
         }
     }
 
+    /// It is this next. It takes no memory.
+    fn go_to(&mut self, next: Claiming<T>)
+        ensures { self.new ≡ next }
+    {
+        drop(mem::replace(self, next));
+    }
+
     /// Its attempt was written as the version of this id, and it ends. It takes no memory.
     fn hold(&mut self, id: MonotonicId) -> Outcome<T>
         requires { IsAttempting self.old }
         ensures next { self.new ≡ Claiming.Ended }
         ensures held { Some result ≡ held_at id self.old }
     {
-        let Claiming::Writes(_, copies, epoch) = mem::replace(self, Claiming::Ended) else {
-            unreachable!()
-        };
-        Outcome::Held(id, copies, epoch)
+        match mem::replace(self, Claiming::Ended) {
+            Claiming::Writes(_, copies, epoch) => Outcome::Held(id, copies, epoch),
+            _ => unreachable!(),
+        }
     }
 
     /// It goes on so, or is answered the refusal. It takes no memory.
@@ -152,11 +159,11 @@ impl<T: Drop> Claiming<T> {
     {
         match next {
             Ok(next) => {
-                *self = next;
+                self.go_to(next);
                 Turned::Goes
             }
             Err(error) => {
-                *self = Claiming::Ended;
+                self.go_to(Claiming::Ended);
                 Turned::Done(Err(error))
             }
         }
@@ -164,13 +171,6 @@ impl<T: Drop> Claiming<T> {
 }
 
 impl<T: Drop> Claiming<T> {
-    /// It was answered. It takes no memory.
-    fn end(&mut self)
-        ensures { self.new ≡ Claiming.Ended }
-    {
-        *self = Claiming::Ended;
-    }
-
     /// Its attempt's write says this: a conflict leads to a read of the newest version.
     fn after_write<C>(
         &mut self,
@@ -188,7 +188,7 @@ impl<T: Drop> Claiming<T> {
                 self.follow(refresh(layout))
             }
             Turned::Done(Err(error)) => {
-                self.end();
+                self.go_to(Claiming::Ended);
                 Turned::Done(Err(error))
             }
         }
@@ -218,7 +218,7 @@ impl<T: Clone> Claiming<T> {
                 self.follow(attempt_again(alloc, layout, epochs, asked, found))
             }
             Turned::Done(Err(error)) => {
-                self.end();
+                self.go_to(Claiming::Ended);
                 Turned::Done(Err(error))
             }
         }

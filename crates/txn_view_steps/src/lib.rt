@@ -16,6 +16,7 @@
 #![tactic(auto)]
 
 pub mod claim;
+pub mod claim_at;
 pub mod claiming;
 pub mod copies;
 pub mod entry;
