@@ -9,3 +9,4 @@ pub mod Epochs
 pub mod Attempts
 pub mod Claims
 pub mod Holders
+pub mod CallsLeft

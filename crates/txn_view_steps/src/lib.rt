@@ -19,6 +19,7 @@ pub mod claim;
 pub mod claim_at;
 pub mod claiming;
 pub mod copies;
+pub mod counts;
 pub mod entry;
 pub mod epochs;
 pub mod holder;
