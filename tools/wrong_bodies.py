@@ -11,7 +11,7 @@ from dataclasses import dataclass, field
 
 from rattle_source import module_of, named_in_log, places_in
 
-MOST_IN_A_CHECK = 24
+MOST_IN_A_CHECK = 32
 # (an own reason, as "expected answers", stands before these)
 WAITING = re.compile(r"no proof: it (?:calls|passes|waits for|drops|uses) ")
 FUNCTION_LINE = re.compile(r"^fn (\w+)::(\S+): (.*)$", re.M)
