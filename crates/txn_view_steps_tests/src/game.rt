@@ -1,0 +1,159 @@
+//! A game: two clients over one store, and their calls on views, one at a time.
+use crate::calls::{Step, View, arrange, call};
+use crate::driven::{Played, Told};
+use std::alloc::Global;
+use std::test::Fail;
+use txn_caches::caches::Caches;
+use txn_lines::record::{Record, RecordCodec};
+use txn_store::in_memory::InMemory;
+use txn_store::path::{Path, PathFault};
+use txn_types::id::MonotonicId;
+use txn_types::layout::Layout;
+
+/// Which client takes a step.
+#[derive(Clone, Copy, Debug, PartialEq, Eq)]
+pub(crate) enum Seat {
+    A,
+    B,
+}
+
+/// A client's step, what it comes to, and how many calls of the store and how many looks it takes.
+pub(crate) type Row = (Seat, Step, Told, u64, u64);
+
+#[derive(Drop)]
+struct Client {
+    caches: Caches,
+    view: Option<View>,
+}
+
+/// Two clients and their store.
+#[derive(Drop)]
+struct Game {
+    alloc: Global,
+    store: InMemory,
+    layout: Layout<RecordCodec>,
+    a: Client,
+    b: Client,
+}
+
+fn a_layout(alloc: Global) -> Result<Layout<RecordCodec>, PathFault> {
+    let root = Path::from_text(alloc, "root")?;
+    Layout::new(alloc, &root, "test", "val", RecordCodec)
+}
+
+fn a_client() -> Client {
+    Client {
+        caches: Caches::new(),
+        view: None,
+    }
+}
+
+fn a_game(alloc: Global) -> Result<Game, PathFault> {
+    let layout = a_layout(alloc)?;
+    Ok(Game {
+        alloc,
+        store: InMemory::new(alloc),
+        layout,
+        a: a_client(),
+        b: a_client(),
+    })
+}
+
+fn view_at(id: u64, epoch: u64, payload: u64, held: Option<u64>) -> Option<View> {
+    Some(View {
+        id: MonotonicId::new(id),
+        value: Record { epoch, payload },
+        held,
+    })
+}
+
+/// The epoch that a view is held with after this step.
+fn held_after(view: Option<View>, step: Step) -> Option<u64> {
+    match step {
+        Step::HolderRefresh | Step::HolderUpdate(..) => view?.held,
+        _ => None,
+    }
+}
+
+/// The view that a refusal of this step leaves: a claim ends its own.
+fn kept(view: Option<View>, step: Step) -> Option<View> {
+    match step {
+        Step::Claim(_) | Step::ClaimAt(..) => None,
+        _ => view,
+    }
+}
+
+/// The client's view after this step, which came to this.
+fn left(view: Option<View>, step: Step, told: Told) -> Option<View> {
+    match told {
+        Told::Viewed(id, epoch, payload) => view_at(id, epoch, payload, held_after(view, step)),
+        Told::Held(id, epoch, payload, held) => view_at(id, epoch, payload, Some(held)),
+        Told::Shut(id, epoch, payload, _) => view_at(id, epoch, payload, held_after(view, step)),
+        Told::Refused(_) => kept(view, step),
+        Told::Did => view,
+    }
+}
+
+fn perform(
+    alloc: Global,
+    store: &mut InMemory,
+    layout: &Layout<RecordCodec>,
+    client: &mut Client,
+    others: &mut Caches,
+    step: Step,
+) -> Result<Played, Fail> {
+    let Client { caches, view } = client;
+    match step {
+        Step::Has(..) | Step::Boundary(_) | Step::Init(..) | Step::Load => {
+            arrange(alloc, store, layout, caches, step)
+        }
+        _ => match *view {
+            Some(view) => call(alloc, store, layout, caches, others, view, step),
+            None => Err("no view")?,
+        },
+    }
+}
+
+fn turn(
+    alloc: Global,
+    store: &mut InMemory,
+    layout: &Layout<RecordCodec>,
+    client: &mut Client,
+    others: &mut Caches,
+    step: Step,
+) -> Result<Played, Fail> {
+    let played = perform(alloc, store, layout, client, others, step)?;
+    client.view = left(client.view, step, played.0);
+    Ok(played)
+}
+
+fn play(game: &mut Game, seat: Seat, step: Step) -> Result<Played, Fail> {
+    let Game {
+        alloc,
+        store,
+        layout,
+        a,
+        b,
+    } = game;
+    match seat {
+        Seat::A => turn(*alloc, store, layout, a, &mut b.caches, step),
+        Seat::B => turn(*alloc, store, layout, b, &mut a.caches, step),
+    }
+}
+
+/// The first row that goes otherwise, counted from 0, with what it comes to and takes, where there is one.
+fn other_in(game: &mut Game, rows: &[Row]) -> Result<Option<(usize, Played)>, Fail> {
+    for (at, (seat, step, told, calls, looks)) in rows.iter().enumerate() {
+        let played = play(game, *seat, *step)?;
+        if played != (*told, *calls, *looks) {
+            return Ok(Some((at, played)));
+        }
+    }
+    Ok(None)
+}
+
+/// The same, in a game of its own.
+pub(crate) fn other(alloc: Global, rows: &[Row]) -> Result<Option<(usize, Played)>, Fail> {
+    let mut game = a_game(alloc)?;
+    other_in(&mut game, rows)
+}
