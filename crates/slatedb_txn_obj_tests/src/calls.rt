@@ -102,7 +102,7 @@ pub(crate) fn a_protocol(alloc: Global, page: u64) -> Result<Protocol, Fail>
 }
 
 /// Two protocols over an empty store whose nth call fails, with so many files a page.
-pub(crate) fn a_setting(alloc: Global, page: u64, nth: u64, when: When) -> Result<Setting, Fail>
+fn a_setting(alloc: Global, page: u64, nth: u64, when: When) -> Result<Setting, Fail>
     requires { 1 ≤ page }
 {
     let dir = Path::from_text(alloc, "root/test")?;
@@ -262,10 +262,7 @@ fn play(setting: &mut Setting, client: Client, op: Op) -> Result<Cost, Fail> {
 }
 
 /// The first line that goes otherwise, counted from 0, with how it goes, where there is one.
-pub(crate) fn first_other(
-    setting: &mut Setting,
-    lines: &[Line],
-) -> Result<Option<(usize, Cost)>, Fail> {
+fn first_other(setting: &mut Setting, lines: &[Line]) -> Result<Option<(usize, Cost)>, Fail> {
     for (at, (client, op, told, puts, gets, lists, deletes, turns)) in lines.iter().enumerate() {
         let played = play(setting, *client, *op)?;
         if played != (*told, *puts, *gets, *lists, *deletes, *turns) {
@@ -275,8 +272,21 @@ pub(crate) fn first_other(
     Ok(None)
 }
 
+/// The same, with so many files a page and an empty store whose nth call fails.
+pub(crate) fn other_in(
+    alloc: Global,
+    page: u64,
+    nth: u64,
+    when: When,
+    lines: &[Line],
+) -> Result<Option<(usize, Cost)>, Fail>
+    requires { 1 ≤ page }
+{
+    let mut setting = a_setting(alloc, page, nth, when)?;
+    first_other(&mut setting, lines)
+}
+
 /// The same, with pages of 1,000 files and a store that never fails.
 pub(crate) fn other_line(alloc: Global, lines: &[Line]) -> Result<Option<(usize, Cost)>, Fail> {
-    let mut setting = a_setting(alloc, 1000, 0, When::Before)?;
-    first_other(&mut setting, lines)
+    other_in(alloc, 1000, 0, When::Before, lines)
 }

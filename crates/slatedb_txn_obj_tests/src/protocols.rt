@@ -5,7 +5,7 @@ use crate::calls::Op::{
     Write, WriteUnchecked,
 };
 use crate::calls::Told::{Did, Fails, Found, Ids, Nothing, Value, Wrote};
-use crate::calls::{Line, a_setting, first_other, other_line};
+use crate::calls::{Line, other_in, other_line};
 use std::ops::Bound::{Excluded, Included, Unbounded};
 use std::test::Fail;
 use txn_store::failing::When;
@@ -276,14 +276,14 @@ fn tests_of_our_own(rt: HostRuntime) -> Result<(), Fail> {
 
 #[test]
 fn a_listing_comes_in_pages(rt: HostRuntime) -> Result<(), Fail> {
-    let mut setting = a_setting(rt.alloc(), 2, 0, When::Before)?;
-    assert_eq!(rt; first_other(&mut setting, IN_PAGES)?, None);
+    let other = other_in(rt.alloc(), 2, 0, When::Before, IN_PAGES)?;
+    assert_eq!(rt; other, None);
     Ok(())
 }
 
 #[test]
 fn a_failed_check_leaves_the_version(rt: HostRuntime) -> Result<(), Fail> {
-    let mut setting = a_setting(rt.alloc(), 1000, 2, When::Before)?;
-    assert_eq!(rt; first_other(&mut setting, FAILING)?, None);
+    let other = other_in(rt.alloc(), 1000, 2, When::Before, FAILING)?;
+    assert_eq!(rt; other, None);
     Ok(())
 }
