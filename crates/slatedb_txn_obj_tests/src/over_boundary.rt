@@ -12,11 +12,32 @@ use txn_types::error::TransactionalObjectError;
 use txn_types::id::MonotonicId;
 use txn_types::test_utils::NumberCodec;
 
+type Protocol = ObjectStoreSequencedStorageProtocol<u64, NumberCodec, TestBoundary>;
+
+/// A call of the protocol.
+#[derive(Clone, Copy)]
+enum Call {
+    /// A write of this value as the first version.
+    Write(u64),
+    Read(u64),
+    Advance(u64),
+    Delete(u64),
+}
+
+/// What a call tells, an error by its number.
+#[derive(Clone, Copy, Debug, PartialEq, Eq)]
+enum Told {
+    Wrote(u64),
+    Value(Option<u64>),
+    Did,
+    Fails(u8),
+}
+
+/// A call, what it tells, and how many checks of the boundary it makes.
+type Row = (Call, Told, u64);
+
 /// A protocol of values that are numbers, over this boundary.
-fn a_protocol(
-    alloc: Global,
-    boundary: u64,
-) -> Result<ObjectStoreSequencedStorageProtocol<u64, NumberCodec, TestBoundary>, Fail> {
+fn a_protocol(alloc: Global, boundary: u64) -> Result<Protocol, Fail> {
     let root = Path::from_text(alloc, "/root")?;
     Ok(ObjectStoreSequencedStorageProtocol::new_with_boundary(
         alloc,
@@ -28,63 +49,103 @@ fn a_protocol(
     )?)
 }
 
+fn did(answer: Result<(), TransactionalObjectError>) -> Told {
+    match answer {
+        Ok(()) => Told::Did,
+        Err(error) => Told::Fails(error.number()),
+    }
+}
+
+fn wrote(answer: Result<MonotonicId, TransactionalObjectError>) -> Told {
+    match answer {
+        Ok(id) => Told::Wrote(id.id()),
+        Err(error) => Told::Fails(error.number()),
+    }
+}
+
+fn found(answer: Result<Option<u64>, TransactionalObjectError>) -> Told {
+    match answer {
+        Ok(value) => Told::Value(value),
+        Err(error) => Told::Fails(error.number()),
+    }
+}
+
+fn play(protocol: &mut Protocol, store: &mut InMemory, call: Call) -> Told {
+    match call {
+        Call::Write(value) => wrote(protocol.write(store, None, &value)),
+        Call::Read(id) => found(protocol.try_read_unchecked(store, MonotonicId::new(id))),
+        Call::Advance(id) => {
+            did(protocol.advance(store, MonotonicId::new(id), &mut Turns::new(1)))
+        }
+        Call::Delete(id) => did(protocol.delete(store, MonotonicId::new(id))),
+    }
+}
+
+/// The first row that goes otherwise, counted from 0, with how it goes, where there is one.
+fn first_other(
+    protocol: &mut Protocol,
+    store: &mut InMemory,
+    rows: &[Row],
+) -> Option<(usize, Told, u64)> {
+    for (at, (call, told, checks)) in rows.iter().enumerate() {
+        let before = protocol.boundary().checks();
+        let played = play(protocol, store, *call);
+        let made = protocol.boundary().checks().saturating_sub(before);
+        if (played, made) != (*told, *checks) {
+            return Some((at, played, made));
+        }
+    }
+    None
+}
+
+/// The same over an empty store, with this boundary.
+fn other(alloc: Global, boundary: u64, rows: &[Row]) -> Result<Option<(usize, Told, u64)>, Fail> {
+    let mut protocol = a_protocol(alloc, boundary)?;
+    Ok(first_other(&mut protocol, &mut InMemory::new(alloc), rows))
+}
+
 #[test]
 fn test_sequenced_storage_checks_boundary_after_successful_write(
     rt: HostRuntime,
 ) -> Result<(), Fail> {
-    let mut store = InMemory::new(rt.alloc());
-    let mut protocol = a_protocol(rt.alloc(), 0)?;
-    let id = protocol.write(&mut store, None, &1)?;
-    assert_eq!(rt; id, MonotonicId::new(1));
-    assert_eq!(rt; protocol.boundary().checks(), 1);
-    let read = protocol.try_read_unchecked(&mut store, id)?;
-    assert_eq!(rt; read, Some(1));
+    let rows = &[
+        (Call::Write(1), Told::Wrote(1), 1),
+        (Call::Read(1), Told::Value(Some(1)), 0),
+    ];
+    assert_eq!(rt; other(rt.alloc(), 0, rows)?, None);
     Ok(())
 }
 
 #[test]
 fn test_sequenced_storage_rejects_write_behind_boundary(rt: HostRuntime) -> Result<(), Fail> {
-    let mut store = InMemory::new(rt.alloc());
-    let mut protocol = a_protocol(rt.alloc(), 1)?;
-    let answer = protocol.write(&mut store, None, &1);
-    assert!(rt; matches!(&answer, Err(TransactionalObjectError::ObjectVersionExists)));
-    assert_eq!(rt; protocol.boundary().checks(), 1);
-    let read = protocol.try_read_unchecked(&mut store, MonotonicId::new(1))?;
-    assert_eq!(rt; read, Some(1));
+    let rows = &[
+        (Call::Write(1), Told::Fails(5), 1),
+        (Call::Read(1), Told::Value(Some(1)), 0),
+    ];
+    assert_eq!(rt; other(rt.alloc(), 1, rows)?, None);
     Ok(())
 }
 
 #[test]
 fn test_sequenced_storage_allows_delete_at_or_below_boundary(rt: HostRuntime) -> Result<(), Fail> {
-    let mut store = InMemory::new(rt.alloc());
-    let mut protocol = a_protocol(rt.alloc(), 0)?;
-    let id = protocol.write(&mut store, None, &1)?;
-    let checks_before_delete = protocol.boundary().checks();
-    protocol.advance(&mut store, id, &mut Turns::new(1))?;
-    protocol.delete(&mut store, id)?;
-    let read = protocol.try_read_unchecked(&mut store, id)?;
-    assert_eq!(rt; read, None);
-    assert_eq!(rt;
-        protocol.boundary().checks(),
-        checks_before_delete.saturating_add(1)
-    );
+    let rows = &[
+        (Call::Write(1), Told::Wrote(1), 1),
+        (Call::Advance(1), Told::Did, 0),
+        (Call::Delete(1), Told::Did, 1),
+        (Call::Read(1), Told::Value(None), 0),
+    ];
+    assert_eq!(rt; other(rt.alloc(), 0, rows)?, None);
     Ok(())
 }
 
 #[test]
 fn test_sequenced_storage_rejects_delete_above_boundary(rt: HostRuntime) -> Result<(), Fail> {
-    let mut store = InMemory::new(rt.alloc());
-    let mut protocol = a_protocol(rt.alloc(), 0)?;
-    let id = protocol.write(&mut store, None, &1)?;
-    let checks_before_delete = protocol.boundary().checks();
-    let answer = protocol.delete(&mut store, id);
-    assert!(rt; matches!(&answer, Err(TransactionalObjectError::InvalidObjectState)));
-    let read = protocol.try_read_unchecked(&mut store, id)?;
-    assert_eq!(rt; read, Some(1));
-    assert_eq!(rt;
-        protocol.boundary().checks(),
-        checks_before_delete.saturating_add(1)
-    );
+    let rows = &[
+        (Call::Write(1), Told::Wrote(1), 1),
+        (Call::Delete(1), Told::Fails(7), 1),
+        (Call::Read(1), Told::Value(Some(1)), 0),
+    ];
+    assert_eq!(rt; other(rt.alloc(), 0, rows)?, None);
     Ok(())
 }
 
@@ -92,13 +153,11 @@ fn test_sequenced_storage_rejects_delete_above_boundary(rt: HostRuntime) -> Resu
 fn test_sequenced_storage_does_not_check_boundary_on_write_conflict(
     rt: HostRuntime,
 ) -> Result<(), Fail> {
-    let mut store = InMemory::new(rt.alloc());
-    let mut protocol = a_protocol(rt.alloc(), 0)?;
-    protocol.write(&mut store, None, &1)?;
-    protocol.advance(&mut store, MonotonicId::new(1), &mut Turns::new(1))?;
-    let checks_before_conflict = protocol.boundary().checks();
-    let answer = protocol.write(&mut store, None, &2);
-    assert!(rt; matches!(&answer, Err(TransactionalObjectError::ObjectVersionExists)));
-    assert_eq!(rt; protocol.boundary().checks(), checks_before_conflict);
+    let rows = &[
+        (Call::Write(1), Told::Wrote(1), 1),
+        (Call::Advance(1), Told::Did, 0),
+        (Call::Write(2), Told::Fails(5), 0),
+    ];
+    assert_eq!(rt; other(rt.alloc(), 0, rows)?, None);
     Ok(())
 }
