@@ -2,11 +2,14 @@
 use crate::invariants::Ceiling;
 use crate::steps::{Step, Told};
 use slatedb_txn_obj::{
-    BoundaryObject, CallbackFault, DirtyObject, FenceableTransactionalObject, MonotonicId,
-    SequencedStorageProtocol, SimpleTransactionalObject, SystemClock, TransactionalObject,
-    TransactionalObjectError, TransactionalStorageProtocol, Turns,
+    BoundaryObject, CallbackFault, DirtyObject, FenceableTransactionalObject,
+    IdentifiedObjectMetadata, MonotonicId, SequencedStorageProtocol, SimpleTransactionalObject,
+    SystemClock, TransactionalObject, TransactionalObjectError, TransactionalStorageProtocol,
+    Turns,
 };
 use std::alloc::Global;
+use std::cell::Cell;
+use std::ops::Bound;
 use txn_lines::record::{Record, RecordEpoch};
 use txn_store::store::ObjectStore;
 use uses_of_protocol::holders::fences_older_holder;
@@ -41,6 +44,29 @@ fn found(answer: Result<Option<(MonotonicId, Record)>, TransactionalObjectError>
     }
 }
 
+fn listed(
+    answer: Result<Vec<IdentifiedObjectMetadata<MonotonicId>>, TransactionalObjectError>,
+) -> Told {
+    match answer {
+        Ok(versions) => {
+            let mut digits: u64 = 0;
+            for version in versions.as_slice() {
+                digits = digits.wrapping_mul(10).wrapping_add(version.id.id());
+            }
+            Told::Ids(digits)
+        }
+        Err(error) => Told::Fails(error.number()),
+    }
+}
+
+/// What a claim's error tells.
+pub(crate) fn unclaimed(error: TransactionalObjectError) -> Told {
+    match error {
+        TransactionalObjectError::ObjectUpdateTimeout { timeout } => Told::TimesOut(timeout),
+        error => Told::Fails(error.number()),
+    }
+}
+
 /// What a callback's error tells.
 fn refused(alloc: Global, error: &anyhow::Error) -> Told {
     match format!(in alloc; "{error}") {
@@ -70,6 +96,18 @@ fn fences<S: ObjectStore, P: TransactionalStorageProtocol<Record, MonotonicId, S
     }
 }
 
+/// A write of a record, by its epoch and payload, on a base.
+pub(crate) fn write<S: ObjectStore, P: SequencedStorageProtocol<Record, S>>(
+    protocol: &mut P,
+    store: &mut S,
+    base: u64,
+    epoch: u64,
+    payload: u64,
+) -> Told {
+    let value = Record { epoch, payload };
+    wrote(protocol.write(store, Some(MonotonicId::new(base)), &value))
+}
+
 /// A call of the protocol.
 pub(crate) fn stored<S: ObjectStore, P: SequencedStorageProtocol<Record, S>, K: SystemClock>(
     alloc: Global,
@@ -80,13 +118,11 @@ pub(crate) fn stored<S: ObjectStore, P: SequencedStorageProtocol<Record, S>, K: 
     step: Step,
 ) -> Told {
     match step {
-        Step::Write(base, epoch, payload) => {
-            let value = Record { epoch, payload };
-            wrote(protocol.write(store, Some(MonotonicId::new(base)), &value))
-        }
+        Step::Write(base, epoch, payload) => write(protocol, store, base, epoch, payload),
         Step::Newest => found(protocol.try_read_latest(store, turns)),
         Step::Advance(id) => did(protocol.advance(store, MonotonicId::new(id), turns)),
         Step::Delete(id) => did(protocol.delete(store, MonotonicId::new(id))),
+        Step::List => listed(protocol.list(store, Bound::Unbounded, Bound::Unbounded)),
         Step::Fences => fences(alloc, protocol, store, turns, clock),
         _ => Told::Misplaced,
     }
@@ -158,6 +194,36 @@ pub(crate) fn applied<S: ObjectStore, P: TransactionalStorageProtocol<Record, Mo
     turns: &mut Turns,
 ) -> Told {
     did(view.maybe_apply_update(protocol, store, turns, &hundred_more))
+}
+
+/// A candidate whose payload is the number of the attempt.
+fn attempted(
+    view: &View,
+    attempts: &Cell<u64>,
+) -> Result<Option<DirtyObject<Record, MonotonicId>>, CallbackFault> {
+    attempts.set(attempts.get().saturating_add(1));
+    match view.prepare_dirty() {
+        Ok(mut dirty) => {
+            dirty.value.payload = attempts.get();
+            Ok(Some(dirty))
+        }
+        Err(_) => Err(CallbackFault::NoMemory),
+    }
+}
+
+/// An update by the mutator that counts its attempts.
+pub(crate) fn counted<S: ObjectStore, P: TransactionalStorageProtocol<Record, MonotonicId, S>>(
+    view: &mut View,
+    protocol: &mut P,
+    store: &mut S,
+    turns: &mut Turns,
+) -> Told {
+    let attempts = Cell::new(0);
+    let mutator = |view: &View| attempted(view, &attempts);
+    match view.maybe_apply_update(protocol, store, turns, &mutator) {
+        Ok(()) => Told::Attempts(attempts.get()),
+        Err(error) => Told::Fails(error.number()),
+    }
 }
 
 fn prepared<O: TransactionalObject<Record, MonotonicId>>(object: &O) -> Told {

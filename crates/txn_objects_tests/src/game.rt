@@ -1,15 +1,19 @@
 //! A game: two objects over one store, and their steps, one at a time.
-use crate::calls::{Holder, View, applied, call, claimed, opened, stored};
+use crate::calls::{
+    Holder, View, applied, call, claimed, counted, opened, stored, unclaimed, write,
+};
+use crate::clock::ScriptedClock;
 use crate::invariants::Ceiling;
+use crate::looks::{holds, made};
 use crate::steps::{Row, Seat, Step, Told};
 use slatedb_txn_obj::object_store::{
     ObjectStoreBoundaryObject, ObjectStoreSequencedStorageProtocol,
 };
-use slatedb_txn_obj::{TransactionalObject, Turns};
+use slatedb_txn_obj::{SystemClock, TransactionalObject, Turns};
 use std::alloc::Global;
 use std::mem;
 use txn_lines::record::{Record, RecordCodec};
-use txn_store::failing::{FailingStore, When};
+use txn_store::failing::{Counts, FailingStore, When};
 use txn_store::in_memory::InMemory;
 use txn_store::path::{Path, PathFault};
 use uses_of_protocol::ticking::TickingClock;
@@ -23,6 +27,8 @@ type Protocol = ObjectStoreSequencedStorageProtocol<Record, RecordCodec, ObjectS
 struct Setting {
     alloc: Global,
     store: Store,
+    /// The calls of the store at the last look at them.
+    seen: Counts,
     protocol: Protocol,
     turns: Turns,
     clock: TickingClock,
@@ -44,7 +50,10 @@ pub(crate) struct Game {
     b: Object,
 }
 
-/// Turns that are more than enough, and a time that is.
+/// The turns of each call.
+const TURNS: u64 = 20;
+
+/// A time that is more than enough.
 const AMPLE: u64 = 100;
 
 fn a_protocol(alloc: Global) -> Result<Protocol, PathFault> {
@@ -54,11 +63,13 @@ fn a_protocol(alloc: Global) -> Result<Protocol, PathFault> {
 
 fn a_setting(alloc: Global, store: Store) -> Result<Setting, PathFault> {
     let protocol = a_protocol(alloc)?;
+    let seen = store.counts();
     Ok(Setting {
         alloc,
         store,
+        seen,
         protocol,
-        turns: Turns::new(AMPLE),
+        turns: Turns::new(TURNS),
         clock: TickingClock::new(),
     })
 }
@@ -130,10 +141,29 @@ fn keep(seat: &mut Object, alloc: Global, invariants: &[Ceiling]) -> Told {
 }
 
 /// The view leaves its seat, and its holder takes it.
-fn claim(seat: &mut Object, setting: &mut Setting, timeout: u64, epoch: Option<u64>) -> Told {
+fn claim_by<K: SystemClock>(
+    seat: &mut Object,
+    store: &mut Store,
+    protocol: &mut Protocol,
+    turns: &mut Turns,
+    clock: &mut K,
+    timeout: u64,
+    epoch: Option<u64>,
+) -> Told {
     let Object::View(view) = mem::replace(seat, Object::Nothing) else {
         return Told::Misplaced;
     };
+    match claimed(view, protocol, store, turns, clock, timeout, epoch) {
+        Ok(holder) => {
+            let told = Told::Claimed(holder.id().id(), holder.local_epoch());
+            *seat = Object::Holder(holder);
+            told
+        }
+        Err(error) => unclaimed(error),
+    }
+}
+
+fn claim(seat: &mut Object, setting: &mut Setting, timeout: u64, epoch: Option<u64>) -> Told {
     let Setting {
         store,
         protocol,
@@ -141,14 +171,25 @@ fn claim(seat: &mut Object, setting: &mut Setting, timeout: u64, epoch: Option<u
         clock,
         ..
     } = setting;
-    match claimed(view, protocol, store, turns, clock, timeout, epoch) {
-        Ok(holder) => {
-            let told = Told::Claimed(holder.id().id(), holder.local_epoch());
-            *seat = Object::Holder(holder);
-            told
-        }
-        Err(error) => Told::Fails(error.number()),
-    }
+    claim_by(seat, store, protocol, turns, clock, timeout, epoch)
+}
+
+/// The same, by a clock of its own.
+fn claim_scripted(
+    seat: &mut Object,
+    setting: &mut Setting,
+    timeout: u64,
+    readings: &'static [u64],
+) -> Told {
+    let Setting {
+        store,
+        protocol,
+        turns,
+        ..
+    } = setting;
+    let mut clock = ScriptedClock::new(readings);
+    let told = claim_by(seat, store, protocol, turns, &mut clock, timeout, None);
+    clock.misread().map_or(told, Told::Read)
 }
 
 /// A call of what sits there.
@@ -168,15 +209,16 @@ fn act(seat: &mut Object, setting: &mut Setting, step: Step) -> Told {
 }
 
 /// An update of a view by a mutator.
-fn apply(seat: &mut Object, setting: &mut Setting) -> Told {
+fn apply(seat: &mut Object, setting: &mut Setting, step: Step) -> Told {
     let Setting {
         store,
         protocol,
         turns,
         ..
     } = setting;
-    match seat {
-        Object::View(view) => applied(view, protocol, store, turns),
+    match (seat, step) {
+        (Object::View(view), Step::Apply) => applied(view, protocol, store, turns),
+        (Object::View(view), Step::ApplyAttempt) => counted(view, protocol, store, turns),
         _ => Told::Misplaced,
     }
 }
@@ -193,14 +235,32 @@ fn anew(setting: &mut Setting) -> Told {
     }
 }
 
+/// A write by a protocol of its own.
+fn write_elsewhere(setting: &mut Setting, base: u64, epoch: u64, payload: u64) -> Told {
+    match a_protocol(setting.alloc) {
+        Ok(mut protocol) => write(&mut protocol, &mut setting.store, base, epoch, payload),
+        Err(_) => Told::Fails(9),
+    }
+}
+
+/// The calls of the store since the last look at them.
+fn look_at_calls(setting: &mut Setting) -> Told {
+    let now = setting.store.counts();
+    let seen = mem::replace(&mut setting.seen, now);
+    made(seen, now)
+}
+
 /// A step of no object.
 fn arrange(setting: &mut Setting, step: Step) -> Told {
     match step {
-        Step::Give(turns) => {
-            setting.turns = Turns::new(turns);
-            Told::Did
-        }
         Step::Left => Told::Turns(setting.turns.left()),
+        Step::Calls => look_at_calls(setting),
+        Step::Holds(path, bytes, token) => {
+            holds(setting.alloc, &mut setting.store, path, bytes, token)
+        }
+        Step::WriteElsewhere(base, epoch, payload) => {
+            write_elsewhere(setting, base, epoch, payload)
+        }
         Step::Anew => anew(setting),
         _ => stored(
             setting.alloc,
@@ -221,7 +281,8 @@ fn turn(seat: &mut Object, other: &Object, setting: &mut Setting, step: Step) ->
         Step::Claim => claim(seat, setting, AMPLE, None),
         Step::ClaimIn(timeout) => claim(seat, setting, timeout, None),
         Step::ClaimAt(epoch) => claim(seat, setting, AMPLE, Some(epoch)),
-        Step::Apply => apply(seat, setting),
+        Step::ClaimBy(timeout, readings) => claim_scripted(seat, setting, timeout, readings),
+        Step::Apply | Step::ApplyAttempt => apply(seat, setting, step),
         Step::Shows
         | Step::Prepare
         | Step::Refresh
@@ -232,8 +293,17 @@ fn turn(seat: &mut Object, other: &Object, setting: &mut Setting, step: Step) ->
     }
 }
 
+/// New turns, where the step does not ask for those that are left.
+fn renew(turns: &mut Turns, step: Step) {
+    match step {
+        Step::Left => {}
+        _ => *turns = Turns::new(TURNS),
+    }
+}
+
 pub(crate) fn play(game: &mut Game, seat: Seat, step: Step) -> Told {
     let Game { setting, a, b } = game;
+    renew(&mut setting.turns, step);
     match seat {
         Seat::A => turn(a, b, setting, step),
         Seat::B => turn(b, a, setting, step),

@@ -2,11 +2,11 @@
 use crate::game::other;
 use crate::steps::Seat::{A, B};
 use crate::steps::Step::{
-    Advance, Claim, ClaimAt, ClaimIn, Copy, Delete, Fences, Init, Load, Newest, Prepare, Refresh,
-    Shows, Update, UpdateAs, Write,
+    Advance, Calls, Claim, ClaimAt, ClaimBy, ClaimIn, Copy, Delete, Fences, Holds, Init, List,
+    Load, Newest, Prepare, Refresh, Shows, UpdateAs, Write, WriteElsewhere,
 };
-use crate::steps::Told::{At, Claimed, Did, Fails, Is, Wrote};
-use crate::steps::{Row, Told};
+use crate::steps::Told::{At, Claimed, Did, Fails, Ids, Is, Made, Nothing, TimesOut, Wrote};
+use crate::steps::{BOUNDARY, FIRST, Row, SECOND, Told};
 use std::test::Fail;
 
 #[test]
@@ -27,16 +27,16 @@ fn test_fenceable_init_retries_write_behind_boundary(rt: HostRuntime) -> Result<
 #[test]
 fn test_fenceable_record_epoch_bump_and_fence(rt: HostRuntime) -> Result<(), Fail> {
     const ROWS: &[Row] = &[
-        (A, Init(0, 0), Did),
-        (B, Copy, Did),
-        (B, Claim, Claimed(2, 1)),
-        (A, Load, Did),
-        (A, Claim, Claimed(3, 2)),
-        (B, Refresh, Fails(6)),
-        (B, Shows, At(3, 2, 0)),
-        (B, Prepare, Fails(6)),
-        (A, Refresh, At(3, 2, 0)),
-        (A, Prepare, At(3, 2, 0)),
+        (B, Init(0, 0), Did),
+        (A, Copy, Did),
+        (A, Claim, Claimed(2, 1)),
+        (B, Load, Did),
+        (B, Claim, Claimed(3, 2)),
+        (A, Refresh, Fails(6)),
+        (A, Shows, At(3, 2, 0)),
+        (A, Prepare, Fails(6)),
+        (B, Refresh, At(3, 2, 0)),
+        (B, Prepare, At(3, 2, 0)),
     ];
     assert_eq!(rt; other(rt.alloc(), ROWS)?, None);
     Ok(())
@@ -48,6 +48,7 @@ fn test_fenceable_record_init_with_epoch_sets_epoch(rt: HostRuntime) -> Result<(
         (A, Init(0, 0), Did),
         (A, ClaimAt(7), Claimed(2, 7)),
         (A, Newest, At(2, 7, 0)),
+        (A, Holds(SECOND, b"7:0", 2), Is(true)),
     ];
     assert_eq!(rt; other(rt.alloc(), ROWS)?, None);
     Ok(())
@@ -57,7 +58,9 @@ fn test_fenceable_record_init_with_epoch_sets_epoch(rt: HostRuntime) -> Result<(
 fn test_fenceable_record_init_with_epoch_rejects_stale_epoch(rt: HostRuntime) -> Result<(), Fail> {
     const ROWS: &[Row] = &[
         (A, Init(3, 0), Did),
+        (A, Calls, Made(1, 1, 0, 0)),
         (A, ClaimAt(3), Fails(6)),
+        (A, Calls, Made(0, 0, 0, 0)),
         (A, Newest, At(1, 3, 0)),
     ];
     assert_eq!(rt; other(rt.alloc(), ROWS)?, None);
@@ -66,7 +69,12 @@ fn test_fenceable_record_init_with_epoch_rejects_stale_epoch(rt: HostRuntime) ->
 
 #[test]
 fn no_epoch_is_above_the_greatest(rt: HostRuntime) -> Result<(), Fail> {
-    const ROWS: &[Row] = &[(A, Init(u64::MAX, 0), Did), (A, Claim, Fails(10))];
+    const ROWS: &[Row] = &[
+        (A, Init(u64::MAX, 0), Did),
+        (A, Calls, Made(1, 1, 0, 0)),
+        (A, Claim, Fails(10)),
+        (A, Calls, Made(0, 0, 0, 0)),
+    ];
     assert_eq!(rt; other(rt.alloc(), ROWS)?, None);
     Ok(())
 }
@@ -74,10 +82,10 @@ fn no_epoch_is_above_the_greatest(rt: HostRuntime) -> Result<(), Fail> {
 /// Times that a claim of a stale view may take, by a clock that reads 0, 1, 2 and so on, and what it tells: too late
 /// before its first update, before the refresh after it and before its second update, and in time.
 const TIMEOUTS: [(u64, Told); 5] = [
-    (0, Fails(3)),
-    (1, Fails(3)),
-    (2, Fails(3)),
-    (3, Fails(3)),
+    (0, TimesOut(0)),
+    (1, TimesOut(1)),
+    (2, TimesOut(2)),
+    (3, TimesOut(3)),
     (4, Claimed(3, 1)),
 ];
 
@@ -91,6 +99,26 @@ fn a_claim_ends_at_its_deadline(rt: HostRuntime) -> Result<(), Fail> {
         ];
         assert_eq!(rt; (timeout, other(rt.alloc(), &rows)?), (timeout, None));
     }
+    Ok(())
+}
+
+#[test]
+fn a_claim_past_its_deadline_makes_no_call(rt: HostRuntime) -> Result<(), Fail> {
+    const ROWS: &[Row] = &[
+        (A, Init(0, 1), Did),
+        (A, WriteElsewhere(1, 0, 2), Wrote(2)),
+        (B, Copy, Did),
+        (A, Calls, Made(2, 2, 0, 0)),
+        (A, ClaimBy(5, &[0, 4, 5]), TimesOut(5)),
+        (A, Calls, Made(1, 0, 0, 0)),
+        (B, ClaimBy(0, &[0, 0]), TimesOut(0)),
+        (A, Calls, Made(0, 0, 0, 0)),
+        (A, List, Ids(12)),
+        (A, Holds(FIRST, b"0:1", 1), Is(true)),
+        (A, Holds(SECOND, b"0:2", 2), Is(true)),
+        (A, Holds(BOUNDARY, b"", 0), Nothing),
+    ];
+    assert_eq!(rt; other(rt.alloc(), ROWS)?, None);
     Ok(())
 }
 

@@ -5,12 +5,16 @@
 #[cfg(test)]
 mod calls;
 #[cfg(test)]
+mod clock;
+#[cfg(test)]
 mod failing;
 #[cfg(test)]
 mod game;
 #[cfg(test)]
 mod holders;
 pub mod invariants;
+#[cfg(test)]
+mod looks;
 #[cfg(test)]
 mod register;
 #[cfg(test)]

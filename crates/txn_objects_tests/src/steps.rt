@@ -13,14 +13,20 @@ pub(crate) enum Seat {
 pub(crate) enum Step {
     /// The protocol writes a record, by its epoch and payload, on a base.
     Write(u64, u64, u64),
+    /// Another protocol over the store does.
+    WriteElsewhere(u64, u64, u64),
     /// The protocol reads the newest version.
     Newest,
     Advance(u64),
     Delete(u64),
-    /// From here on there are so many turns.
-    Give(u64),
-    /// How many turns are left.
+    /// The ids of all versions.
+    List,
+    /// How many turns the call before has left.
     Left,
+    /// Which calls of the store were made since the last such step.
+    Calls,
+    /// Whether the file of this path holds these bytes, under this token.
+    Holds(&'static str, &'static [u8], u64),
     /// From here on the store is another one, with nothing in it, and so is the protocol.
     Anew,
     /// A holder claims what is stored, and another holder after it: whether the older one is fenced.
@@ -37,10 +43,14 @@ pub(crate) enum Step {
     Claim,
     /// The view is claimed, with so many milliseconds.
     ClaimIn(u64),
+    /// The same, by a clock that gives these readings.
+    ClaimBy(u64, &'static [u64]),
     /// The view is claimed with this epoch.
     ClaimAt(u64),
     /// The view adds 100 to the newest payload.
     Apply,
+    /// The view sets the newest payload to the number of the attempt.
+    ApplyAttempt,
     /// What the object is at.
     Shows,
     /// What its candidate is.
@@ -66,7 +76,17 @@ pub(crate) enum Told {
     /// The id that a holder is at after its claim, and its epoch.
     Claimed(u64, u64),
     Turns(u64),
+    /// Ids in their order, each as a decimal digit.
+    Ids(u64),
+    /// How many puts, gets, listings and deletes were made.
+    Made(u64, u64, u64, u64),
+    /// An update was applied by so many attempts.
+    Attempts(u64),
+    /// How often a clock was read that has more readings or fewer.
+    Read(usize),
     Fails(u8),
+    /// A claim timed out. The error names so many milliseconds.
+    TimesOut(u64),
     /// A callback's error, with the text of the first invariant.
     RefusedByFirst,
     /// The seat has no such object.
@@ -75,3 +95,13 @@ pub(crate) enum Told {
 
 /// A seat's step, and what it tells.
 pub(crate) type Row = (Seat, Step, Told);
+
+/// The file of version 1.
+pub(crate) const FIRST: &str = "root/test/00000000000000000001.val";
+
+pub(crate) const SECOND: &str = "root/test/00000000000000000002.val";
+
+pub(crate) const FOURTH: &str = "root/test/00000000000000000004.val";
+
+/// The file of the boundary.
+pub(crate) const BOUNDARY: &str = "root/gc/test.boundary";

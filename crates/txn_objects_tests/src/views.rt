@@ -1,13 +1,15 @@
 //! Views: writes by compare and swap, invariants, and updates that are applied after a conflict.
 use crate::game::other;
 use crate::invariants::Ceiling;
-use crate::steps::Row;
 use crate::steps::Seat::{A, B};
 use crate::steps::Step::{
-    Advance, Anew, Apply, Copy, Delete, Give, Init, Keep, Left, Load, Newest, Refresh, Shows,
-    TryLoad, Update, UpdateOf, Write,
+    Advance, Anew, Apply, ApplyAttempt, Calls, Copy, Delete, Holds, Init, Keep, Left, List, Load,
+    Newest, Refresh, Shows, TryLoad, Update, UpdateOf, Write, WriteElsewhere,
 };
-use crate::steps::Told::{At, Did, Fails, Nothing, RefusedByFirst, Turns, Wrote};
+use crate::steps::Told::{
+    At, Attempts, Did, Fails, Ids, Is, Made, Nothing, RefusedByFirst, Turns, Wrote,
+};
+use crate::steps::{BOUNDARY, FIRST, FOURTH, Row, SECOND};
 use std::test::Fail;
 
 #[test]
@@ -18,6 +20,10 @@ fn test_init_write_and_read_latest(rt: HostRuntime) -> Result<(), Fail> {
         (A, Update(2), Did),
         (A, Shows, At(2, 0, 2)),
         (A, Newest, At(2, 0, 2)),
+        (A, Calls, Made(2, 4, 0, 0)),
+        (A, Holds(FIRST, b"\x30\x3a\x31", 1), Is(true)),
+        (A, Holds(SECOND, b"\x30\x3a\x32", 2), Is(true)),
+        (A, Holds(BOUNDARY, b"", 0), Nothing),
     ];
     assert_eq!(rt; other(rt.alloc(), ROWS)?, None);
     Ok(())
@@ -53,14 +59,19 @@ fn test_update_dirty_id_mismatch_errors(rt: HostRuntime) -> Result<(), Fail> {
 fn test_maybe_apply_update_retries_write_behind_boundary(rt: HostRuntime) -> Result<(), Fail> {
     const ROWS: &[Row] = &[
         (A, Init(0, 1), Did),
-        (A, Write(1, 0, 2), Wrote(2)),
-        (A, Write(2, 0, 3), Wrote(3)),
+        (A, WriteElsewhere(1, 0, 2), Wrote(2)),
+        (A, WriteElsewhere(2, 0, 3), Wrote(3)),
         (A, Advance(2), Did),
         (A, Delete(2), Did),
-        (A, Give(20), Did),
-        (A, Apply, Did),
+        (A, Holds(SECOND, b"", 0), Nothing),
+        (A, Shows, At(1, 0, 1)),
+        (A, ApplyAttempt, Attempts(2)),
         (A, Left, Turns(17)),
-        (A, Newest, At(4, 0, 103)),
+        (A, Holds(SECOND, b"0:1", 5), Is(true)),
+        (A, Holds(FOURTH, b"0:2", 6), Is(true)),
+        (A, Shows, At(4, 0, 2)),
+        (A, List, Ids(1234)),
+        (A, Newest, At(4, 0, 2)),
     ];
     assert_eq!(rt; other(rt.alloc(), ROWS)?, None);
     Ok(())
