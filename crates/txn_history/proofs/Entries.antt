@@ -7,8 +7,8 @@ use Rattle.txn_store.specs.declared.store.PutMode.{PutMode}
 use Rattle.txn_store.specs.declared.request.Request.{Request}
 use Rattle.txn_store.specs.declared.request.Request.TheVariants as requests
 use Rattle.txn_types.specs.BoundaryText.{boundary_read}
-use Rattle.txn_history.specs.declared.trace.Row.{Row}
-use Rattle.txn_history.specs.declared.trace.Row.TheVariants.{Effect, Begun, Answered}
+use Rattle.txn_history.specs.Trace.{Row}
+use Rattle.txn_history.specs.declared.trace.RowOf.TheVariants.{Effect, Begun, Answered}
 use Rattle.txn_history.specs.Lists.{numbered}
 use Rattle.txn_history.specs.History.{Version, is_boundary, created, created_by, has_id, with_version, versions_of, IsEntry, epoch_in}
 use Rattle.txn_history.specs.OneHistory.{BoundaryPut, VersionPut, IsLegal, Entered, WasNewest, Fits, IsOneHistory}

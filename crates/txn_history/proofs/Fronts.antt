@@ -14,8 +14,8 @@ use Rattle.txn_store.proofs.FileLemmas.{path_cmp_total}
 use Rattle.txn_types.specs.BoundaryText.{boundary_read}
 use Rattle.txn_history.specs.declared.event.Call.{Call}
 use Rattle.txn_history.specs.declared.event.Answer.{Answer}
-use Rattle.txn_history.specs.declared.trace.Row.{Row}
-use Rattle.txn_history.specs.declared.trace.Row.TheVariants.{Effect, Begun, Answered}
+use Rattle.txn_history.specs.Trace.{Row}
+use Rattle.txn_history.specs.declared.trace.RowOf.TheVariants.{Effect, Begun, Answered}
 use Rattle.txn_history.specs.Names.{world_names, world_boundary}
 use Rattle.txn_history.specs.History.{Contents, is_boundary, created, removed, stored, boundary, boundary_said, erases}
 use Rattle.txn_history.specs.OneHistory.{VersionPut, BoundaryPut, VersionRemoved, IsLegal, Fits, IsOneHistory}

@@ -3,8 +3,8 @@ use Rattle.std.proofs.Common.{◌≡◌, ℕ, zero, suc, ◌<◌, ◌≤◌, Lis
 use Rattle.std.specs.FinMap.{empty, get}
 use Rattle.std.proofs.lemmas.List.{length-append, take_more, append-nil}
 use Rattle.std.proofs.lemmas.Bool.{eqb-true}
-use Rattle.txn_history.specs.declared.trace.Row.{Row}
-use Rattle.txn_history.specs.declared.trace.Row.TheVariants.{Effect, Begun, Answered}
+use Rattle.txn_history.specs.Trace.{Row}
+use Rattle.txn_history.specs.declared.trace.RowOf.TheVariants.{Effect, Begun, Answered}
 use Rattle.txn_history.specs.Lists.{numbered}
 use Rattle.txn_history.specs.Names.{world_boundary}
 use Rattle.txn_history.specs.History.{Contents, Version, is_id, created_by, has_id, with_version, versions_from, versions_of, newest, stored_with, stored_from, stored, boundary_said, boundary, IsEntry}

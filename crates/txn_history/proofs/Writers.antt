@@ -5,8 +5,8 @@ use Rattle.std.proofs.lemmas.Bool.{both_ways, eq-eqb, cases_lt}
 use Rattle.std.proofs.lemmas.Option.{slice_get_within, get_or_from_slice_get, same_Some}
 use Rattle.txn_store.specs.declared.request.Request.{Request}
 use Rattle.txn_history.specs.declared.event.Answer.{Answer}
-use Rattle.txn_history.specs.declared.trace.Row.{Row}
-use Rattle.txn_history.specs.declared.trace.Row.TheVariants.{Effect, Answered}
+use Rattle.txn_history.specs.Trace.{Row}
+use Rattle.txn_history.specs.declared.trace.RowOf.TheVariants.{Effect, Answered}
 use Rattle.txn_history.specs.History.{Version, created, has_id, with_version, versions_of}
 use Rattle.txn_history.specs.Calls.{ends, was_answered}
 use Rattle.txn_history.specs.OneHistory.{Entered}

@@ -2,11 +2,11 @@
 use Rattle.std.specs.Prelude.{◌≡◌, ℕ, List, [], ◌∷◌, ◌++◌, ◌+◌, ◌==◌, ◌&&◌, not, Bool, false, if◌then◌else◌, Option, Some, None, is_some, map}
 use Rattle.txn_store.specs.declared.request.Request.{Request}
 use Rattle.txn_store.specs.declared.request.Request.TheVariants as requests
-use Rattle.txn_history.specs.declared.event.Event.{Event}
-use Rattle.txn_history.specs.declared.event.Event.TheVariants as events
+use Rattle.txn_history.specs.Trace.{Event}
+use Rattle.txn_history.specs.declared.event.EventOf.TheVariants as events
 use Rattle.txn_history.specs.declared.event.Failure.TheVariants as failures
-use Rattle.txn_history.specs.declared.event.Told.{Told}
-use Rattle.txn_history.specs.declared.event.Told.TheVariants as told
+use Rattle.txn_history.specs.Trace.{Told}
+use Rattle.txn_history.specs.declared.event.ToldOf.TheVariants as told
 use Rattle.txn_history.specs.Seen.{Ask, Store, Operation, Seen, asks_of}
 
 -- a put or a delete: the requests that may become loose

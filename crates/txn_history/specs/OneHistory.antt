@@ -9,8 +9,8 @@ use Rattle.txn_history.specs.declared.event.Call.TheVariants as calls
 use Rattle.txn_history.specs.declared.event.Answer.{Answer}
 use Rattle.txn_history.specs.declared.event.Answer.TheVariants as answers
 use Rattle.txn_store.specs.declared.request.Request.{Request}
-use Rattle.txn_history.specs.declared.trace.Row.{Row}
-use Rattle.txn_history.specs.declared.trace.Row.TheVariants.{Effect, Begun, Answered}
+use Rattle.txn_history.specs.Trace.{Row}
+use Rattle.txn_history.specs.declared.trace.RowOf.TheVariants.{Effect, Begun, Answered}
 use Rattle.txn_types.specs.Numbers.{number_of, is_within}
 use Rattle.txn_history.specs.History.{Version, created, raised, removed, has_id, versions_of, newest, boundary, was_erased, is_stored, put_count, IsEntry, epoch_at}
 use Rattle.txn_history.specs.Calls.{was_begun, was_answered, IsCall, begun_count, value_written, was_told, is_below_told, AtRow}

@@ -14,9 +14,9 @@ use Rattle.txn_history.specs.declared.event.Call.{Call}
 use Rattle.txn_history.specs.declared.event.Answer.TheVariants as answers
 use Rattle.txn_history.specs.declared.event.Failure.{Failure}
 use Rattle.txn_history.specs.declared.event.Failure.TheVariants as failures
-use Rattle.txn_history.specs.declared.event.Told.{Told}
-use Rattle.txn_history.specs.declared.trace.Row.{Row}
-use Rattle.txn_history.specs.declared.trace.Row.TheVariants.{Effect}
+use Rattle.txn_history.specs.Trace.{Told}
+use Rattle.txn_history.specs.Trace.{Row}
+use Rattle.txn_history.specs.declared.trace.RowOf.TheVariants.{Effect}
 use Rattle.txn_history.specs.Lists.{numbered}
 use Rattle.txn_history.specs.Seen.{Ask, Store, Look}
 use Rattle.txn_history.specs.GoesOn.{may_be_loose}

@@ -21,7 +21,7 @@ use Rattle.txn_steps.specs.SeenSteps.{value_read, as_found, value_got, unchecked
 use Rattle.txn_history.specs.declared.event.Call.{Call}
 use Rattle.txn_history.specs.declared.event.Call.TheVariants as calls
 use Rattle.txn_history.specs.declared.event.Answer.TheVariants as answers
-use Rattle.txn_history.specs.declared.trace.Row.{Row}
+use Rattle.txn_history.specs.Trace.{Row}
 use Rattle.txn_history.specs.Names.{world_names}
 use Rattle.txn_history.specs.History.{newest}
 use Rattle.txn_history.specs.OneHistory.{IsFound, AnswerFits}

@@ -9,8 +9,8 @@ use Rattle.txn_caches.specs.declared.caches.CachedBoundary.{CachedBoundary}
 use Rattle.txn_caches.specs.declared.caches.Caches.{Caches}
 use Rattle.txn_history.specs.declared.event.Call.{Call}
 use Rattle.txn_history.specs.declared.event.Answer.{Answer}
-use Rattle.txn_history.specs.declared.trace.Row.{Row}
-use Rattle.txn_history.specs.declared.trace.Row.TheVariants.{Answered}
+use Rattle.txn_history.specs.Trace.{Row}
+use Rattle.txn_history.specs.declared.trace.RowOf.TheVariants.{Answered}
 use Rattle.txn_history.specs.Lists.{numbered}
 use Rattle.txn_history.specs.Seen.{Ask}
 use Rattle.txn_history.specs.GoesOn.{may_be_loose, as_loose, left_loose}

@@ -18,8 +18,8 @@ use Rattle.txn_steps.specs.declared.write.WriteUncheckedOp.TheVariants as unchec
 use Rattle.txn_steps.specs.Writes.{unchecked_turned, put_answered}
 use Rattle.txn_history.specs.declared.event.Call.{Call}
 use Rattle.txn_history.specs.declared.event.Answer.TheVariants as answers
-use Rattle.txn_history.specs.declared.trace.Row.{Row}
-use Rattle.txn_history.specs.declared.trace.Row.TheVariants.{Effect}
+use Rattle.txn_history.specs.Trace.{Row}
+use Rattle.txn_history.specs.declared.trace.RowOf.TheVariants.{Effect}
 use Rattle.txn_history.specs.Names.{world_names}
 use Rattle.txn_history.specs.History.{Version, created, has_id, versions_of, newest, boundary}
 use Rattle.txn_history.specs.Calls.{ends as ends_row, was_begun, was_answered}
