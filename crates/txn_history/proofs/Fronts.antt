@@ -12,8 +12,7 @@ use Rattle.txn_store.specs.declared.request.Request.TheVariants as requests
 use Rattle.txn_store.specs.declared.store.PutMode.{PutMode}
 use Rattle.txn_store.proofs.FileLemmas.{path_cmp_total}
 use Rattle.txn_types.specs.BoundaryText.{boundary_read}
-use Rattle.txn_history.specs.declared.event.Call.{Call}
-use Rattle.txn_history.specs.declared.event.Answer.{Answer}
+use Rattle.txn_history.specs.declared.trace.RowOf.{RowOf}
 use Rattle.txn_history.specs.Trace.{Row}
 use Rattle.txn_history.specs.declared.trace.RowOf.TheVariants.{Effect, Begun, Answered}
 use Rattle.txn_history.specs.Names.{world_names, world_boundary}
@@ -41,11 +40,11 @@ said_removed : (b : Bool) (found : Option (List ℕ)) → boundary_said (cond b 
 said_removed true found = refl
 said_removed false found = refl
 
-module _ {T : Type 0} where
+module _ {C A : Type 0} where
   -- fronts of a list
 
   -- what each row keeps, later fronts have
-  later : (P : List (Row T) → Type 0) (rows : List (Row T)) → ((k : ℕ) (row : Row T) → slice_get rows k ≡ Some row → P (take k rows) → P (take k rows ++ row ∷ [])) → (i n : ℕ) → P (take i rows) → P (take (n + i) rows)
+  later : (P : List (RowOf C A) → Type 0) (rows : List (RowOf C A)) → ((k : ℕ) (row : RowOf C A) → slice_get rows k ≡ Some row → P (take k rows) → P (take k rows ++ row ∷ [])) → (i n : ℕ) → P (take i rows) → P (take (n + i) rows)
   later P rows step i zero h = let same : i ≡ 0 + i = omega arith in subst (λ (n : ℕ). P (take n rows)) same h
   later P rows step i (suc n) h =
       let before = later P rows step i n h in
@@ -58,32 +57,32 @@ module _ {T : Type 0} where
             subst P (sym more) before
       ])
 
-  pub later_at : (P : List (Row T) → Type 0) (rows : List (Row T)) → ((k : ℕ) (row : Row T) → slice_get rows k ≡ Some row → P (take k rows) → P (take k rows ++ row ∷ [])) → (i j : ℕ) → i ≤ j → P (take i rows) → P (take j rows)
+  pub later_at : (P : List (RowOf C A) → Type 0) (rows : List (RowOf C A)) → ((k : ℕ) (row : RowOf C A) → slice_get rows k ≡ Some row → P (take k rows) → P (take k rows ++ row ∷ [])) → (i j : ℕ) → i ≤ j → P (take i rows) → P (take j rows)
   later_at P rows step i j le h =
       let sum : (j - i) + i ≡ j = omega (arith, le) in
       subst (λ (n : ℕ). P (take n rows)) sum (later P rows step i (j - i) h)
 
   -- a front of a front
-  pub of_front : (rows : List (Row T)) (j p : ℕ) (row : Row T) → slice_get (take j rows) p ≡ Some row → (slice_get rows p ≡ Some row) × (p < j)
+  pub of_front : (rows : List (RowOf C A)) (j p : ℕ) (row : RowOf C A) → slice_get (take j rows) p ≡ Some row → (slice_get rows p ≡ Some row) × (p < j)
   of_front [] zero p row e = cc
   of_front [] (suc j) p row e = cc
   of_front (r ∷ rows) zero p row e = cc
   of_front (r ∷ rows) (suc j) zero row e = (e, omega arith)
   of_front (r ∷ rows) (suc j) (suc p) row e = let rest = of_front rows j p row e in (rest.0, omega (arith, rest.1))
 
-  pub front_of : (rows : List (Row T)) (j p : ℕ) → p ≤ j → take p (take j rows) ≡ take p rows
+  pub front_of : (rows : List (RowOf C A)) (j p : ℕ) → p ≤ j → take p (take j rows) ≡ take p rows
   front_of rows j zero le = refl
   front_of rows zero (suc p) le = absurd (omega (arith, le))
   front_of [] (suc j) (suc p) le = refl
-  front_of (r ∷ rows) (suc j) (suc p) le = ap (λ (rs : List (Row T)). r ∷ rs) (front_of rows j p (omega (arith, le)))
+  front_of (r ∷ rows) (suc j) (suc p) le = ap (λ (rs : List (RowOf C A)). r ∷ rs) (front_of rows j p (omega (arith, le)))
 
-  begun_reached : (rows : List (Row T)) (op : ℕ) (call : Call T) → boundary (rows ++ Begun op call ∷ []) ≡ boundary rows
+  begun_reached : (rows : List (RowOf C A)) (op : ℕ) (call : C) → boundary (rows ++ Begun op call ∷ []) ≡ boundary rows
   begun_reached rows op call = boundary-same rows (Begun op call) (stored-more rows (Begun op call))
 
-  answered_reached : (rows : List (Row T)) (op : ℕ) (answer : Answer T) → boundary (rows ++ Answered op answer ∷ []) ≡ boundary rows
+  answered_reached : (rows : List (RowOf C A)) (op : ℕ) (answer : A) → boundary (rows ++ Answered op answer ∷ []) ≡ boundary rows
   answered_reached rows op answer = boundary-same rows (Answered op answer) (stored-more rows (Answered op answer))
 
-  pub effect_reached : (rows : List (Row T)) (op : ℕ) (request : Request) → boundary (rows ++ Effect op request ∷ []) ≡ boundary_after (boundary rows) request
+  pub effect_reached : (rows : List (RowOf C A)) (op : ℕ) (request : Request) → boundary (rows ++ Effect op request ∷ []) ≡ boundary_after (boundary rows) request
   effect_reached rows op (requests.Put path bytes mode) =
       ap (λ (contents : Contents). boundary_said (get contents world_boundary)) (stored-more rows (Effect op (requests.Put path bytes mode)))
       ∙ (ap boundary_said (get-insert path_cmp_total (stored rows) path bytes world_boundary ∙ ap (λ b. cond b (Some bytes) (get (stored rows) world_boundary)) (same_tie path))
@@ -95,6 +94,7 @@ module _ {T : Type 0} where
       ∙ (ap boundary_said (get-remove path_cmp_total (stored rows) path world_boundary ∙ ap (λ b. cond b None (get (stored rows) world_boundary)) (same_tie path))
       ∙ said_removed (is_boundary path) (get (stored rows) world_boundary))
 
+module _ {T : Type 0} where
   -- the boundary
 
   put_up : (rows : List (Row T)) (op at : ℕ) (said : Option ℕ) → at ≡ boundary rows → BoundaryPut rows op said → at ≤ unwrap_or said 0

@@ -6,6 +6,7 @@ use Rattle.txn_history.specs.declared.event.Call.{Call}
 use Rattle.txn_history.specs.declared.event.Call.TheVariants as calls
 use Rattle.txn_history.specs.declared.event.Answer.{Answer}
 use Rattle.txn_history.specs.declared.event.Answer.TheVariants as answers
+use Rattle.txn_history.specs.declared.trace.RowOf.{RowOf}
 use Rattle.txn_history.specs.Trace.{Row}
 use Rattle.txn_history.specs.declared.trace.RowOf.TheVariants.{Effect, Begun, Answered}
 use Rattle.txn_history.specs.Calls.{IsCall, begun_count}
@@ -15,8 +16,8 @@ use Rattle.txn_history.proofs.Rows.{front_more}
 use Rattle.txn_history.proofs.Fronts.{later_at, of_front}
 use Rattle.txn_history.proofs.Writers.{Wrote, entered_wrote, one_row}
 
-module _ {T : Type 0} where
-  count_more : (rows more : List (Row T)) → begun_count (rows ++ more) ≡ begun_count rows + begun_count more
+module _ {C A : Type 0} where
+  pub count_more : (rows more : List (RowOf C A)) → begun_count (rows ++ more) ≡ begun_count rows + begun_count more
   count_more [] more = omega arith
   count_more (Begun op call ∷ rows) more = let rest = count_more rows more in omega (arith, rest)
   count_more (Effect op request ∷ rows) more = count_more rows more
