@@ -19,6 +19,7 @@ fault_number faults.NotAsked = 2
 fault_number faults.UnknownBase = 3
 fault_number faults.BoundaryTooHigh = 4
 fault_number faults.EpochLowered = 5
+fault_number faults.ViewBusy = 6
 fault_number faults.NoMemory = 7
 
 -- clients are numbered from 1

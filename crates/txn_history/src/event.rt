@@ -153,6 +153,8 @@ pub enum EventFault {
     BoundaryTooHigh,
     /// A value whose epoch is below that of its base's entry.
     EpochLowered,
+    /// A view that an operation uses already.
+    ViewBusy,
     /// A growth was refused before the event took effect.
     NoMemory,
 }
@@ -161,7 +163,7 @@ impl EventFault {
     ghost use Rattle.std.specs.Prelude.{◌≡◌};
     ghost use Rattle.txn_history.specs.Allowed.{fault_number};
 
-    /// The number that names the fault, 1 to 5 or 7.
+    /// The number that names the fault, 1 to 7.
     pub fn number(&self) -> u8
         ensures { result ≡ fault_number self.now }
     {
@@ -171,6 +173,7 @@ impl EventFault {
             EventFault::UnknownBase => 3,
             EventFault::BoundaryTooHigh => 4,
             EventFault::EpochLowered => 5,
+            EventFault::ViewBusy => 6,
             EventFault::NoMemory => 7,
         }
     }

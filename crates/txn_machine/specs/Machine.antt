@@ -178,6 +178,7 @@ fault_met (Err faults.NotAsked) = Some faults.NotAsked
 fault_met (Err faults.UnknownBase) = Some faults.UnknownBase
 fault_met (Err faults.BoundaryTooHigh) = Some faults.BoundaryTooHigh
 fault_met (Err faults.EpochLowered) = Some faults.EpochLowered
+fault_met (Err faults.ViewBusy) = Some faults.ViewBusy
 fault_met (Err faults.NoMemory) = None
 
 module _ {T : Type 0} where
