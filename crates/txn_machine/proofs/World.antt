@@ -156,7 +156,7 @@ module _ {T : Type 0} (encode : T → List ℕ) (decode : List ℕ → Option T)
 
   pub opening_stands : (clients page : ℕ) → 1 ≤ page → Stands decode get_epoch (opening clients page)
   opening_stands clients page room =
-      let nothing : boundary {T = T} [] ≡ 0 = ap boundary_said (get-empty path_cmp world_boundary) in
+      let nothing : boundary {C = Call T} {A = Answer T} [] ≡ 0 = ap boundary_said (get-empty path_cmp world_boundary) in
       record {
         paged = room;
         know = record {
