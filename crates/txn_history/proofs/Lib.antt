@@ -1,5 +1,6 @@
 pub mod Lists
 pub mod Rows
+pub mod More
 pub mod Apart
 pub mod Fronts
 pub mod Entries

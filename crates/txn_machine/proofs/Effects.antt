@@ -34,7 +34,8 @@ use Rattle.txn_history.proofs.Rows.{versions_of-more, stored-more, boundary-same
 use Rattle.txn_history.proofs.Apart.{tied_path, apart, created_is, raise_creates, raised_is, removed_is}
 use Rattle.txn_machine.specs.Machine.{HasContents}
 use Rattle.txn_machine.proofs.Stands.{AllGiven, IsVersionPath, AllVersions, OneKnown, TellsKnown, Frame, HistoryStands, FilesStand, KnowStands, bytes_at, create, remove_version, file_at, is_there}
-use Rattle.txn_machine.proofs.Rows.{put_count-more, one_history-more}
+use Rattle.txn_history.proofs.More.{put_count-more}
+use Rattle.txn_machine.proofs.Rows.{one_history-more}
 
 -- the boundary's file is not below the versions' folder
 pub boundary_outside : is_below world_names.dir world_boundary ≡ false

@@ -28,7 +28,7 @@ use Rattle.txn_machine.specs.declared.doing.Operation.{Operation}
 use Rattle.txn_machine.specs.Doing.{Next, asked, caches_left}
 use Rattle.txn_machine.specs.Machine.{State, effect_of, effect_rows, with_doing, acted, effected, failing, given_up, told_failure, Acts, Reaches, FailsFirst, FailsAfter, Fails, GivesUp, Lands, Looks, Served}
 use Rattle.txn_machine.proofs.Lists.{within, numbered_here}
-use Rattle.txn_machine.proofs.Rows.{begun_count-more}
+use Rattle.txn_history.proofs.More.{begun_count-more}
 use Rattle.txn_machine.proofs.Stands.{AreOthers, CachesStand, Runs, RunStands, OpStands, TurnStands, Asks, StandsBut, Stands}
 use Rattle.txn_machine.proofs.Turns.{stays, LooksTo, fails_with}
 use Rattle.txn_machine.proofs.Effects.{answered_frame}

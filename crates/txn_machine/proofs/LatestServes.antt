@@ -34,7 +34,7 @@ use Rattle.txn_history.proofs.Rows.{entry_at}
 use Rattle.txn_machine.proofs.Stands.{KnowStands, IsKnown, Open, WasEmpty, Carried, WindowFits, CachesStand, HoldsStand, ListingStands, FoundStands, ChosenStands, LatestStands, list_versions, is_there}
 use Rattle.txn_machine.proofs.Windows.{kept_fits, above_fits, held_fits, greatest_fits}
 use Rattle.txn_machine.proofs.Lists.{within, numbered_there}
-use Rattle.txn_machine.proofs.Rows.{AtRow-now}
+use Rattle.txn_history.proofs.More.{AtRow-now}
 use Rattle.txn_machine.proofs.Faults.{ruled_out, missing_other, get_missing}
 use Rattle.txn_machine.proofs.Stored.{carried_entry, carried_stored, there_above}
 use Rattle.txn_machine.proofs.Pages.{IsNewest, NewestLeaves, newest_leaves}

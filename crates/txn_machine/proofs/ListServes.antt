@@ -19,7 +19,7 @@ use Rattle.txn_history.specs.Calls.{was_begun}
 use Rattle.txn_history.specs.OneHistory.{Lists}
 use Rattle.txn_machine.specs.Doing.{ids_of}
 use Rattle.txn_machine.proofs.Stands.{KnowStands, CollectingStands, list_versions}
-use Rattle.txn_machine.proofs.Rows.{AtRow-now}
+use Rattle.txn_history.proofs.More.{AtRow-now}
 use Rattle.txn_machine.proofs.Faults.{ruled_out}
 use Rattle.txn_machine.proofs.Pages.{ListLeaves, list_leaves}
 use Rattle.txn_machine.proofs.Turns.{ListTells}

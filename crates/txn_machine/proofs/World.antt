@@ -30,7 +30,7 @@ use Rattle.txn_machine.specs.declared.doing.Operation.{Operation}
 use Rattle.txn_machine.specs.Doing.{Next}
 use Rattle.txn_machine.specs.Machine.{State, no_caches, opening, next_op, begun_as, seen_of, Begins, Takes, Runs, IsReached}
 use Rattle.txn_machine.proofs.Lists.{within, numbered_there}
-use Rattle.txn_machine.proofs.Rows.{begun_count-more, begun_count-begun}
+use Rattle.txn_history.proofs.More.{begun_count-more, begun_count-begun}
 use Rattle.txn_machine.proofs.Stands.{AreOthers, Frame, CachesStand, OpStands, TurnStands, AtClient, StandsBut, Stands}
 use Rattle.txn_machine.proofs.Effects.{begun_know, begun_frame, answered_know, answered_frame}
 use Rattle.txn_machine.proofs.Frames.{begun_more, caches_more, asks_more, op_more, fresh_more, zero_more}

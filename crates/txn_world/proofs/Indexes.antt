@@ -132,7 +132,7 @@ effect_epochs decode get_epoch rows op request has epochs new id epoch same all 
     ∙ (sym (epochs_with decode get_epoch (versions_of rows) (created request)) ∙ ap (epochs_of decode get_epoch) (sym (versions_of-more rows (Effect op request)))))))
 
 -- no row, and nothing reached
-pub none_reached : (T : Type 0) → boundary {T = T} [] ≡ 0
+pub none_reached : (T : Type 0) → boundary {C = Call T} {A = Answer T} [] ≡ 0
 none_reached T = ap boundary_said (get-empty path_cmp world_boundary)
 
 -- an empty set has nothing
