@@ -1,6 +1,8 @@
 pub mod Lists
 pub mod Rows
 pub mod Apart
+pub mod Moves
+pub mod Legal
 pub mod Fronts
 pub mod Entries
 pub mod Writers
