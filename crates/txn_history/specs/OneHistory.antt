@@ -175,8 +175,13 @@ module _ {C A T : Type 0} (decode : List ℕ → Option T) where
 
 -- Rows do not show that a store call failed: the operations that were told so are a list beside them.
 module _ {T : Type 0} (decode : List ℕ → Option T) (get_epoch : T → ℕ) (failed : List ℕ) where
+  -- every call is refused where its store call failed, or for want of memory
+  abbrev pub Fails : ℕ → ℕ → Type 0
+  Fails op number = ((number ≡ 2) × (list_any (nat_eq op) failed ≡ true)) ⊎ (number ≡ 9)
+
+module _ {C A T : Type 0} (decode : List ℕ → Option T) (get_epoch : T → ℕ) (failed : List ℕ) where
   -- An answer that is no refusal fits the call. A checked write answers its own version, with its value; a read what was newest.
-  abbrev pub Succeeds : List (Row T) → ℕ → Call T → Answer T → Type 0
+  abbrev pub Succeeds : List (RowOf C A) → ℕ → Call T → Answer T → Type 0
   Succeeds before op (calls.Write base value) (answers.Wrote n) = Entered decode before op n value
   Succeeds before op (calls.WriteUnchecked base value) (answers.Wrote n) = Created before op n × (n ≡ number_of base + 1) × (n ≤ newest before)
   Succeeds before op calls.Read (answers.Read None) = WasEmpty decode before op
@@ -190,11 +195,11 @@ module _ {T : Type 0} (decode : List ℕ → Option T) (get_epoch : T → ℕ) (
   Succeeds before op call answer = ⊥
 
   -- a write is refused because its base was overtaken, because the store has no token left, or because no id is left
-  abbrev pub WriteRefused : List (Row T) → ℕ → Option ℕ → ℕ → Type 0
+  abbrev pub WriteRefused : List (RowOf C A) → ℕ → Option ℕ → ℕ → Type 0
   WriteRefused before op base number = ((number ≡ 5) × Overtaken decode before op base) ⊎ ((number ≡ 2) × NoTokens before) ⊎ ((number ≡ 10) × (base ≡ Some greatest))
 
   -- a refusal fits the call, by its number
-  abbrev pub Refuses : List (Row T) → ℕ → Call T → ℕ → Type 0
+  abbrev pub Refuses : List (RowOf C A) → ℕ → Call T → ℕ → Type 0
   Refuses before op (calls.Write base value) number = WriteRefused before op base number
   Refuses before op (calls.WriteUnchecked base value) number = WriteRefused before op base number
   Refuses before op (calls.Delete id) number = (number ≡ 7) × AtRow before op (λ rows. boundary rows < id)
@@ -202,21 +207,18 @@ module _ {T : Type 0} (decode : List ℕ → Option T) (get_epoch : T → ℕ) (
   Refuses before op (calls.Advance to) number = (number ≡ 2) × NoTokens before
   Refuses before op call number = ⊥
 
-  -- every call is refused where its store call failed, or for want of memory
-  abbrev pub Fails : ℕ → ℕ → Type 0
-  Fails op number = ((number ≡ 2) × (list_any (nat_eq op) failed ≡ true)) ⊎ (number ≡ 9)
-
   -- the answer fits the call
-  abbrev pub AnswerFits : List (Row T) → ℕ → Call T → Answer T → Type 0
-  AnswerFits before op call (answers.Refused number) = Refuses before op call number ⊎ Fails op number
+  abbrev pub AnswerFits : List (RowOf C A) → ℕ → Call T → Answer T → Type 0
+  AnswerFits before op call (answers.Refused number) = Refuses before op call number ⊎ Fails decode get_epoch failed op number
   AnswerFits before op call answer = Succeeds before op call answer
 
+module _ {T : Type 0} (decode : List ℕ → Option T) (get_epoch : T → ℕ) (failed : List ℕ) where
   -- The one answer of a call that began, and it fits.
   pub record Answers (before : List (Row T)) (op : ℕ) (answer : Answer T) : Type 0 where
     pub call : Call T
     pub called : IsCall before op call
     pub once : was_answered before op ≡ false
-    pub fits : AnswerFits before op call answer
+    pub fits : AnswerFits decode get_epoch failed before op call answer
 
 module _ {T : Type 0} (decode : List ℕ → Option T) (get_epoch : T → ℕ) (failed : List ℕ) where
   -- a row fits the rows before it
