@@ -1,9 +1,9 @@
 -- A begin that is allowed opens the next operation.
 use Rattle.std.proofs.Common.{◌≡◌, ℕ, ◌+◌, List, [], ◌∷◌, Bool, true, false, Option, None, refl}
 use Rattle.txn_history.specs.declared.event.Call.{Call}
-use Rattle.txn_history.specs.declared.event.Event.TheVariants as events
+use Rattle.txn_history.specs.declared.event.EventOf.TheVariants as events
 use Rattle.txn_history.specs.declared.event.EventFault.TheVariants as faults
-use Rattle.txn_history.specs.declared.trace.Row.{Row}
+use Rattle.txn_history.specs.Trace.{Row}
 use Rattle.txn_history.specs.Calls.{begun_count}
 use Rattle.txn_history.specs.OneHistory.{Opens, base_of, is_known_base, has_low_boundary, keeps_epoch}
 use Rattle.txn_history.specs.Seen.{Seen}

@@ -7,14 +7,17 @@ use Rattle.txn_store.specs.declared.store.PutMode.{PutMode}
 use Rattle.txn_store.specs.declared.request.Request.{Request}
 use Rattle.txn_store.specs.declared.request.Request.TheVariants as requests
 use Rattle.txn_types.specs.BoundaryText.{boundary_read}
-use Rattle.txn_history.specs.declared.trace.Row.{Row}
-use Rattle.txn_history.specs.declared.trace.Row.TheVariants.{Effect, Begun, Answered}
+use Rattle.txn_history.specs.declared.trace.RowOf.{RowOf}
+use Rattle.txn_history.specs.Trace.{Row}
+use Rattle.txn_history.specs.declared.trace.RowOf.TheVariants.{Effect, Begun, Answered}
 use Rattle.txn_history.specs.Lists.{numbered}
 use Rattle.txn_history.specs.History.{Version, is_boundary, created, created_by, has_id, with_version, versions_of, IsEntry, epoch_in}
-use Rattle.txn_history.specs.OneHistory.{BoundaryPut, VersionPut, IsLegal, Entered, WasNewest, Fits, IsOneHistory}
+use Rattle.txn_history.specs.OneHistory.{Entered, WasNewest, IsOneHistory}
 use Rattle.txn_history.proofs.Lists.{get_more, numbered_kept, numbered_more, numbered_last}
 use Rattle.txn_history.proofs.Rows.{front_more, versions_of-more, versions_grow}
 use Rattle.txn_history.proofs.Apart.{raise_creates, is_boundary_path}
+use Rattle.txn_history.proofs.Moves.{GoesUp, IsPut, IsMove, AreMoves}
+use Rattle.txn_history.proofs.Legal.{are_moves}
 use Rattle.txn_history.proofs.Fronts.{later_at, of_front, front_of}
 
 abbrev pub AreCounted : List Version → Type 0
@@ -118,88 +121,93 @@ module _ {T : Type 0} (decode : List ℕ → Option T) (get_epoch : T → ℕ) w
           let len : length (versions ++ version ∷ []) ≡ length versions + 1 = omega (arith, length-append versions (version ∷ [])) in
           elim (cases_lt n (length versions + 1)) [ inl lt ↦ inl (omega (arith, lt)) | inr ge ↦ inr (omega (arith, ge, top, len)) ]
 
-module _ {T : Type 0} (decode : List ℕ → Option T) (get_epoch : T → ℕ) (failed : List ℕ) where
-  not_raised : (rows : List (Row T)) (op : ℕ) (path : List (List ℕ)) (bytes : List ℕ) (mode : PutMode) (version : Version) (b : Bool) → is_boundary path ≡ b → created (requests.Put path bytes mode) ≡ Some version → BoundaryPut rows op (cond b (boundary_read bytes) None) → ⊥
-  not_raised rows op path bytes mode version true e creates put =
+lacks_counted : (m : ℕ) (versions : List Version) (id : ℕ) → ((k : ℕ) (version : Version) → slice_get versions k ≡ Some version → version.0 ≡ m + k + 1) → m + length versions < id → has_id versions id ≡ false
+lacks_counted m [] id c above = refl
+lacks_counted m (v ∷ versions) id c above =
+    let first = c 0 v refl in
+    let other : (v.0 == id) ≡ false = ne_eqb v.0 id (λ e. omega (arith, e, first, above)) in
+    rw other (lacks_counted (m + 1) versions id (λ k w e. omega (arith, c (suc k) w e)) (omega (arith, above)))
+
+module _ {C A T : Type 0} (decode : List ℕ → Option T) (get_epoch : T → ℕ) where
+  not_raised : (rows : List (RowOf C A)) (path : List (List ℕ)) (bytes : List ℕ) (mode : PutMode) (version : Version) (b : Bool) → is_boundary path ≡ b → created (requests.Put path bytes mode) ≡ Some version → GoesUp rows (cond b (boundary_read bytes) None) → ⊥
+  not_raised rows path bytes mode version true e creates up =
       let none : created (requests.Put path bytes mode) ≡ None = ap (λ p. created (requests.Put p bytes mode)) (is_boundary_path path e) ∙ raise_creates bytes mode in
       let clash = sym none ∙ creates in
       cc
-  not_raised rows op path bytes mode version false e creates put = put
+  not_raised rows path bytes mode version false e creates up = up
 
-  legal_create : (rows : List (Row T)) (op : ℕ) (request : Request) (version : Version) → created request ≡ Some version → IsLegal decode get_epoch rows op request → VersionPut decode get_epoch rows op (Some version)
-  legal_create rows op (requests.Put path bytes mode) version e (inl put) = subst (VersionPut decode get_epoch rows op) e put
-  legal_create rows op (requests.Put path bytes mode) version e (inr (inl put)) = absurd (not_raised rows op path bytes mode version (is_boundary path) refl e put)
-  legal_create rows op (requests.Put path bytes mode) version e (inr (inr gone)) = absurd gone
-  legal_create rows op (requests.Get path known) version e legal = cc
-  legal_create rows op (requests.List prefix after limit) version e legal = cc
-  legal_create rows op (requests.Delete path) version e legal = cc
+  move_create : (rows : List (RowOf C A)) (request : Request) (version : Version) → created request ≡ Some version → IsMove decode get_epoch rows request → IsPut decode get_epoch rows (Some version)
+  move_create rows (requests.Put path bytes mode) version e (inl put) = subst (IsPut decode get_epoch rows) e put
+  move_create rows (requests.Put path bytes mode) version e (inr (inl up)) = absurd (not_raised rows path bytes mode version (is_boundary path) refl e up)
+  move_create rows (requests.Put path bytes mode) version e (inr (inr gone)) = absurd gone
+  move_create rows (requests.Get path known) version e move = cc
+  move_create rows (requests.List prefix after limit) version e move = cc
+  move_create rows (requests.Delete path) version e move = cc
 
-  lacks_counted : (m : ℕ) (versions : List Version) (id : ℕ) → ((k : ℕ) (version : Version) → slice_get versions k ≡ Some version → version.0 ≡ m + k + 1) → m + length versions < id → has_id versions id ≡ false
-  lacks_counted m [] id c above = refl
-  lacks_counted m (v ∷ versions) id c above =
-      let first = c 0 v refl in
-      let other : (v.0 == id) ≡ false = ne_eqb v.0 id (λ e. omega (arith, e, first, above)) in
-      rw other (lacks_counted (m + 1) versions id (λ k w e. omega (arith, c (suc k) w e)) (omega (arith, above)))
-
-  put_front : (rows : List (Row T)) (op : ℕ) (version : Version) → Front decode get_epoch (versions_of rows) → VersionPut decode get_epoch rows op (Some version) → Front decode get_epoch (with_version (versions_of rows) (Some version))
-  put_front rows op version f (inl a) =
+  put_front : (rows : List (RowOf C A)) (version : Version) → Front decode get_epoch (versions_of rows) → IsPut decode get_epoch rows (Some version) → Front decode get_epoch (with_version (versions_of rows) (Some version))
+  put_front rows version f (inl a) =
       let next = a.next in
       let lacks = lacks_counted 0 (versions_of rows) version.0 (λ k v e. omega (arith, f.counted k v e)) (omega (arith, next)) in
       rw lacks (next_front decode get_epoch (versions_of rows) version a.value f next a.reads a.rises)
-  put_front rows op version f (inr r) = rw r.again f
+  put_front rows version f (inr again) = rw again f
 
-  effect_front : (rows : List (Row T)) (op : ℕ) (request : Request) (found : Option Version) → created request ≡ found → Front decode get_epoch (versions_of rows) → IsLegal decode get_epoch rows op request → Front decode get_epoch (with_version (versions_of rows) found)
-  effect_front rows op request None e f legal = f
-  effect_front rows op request (Some version) e f legal = put_front rows op version f (legal_create rows op request version e legal)
+  effect_front : (rows : List (RowOf C A)) (request : Request) (found : Option Version) → created request ≡ found → Front decode get_epoch (versions_of rows) → IsMove decode get_epoch rows request → Front decode get_epoch (with_version (versions_of rows) found)
+  effect_front rows request None e f move = f
+  effect_front rows request (Some version) e f move = put_front rows version f (move_create rows request version e move)
 
-  row_front : (rows : List (Row T)) (row : Row T) → Fits decode get_epoch failed rows row → Front decode get_epoch (versions_of rows) → Front decode get_epoch (versions_of (rows ++ row ∷ []))
-  row_front rows (Begun op call) fits f = subst (Front decode get_epoch) (sym (versions_of-more rows (Begun op call))) f
-  row_front rows (Answered op answer) fits f = subst (Front decode get_epoch) (sym (versions_of-more rows (Answered op answer))) f
-  row_front rows (Effect op request) fits f = subst (Front decode get_epoch) (sym (versions_of-more rows (Effect op request))) (effect_front rows op request (created request) refl f fits)
+  row_front : (all : List (RowOf C A)) → AreMoves decode get_epoch all → (k : ℕ) (row : RowOf C A) → slice_get all k ≡ Some row → Front decode get_epoch (versions_of (take k all)) → Front decode get_epoch (versions_of (take k all ++ row ∷ []))
+  row_front all moves k (Begun op call) e f = subst (Front decode get_epoch) (sym (versions_of-more (take k all) (Begun op call))) f
+  row_front all moves k (Answered op answer) e f = subst (Front decode get_epoch) (sym (versions_of-more (take k all) (Answered op answer))) f
+  row_front all moves k (Effect op request) e f = subst (Front decode get_epoch) (sym (versions_of-more (take k all) (Effect op request))) (effect_front (take k all) request (created request) refl f (moves k op request e))
 
-  -- what stands at each front of one history
-  pub fronts : (rows : List (Row T)) → IsOneHistory decode get_epoch failed rows → (k : ℕ) → Front decode get_epoch (versions_of (take k rows))
-  fronts rows good k = later_at (λ front. Front decode get_epoch (versions_of front)) rows (λ n row e f. row_front (take n rows) row (good n row e) f) 0 k (omega arith) (empty_front decode get_epoch)
+  -- what stands at each front, where each effect is a move
+  pub fronts_of : (rows : List (RowOf C A)) → AreMoves decode get_epoch rows → (k : ℕ) → Front decode get_epoch (versions_of (take k rows))
+  fronts_of rows moves k = later_at (λ front. Front decode get_epoch (versions_of front)) rows (λ n row e f. row_front rows moves n row e f) 0 k (omega arith) (empty_front decode get_epoch)
 
   -- an entry stays one
-  pub entry_more : (rows : List (Row T)) (row : Row T) (n : ℕ) (v : T) → IsEntry decode rows n v → IsEntry decode (rows ++ row ∷ []) n v
+  pub entry_more : (rows : List (RowOf C A)) (row : RowOf C A) (n : ℕ) (v : T) → IsEntry decode rows n v → IsEntry decode (rows ++ row ∷ []) n v
   entry_more rows row n v h =
       let g = versions_grow rows row in
       subst (λ (vs : List Version). Reads decode get_epoch vs n v) (sym g.1) (read_kept decode get_epoch (versions_of rows) g.0 n v h)
 
-  pub entry_later : (rows : List (Row T)) (i j n : ℕ) (v : T) → i ≤ j → IsEntry decode (take i rows) n v → IsEntry decode (take j rows) n v
+  pub entry_later : (rows : List (RowOf C A)) (i j n : ℕ) (v : T) → i ≤ j → IsEntry decode (take i rows) n v → IsEntry decode (take j rows) n v
   entry_later rows i j n v le h = later_at (λ front. IsEntry decode front n v) rows (λ k row e g. entry_more (take k rows) row n v g) i j le h
 
-  entered_put : (rows : List (Row T)) (op n : ℕ) (bytes : List ℕ) (v : T) → has_id (versions_of rows) n ≡ false → decode bytes ≡ Some v → (row : Row T) → created_by row ≡ Some (n, bytes) → VersionPut decode get_epoch rows op (Some (n, bytes)) → IsEntry decode (rows ++ row ∷ []) n v
-  entered_put rows op n bytes v lacks reads row creates (inr r) = absurd (both_ways (has_id (versions_of rows) n) lacks r.again)
-  entered_put rows op n bytes v lacks reads row creates (inl a) =
+  entered_put : (rows : List (RowOf C A)) (n : ℕ) (bytes : List ℕ) (v : T) → has_id (versions_of rows) n ≡ false → decode bytes ≡ Some v → (row : RowOf C A) → created_by row ≡ Some (n, bytes) → IsPut decode get_epoch rows (Some (n, bytes)) → IsEntry decode (rows ++ row ∷ []) n v
+  entered_put rows n bytes v lacks reads row creates (inr again) = absurd (both_ways (has_id (versions_of rows) n) lacks again)
+  entered_put rows n bytes v lacks reads row creates (inl a) =
       let versions : versions_of (rows ++ row ∷ []) ≡ versions_of rows ++ (n, bytes) ∷ [] = versions_of-more rows row ∙ (ap (with_version (versions_of rows)) creates ∙ ap (λ (b : Bool). cond b (versions_of rows) (versions_of rows ++ (n, bytes) ∷ [])) lacks) in
       let next : n ≡ length (versions_of rows) + 1 = a.next in
       subst (λ (vs : List Version). Reads decode get_epoch vs n v) (sym versions) (subst (λ (m : ℕ). Reads decode get_epoch (versions_of rows ++ (n, bytes) ∷ []) m v) (sym next) (read_last decode get_epoch (versions_of rows) (n, bytes) v reads))
 
   -- what was entered is an entry
-  pub entered_entry : (rows : List (Row T)) → IsOneHistory decode get_epoch failed rows → (k op n : ℕ) (v : T) → Entered decode (take k rows) op n v → IsEntry decode (take k rows) n v
-  entered_entry rows good k op n v e =
+  pub entered_entry : (rows : List (RowOf C A)) → AreMoves decode get_epoch rows → (k op n : ℕ) (v : T) → Entered decode (take k rows) op n v → IsEntry decode (take k rows) n v
+  entered_entry rows moves k op n v e =
       let there = of_front rows k e.place (Effect op e.request) e.effect in
-      let row : Row T = Effect op e.request in
+      let row : RowOf C A = Effect op e.request in
       let same = front_of rows k e.place (omega (arith, there.1)) in
-      let lacks : has_id (versions_of (take e.place rows)) n ≡ false = subst (λ (front : List (Row T)). has_id (versions_of front) n ≡ false) same e.first in
+      let lacks : has_id (versions_of (take e.place rows)) n ≡ false = subst (λ (front : List (RowOf C A)). has_id (versions_of front) n ≡ false) same e.first in
       let next : take (suc e.place) rows ≡ take e.place rows ++ row ∷ [] = front_more rows e.place row (slice_get_within rows e.place row there.0) (get_or_from_slice_get rows e.place row row there.0) in
-      let at = entered_put (take e.place rows) op n e.bytes v lacks e.reads row e.creates (legal_create (take e.place rows) op e.request (n, e.bytes) e.creates (good e.place row there.0)) in
-      entry_later rows (suc e.place) k n v (omega (arith, there.1)) (subst (λ (front : List (Row T)). IsEntry decode front n v) (sym next) at)
+      let at = entered_put (take e.place rows) n e.bytes v lacks e.reads row e.creates (move_create (take e.place rows) e.request (n, e.bytes) e.creates (moves e.place op e.request there.0)) in
+      entry_later rows (suc e.place) k n v (omega (arith, there.1)) (subst (λ (front : List (RowOf C A)). IsEntry decode front n v) (sym next) at)
 
   -- what was newest at a row of a call is an entry
-  pub newest_entry : (rows : List (Row T)) (k op n : ℕ) (v : T) → WasNewest decode (take k rows) op n v → IsEntry decode (take k rows) n v
+  pub newest_entry : (rows : List (RowOf C A)) (k op n : ℕ) (v : T) → WasNewest decode (take k rows) op n v → IsEntry decode (take k rows) n v
   newest_entry rows k op n v a =
       elim (cases_lt a.place k) [
-        | inl lt ↦ entry_later rows a.place k n v (omega (arith, lt)) (subst (λ (front : List (Row T)). IsEntry decode front n v) (front_of rows k a.place (omega (arith, lt))) a.there.1)
+        | inl lt ↦ entry_later rows a.place k n v (omega (arith, lt)) (subst (λ (front : List (RowOf C A)). IsEntry decode front n v) (front_of rows k a.place (omega (arith, lt))) a.there.1)
         | inr ge ↦ (
             let len = take_short rows k in
-            subst (λ (front : List (Row T)). IsEntry decode front n v) (take_all a.place (take k rows) (omega (arith, len, ge))) a.there.1
+            subst (λ (front : List (RowOf C A)). IsEntry decode front n v) (take_all a.place (take k rows) (omega (arith, len, ge))) a.there.1
             )
       ]
     where
-      take_short : (rows : List (Row T)) (k : ℕ) → length (take k rows) ≤ k
+      take_short : (rows : List (RowOf C A)) (k : ℕ) → length (take k rows) ≤ k
       take_short rows zero = omega arith
       take_short [] (suc k) = omega arith
       take_short (row ∷ rows) (suc k) = let rest = take_short rows k in omega (arith, rest)
+
+module _ {T : Type 0} (decode : List ℕ → Option T) (get_epoch : T → ℕ) (failed : List ℕ) where
+  -- what stands at each front of one history
+  pub fronts : (rows : List (Row T)) → IsOneHistory decode get_epoch failed rows → (k : ℕ) → Front decode get_epoch (versions_of (take k rows))
+  fronts rows good k = fronts_of decode get_epoch rows (are_moves decode get_epoch failed rows good) k

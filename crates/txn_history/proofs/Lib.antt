@@ -1,6 +1,9 @@
 pub mod Lists
 pub mod Rows
+pub mod More
 pub mod Apart
+pub mod Moves
+pub mod Legal
 pub mod Fronts
 pub mod Entries
 pub mod Writers

@@ -4,9 +4,8 @@ use Rattle.std.proofs.lemmas.List.Folds.{list_any-append}
 use Rattle.std.proofs.lemmas.Bool.{both_ways, eq-eqb, cases_lt}
 use Rattle.std.proofs.lemmas.Option.{slice_get_within, get_or_from_slice_get, same_Some}
 use Rattle.txn_store.specs.declared.request.Request.{Request}
-use Rattle.txn_history.specs.declared.event.Answer.{Answer}
-use Rattle.txn_history.specs.declared.trace.Row.{Row}
-use Rattle.txn_history.specs.declared.trace.Row.TheVariants.{Effect, Answered}
+use Rattle.txn_history.specs.declared.trace.RowOf.{RowOf}
+use Rattle.txn_history.specs.declared.trace.RowOf.TheVariants.{Effect, Answered}
 use Rattle.txn_history.specs.History.{Version, created, has_id, with_version, versions_of}
 use Rattle.txn_history.specs.Calls.{ends, was_answered}
 use Rattle.txn_history.specs.OneHistory.{Entered}
@@ -14,9 +13,13 @@ use Rattle.txn_history.proofs.Lists.{any_true, any_last}
 use Rattle.txn_history.proofs.Rows.{row_op, front_more, versions_of-more, versions_grow}
 use Rattle.txn_history.proofs.Fronts.{later_at, of_front, front_of}
 
-module _ {T : Type 0} (decode : List ℕ → Option T) where
+has_with : (versions : List Version) (id : ℕ) (bytes : List ℕ) (b : Bool) → has_id versions id ≡ b → has_id (cond b versions (versions ++ (id, bytes) ∷ [])) id ≡ true
+has_with versions id bytes true e = e
+has_with versions id bytes false e = any_last (λ (v : Version). v.0 == id) versions (id, bytes) (eq-eqb id id refl)
+
+module _ {C A T : Type 0} (decode : List ℕ → Option T) where
   -- a write that was answered was entered before
-  pub record Wrote (rows : List (Row T)) (j op id : ℕ) : Type 0 where
+  pub record Wrote (rows : List (RowOf C A)) (j op id : ℕ) : Type 0 where
     pub place : ℕ
     pub request : Request
     pub bytes : List ℕ
@@ -25,7 +28,7 @@ module _ {T : Type 0} (decode : List ℕ → Option T) where
     pub first : has_id (versions_of (take place rows)) id ≡ false
     pub fresh : was_answered (take j rows) op ≡ false
 
-  pub entered_wrote : (rows : List (Row T)) (j op id : ℕ) (value : T) → was_answered (take j rows) op ≡ false → Entered decode (take j rows) op id value → Wrote rows j op id
+  pub entered_wrote : (rows : List (RowOf C A)) (j op id : ℕ) (value : T) → was_answered (take j rows) op ≡ false → Entered decode (take j rows) op id value → Wrote rows j op id
   entered_wrote rows j op id value fresh e =
       let there = of_front rows j e.place (Effect op e.request) e.effect in
       record {
@@ -34,28 +37,24 @@ module _ {T : Type 0} (decode : List ℕ → Option T) where
         bytes = e.bytes;
         effect = there.0;
         creates = e.creates;
-        first = subst (λ (front : List (Row T)). has_id (versions_of front) id ≡ false) (front_of rows j e.place (omega (arith, there.1))) e.first;
+        first = subst (λ (front : List (RowOf C A)). has_id (versions_of front) id ≡ false) (front_of rows j e.place (omega (arith, there.1))) e.first;
         fresh = fresh;
       }
 
-  has_more : (rows : List (Row T)) (row : Row T) (id : ℕ) → has_id (versions_of rows) id ≡ true → has_id (versions_of (rows ++ row ∷ [])) id ≡ true
+  has_more : (rows : List (RowOf C A)) (row : RowOf C A) (id : ℕ) → has_id (versions_of rows) id ≡ true → has_id (versions_of (rows ++ row ∷ [])) id ≡ true
   has_more rows row id h = let g = versions_grow rows row in rw (g.1, list_any-append (λ (v : Version). v.0 == id) (versions_of rows) g.0, h) refl
 
-  has_with : (versions : List Version) (id : ℕ) (bytes : List ℕ) (b : Bool) → has_id versions id ≡ b → has_id (cond b versions (versions ++ (id, bytes) ∷ [])) id ≡ true
-  has_with versions id bytes true e = e
-  has_with versions id bytes false e = any_last (λ (v : Version). v.0 == id) versions (id, bytes) (eq-eqb id id refl)
-
-  has_created : (rows : List (Row T)) (op id : ℕ) (request : Request) (bytes : List ℕ) → created request ≡ Some (id, bytes) → has_id (versions_of (rows ++ Effect op request ∷ [])) id ≡ true
+  has_created : (rows : List (RowOf C A)) (op id : ℕ) (request : Request) (bytes : List ℕ) → created request ≡ Some (id, bytes) → has_id (versions_of (rows ++ Effect op request ∷ [])) id ≡ true
   has_created rows op id request bytes e =
       subst (λ (vs : List Version). has_id vs id ≡ true) (sym (versions_of-more rows (Effect op request) ∙ ap (with_version (versions_of rows)) e)) (has_with (versions_of rows) id bytes (has_id (versions_of rows) id) refl)
 
   -- what was created before place p is there at it
-  has_before : (rows : List (Row T)) (op id p q : ℕ) (request : Request) (bytes : List ℕ) → slice_get rows p ≡ Some (Effect op request) → created request ≡ Some (id, bytes) → p < q → has_id (versions_of (take q rows)) id ≡ true
+  has_before : (rows : List (RowOf C A)) (op id p q : ℕ) (request : Request) (bytes : List ℕ) → slice_get rows p ≡ Some (Effect op request) → created request ≡ Some (id, bytes) → p < q → has_id (versions_of (take q rows)) id ≡ true
   has_before rows op id p q request bytes e creates lt =
       let next : take (suc p) rows ≡ take p rows ++ Effect op request ∷ [] = front_more rows p (Effect op request) (slice_get_within rows p (Effect op request) e) (get_or_from_slice_get rows p (Effect op request) (Effect op request) e) in
-      later_at (λ front. has_id (versions_of front) id ≡ true) rows (λ k row _ h. has_more (take k rows) row id h) (suc p) q (omega (arith, lt)) (subst (λ (front : List (Row T)). has_id (versions_of front) id ≡ true) (sym next) (has_created (take p rows) op id request bytes creates))
+      later_at (λ front. has_id (versions_of front) id ≡ true) rows (λ k row _ h. has_more (take k rows) row id h) (suc p) q (omega (arith, lt)) (subst (λ (front : List (RowOf C A)). has_id (versions_of front) id ≡ true) (sym next) (has_created (take p rows) op id request bytes creates))
 
-  one_place : (rows : List (Row T)) (j k op other id : ℕ) → (a : Wrote rows j op id) → (b : Wrote rows k other id) → a.place ≡ b.place
+  one_place : (rows : List (RowOf C A)) (j k op other id : ℕ) → (a : Wrote rows j op id) → (b : Wrote rows k other id) → a.place ≡ b.place
   one_place rows j k op other id a b =
       elim (cases_lt a.place b.place) [
         | inl lt ↦ absurd (both_ways _ b.first (has_before rows op id a.place b.place a.request a.bytes a.effect a.creates lt))
@@ -65,19 +64,19 @@ module _ {T : Type 0} (decode : List ℕ → Option T) where
         ]
       ]
 
-  one_op : (rows : List (Row T)) (j k op other id : ℕ) → Wrote rows j op id → Wrote rows k other id → op ≡ other
+  one_op : (rows : List (RowOf C A)) (j k op other id : ℕ) → Wrote rows j op id → Wrote rows k other id → op ≡ other
   one_op rows j k op other id a b =
       let same : Effect op a.request ≡ Effect other b.request = same_Some _ _ (sym a.effect ∙ (ap (slice_get rows) (one_place rows j k op other id a b) ∙ b.effect)) in
       ap row_op same
 
-  answered_before : (rows : List (Row T)) (j k op : ℕ) (answer : Answer T) → slice_get rows j ≡ Some (Answered op answer) → j < k → was_answered (take k rows) op ≡ true
+  answered_before : (rows : List (RowOf C A)) (j k op : ℕ) (answer : A) → slice_get rows j ≡ Some (Answered op answer) → j < k → was_answered (take k rows) op ≡ true
   answered_before rows j k op answer e lt =
-      let row : Row T = Answered op answer in
+      let row : RowOf C A = Answered op answer in
       let next : take (suc j) rows ≡ take j rows ++ row ∷ [] = front_more rows j row (slice_get_within rows j row e) (get_or_from_slice_get rows j row row e) in
-      later_at (λ front. was_answered front op ≡ true) rows (λ n r _ h. any_true (ends op) (take n rows) r h) (suc j) k (omega (arith, lt)) (subst (λ (front : List (Row T)). was_answered front op ≡ true) (sym next) (any_last (ends op) (take j rows) row (eq-eqb op op refl)))
+      later_at (λ front. was_answered front op ≡ true) rows (λ n r _ h. any_true (ends op) (take n rows) r h) (suc j) k (omega (arith, lt)) (subst (λ (front : List (RowOf C A)). was_answered front op ≡ true) (sym next) (any_last (ends op) (take j rows) row (eq-eqb op op refl)))
 
   -- rows that tell one version as their own, by operations not answered before, are one row
-  pub one_row : (rows : List (Row T)) (j k op other id : ℕ) (answer said : Answer T) → slice_get rows j ≡ Some (Answered op answer) → slice_get rows k ≡ Some (Answered other said) → Wrote rows j op id → Wrote rows k other id → j ≡ k
+  pub one_row : (rows : List (RowOf C A)) (j k op other id : ℕ) (answer said : A) → slice_get rows j ≡ Some (Answered op answer) → slice_get rows k ≡ Some (Answered other said) → Wrote rows j op id → Wrote rows k other id → j ≡ k
   one_row rows j k op other id answer said e e' a b =
       let same = one_op rows j k op other id a b in
       elim (cases_lt j k) [

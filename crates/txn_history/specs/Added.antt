@@ -4,14 +4,13 @@ use Rattle.std.specs.FinMap.{get, insert, remove}
 use Rattle.txn_store.specs.Store.{Files}
 use Rattle.txn_store.specs.declared.request.Request.{Request}
 use Rattle.txn_store.specs.declared.request.Request.TheVariants as requests
-use Rattle.txn_history.specs.declared.event.Event.{Event}
-use Rattle.txn_history.specs.declared.event.Event.TheVariants as events
+use Rattle.txn_history.specs.declared.event.EventOf.{EventOf}
+use Rattle.txn_history.specs.declared.event.EventOf.TheVariants as events
 use Rattle.txn_history.specs.declared.event.Failure.TheVariants as failures
-use Rattle.txn_history.specs.declared.event.Answer.{Answer}
-use Rattle.txn_history.specs.declared.event.Told.{Told}
-use Rattle.txn_history.specs.declared.event.Told.TheVariants as told
-use Rattle.txn_history.specs.declared.trace.Row.{Row}
-use Rattle.txn_history.specs.declared.trace.Row.TheVariants.{Effect, Begun, Answered}
+use Rattle.txn_history.specs.declared.event.ToldOf.{ToldOf}
+use Rattle.txn_history.specs.declared.event.ToldOf.TheVariants as told
+use Rattle.txn_history.specs.declared.trace.RowOf.{RowOf}
+use Rattle.txn_history.specs.declared.trace.RowOf.TheVariants.{Effect, Begun, Answered}
 use Rattle.txn_history.specs.Lists.{numbered}
 use Rattle.txn_history.specs.Calls.{begun_count}
 use Rattle.txn_history.specs.Seen.{Store, Seen, asks_of}
@@ -29,51 +28,52 @@ abbrev pub is_empty : {A : Type 0} → List A → Bool
 is_empty [] = true
 is_empty (x ∷ xs) = false
 
-module _ {T : Type 0} where
+module _ {A : Type 0} where
+  -- what is told of an operation: this, or its answer
+  abbrev pub Tells : ToldOf A → ℕ → ToldOf A → Type 0
+  Tells otherwise op t = (t ≡ otherwise) ⊎ ((answer : A) × (t ≡ told.Answered op answer))
+
+module _ {C A : Type 0} where
   -- the row of an answer that was told
-  abbrev pub answer_row : Told T → List (Row T)
+  abbrev pub answer_row : ToldOf A → List (RowOf C A)
   answer_row (told.Answered op answer) = Answered op answer ∷ []
   answer_row _ = []
 
-  -- what is told of an operation: this, or its answer
-  abbrev pub Tells : Told T → ℕ → Told T → Type 0
-  Tells otherwise op t = (t ≡ otherwise) ⊎ ((answer : Answer T) × (t ≡ told.Answered op answer))
-
   -- the row of a request, exactly where it changed the files of the store
-  abbrev pub IsEffectRow : ℕ → Request → Files → Files → List (Row T) → Type 0
+  abbrev pub IsEffectRow : ℕ → Request → Files → Files → List (RowOf C A) → Type 0
   IsEffectRow op request before after rows =
       ((rows ≡ []) × (after ≡ before))
       ⊎ ((rows ≡ Effect op request ∷ []) × Changes before request after)
 
   -- An operation's request reaches the store: its row, where it changed the files, and then that of the answer, where one is told.
-  pub record AddsEffect (seen : Seen) (op : ℕ) (old : List (Row T)) (before : Files) (t : Told T) (new : List (Row T)) (after : Files) : Type 0 where
+  pub record AddsEffect (seen : Seen) (op : ℕ) (old : List (RowOf C A)) (before : Files) (t : ToldOf A) (new : List (RowOf C A)) (after : Files) : Type 0 where
     pub request : Request
     pub asked : asks_of seen op ≡ Some (Store request)
-    pub rows : List (Row T)
+    pub rows : List (RowOf C A)
     pub effect : IsEffectRow op request before after rows
     pub told : Tells (told.Went op) op t
     pub added : new ≡ (old ++ rows) ++ answer_row t
 
   -- A loose request reaches the store: its row, where it changed the files.
-  pub record AddsLanding (seen : Seen) (k : ℕ) (old : List (Row T)) (before : Files) (t : Told T) (new : List (Row T)) (after : Files) : Type 0 where
+  pub record AddsLanding (seen : Seen) (k : ℕ) (old : List (RowOf C A)) (before : Files) (t : ToldOf A) (new : List (RowOf C A)) (after : Files) : Type 0 where
     pub op : ℕ
     pub request : Request
     pub loose : numbered seen.loose k ≡ Some (op, request)
-    pub rows : List (Row T)
+    pub rows : List (RowOf C A)
     pub effect : IsEffectRow op request before after rows
     pub told : t ≡ told.Landed k (not (is_empty rows))
     pub added : new ≡ old ++ rows
 
   -- nothing reaches the store, and the row is that of the answer, where one is told
-  abbrev pub AddsAnswer : ℕ → List (Row T) → Files → Told T → List (Row T) → Files → Type 0
+  abbrev pub AddsAnswer : ℕ → List (RowOf C A) → Files → ToldOf A → List (RowOf C A) → Files → Type 0
   AddsAnswer op old before t new after = Tells (told.Went op) op t × (new ≡ old ++ answer_row t) × (after ≡ before)
 
   -- no row
-  abbrev pub AddsNone : Told T → List (Row T) → Files → Told T → List (Row T) → Files → Type 0
+  abbrev pub AddsNone : ToldOf A → List (RowOf C A) → Files → ToldOf A → List (RowOf C A) → Files → Type 0
   AddsNone only old before t new after = (t ≡ only) × (new ≡ old) × (after ≡ before)
 
   -- The rows that an event adds, and what it tells. A begin adds that of its call, and of its answer, where one is told.
-  abbrev pub AddsRows : Seen → List (Row T) → Files → Event T → Told T → List (Row T) → Files → Type 0
+  abbrev pub AddsRows : Seen → List (RowOf C A) → Files → EventOf C → ToldOf A → List (RowOf C A) → Files → Type 0
   AddsRows seen old before (events.Begin client call) t new after =
       Tells (told.Began (begun_count old + 1)) (begun_count old + 1) t × (new ≡ (old ++ Begun (begun_count old + 1) call ∷ []) ++ answer_row t) × (after ≡ before)
   AddsRows seen old before (events.Look op) t new after = AddsAnswer op old before t new after

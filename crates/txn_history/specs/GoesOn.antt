@@ -2,11 +2,11 @@
 use Rattle.std.specs.Prelude.{◌≡◌, ℕ, List, [], ◌∷◌, ◌++◌, ◌+◌, ◌==◌, ◌&&◌, not, Bool, false, if◌then◌else◌, Option, Some, None, is_some, map}
 use Rattle.txn_store.specs.declared.request.Request.{Request}
 use Rattle.txn_store.specs.declared.request.Request.TheVariants as requests
-use Rattle.txn_history.specs.declared.event.Event.{Event}
-use Rattle.txn_history.specs.declared.event.Event.TheVariants as events
+use Rattle.txn_history.specs.declared.event.EventOf.{EventOf}
+use Rattle.txn_history.specs.declared.event.EventOf.TheVariants as events
 use Rattle.txn_history.specs.declared.event.Failure.TheVariants as failures
-use Rattle.txn_history.specs.declared.event.Told.{Told}
-use Rattle.txn_history.specs.declared.event.Told.TheVariants as told
+use Rattle.txn_history.specs.declared.event.ToldOf.{ToldOf}
+use Rattle.txn_history.specs.declared.event.ToldOf.TheVariants as told
 use Rattle.txn_history.specs.Seen.{Ask, Store, Operation, Seen, asks_of}
 
 -- a put or a delete: the requests that may become loose
@@ -34,43 +34,45 @@ abbrev pub all_left_loose : ℕ → ℕ → List Operation → List (ℕ × Requ
 all_left_loose client op [] = []
 all_left_loose client op (operation ∷ rest) = (if operation.client == client then left_loose op operation.asks else []) ++ all_left_loose client (op + 1) rest
 
-module _ {T : Type 0} where
+module _ {C : Type 0} where
   -- the loose requests after an event
-  abbrev pub loose_after : Seen → Event T → List (ℕ × Request)
+  abbrev pub loose_after : Seen → EventOf C → List (ℕ × Request)
   loose_after seen (events.Fail op failures.Loose) = seen.loose ++ left_loose op (asks_of seen op)
   loose_after seen (events.GiveUp op) = seen.loose ++ left_loose op (asks_of seen op)
   loose_after seen (events.Crash client) = seen.loose ++ all_left_loose client 1 seen.operations
   loose_after seen _ = seen.loose
 
   -- the operations whose store call failed, after an event
-  abbrev pub failed_after : Seen → Event T → List ℕ
+  abbrev pub failed_after : Seen → EventOf C → List ℕ
   failed_after seen (events.Fail op failure) = seen.failed ++ op ∷ []
   failed_after seen _ = seen.failed
 
+  -- the client of an event's new operation
+  abbrev pub begins_for : EventOf C → Option ℕ
+  begins_for (events.Begin client call) = Some client
+  begins_for _ = None
+
+module _ {A : Type 0} where
   -- what is told ends an operation of this client
-  abbrev pub ends_operation : Told T → ℕ → ℕ → Bool
+  abbrev pub ends_operation : ToldOf A → ℕ → ℕ → Bool
   ends_operation (told.Answered o answer) client op = o == op
   ends_operation (told.GaveUp o) client op = o == op
   ends_operation (told.Crashed c) client op = c == client
   ends_operation _ client op = false
 
-  -- the client of an event's new operation
-  abbrev pub begins_for : Event T → Option ℕ
-  begins_for (events.Begin client call) = Some client
-  begins_for _ = None
-
   -- the same of an operation of this number, after what is told
-  abbrev pub state_after : Told T → ℕ → Operation → ℕ × Bool
+  abbrev pub state_after : ToldOf A → ℕ → Operation → ℕ × Bool
   state_after t op operation = (operation.client, is_some operation.asks && not (ends_operation t operation.client op))
 
   -- the operations after what is told, by their states, the first of them being this
-  abbrev pub states_after : Told T → ℕ → List Operation → Option ℕ → List (ℕ × Bool)
+  abbrev pub states_after : ToldOf A → ℕ → List Operation → Option ℕ → List (ℕ × Bool)
   states_after t op [] None = []
   states_after t op [] (Some client) = (client, not (ends_operation t client op)) ∷ []
   states_after t op (operation ∷ rest) begun = state_after t op operation ∷ states_after t (op + 1) rest begun
 
+module _ {C A : Type 0} where
   -- What stands beside the rows goes on with an event that told this.
-  pub record GoesOn (seen : Seen) (event : Event T) (t : Told T) (new : Seen) : Type 0 where
+  pub record GoesOn (seen : Seen) (event : EventOf C) (t : ToldOf A) (new : Seen) : Type 0 where
     pub clients : new.clients ≡ seen.clients
     pub operations : map state_of new.operations ≡ states_after t 1 seen.operations (begins_for event)
     pub loose : new.loose ≡ loose_after seen event

@@ -10,8 +10,8 @@ use Rattle.txn_store.specs.VersionName.{version_path}
 use Rattle.txn_store.specs.VersionOf.{version_of}
 use Rattle.txn_store.specs.declared.request.Request.{Request}
 use Rattle.txn_store.specs.declared.request.Request.TheVariants as requests
-use Rattle.txn_history.specs.declared.trace.Row.{Row}
-use Rattle.txn_history.specs.declared.trace.Row.TheVariants.{Effect, Begun, Answered}
+use Rattle.txn_history.specs.declared.trace.RowOf.{RowOf}
+use Rattle.txn_history.specs.declared.trace.RowOf.TheVariants.{Effect, Begun, Answered}
 use Rattle.txn_history.specs.Lists.{numbered, AreAscending}
 use Rattle.txn_types.specs.BoundaryText.{boundary_read}
 use Rattle.txn_history.specs.Names.{world_names, world_boundary}
@@ -86,75 +86,75 @@ abbrev pub with_version : List Version → Option Version → List Version
 with_version versions None = versions
 with_version versions (Some version) = if has_id versions version.0 then versions else versions ++ version ∷ []
 
-module _ {T : Type 0} where
+module _ {C A : Type 0} where
   -- the version that a row creates
-  abbrev pub created_by : Row T → Option Version
+  abbrev pub created_by : RowOf C A → Option Version
   created_by (Effect op request) = created request
   created_by (Begun op call) = None
   created_by (Answered op answer) = None
 
-  abbrev pub versions_from : List Version → List (Row T) → List Version
+  abbrev pub versions_from : List Version → List (RowOf C A) → List Version
   versions_from versions [] = versions
   versions_from versions (row ∷ rows) = versions_from (with_version versions (created_by row)) rows
 
   -- the first create of each version, in the order of creation
-  abbrev pub versions_of : List (Row T) → List Version
+  abbrev pub versions_of : List (RowOf C A) → List Version
   versions_of rows = versions_from [] rows
 
   -- how many entries the history has, which is the newest id
-  abbrev pub newest : List (Row T) → ℕ
+  abbrev pub newest : List (RowOf C A) → ℕ
   newest rows = length (versions_of rows)
 
   -- a row removes the name of this id
-  abbrev pub erases : ℕ → Row T → Bool
+  abbrev pub erases : ℕ → RowOf C A → Bool
   erases n (Effect op request) = is_id n (removed request)
   erases n (Begun op call) = false
   erases n (Answered op answer) = false
 
   -- the version of this id was erased
-  abbrev pub was_erased : List (Row T) → ℕ → Bool
+  abbrev pub was_erased : List (RowOf C A) → ℕ → Bool
   was_erased rows n = list_any (erases n) rows
 
   -- the erased ids, ascending
-  abbrev pub AreErased : List (Row T) → List ℕ → Type 0
+  abbrev pub AreErased : List (RowOf C A) → List ℕ → Type 0
   AreErased rows ids = AreAscending (was_erased rows) ids
 
   -- the contents of the store after a row
-  abbrev pub stored_with : Contents → Row T → Contents
+  abbrev pub stored_with : Contents → RowOf C A → Contents
   stored_with contents (Effect op request) = contents_after contents request
   stored_with contents (Begun op call) = contents
   stored_with contents (Answered op answer) = contents
 
-  abbrev pub stored_from : Contents → List (Row T) → Contents
+  abbrev pub stored_from : Contents → List (RowOf C A) → Contents
   stored_from contents [] = contents
   stored_from contents (row ∷ rows) = stored_from (stored_with contents row) rows
 
   -- the contents of the store: those of the empty store after the requests of the effects
-  abbrev pub stored : List (Row T) → Contents
+  abbrev pub stored : List (RowOf C A) → Contents
   stored rows = stored_from empty rows
 
   -- the name of the version of this id is stored
-  abbrev pub is_stored : List (Row T) → ℕ → Bool
+  abbrev pub is_stored : List (RowOf C A) → ℕ → Bool
   is_stored rows n = is_some (get (stored rows) (version_path world_names n))
 
   -- the boundary: the number that its file says, 0 where it is missing
-  abbrev pub boundary : List (Row T) → ℕ
+  abbrev pub boundary : List (RowOf C A) → ℕ
   boundary rows = boundary_said (get (stored rows) world_boundary)
 
   -- how many tokens the effects took
-  abbrev pub put_count : List (Row T) → ℕ
+  abbrev pub put_count : List (RowOf C A) → ℕ
   put_count [] = 0
   put_count (Effect op request ∷ rows) = (if is_put request then 1 else 0) + put_count rows
   put_count (Begun op call ∷ rows) = put_count rows
   put_count (Answered op answer ∷ rows) = put_count rows
 
-module _ {T : Type 0} (decode : List ℕ → Option T) where
+module _ {C A T : Type 0} (decode : List ℕ → Option T) where
   -- the history: what the codec reads in the first create of each version
-  abbrev pub history : List (Row T) → List (Option T)
+  abbrev pub history : List (RowOf C A) → List (Option T)
   history rows = map (λ version. decode version.1) (versions_of rows)
 
   -- entry n of the history is this value
-  abbrev pub IsEntry : List (Row T) → ℕ → T → Type 0
+  abbrev pub IsEntry : List (RowOf C A) → ℕ → T → Type 0
   IsEntry rows n value = numbered (history rows) n ≡ Some (Some value)
 
 module _ {T : Type 0} (get_epoch : T → ℕ) where
@@ -164,7 +164,7 @@ module _ {T : Type 0} (get_epoch : T → ℕ) where
   epoch_in (Some None) = 0
   epoch_in (Some (Some value)) = get_epoch value
 
-module _ {T : Type 0} (decode : List ℕ → Option T) (get_epoch : T → ℕ) where
+module _ {C A T : Type 0} (decode : List ℕ → Option T) (get_epoch : T → ℕ) where
   -- the epoch of entry n, 0 where there is none
-  abbrev pub epoch_at : List (Row T) → ℕ → ℕ
+  abbrev pub epoch_at : List (RowOf C A) → ℕ → ℕ
   epoch_at rows n = epoch_in get_epoch (numbered (history decode rows) n)

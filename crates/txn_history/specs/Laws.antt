@@ -4,20 +4,22 @@ use Rattle.txn_history.specs.declared.event.Call.{Call}
 use Rattle.txn_history.specs.declared.event.Call.TheVariants as calls
 use Rattle.txn_history.specs.declared.event.Answer.{Answer}
 use Rattle.txn_history.specs.declared.event.Answer.TheVariants as answers
-use Rattle.txn_history.specs.declared.trace.Row.{Row}
-use Rattle.txn_history.specs.declared.trace.Row.TheVariants.{Answered}
+use Rattle.txn_history.specs.declared.trace.RowOf.{RowOf}
+use Rattle.txn_history.specs.Trace.{Row}
+use Rattle.txn_history.specs.declared.trace.RowOf.TheVariants.{Answered}
 use Rattle.txn_history.specs.History.{boundary, erases}
 use Rattle.txn_history.specs.Calls.{IsCall}
 
-module _ {T : Type 0} where
+module _ {C A : Type 0} where
   -- the boundary never falls: it is no lower after more rows
-  abbrev pub NeverFalls : List (Row T) → Type 0
+  abbrev pub NeverFalls : List (RowOf C A) → Type 0
   NeverFalls rows = (early late : ℕ) → early ≤ late → boundary (take early rows) ≤ boundary (take late rows)
 
   -- what is above the boundary is not removed: a row that removes the name of an id comes after the boundary has reached it
-  abbrev pub KeepsAbove : List (Row T) → Type 0
-  KeepsAbove rows = (k id : ℕ) (row : Row T) → slice_get rows k ≡ Some row → erases id row ≡ true → id ≤ boundary (take k rows)
+  abbrev pub KeepsAbove : List (RowOf C A) → Type 0
+  KeepsAbove rows = (k id : ℕ) (row : RowOf C A) → slice_get rows k ≡ Some row → erases id row ≡ true → id ≤ boundary (take k rows)
 
+module _ {T : Type 0} where
   -- the id that a checked write answers as its own
   abbrev pub id_entered : Call T → Answer T → Option ℕ
   id_entered (calls.Write base value) (answers.Wrote id) = Some id

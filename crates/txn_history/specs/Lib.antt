@@ -1,3 +1,4 @@
+pub mod Trace
 pub mod Names
 pub mod Lists
 pub mod History

@@ -9,8 +9,9 @@ use Rattle.txn_history.specs.declared.event.Call.TheVariants as calls
 use Rattle.txn_history.specs.declared.event.Answer.{Answer}
 use Rattle.txn_history.specs.declared.event.Answer.TheVariants as answers
 use Rattle.txn_store.specs.declared.request.Request.{Request}
-use Rattle.txn_history.specs.declared.trace.Row.{Row}
-use Rattle.txn_history.specs.declared.trace.Row.TheVariants.{Effect, Begun, Answered}
+use Rattle.txn_history.specs.declared.trace.RowOf.{RowOf}
+use Rattle.txn_history.specs.Trace.{Row}
+use Rattle.txn_history.specs.declared.trace.RowOf.TheVariants.{Effect, Begun, Answered}
 use Rattle.txn_types.specs.Numbers.{number_of, is_within}
 use Rattle.txn_history.specs.History.{Version, created, raised, removed, has_id, versions_of, newest, boundary, was_erased, is_stored, put_count, IsEntry, epoch_at}
 use Rattle.txn_history.specs.Calls.{was_begun, was_answered, IsCall, begun_count, value_written, was_told, is_below_told, AtRow}
@@ -122,9 +123,9 @@ module _ {T : Type 0} (decode : List ℕ → Option T) (get_epoch : T → ℕ) w
 abbrev pub greatest : ℕ
 greatest = 18446744073709551615
 
-module _ {T : Type 0} where
+module _ {C A : Type 0} where
   -- A name of id n was created by the operation, at a row of its call, with these bytes.
-  pub record Created (before : List (Row T)) (op n : ℕ) : Type 0 where
+  pub record Created (before : List (RowOf C A)) (op n : ℕ) : Type 0 where
     pub place : ℕ
     pub request : Request
     pub bytes : List ℕ
@@ -133,18 +134,18 @@ module _ {T : Type 0} where
     pub begun : was_begun (take place before) op ≡ true
 
   -- a put finds no token left in the store
-  abbrev pub NoTokens : List (Row T) → Type 0
+  abbrev pub NoTokens : List (RowOf C A) → Type 0
   NoTokens before = put_count before ≡ 18446744073709551615
 
   -- Ids that a listing answers at a row: ids of entries within the bounds, with all of them that are above the boundary.
-  pub record Lists (rows : List (Row T)) (from to : Bound ℕ) (ids : List ℕ) : Type 0 where
+  pub record Lists (rows : List (RowOf C A)) (from to : Bound ℕ) (ids : List ℕ) : Type 0 where
     pub ascending : IsStrictlySortedBy nat_cmp ids
     pub there : (n : ℕ) → list_any (nat_eq n) ids ≡ true → ((0 < n) × (n ≤ newest rows)) × (is_within from to n ≡ true)
     pub whole : (n : ℕ) → boundary rows < n → n ≤ newest rows → is_within from to n ≡ true → list_any (nat_eq n) ids ≡ true
 
-module _ {T : Type 0} (decode : List ℕ → Option T) where
+module _ {C A T : Type 0} (decode : List ℕ → Option T) where
   -- Version n was first created by the operation, at a row of its call, with this value.
-  pub record Entered (before : List (Row T)) (op n : ℕ) (value : T) : Type 0 where
+  pub record Entered (before : List (RowOf C A)) (op n : ℕ) (value : T) : Type 0 where
     pub place : ℕ
     pub request : Request
     pub bytes : List ℕ
@@ -155,27 +156,32 @@ module _ {T : Type 0} (decode : List ℕ → Option T) where
     pub reads : decode bytes ≡ Some value
 
   -- A base was overtaken: there is a newer entry now. What the operation entered itself, the boundary has reached.
-  pub record Overtaken (before : List (Row T)) (op : ℕ) (base : Option ℕ) : Type 0 where
+  pub record Overtaken (before : List (RowOf C A)) (op : ℕ) (base : Option ℕ) : Type 0 where
     pub longer : number_of base < newest before
     pub fenced : (n : ℕ) (value : T) → Entered before op n value → n ≤ boundary before
 
   -- at a row of the call the newest entry was entry n, with this value
-  abbrev pub WasNewest : List (Row T) → ℕ → ℕ → T → Type 0
+  abbrev pub WasNewest : List (RowOf C A) → ℕ → ℕ → T → Type 0
   WasNewest before op n value = AtRow before op (λ rows. (newest rows ≡ n) × IsEntry decode rows n value)
 
   -- what an unchecked read finds is that entry, or there was none of this id at a row of the call
-  abbrev pub IsFound : List (Row T) → ℕ → ℕ → Option T → Type 0
+  abbrev pub IsFound : List (RowOf C A) → ℕ → ℕ → Option T → Type 0
   IsFound before op id None = AtRow before op (λ rows. newest rows < id)
   IsFound before op id (Some value) = IsEntry decode before id value
 
   -- at a row of the call there was no entry
-  abbrev pub WasEmpty : List (Row T) → ℕ → Type 0
+  abbrev pub WasEmpty : List (RowOf C A) → ℕ → Type 0
   WasEmpty before op = AtRow before op (λ rows. newest rows ≡ 0)
 
 -- Rows do not show that a store call failed: the operations that were told so are a list beside them.
 module _ {T : Type 0} (decode : List ℕ → Option T) (get_epoch : T → ℕ) (failed : List ℕ) where
+  -- every call is refused where its store call failed, or for want of memory
+  abbrev pub Fails : ℕ → ℕ → Type 0
+  Fails op number = ((number ≡ 2) × (list_any (nat_eq op) failed ≡ true)) ⊎ (number ≡ 9)
+
+module _ {C A T : Type 0} (decode : List ℕ → Option T) (get_epoch : T → ℕ) (failed : List ℕ) where
   -- An answer that is no refusal fits the call. A checked write answers its own version, with its value; a read what was newest.
-  abbrev pub Succeeds : List (Row T) → ℕ → Call T → Answer T → Type 0
+  abbrev pub Succeeds : List (RowOf C A) → ℕ → Call T → Answer T → Type 0
   Succeeds before op (calls.Write base value) (answers.Wrote n) = Entered decode before op n value
   Succeeds before op (calls.WriteUnchecked base value) (answers.Wrote n) = Created before op n × (n ≡ number_of base + 1) × (n ≤ newest before)
   Succeeds before op calls.Read (answers.Read None) = WasEmpty decode before op
@@ -189,11 +195,11 @@ module _ {T : Type 0} (decode : List ℕ → Option T) (get_epoch : T → ℕ) (
   Succeeds before op call answer = ⊥
 
   -- a write is refused because its base was overtaken, because the store has no token left, or because no id is left
-  abbrev pub WriteRefused : List (Row T) → ℕ → Option ℕ → ℕ → Type 0
+  abbrev pub WriteRefused : List (RowOf C A) → ℕ → Option ℕ → ℕ → Type 0
   WriteRefused before op base number = ((number ≡ 5) × Overtaken decode before op base) ⊎ ((number ≡ 2) × NoTokens before) ⊎ ((number ≡ 10) × (base ≡ Some greatest))
 
   -- a refusal fits the call, by its number
-  abbrev pub Refuses : List (Row T) → ℕ → Call T → ℕ → Type 0
+  abbrev pub Refuses : List (RowOf C A) → ℕ → Call T → ℕ → Type 0
   Refuses before op (calls.Write base value) number = WriteRefused before op base number
   Refuses before op (calls.WriteUnchecked base value) number = WriteRefused before op base number
   Refuses before op (calls.Delete id) number = (number ≡ 7) × AtRow before op (λ rows. boundary rows < id)
@@ -201,21 +207,18 @@ module _ {T : Type 0} (decode : List ℕ → Option T) (get_epoch : T → ℕ) (
   Refuses before op (calls.Advance to) number = (number ≡ 2) × NoTokens before
   Refuses before op call number = ⊥
 
-  -- every call is refused where its store call failed, or for want of memory
-  abbrev pub Fails : ℕ → ℕ → Type 0
-  Fails op number = ((number ≡ 2) × (list_any (nat_eq op) failed ≡ true)) ⊎ (number ≡ 9)
-
   -- the answer fits the call
-  abbrev pub AnswerFits : List (Row T) → ℕ → Call T → Answer T → Type 0
-  AnswerFits before op call (answers.Refused number) = Refuses before op call number ⊎ Fails op number
+  abbrev pub AnswerFits : List (RowOf C A) → ℕ → Call T → Answer T → Type 0
+  AnswerFits before op call (answers.Refused number) = Refuses before op call number ⊎ Fails decode get_epoch failed op number
   AnswerFits before op call answer = Succeeds before op call answer
 
+module _ {T : Type 0} (decode : List ℕ → Option T) (get_epoch : T → ℕ) (failed : List ℕ) where
   -- The one answer of a call that began, and it fits.
   pub record Answers (before : List (Row T)) (op : ℕ) (answer : Answer T) : Type 0 where
     pub call : Call T
     pub called : IsCall before op call
     pub once : was_answered before op ≡ false
-    pub fits : AnswerFits before op call answer
+    pub fits : AnswerFits decode get_epoch failed before op call answer
 
 module _ {T : Type 0} (decode : List ℕ → Option T) (get_epoch : T → ℕ) (failed : List ℕ) where
   -- a row fits the rows before it

@@ -62,11 +62,12 @@ pub enum Failure {
     Loose,
 }
 
-/// One step of the world. Clients, operations and loose requests are numbered from 1.
+/// One step of a world whose clients make calls of this type. Clients, operations and loose requests are
+/// numbered from 1.
 #[derive(Debug, Drop, PartialEq, Eq)]
-pub enum Event<T> {
+pub enum EventOf<C> {
     /// The client begins the call. It becomes the operation of the next number.
-    Begin(u64, Call<T>),
+    Begin(u64, C),
     /// The operation looks at its client's caches.
     Look(u64),
     /// The store serves what the operation asks for, and the operation takes the reply.
@@ -81,7 +82,10 @@ pub enum Event<T> {
     Crash(u64),
 }
 
-impl<T: Clone> Event<T> {
+/// One step of a world whose clients make [`Call`]s.
+pub type Event<T> = EventOf<Call<T>>;
+
+impl<T: Clone> EventOf<Call<T>> {
     /// A copy. The only error is want of memory.
     pub fn try_clone(&self) -> Result<Event<T>, AllocError>
         requires { IsExactClone T.is_clone }
@@ -116,15 +120,15 @@ pub enum Answer<T> {
     Refused(u8),
 }
 
-/// What a taken event tells.
+/// What a taken event tells, where answers are of this type.
 #[derive(Debug, Drop)]
-pub enum Told<T> {
+pub enum ToldOf<A> {
     /// The operation of this number began.
     Began(u64),
     /// The operation goes on.
     Went(u64),
     /// The operation was answered, and has ended.
-    Answered(u64, Answer<T>),
+    Answered(u64, A),
     /// The operation was given up, and has ended.
     GaveUp(u64),
     /// The loose request of this number reached the store, and whether it changed the store.
@@ -132,6 +136,9 @@ pub enum Told<T> {
     /// The client crashed.
     Crashed(u64),
 }
+
+/// What a taken event of [`Call`]s tells.
+pub type Told<T> = ToldOf<Answer<T>>;
 
 /// Why an event is refused. A refused event changes nothing.
 #[derive(Clone, Copy, Debug, PartialEq, Eq)]
@@ -146,6 +153,8 @@ pub enum EventFault {
     BoundaryTooHigh,
     /// A value whose epoch is below that of its base's entry.
     EpochLowered,
+    /// A view that an operation uses already.
+    ViewBusy,
     /// A growth was refused before the event took effect.
     NoMemory,
 }
@@ -154,7 +163,7 @@ impl EventFault {
     ghost use Rattle.std.specs.Prelude.{◌≡◌};
     ghost use Rattle.txn_history.specs.Allowed.{fault_number};
 
-    /// The number that names the fault, 1 to 5 or 7.
+    /// The number that names the fault, 1 to 7.
     pub fn number(&self) -> u8
         ensures { result ≡ fault_number self.now }
     {
@@ -164,6 +173,7 @@ impl EventFault {
             EventFault::UnknownBase => 3,
             EventFault::BoundaryTooHigh => 4,
             EventFault::EpochLowered => 5,
+            EventFault::ViewBusy => 6,
             EventFault::NoMemory => 7,
         }
     }

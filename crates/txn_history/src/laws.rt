@@ -4,10 +4,10 @@ ghost use Rattle.txn_history.specs.Allowed.{fault_of};
 ghost use Rattle.txn_history.specs.Calls.{begun_count};
 ghost use Rattle.txn_history.specs.Seen.{Seen};
 ghost use Rattle.txn_history.specs.declared.event.Call.{Call};
-ghost use Rattle.txn_history.specs.declared.event.Event.TheVariants as events;
+ghost use Rattle.txn_history.specs.declared.event.EventOf.TheVariants as events;
 ghost use Rattle.txn_history.specs.OneHistory.{Opens, IsOneHistory};
 ghost use Rattle.txn_history.specs.Laws.{NeverFalls, KeepsAbove, HasOneWriter};
-ghost use Rattle.txn_history.specs.declared.trace.Row.{Row};
+ghost use Rattle.txn_history.specs.Trace.{Row};
 
 /// The boundary never falls.
 pub fn boundary_never_falls<T: Drop>(_value: &T)

@@ -62,6 +62,7 @@ fault_text faults.NotAsked = codes "fault 2 NotAsked"
 fault_text faults.UnknownBase = codes "fault 3 UnknownBase"
 fault_text faults.BoundaryTooHigh = codes "fault 4 BoundaryTooHigh"
 fault_text faults.EpochLowered = codes "fault 5 EpochLowered"
+fault_text faults.ViewBusy = codes "fault 6 ViewBusy"
 fault_text faults.NoMemory = codes "fault 7 NoMemory"
 
 -- the line of an entry of the history

@@ -3,7 +3,7 @@
 ghost use Rattle.std.specs.Prelude.{◌≡◌, ℕ, ◌<◌, ◌^◌, IfSome, Some, Option};
 ghost use Rattle.std.specs.declared.ops.Bound.{Bound};
 ghost use Rattle.txn_history.specs.declared.event.Call.{Call};
-ghost use Rattle.txn_history.specs.declared.event.Event.{Event};
+ghost use Rattle.txn_history.specs.Trace.{Event};
 ghost use Rattle.txn_history.specs.declared.event.Failure.{Failure};
 ghost use Rattle.txn_lines.specs.declared.record.Record.{Record};
 ghost use Rattle.txn_lines.specs.Grammar.{base_text, write_text, bound_text, list_text, call_text, begin_text, failure_text, fail_text, event_text, BaseFits, WriteFits, BoundFits, ListFits, CallFits, EventFits, Says};

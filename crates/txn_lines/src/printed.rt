@@ -145,6 +145,7 @@ impl fmt::Display for FaultLine {
             EventFault::UnknownBase => write!(f, "fault 3 UnknownBase"),
             EventFault::BoundaryTooHigh => write!(f, "fault 4 BoundaryTooHigh"),
             EventFault::EpochLowered => write!(f, "fault 5 EpochLowered"),
+            EventFault::ViewBusy => write!(f, "fault 6 ViewBusy"),
             EventFault::NoMemory => write!(f, "fault 7 NoMemory"),
         }
     }

@@ -13,8 +13,8 @@ use Rattle.txn_steps.specs.Listings.{listing_started}
 use Rattle.txn_history.specs.declared.event.Call.{Call}
 use Rattle.txn_history.specs.declared.event.Call.TheVariants as calls
 use Rattle.txn_history.specs.declared.event.Answer.TheVariants as answers
-use Rattle.txn_history.specs.declared.trace.Row.{Row}
-use Rattle.txn_history.specs.declared.trace.Row.TheVariants.{Begun}
+use Rattle.txn_history.specs.Trace.{Row}
+use Rattle.txn_history.specs.declared.trace.RowOf.TheVariants.{Begun}
 use Rattle.txn_history.specs.Names.{world_names, world_boundary}
 use Rattle.txn_history.specs.History.{newest, boundary, epoch_at}
 use Rattle.txn_history.specs.Calls.{begins, ends, is_below_told}
@@ -22,7 +22,7 @@ use Rattle.txn_history.specs.OneHistory.{base_on, is_known_base, Opens, AnswerFi
 use Rattle.txn_history.proofs.Lists.{get_last, any_false, any_last}
 use Rattle.txn_machine.specs.declared.doing.Doing.TheVariants.{Write, WriteUnchecked, Read, Ended}
 use Rattle.txn_machine.specs.Doing.{started, ReadsBack, FitsWord}
-use Rattle.txn_machine.proofs.Rows.{AtRow-now, epoch_kept, newest_grows_by}
+use Rattle.txn_history.proofs.More.{AtRow-now, epoch_kept, newest_grows_by}
 use Rattle.txn_machine.proofs.Stands.{create, affects, has_effect, IsWriteOf, Open, Room, CollectingStands, WasAbove, Creates, PuttingStands, KnowStands, Runs, TurnStands, Fresh}
 use Rattle.txn_machine.proofs.Turns.{no_id, ended, goes_on}
 

@@ -7,8 +7,8 @@ use Rattle.txn_store.specs.Store.{State as StoreState}
 use Rattle.txn_store.specs.declared.request.Request.{Request}
 use Rattle.txn_caches.specs.declared.caches.CachedBoundary.{CachedBoundary}
 use Rattle.txn_caches.specs.declared.caches.Caches.{Caches}
-use Rattle.txn_history.specs.declared.trace.Row.{Row}
-use Rattle.txn_history.specs.declared.event.Told.{Told}
+use Rattle.txn_history.specs.Trace.{Row}
+use Rattle.txn_history.specs.Trace.{Told}
 use Rattle.txn_history.specs.Lists.{numbered}
 use Rattle.txn_history.specs.Seen.{Ask, Store}
 use Rattle.txn_history.specs.GoesOn.{may_be_loose, as_loose, left_loose, all_left_loose}

@@ -22,8 +22,8 @@ use Rattle.txn_types.specs.BoundaryText.{boundary_read}
 use Rattle.txn_types.proofs.BoundaryLemmas.{read_decimal_text}
 use Rattle.txn_history.specs.declared.event.Call.{Call}
 use Rattle.txn_history.specs.declared.event.Answer.{Answer}
-use Rattle.txn_history.specs.declared.trace.Row.{Row}
-use Rattle.txn_history.specs.declared.trace.Row.TheVariants.{Effect, Begun, Answered}
+use Rattle.txn_history.specs.Trace.{Row}
+use Rattle.txn_history.specs.declared.trace.RowOf.TheVariants.{Effect, Begun, Answered}
 use Rattle.txn_history.specs.Lists.{numbered}
 use Rattle.txn_history.specs.Names.{world_names, world_boundary}
 use Rattle.txn_history.specs.History.{Contents, Version, is_id, has_id, with_version, versions_of, newest, stored, boundary, boundary_said, erases, put_count}
@@ -34,7 +34,8 @@ use Rattle.txn_history.proofs.Rows.{versions_of-more, stored-more, boundary-same
 use Rattle.txn_history.proofs.Apart.{tied_path, apart, created_is, raise_creates, raised_is, removed_is}
 use Rattle.txn_machine.specs.Machine.{HasContents}
 use Rattle.txn_machine.proofs.Stands.{AllGiven, IsVersionPath, AllVersions, OneKnown, TellsKnown, Frame, HistoryStands, FilesStand, KnowStands, bytes_at, create, remove_version, file_at, is_there}
-use Rattle.txn_machine.proofs.Rows.{put_count-more, one_history-more}
+use Rattle.txn_history.proofs.More.{put_count-more}
+use Rattle.txn_machine.proofs.Rows.{one_history-more}
 
 -- the boundary's file is not below the versions' folder
 pub boundary_outside : is_below world_names.dir world_boundary ≡ false

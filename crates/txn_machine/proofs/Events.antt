@@ -14,9 +14,9 @@ use Rattle.txn_history.specs.declared.event.Call.{Call}
 use Rattle.txn_history.specs.declared.event.Answer.TheVariants as answers
 use Rattle.txn_history.specs.declared.event.Failure.{Failure}
 use Rattle.txn_history.specs.declared.event.Failure.TheVariants as failures
-use Rattle.txn_history.specs.declared.event.Told.{Told}
-use Rattle.txn_history.specs.declared.trace.Row.{Row}
-use Rattle.txn_history.specs.declared.trace.Row.TheVariants.{Effect}
+use Rattle.txn_history.specs.Trace.{Told}
+use Rattle.txn_history.specs.Trace.{Row}
+use Rattle.txn_history.specs.declared.trace.RowOf.TheVariants.{Effect}
 use Rattle.txn_history.specs.Lists.{numbered}
 use Rattle.txn_history.specs.Seen.{Ask, Store, Look}
 use Rattle.txn_history.specs.GoesOn.{may_be_loose}
@@ -28,7 +28,7 @@ use Rattle.txn_machine.specs.declared.doing.Operation.{Operation}
 use Rattle.txn_machine.specs.Doing.{Next, asked, caches_left}
 use Rattle.txn_machine.specs.Machine.{State, effect_of, effect_rows, with_doing, acted, effected, failing, given_up, told_failure, Acts, Reaches, FailsFirst, FailsAfter, Fails, GivesUp, Lands, Looks, Served}
 use Rattle.txn_machine.proofs.Lists.{within, numbered_here}
-use Rattle.txn_machine.proofs.Rows.{begun_count-more}
+use Rattle.txn_history.proofs.More.{begun_count-more}
 use Rattle.txn_machine.proofs.Stands.{AreOthers, CachesStand, Runs, RunStands, OpStands, TurnStands, Asks, StandsBut, Stands}
 use Rattle.txn_machine.proofs.Turns.{stays, LooksTo, fails_with}
 use Rattle.txn_machine.proofs.Effects.{answered_frame}

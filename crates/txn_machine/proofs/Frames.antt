@@ -38,8 +38,8 @@ use Rattle.txn_steps.specs.declared.delete.DeleteStep.TheVariants as deletes
 use Rattle.txn_steps.specs.declared.delete.DeleteOp.{DeleteOp}
 use Rattle.txn_history.specs.declared.event.Call.{Call}
 use Rattle.txn_history.specs.declared.event.Call.TheVariants as calls
-use Rattle.txn_history.specs.declared.trace.Row.{Row}
-use Rattle.txn_history.specs.declared.trace.Row.TheVariants.{Effect}
+use Rattle.txn_history.specs.Trace.{Row}
+use Rattle.txn_history.specs.declared.trace.RowOf.TheVariants.{Effect}
 use Rattle.txn_history.specs.Lists.{numbered}
 use Rattle.txn_history.specs.History.{Version, newest, boundary, versions_of, is_stored, IsEntry, epoch_at}
 use Rattle.txn_history.specs.Calls.{begins, ends, was_begun, was_answered, IsCall, AtRow}
@@ -48,7 +48,8 @@ use Rattle.txn_history.proofs.Rows.{row_op}
 use Rattle.txn_machine.specs.declared.doing.Doing.{Doing}
 use Rattle.txn_machine.specs.declared.doing.Doing.TheVariants.{Write, WriteUnchecked, Read, ReadUnchecked, ReadSeen, ListIds, Delete, Check, Advance, Ended}
 use Rattle.txn_machine.specs.Doing.{ids_of}
-use Rattle.txn_machine.proofs.Rows.{begins_other, ends_other, affects_other, call_kept, begun_kept, at_kept, version_kept_by, newest_grows_by, epoch_kept, created_kept, entered_kept}
+use Rattle.txn_history.proofs.More.{begins_other, ends_other, call_kept, begun_kept, at_kept, version_kept_by, newest_grows_by, epoch_kept, created_kept, entered_kept}
+use Rattle.txn_machine.proofs.Rows.{affects_other}
 use Rattle.txn_machine.proofs.Stands.{affects, has_effect, AreOthers, IsKnown, Frame, Fit, KnownFits, Open, TokenStands, ReadingStands, StepStands, CheckStands, Room, KnownBelow, PutStands, RaiseStands, AdvanceStands, WasAbove, WasGone, WasEmpty, RemovalStands, DeleteStepStands, Only, KnowsFound, ListingStands, FoundStands, ChosenStands, CollectingStands, Carried, WindowFits, CachesStand, LatestStands, ReadStands, SeenStands, Creates, PuttingStands, CreatedStands, UncheckedStands, WrittenStands, WriteStands, DoingStands, Asks, Runs, RunStands, OpStands, Fresh, bytes_at}
 
 get_split : {A : Type 0} (xs ys : List A) (k : ℕ) (y : A) → slice_get (xs ++ ys) k ≡ Some y → (slice_get xs k ≡ Some y) ⊎ ((j : ℕ) × (slice_get ys j ≡ Some y))

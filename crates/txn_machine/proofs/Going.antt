@@ -18,10 +18,10 @@ use Rattle.txn_history.specs.declared.event.Answer.{Answer}
 use Rattle.txn_history.specs.declared.event.Answer.TheVariants as answers
 use Rattle.txn_history.specs.declared.event.Failure.{Failure}
 use Rattle.txn_history.specs.declared.event.Failure.TheVariants as failures
-use Rattle.txn_history.specs.declared.event.Told.{Told}
-use Rattle.txn_history.specs.declared.event.Told.TheVariants as told
-use Rattle.txn_history.specs.declared.event.Event.{Event}
-use Rattle.txn_history.specs.declared.event.Event.TheVariants as events
+use Rattle.txn_history.specs.Trace.{Told}
+use Rattle.txn_history.specs.declared.event.ToldOf.TheVariants as told
+use Rattle.txn_history.specs.Trace.{Event}
+use Rattle.txn_history.specs.declared.event.EventOf.TheVariants as events
 use Rattle.txn_history.specs.Lists.{numbered}
 use Rattle.txn_history.specs.Names.{world_names, world_boundary}
 use Rattle.txn_history.specs.Seen.{Ask, Store, Look, Operation as SeenOperation, asks_in, asks_of}
@@ -167,7 +167,7 @@ module _ {T : Type 0} where
       ∙ ap (λ ss. state_after t from (seen_operation x) ∷ ss) (states_begun t (from + 1) op client ended os doing (omega (arith, at)) one fits)
 
   -- the operations of a client end
-  crashed_state : (client n : ℕ) (o : Operation T) → state_of (seen_operation (ended_by client o)) ≡ state_after {T = T} (told.Crashed client) n (seen_operation o)
+  crashed_state : (client n : ℕ) (o : Operation T) → state_of (seen_operation (ended_by client o)) ≡ state_after {A = Answer T} (told.Crashed client) n (seen_operation o)
   crashed_state client n o =
       elim (cases_Bool (o.client == client)) [
         | inl e ↦ (
@@ -180,10 +180,10 @@ module _ {T : Type 0} where
             )
       ]
 
-  states_crashed : (client from : ℕ) (os : List (Operation T)) → map state_of (seen_operations (map (ended_by client) os)) ≡ states_after {T = T} (told.Crashed client) from (seen_operations os) None
+  states_crashed : (client from : ℕ) (os : List (Operation T)) → map state_of (seen_operations (map (ended_by client) os)) ≡ states_after {A = Answer T} (told.Crashed client) from (seen_operations os) None
   states_crashed client from [] = refl
   states_crashed client from (x ∷ os) =
-      ap (λ s. s ∷ map state_of (seen_operations (map (ended_by client) os))) (crashed_state client from x) ∙ ap (λ ss. state_after {T = T} (told.Crashed client) from (seen_operation x) ∷ ss) (states_crashed client (from + 1) os)
+      ap (λ s. s ∷ map state_of (seen_operations (map (ended_by client) os))) (crashed_state client from x) ∙ ap (λ ss. state_after {A = Answer T} (told.Crashed client) from (seen_operation x) ∷ ss) (states_crashed client (from + 1) os)
 
   -- each event
 
@@ -204,7 +204,7 @@ module _ {T : Type 0} where
         failed = refl;
       })
 
-  look_goes : (decode : List ℕ → Option T) (old : State T) (op : ℕ) (said : Told T) (new : State T) → Looks decode old op said new → GoesOn (seen_of old) (events.Look op) said (seen_of new)
+  look_goes : (decode : List ℕ → Option T) (old : State T) (op : ℕ) (said : Told T) (new : State T) → Looks decode old op said new → GoesOn {C = Call T} (seen_of old) (events.Look op) said (seen_of new)
   look_goes decode old op said new v =
       let a = v.acts in
       let t = told_of (told.Went op) op v.next.1 in
@@ -217,7 +217,7 @@ module _ {T : Type 0} where
         failed = refl;
       })
 
-  serve_goes : (decode : List ℕ → Option T) (old : State T) (op : ℕ) (said : Told T) (new : State T) → Served decode old op said new → GoesOn (seen_of old) (events.Serve op) said (seen_of new)
+  serve_goes : (decode : List ℕ → Option T) (old : State T) (op : ℕ) (said : Told T) (new : State T) → Served decode old op said new → GoesOn {C = Call T} (seen_of old) (events.Serve op) said (seen_of new)
   serve_goes decode old op said new v =
       let a = v.acts in
       let t = told_of (told.Went op) op v.next.1 in
@@ -236,10 +236,10 @@ module _ {T : Type 0} where
 
   -- the operations, where one is told that its store call failed
   failed_states : (old : State T) (op : ℕ) (o : Operation T) (ask : Ask) (caches : Caches) → Acts old op o ask caches →
-      map state_of (seen_operations (with_doing old.operations op o Ended)) ≡ states_after {T = T} (told.Answered op (answers.Refused 2)) 1 (seen_operations old.operations) None
+      map state_of (seen_operations (with_doing old.operations op o Ended)) ≡ states_after {A = Answer T} (told.Answered op (answers.Refused 2)) 1 (seen_operations old.operations) None
   failed_states old op o ask caches a = acted_states (told.Answered op (answers.Refused 2)) op true old.operations o ask Ended a.found (answer_ends op (answers.Refused 2)) a.asks refl
 
-  fail_goes : (failure : Failure) (old : State T) (op : ℕ) (said : Told T) (new : State T) → Fails old op failure said new → GoesOn (seen_of old) (events.Fail op failure) said (seen_of new)
+  fail_goes : (failure : Failure) (old : State T) (op : ℕ) (said : Told T) (new : State T) → Fails old op failure said new → GoesOn {C = Call T} (seen_of old) (events.Fail op failure) said (seen_of new)
   fail_goes failures.Before old op said new v =
       told_so old (events.Fail op failures.Before) said (told.Answered op (answers.Refused 2)) new (acted (failing old op) op v.operation told_failure v.caches) v.tells v.state
       (record { clients = refl; operations = failed_states old op v.operation (Store v.request) v.caches v.acts; loose = refl; failed = refl })
@@ -250,7 +250,7 @@ module _ {T : Type 0} where
       told_so old (events.Fail op failures.Loose) said (told.Answered op (answers.Refused 2)) new (acted (failing (loosened old op (Store v.request)) op) op v.operation told_failure v.caches) v.tells v.state
       (record { clients = refl; operations = failed_states old op v.operation (Store v.request) v.caches v.acts; loose = leaves old op v.operation (Store v.request) v.caches v.acts; failed = refl })
 
-  give_up_goes : (old : State T) (op : ℕ) (said : Told T) (new : State T) → GivesUp old op said new → GoesOn (seen_of old) (events.GiveUp op) said (seen_of new)
+  give_up_goes : (old : State T) (op : ℕ) (said : Told T) (new : State T) → GivesUp old op said new → GoesOn {C = Call T} (seen_of old) (events.GiveUp op) said (seen_of new)
   give_up_goes old op said new v =
       let a = v.acts in
       told_so old (events.GiveUp op) said (told.GaveUp op) new (acted (loosened old op v.ask) op v.operation given_up v.caches) v.tells v.state
@@ -261,13 +261,13 @@ module _ {T : Type 0} where
         failed = refl;
       })
 
-  land_goes : (old : State T) (k : ℕ) (said : Told T) (new : State T) → Lands old k said new → GoesOn (seen_of old) (events.Land k) said (seen_of new)
+  land_goes : (old : State T) (k : ℕ) (said : Told T) (new : State T) → Lands old k said new → GoesOn {C = Call T} (seen_of old) (events.Land k) said (seen_of new)
   land_goes old k said new v =
       let t = told.Landed k (is_some (effect_of old.store.files v.request v.reply)) in
       told_so old (events.Land k) said t new (effected old v.op v.request v.reply v.store) v.tells v.state
       (record { clients = refl; operations = states_stay t 1 (seen_operations old.operations) (λ client n le. refl); loose = refl; failed = refl })
 
-  crash_goes : (old : State T) (client : ℕ) (said : Told T) (new : State T) → Crashes old client said new → GoesOn (seen_of old) (events.Crash client) said (seen_of new)
+  crash_goes : (old : State T) (client : ℕ) (said : Told T) (new : State T) → Crashes old client said new → GoesOn {C = Call T} (seen_of old) (events.Crash client) said (seen_of new)
   crash_goes old client said new v =
       told_so old (events.Crash client) said (told.Crashed client) new (crashed old client) v.tells v.state
       (record { clients = refl; operations = states_crashed client 1 old.operations; loose = refl; failed = refl })

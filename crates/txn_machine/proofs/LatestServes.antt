@@ -24,7 +24,7 @@ use Rattle.txn_steps.specs.declared.latest.LatestOp.{LatestOp}
 use Rattle.txn_steps.specs.declared.latest.LatestOp.TheVariants.{Looks, Probes, Finds, Lists, Chooses, Gets as GetsVersion, Keeps, Drops, Ended}
 use Rattle.txn_steps.specs.Requests.{version_got, version_page}
 use Rattle.txn_steps.specs.Latest.{ReadAnswer, latest_asked, paged_turned, listed, unlisted, found_kept, latest_left, read_in_hand, answered, probed, keeping, got_decoded, in_hand, held_or_got, chosen, begins_with, found_turned, latest_got, latest_turned}
-use Rattle.txn_history.specs.declared.trace.Row.{Row}
+use Rattle.txn_history.specs.Trace.{Row}
 use Rattle.txn_history.specs.Lists.{numbered}
 use Rattle.txn_history.specs.Names.{world_names}
 use Rattle.txn_history.specs.History.{Version, versions_of, newest, boundary, IsEntry}
@@ -34,7 +34,7 @@ use Rattle.txn_history.proofs.Rows.{entry_at}
 use Rattle.txn_machine.proofs.Stands.{KnowStands, IsKnown, Open, WasEmpty, Carried, WindowFits, CachesStand, HoldsStand, ListingStands, FoundStands, ChosenStands, LatestStands, list_versions, is_there}
 use Rattle.txn_machine.proofs.Windows.{kept_fits, above_fits, held_fits, greatest_fits}
 use Rattle.txn_machine.proofs.Lists.{within, numbered_there}
-use Rattle.txn_machine.proofs.Rows.{AtRow-now}
+use Rattle.txn_history.proofs.More.{AtRow-now}
 use Rattle.txn_machine.proofs.Faults.{ruled_out, missing_other, get_missing}
 use Rattle.txn_machine.proofs.Stored.{carried_entry, carried_stored, there_above}
 use Rattle.txn_machine.proofs.Pages.{IsNewest, NewestLeaves, newest_leaves}

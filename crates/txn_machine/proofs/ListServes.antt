@@ -13,13 +13,13 @@ use Rattle.txn_store.specs.declared.request.Reply.TheVariants as replies
 use Rattle.txn_steps.specs.declared.listing.ListOp.{ListOp}
 use Rattle.txn_steps.specs.Picked.{picked}
 use Rattle.txn_steps.specs.Listings.{listing_after, listing_answered, listing_turned}
-use Rattle.txn_history.specs.declared.trace.Row.{Row}
+use Rattle.txn_history.specs.Trace.{Row}
 use Rattle.txn_history.specs.Names.{world_names}
 use Rattle.txn_history.specs.Calls.{was_begun}
 use Rattle.txn_history.specs.OneHistory.{Lists}
 use Rattle.txn_machine.specs.Doing.{ids_of}
 use Rattle.txn_machine.proofs.Stands.{KnowStands, CollectingStands, list_versions}
-use Rattle.txn_machine.proofs.Rows.{AtRow-now}
+use Rattle.txn_history.proofs.More.{AtRow-now}
 use Rattle.txn_machine.proofs.Faults.{ruled_out}
 use Rattle.txn_machine.proofs.Pages.{ListLeaves, list_leaves}
 use Rattle.txn_machine.proofs.Turns.{ListTells}

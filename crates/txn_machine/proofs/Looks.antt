@@ -22,7 +22,7 @@ use Rattle.txn_steps.specs.SeenSteps.{seen_asked, seen_turned, seen_latest}
 use Rattle.txn_steps.proofs.RangeLemmas.{read_stays}
 use Rattle.txn_history.specs.declared.event.Call.{Call}
 use Rattle.txn_history.specs.declared.event.Call.TheVariants as calls
-use Rattle.txn_history.specs.declared.trace.Row.{Row}
+use Rattle.txn_history.specs.Trace.{Row}
 use Rattle.txn_history.specs.Names.{world_names, world_boundary}
 use Rattle.txn_history.specs.OneHistory.{Entered, WasNewest}
 use Rattle.txn_machine.specs.Doing.{Next, or_no_memory, write_next, unchecked_next, read_next, seen_next}

@@ -32,7 +32,7 @@ use Rattle.txn_steps.specs.Listings.{listing_after, listing_turned}
 use Rattle.txn_history.specs.declared.event.Call.{Call}
 use Rattle.txn_history.specs.declared.event.Call.TheVariants as calls
 use Rattle.txn_history.specs.declared.event.Answer.{Answer}
-use Rattle.txn_history.specs.declared.trace.Row.{Row}
+use Rattle.txn_history.specs.Trace.{Row}
 use Rattle.txn_history.specs.Names.{world_names, world_boundary}
 use Rattle.txn_history.specs.Seen.{Store, Look}
 use Rattle.txn_history.specs.OneHistory.{Entered, WasNewest}

@@ -31,7 +31,7 @@ use Rattle.txn_steps.specs.Latest.{greater_of, greatest_from}
 use Rattle.txn_steps.specs.Listed.{Listed}
 use Rattle.txn_steps.specs.Picked.{picked}
 use Rattle.txn_steps.specs.Requests.{version_page, last_location, next_after}
-use Rattle.txn_history.specs.declared.trace.Row.{Row}
+use Rattle.txn_history.specs.Trace.{Row}
 use Rattle.txn_history.specs.Names.{world_names}
 use Rattle.txn_history.specs.History.{newest, boundary}
 use Rattle.txn_history.specs.OneHistory.{Lists}

@@ -19,7 +19,7 @@ use Rattle.txn_history.specs.declared.event.Call.{Call}
 use Rattle.txn_history.specs.declared.event.Call.TheVariants as calls
 use Rattle.txn_history.specs.declared.event.Answer.{Answer}
 use Rattle.txn_history.specs.declared.event.Answer.TheVariants as answers
-use Rattle.txn_history.specs.declared.trace.Row.{Row}
+use Rattle.txn_history.specs.Trace.{Row}
 use Rattle.txn_history.specs.Names.{world_boundary}
 use Rattle.txn_history.specs.OneHistory.{WasNewest, AnswerFits}
 use Rattle.txn_machine.specs.declared.doing.Doing.TheVariants.{Read, ListIds}

@@ -47,7 +47,7 @@ use Rattle.txn_steps.specs.Reads.{read_asked, IsReadReply}
 use Rattle.txn_steps.specs.SeenSteps.{seen_asked, IsSeenReply}
 use Rattle.txn_steps.specs.Deletes.{removal_asked_at, IsRemovalReplyAt, delete_asked, delete_asked_at, IsDeleteReplyAt}
 use Rattle.txn_history.specs.declared.event.Call.{Call}
-use Rattle.txn_history.specs.declared.trace.Row.{Row}
+use Rattle.txn_history.specs.Trace.{Row}
 use Rattle.txn_history.specs.Lists.{numbered}
 use Rattle.txn_history.specs.Seen.{Store, Look}
 use Rattle.txn_history.specs.OneHistory.{Entered, WasNewest}

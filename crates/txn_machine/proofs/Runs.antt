@@ -18,11 +18,11 @@ use Rattle.txn_history.specs.declared.event.Answer.{Answer}
 use Rattle.txn_history.specs.declared.event.Answer.TheVariants as answers
 use Rattle.txn_history.specs.declared.event.Failure.{Failure}
 use Rattle.txn_history.specs.declared.event.Failure.TheVariants as failures
-use Rattle.txn_history.specs.declared.event.Told.{Told}
-use Rattle.txn_history.specs.declared.event.Told.TheVariants as told
-use Rattle.txn_history.specs.declared.event.Event.{Event}
-use Rattle.txn_history.specs.declared.event.Event.TheVariants as events
-use Rattle.txn_history.specs.declared.trace.Row.TheVariants.{Begun}
+use Rattle.txn_history.specs.Trace.{Told}
+use Rattle.txn_history.specs.declared.event.ToldOf.TheVariants as told
+use Rattle.txn_history.specs.Trace.{Event}
+use Rattle.txn_history.specs.declared.event.EventOf.TheVariants as events
+use Rattle.txn_history.specs.declared.trace.RowOf.TheVariants.{Begun}
 use Rattle.txn_history.specs.Lists.{numbered}
 use Rattle.txn_history.specs.History.{stored}
 use Rattle.txn_history.specs.Calls.{begun_count}
@@ -41,7 +41,7 @@ module _ (T : Type 0) where
   -- what a request that was served adds
 
   abbrev RowOf : ℕ → StoreState → StoreState → Request → Reply → Type 0
-  RowOf op old new request reply = IsEffectRow {T = T} op request old.files new.files (effect_rows op (effect_of old.files request reply))
+  RowOf op old new request reply = IsEffectRow {C = Call T} {A = Answer T} op request old.files new.files (effect_rows op (effect_of old.files request reply))
 
   -- a token that is new is not a file's
   fresh_token : (path : Segments) (bytes : List ℕ) (token : ℕ) (old new : StoreState) → AllGiven old → Placed path bytes token old new → get old.files path ≢ Some (record { bytes = bytes; token = token })
@@ -57,7 +57,7 @@ module _ (T : Type 0) where
   put_row op path bytes mode old new (Err errors.Precondition) all p honest = inl (refl, p.err.1.files)
   put_row op path bytes mode old new (Err errors.NotModified) all p honest = inl (refl, p.err.1.files)
 
-  removed_row : (there : Bool) (op : ℕ) (path : Segments) (old new : StoreState) → is_some (get old.files path) ≡ there → Removed path old new → IsEffectRow {T = T} op (requests.Delete path) old.files new.files (effect_rows op (cond there (Some (requests.Delete path)) None))
+  removed_row : (there : Bool) (op : ℕ) (path : Segments) (old new : StoreState) → is_some (get old.files path) ≡ there → Removed path old new → IsEffectRow {C = Call T} {A = Answer T} op (requests.Delete path) old.files new.files (effect_rows op (cond there (Some (requests.Delete path)) None))
   removed_row true op path old new e gone = inr (refl, (gone.files, e))
   removed_row false op path old new e gone = inl (refl, gone.files ∙ removed_missing old.files path (not_some (get old.files path) e))
 
@@ -166,7 +166,7 @@ module _ {T : Type 0} (encode : T → List ℕ) (decode : List ℕ → Option T)
         request = v.request;
         asked = seen_at old op v.operation v.acts.found ∙ v.acts.asks;
         rows = rows;
-        effect = subst (λ (s : State T). IsEffectRow {T = T} op v.request old.store.files s.store.files rows) (sym v.state) (served_row T op old.store v.store v.request v.reply st.know.files.given v.reaches.serves v.reaches.honest);
+        effect = subst (λ (s : State T). IsEffectRow {C = Call T} {A = Answer T} op v.request old.store.files s.store.files rows) (sym v.state) (served_row T op old.store v.store v.request v.reply st.know.files.given v.reaches.serves v.reaches.honest);
         told = subst (λ (t : Told T). Tells (told.Went op) op t) (sym v.tells) (tells_answer (told.Went op) op v.next.1);
         added = ap (λ (s : State T). s.trace) v.state ∙ ap (λ more. (old.trace ++ rows) ++ more) (went_row op v.next.1 ∙ ap answer_row (sym v.tells));
       }
@@ -199,7 +199,7 @@ module _ {T : Type 0} (encode : T → List ℕ) (decode : List ℕ → Option T)
         request = v.request;
         asked = seen_at old op v.operation v.acts.found ∙ v.acts.asks;
         rows = rows;
-        effect = subst (λ (s : State T). IsEffectRow {T = T} op v.request old.store.files s.store.files rows) (sym v.state) (served_row T op old.store v.store v.request v.reply st.know.files.given v.reaches.serves v.reaches.honest);
+        effect = subst (λ (s : State T). IsEffectRow {C = Call T} {A = Answer T} op v.request old.store.files s.store.files rows) (sym v.state) (served_row T op old.store v.store v.request v.reply st.know.files.given v.reaches.serves v.reaches.honest);
         told = inr (answers.Refused 2, v.tells);
         added = ap (λ (s : State T). s.trace) v.state ∙ ap (λ (t : Told T). (old.trace ++ rows) ++ answer_row t) (sym v.tells);
       }
@@ -213,7 +213,7 @@ module _ {T : Type 0} (encode : T → List ℕ) (decode : List ℕ → Option T)
         request = v.request;
         loose = v.found;
         rows = rows;
-        effect = subst (λ (s : State T). IsEffectRow {T = T} v.op v.request old.store.files s.store.files rows) (sym v.state) (served_row T v.op old.store v.store v.request v.reply st.know.files.given v.reaches.serves v.reaches.honest);
+        effect = subst (λ (s : State T). IsEffectRow {C = Call T} {A = Answer T} v.op v.request old.store.files s.store.files rows) (sym v.state) (served_row T v.op old.store v.store v.request v.reply st.know.files.given v.reaches.serves v.reaches.honest);
         told = v.tells ∙ ap (told.Landed k) (effect_empty T v.op effect);
         added = ap (λ (s : State T). s.trace) v.state;
       }

@@ -21,7 +21,7 @@ use Rattle.txn_steps.specs.SeenSteps.{value_read, as_found, value_got, unchecked
 use Rattle.txn_history.specs.declared.event.Call.{Call}
 use Rattle.txn_history.specs.declared.event.Call.TheVariants as calls
 use Rattle.txn_history.specs.declared.event.Answer.TheVariants as answers
-use Rattle.txn_history.specs.declared.trace.Row.{Row}
+use Rattle.txn_history.specs.Trace.{Row}
 use Rattle.txn_history.specs.Names.{world_names}
 use Rattle.txn_history.specs.History.{newest}
 use Rattle.txn_history.specs.OneHistory.{IsFound, AnswerFits}
@@ -30,7 +30,7 @@ use Rattle.txn_machine.specs.Doing.{Next, value_next, seen_next}
 use Rattle.txn_machine.proofs.Stands.{KnowStands, Open, Carried, WindowFits, HoldsStand, Runs, TurnStands}
 use Rattle.txn_machine.proofs.Turns.{no_id, ended, goes_on, lacking, ends_with}
 use Rattle.txn_machine.proofs.Windows.{held_fits}
-use Rattle.txn_machine.proofs.Rows.{AtRow-now}
+use Rattle.txn_history.proofs.More.{AtRow-now}
 use Rattle.txn_machine.proofs.Stored.{carried_entry, carried_stored, none_stored}
 use Rattle.txn_machine.proofs.Faults.{get_missing, get_other, get_same, ruled_out}
 

@@ -27,7 +27,7 @@ use Rattle.txn_steps.specs.SeenSteps.{unchecked_turned as value_turned, seen_ask
 use Rattle.txn_steps.proofs.RangeLemmas.{read_stays}
 use Rattle.txn_history.specs.declared.event.Call.{Call}
 use Rattle.txn_history.specs.declared.event.Call.TheVariants as calls
-use Rattle.txn_history.specs.declared.trace.Row.{Row}
+use Rattle.txn_history.specs.Trace.{Row}
 use Rattle.txn_history.specs.Names.{world_names, world_boundary}
 use Rattle.txn_history.specs.OneHistory.{Entered, WasNewest}
 use Rattle.txn_machine.specs.Doing.{Next, write_next, read_next, value_next, seen_next}

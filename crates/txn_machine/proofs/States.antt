@@ -9,8 +9,8 @@ use Rattle.txn_caches.specs.declared.caches.CachedBoundary.{CachedBoundary}
 use Rattle.txn_caches.specs.declared.caches.Caches.{Caches}
 use Rattle.txn_history.specs.declared.event.Call.{Call}
 use Rattle.txn_history.specs.declared.event.Answer.{Answer}
-use Rattle.txn_history.specs.declared.trace.Row.{Row}
-use Rattle.txn_history.specs.declared.trace.Row.TheVariants.{Answered}
+use Rattle.txn_history.specs.Trace.{Row}
+use Rattle.txn_history.specs.declared.trace.RowOf.TheVariants.{Answered}
 use Rattle.txn_history.specs.Lists.{numbered}
 use Rattle.txn_history.specs.Seen.{Ask}
 use Rattle.txn_history.specs.GoesOn.{may_be_loose, as_loose, left_loose}
@@ -22,7 +22,7 @@ use Rattle.txn_machine.specs.declared.doing.Operation.{Operation}
 use Rattle.txn_machine.specs.Doing.{asked}
 use Rattle.txn_machine.specs.Machine.{State, with_doing, acted, loosened}
 use Rattle.txn_machine.proofs.Lists.{within, numbered_here, numbered_other, numbered_append, get_first}
-use Rattle.txn_machine.proofs.Rows.{begun_count-more}
+use Rattle.txn_history.proofs.More.{begun_count-more}
 use Rattle.txn_machine.proofs.Stands.{AreOthers, Frame, KnowStands, CachesStand, RunStands, Ends, OpStands, TurnStands, Asks, LooseStands, AtClient, StandsBut, Stands}
 use Rattle.txn_machine.proofs.Turns.{RisesTo}
 use Rattle.txn_machine.proofs.Rising.{op_rises}

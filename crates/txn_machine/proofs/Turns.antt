@@ -20,7 +20,7 @@ use Rattle.txn_steps.specs.Listed.{Listed}
 use Rattle.txn_history.specs.declared.event.Call.{Call}
 use Rattle.txn_history.specs.declared.event.Answer.{Answer}
 use Rattle.txn_history.specs.declared.event.Answer.TheVariants as answers
-use Rattle.txn_history.specs.declared.trace.Row.{Row}
+use Rattle.txn_history.specs.Trace.{Row}
 use Rattle.txn_history.specs.History.{boundary}
 use Rattle.txn_history.specs.Calls.{tells_id, AtRow}
 use Rattle.txn_history.specs.OneHistory.{Lists, WasNewest, AnswerFits, NoTokens}

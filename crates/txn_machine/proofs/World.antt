@@ -10,13 +10,13 @@ use Rattle.txn_store.specs.declared.store.Got.{Got}
 use Rattle.txn_caches.specs.declared.caches.Caches.{Caches}
 use Rattle.txn_history.specs.declared.event.Call.{Call}
 use Rattle.txn_history.specs.declared.event.Answer.{Answer}
-use Rattle.txn_history.specs.declared.event.Told.{Told}
-use Rattle.txn_history.specs.declared.event.Event.{Event}
-use Rattle.txn_history.specs.declared.event.Event.TheVariants as events
+use Rattle.txn_history.specs.Trace.{Told}
+use Rattle.txn_history.specs.Trace.{Event}
+use Rattle.txn_history.specs.declared.event.EventOf.TheVariants as events
 use Rattle.txn_history.specs.declared.event.EventFault.{EventFault}
 use Rattle.txn_history.specs.declared.event.EventFault.TheVariants as faults
-use Rattle.txn_history.specs.declared.trace.Row.{Row}
-use Rattle.txn_history.specs.declared.trace.Row.TheVariants.{Begun, Answered}
+use Rattle.txn_history.specs.Trace.{Row}
+use Rattle.txn_history.specs.declared.trace.RowOf.TheVariants.{Begun, Answered}
 use Rattle.txn_history.specs.Lists.{numbered}
 use Rattle.txn_history.specs.Names.{world_names, world_boundary}
 use Rattle.txn_history.specs.History.{boundary_said, boundary}
@@ -30,7 +30,7 @@ use Rattle.txn_machine.specs.declared.doing.Operation.{Operation}
 use Rattle.txn_machine.specs.Doing.{Next}
 use Rattle.txn_machine.specs.Machine.{State, no_caches, opening, next_op, begun_as, seen_of, Begins, Takes, Runs, IsReached}
 use Rattle.txn_machine.proofs.Lists.{within, numbered_there}
-use Rattle.txn_machine.proofs.Rows.{begun_count-more, begun_count-begun}
+use Rattle.txn_history.proofs.More.{begun_count-more, begun_count-begun}
 use Rattle.txn_machine.proofs.Stands.{AreOthers, Frame, CachesStand, OpStands, TurnStands, AtClient, StandsBut, Stands}
 use Rattle.txn_machine.proofs.Effects.{begun_know, begun_frame, answered_know, answered_frame}
 use Rattle.txn_machine.proofs.Frames.{begun_more, caches_more, asks_more, op_more, fresh_more, zero_more}
@@ -156,7 +156,7 @@ module _ {T : Type 0} (encode : T → List ℕ) (decode : List ℕ → Option T)
 
   pub opening_stands : (clients page : ℕ) → 1 ≤ page → Stands decode get_epoch (opening clients page)
   opening_stands clients page room =
-      let nothing : boundary {T = T} [] ≡ 0 = ap boundary_said (get-empty path_cmp world_boundary) in
+      let nothing : boundary {C = Call T} {A = Answer T} [] ≡ 0 = ap boundary_said (get-empty path_cmp world_boundary) in
       record {
         paged = room;
         know = record {

@@ -18,8 +18,8 @@ use Rattle.txn_steps.specs.declared.write.WriteUncheckedOp.TheVariants as unchec
 use Rattle.txn_steps.specs.Writes.{unchecked_turned, put_answered}
 use Rattle.txn_history.specs.declared.event.Call.{Call}
 use Rattle.txn_history.specs.declared.event.Answer.TheVariants as answers
-use Rattle.txn_history.specs.declared.trace.Row.{Row}
-use Rattle.txn_history.specs.declared.trace.Row.TheVariants.{Effect}
+use Rattle.txn_history.specs.Trace.{Row}
+use Rattle.txn_history.specs.declared.trace.RowOf.TheVariants.{Effect}
 use Rattle.txn_history.specs.Names.{world_names}
 use Rattle.txn_history.specs.History.{Version, created, has_id, versions_of, newest, boundary}
 use Rattle.txn_history.specs.Calls.{ends as ends_row, was_begun, was_answered}
@@ -29,7 +29,8 @@ use Rattle.txn_history.proofs.Apart.{created_is}
 use Rattle.txn_machine.specs.Machine.{effect_of, effect_rows}
 use Rattle.txn_machine.proofs.Stands.{IsKnown, Open, KnowStands, IsWriteOf, Creates, PuttingStands, CreatedStands, Only, Asks, Runs, has_effect, bytes_at, create, is_there}
 use Rattle.txn_machine.proofs.Turns.{UncheckedTells}
-use Rattle.txn_machine.proofs.Rows.{effect_found, call_kept, begun_kept}
+use Rattle.txn_history.proofs.More.{call_kept, begun_kept}
+use Rattle.txn_machine.proofs.Rows.{effect_found}
 use Rattle.txn_machine.proofs.Effects.{at_last, appended, recreated, create_boundary}
 use Rattle.txn_machine.proofs.Reaches.{create_is, recreated_known}
 use Rattle.txn_machine.proofs.Faults.{create_none, create_other, create_there, ruled_out}

@@ -16,7 +16,7 @@ use Rattle.txn_steps.specs.Writes.{at_write, at_check, written_turned, checked_t
 use Rattle.txn_history.specs.declared.event.Call.{Call}
 use Rattle.txn_history.specs.declared.event.Call.TheVariants as calls
 use Rattle.txn_history.specs.declared.event.Answer.TheVariants as answers
-use Rattle.txn_history.specs.declared.trace.Row.{Row}
+use Rattle.txn_history.specs.Trace.{Row}
 use Rattle.txn_history.specs.Names.{world_boundary}
 use Rattle.txn_history.specs.History.{newest, boundary}
 use Rattle.txn_history.specs.OneHistory.{Created, Entered, AnswerFits}

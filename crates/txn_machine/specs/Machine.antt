@@ -15,14 +15,14 @@ use Rattle.txn_history.specs.declared.event.Answer.{Answer}
 use Rattle.txn_history.specs.declared.event.Answer.TheVariants as answers
 use Rattle.txn_history.specs.declared.event.Failure.{Failure}
 use Rattle.txn_history.specs.declared.event.Failure.TheVariants as failures
-use Rattle.txn_history.specs.declared.event.Told.{Told}
-use Rattle.txn_history.specs.declared.event.Told.TheVariants as told
-use Rattle.txn_history.specs.declared.event.Event.{Event}
-use Rattle.txn_history.specs.declared.event.Event.TheVariants as events
+use Rattle.txn_history.specs.Trace.{Told}
+use Rattle.txn_history.specs.declared.event.ToldOf.TheVariants as told
+use Rattle.txn_history.specs.Trace.{Event}
+use Rattle.txn_history.specs.declared.event.EventOf.TheVariants as events
 use Rattle.txn_history.specs.declared.event.EventFault.{EventFault}
 use Rattle.txn_history.specs.declared.event.EventFault.TheVariants as faults
-use Rattle.txn_history.specs.declared.trace.Row.{Row}
-use Rattle.txn_history.specs.declared.trace.Row.TheVariants.{Effect, Begun, Answered}
+use Rattle.txn_history.specs.Trace.{Row}
+use Rattle.txn_history.specs.declared.trace.RowOf.TheVariants.{Effect, Begun, Answered}
 use Rattle.txn_history.specs.Lists.{numbered}
 use Rattle.txn_history.specs.History.{Contents}
 use Rattle.txn_history.specs.Seen.{Ask, Store, Look, Operation as SeenOperation, Seen}
@@ -178,6 +178,7 @@ fault_met (Err faults.NotAsked) = Some faults.NotAsked
 fault_met (Err faults.UnknownBase) = Some faults.UnknownBase
 fault_met (Err faults.BoundaryTooHigh) = Some faults.BoundaryTooHigh
 fault_met (Err faults.EpochLowered) = Some faults.EpochLowered
+fault_met (Err faults.ViewBusy) = Some faults.ViewBusy
 fault_met (Err faults.NoMemory) = None
 
 module _ {T : Type 0} where

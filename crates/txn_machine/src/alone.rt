@@ -3,8 +3,8 @@
 ghost use Rattle.std.specs.Prelude.{◌≡◌, ◌+◌, ◌*◌, ◌≤◌, ℕ, List, Some};
 ghost use Rattle.txn_caches.specs.declared.caches.Caches.{Caches};
 ghost use Rattle.txn_history.specs.Lists.{numbered};
-ghost use Rattle.txn_history.specs.declared.event.Event.{Event};
-ghost use Rattle.txn_history.specs.declared.event.Told.{Told};
+ghost use Rattle.txn_history.specs.Trace.{Event};
+ghost use Rattle.txn_history.specs.Trace.{Told};
 ghost use Rattle.txn_machine.specs.Machine.{State, opening, next_op, Runs, IsReached};
 ghost use Rattle.txn_machine.specs.Alone.{IsWindow, ReadsAlone, HasPages, passes, turns};
 

@@ -2,8 +2,8 @@
 //! `txn_history`.
 ghost use Rattle.std.specs.Prelude.{◌≤◌, List};
 ghost use Rattle.txn_history.specs.OneHistory.{IsOneHistory};
-ghost use Rattle.txn_history.specs.declared.event.Event.{Event};
-ghost use Rattle.txn_history.specs.declared.event.Told.{Told};
+ghost use Rattle.txn_history.specs.Trace.{Event};
+ghost use Rattle.txn_history.specs.Trace.{Told};
 ghost use Rattle.txn_machine.specs.Machine.{State, opening, Runs};
 
 use txn_types::codec::ObjectCodec;

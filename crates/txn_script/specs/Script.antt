@@ -1,11 +1,11 @@
 -- What a script prints, as a relation of its bytes over the world's steps.
 use Rattle.std.specs.Prelude.{◌≡◌, ℕ, zero, suc, List, [], ◌∷◌, ◌++◌, ◌+◌, ◌≤◌, ◌⊎◌, Bool, true, false, map, Option, Some, None, IfSome, length}
 use Rattle.std.specs.Io.KnownBytes.{Appends}
-use Rattle.txn_history.specs.declared.event.Event.{Event}
-use Rattle.txn_history.specs.declared.event.Event.TheVariants as events
+use Rattle.txn_history.specs.Trace.{Event}
+use Rattle.txn_history.specs.declared.event.EventOf.TheVariants as events
 use Rattle.txn_history.specs.declared.event.EventFault.{EventFault}
-use Rattle.txn_history.specs.declared.event.Told.{Told}
-use Rattle.txn_history.specs.declared.event.Told.TheVariants as told
+use Rattle.txn_history.specs.Trace.{Told}
+use Rattle.txn_history.specs.declared.event.ToldOf.TheVariants as told
 use Rattle.txn_history.specs.Allowed.{fault_of}
 use Rattle.txn_history.specs.History.{history, boundary, AreErased}
 use Rattle.txn_history.specs.Seen.{Ask, Store, Look, asks_of}

@@ -56,6 +56,7 @@ const FAULTS: &[(EventFault, u8)] = &[
     (EventFault::UnknownBase, 3),
     (EventFault::BoundaryTooHigh, 4),
     (EventFault::EpochLowered, 5),
+    (EventFault::ViewBusy, 6),
     (EventFault::NoMemory, 7),
 ];
 

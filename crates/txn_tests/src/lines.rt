@@ -156,6 +156,7 @@ const FAULTS: [(EventFault, &str); 6] = [
     (EventFault::UnknownBase, "fault 3 UnknownBase"),
     (EventFault::BoundaryTooHigh, "fault 4 BoundaryTooHigh"),
     (EventFault::EpochLowered, "fault 5 EpochLowered"),
+    (EventFault::ViewBusy, "fault 6 ViewBusy"),
     (EventFault::NoMemory, "fault 7 NoMemory"),
 ];
 

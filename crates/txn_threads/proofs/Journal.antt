@@ -1,8 +1,8 @@
 -- A journal with one row more replays to where its last event leads.
 use Rattle.std.proofs.Common.{◌≡◌, ℕ, List, [], ◌∷◌, ◌++◌, Option, sym, subst}
 use Rattle.std.proofs.lemmas.List.{map-append}
-use Rattle.txn_history.specs.declared.event.Event.{Event}
-use Rattle.txn_history.specs.declared.event.Told.{Told}
+use Rattle.txn_history.specs.Trace.{Event}
+use Rattle.txn_history.specs.Trace.{Told}
 use Rattle.txn_threads.specs.declared.kept.JournalRow.{JournalRow}
 use Rattle.txn_machine.specs.Machine.{State, opening, Takes, Runs}
 use Rattle.txn_threads.specs.Kept.{taken_of, Replays}

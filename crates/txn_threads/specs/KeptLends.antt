@@ -5,8 +5,8 @@ use mathlib.Core.Option.{none}
 use Rattle.std.specs.declared.clone.Clone as clone
 use Rattle.txn_types.specs.declared.codec.ObjectCodec as codec
 use Rattle.txn_types.specs.declared.epoch.EpochField as epochs
-use Rattle.txn_history.specs.declared.event.Event.{Event}
-use Rattle.txn_history.specs.declared.event.Told.{Told}
+use Rattle.txn_history.specs.Trace.{Event}
+use Rattle.txn_history.specs.Trace.{Told}
 use Rattle.txn_history.specs.declared.event.EventFault.{EventFault}
 use Rattle.txn_threads.specs.Kept.{KeptState, AddsJournalRow}
 use Rattle.txn_threads.specs.contracts.kept.Kept.{the_row}

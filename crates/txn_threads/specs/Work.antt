@@ -2,8 +2,8 @@
 use Rattle.std.specs.Prelude.{ℕ, ◌≡◌, ◌+◌, ◌≤◌, Option, Some, None}
 use Rattle.txn_history.specs.declared.event.Answer.{Answer}
 use Rattle.txn_history.specs.declared.event.Answer.TheVariants as answers
-use Rattle.txn_history.specs.declared.event.Told.{Told}
-use Rattle.txn_history.specs.declared.event.Told.TheVariants as told
+use Rattle.txn_history.specs.Trace.{Told}
+use Rattle.txn_history.specs.declared.event.ToldOf.TheVariants as told
 use Rattle.txn_threads.specs.declared.kept.Share.{Share}
 use Rattle.txn_threads.specs.declared.work.Heard.{Heard}
 use Rattle.txn_threads.specs.declared.work.Heard.TheVariants.{Goes, Ended}

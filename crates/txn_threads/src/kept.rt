@@ -130,7 +130,7 @@ impl<T: Clone, C: ObjectCodec<T> + Drop, E: EpochField<T>> Kept<T, C, E> {
     ghost use Rattle.std.specs.Borrow.{sem};
     ghost use Rattle.txn_types.specs.Clones.{IsExactClone};
     ghost use Rattle.txn_history.specs.Seen.{asks_of};
-    ghost use Rattle.txn_history.specs.declared.event.Told.{Told};
+    ghost use Rattle.txn_history.specs.Trace.{Told};
     ghost use Rattle.txn_machine.specs.Doing.{asks_as};
     ghost use Rattle.txn_machine.specs.Machine.{opening, seen_of};
     ghost use Rattle.txn_threads.specs.Kept.{IsRefusedAs, due_fault, next_event, one_more, AreFirst, AddsJournalRow, IsLastTold, Replays, AreCounts};

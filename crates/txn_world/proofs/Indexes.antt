@@ -11,8 +11,8 @@ use Rattle.txn_store.specs.declared.request.Request.{Request}
 use Rattle.txn_store.specs.declared.request.Request.TheVariants as requests
 use Rattle.txn_history.specs.declared.event.Call.{Call}
 use Rattle.txn_history.specs.declared.event.Answer.{Answer}
-use Rattle.txn_history.specs.declared.trace.Row.{Row}
-use Rattle.txn_history.specs.declared.trace.Row.TheVariants.{Effect, Begun, Answered}
+use Rattle.txn_history.specs.Trace.{Row}
+use Rattle.txn_history.specs.declared.trace.RowOf.TheVariants.{Effect, Begun, Answered}
 use Rattle.txn_history.specs.Names.{world_boundary}
 use Rattle.txn_history.specs.History.{Version, is_id, removed, created, has_id, with_version, versions_of, boundary_said, boundary, erases, was_erased, epoch_in, epoch_at}
 use Rattle.txn_history.specs.Calls.{tells_id, tells, was_told, is_below_told}
@@ -132,7 +132,7 @@ effect_epochs decode get_epoch rows op request has epochs new id epoch same all 
     ∙ (sym (epochs_with decode get_epoch (versions_of rows) (created request)) ∙ ap (epochs_of decode get_epoch) (sym (versions_of-more rows (Effect op request)))))))
 
 -- no row, and nothing reached
-pub none_reached : (T : Type 0) → boundary {T = T} [] ≡ 0
+pub none_reached : (T : Type 0) → boundary {C = Call T} {A = Answer T} [] ≡ 0
 none_reached T = ap boundary_said (get-empty path_cmp world_boundary)
 
 -- an empty set has nothing

@@ -7,7 +7,7 @@ use Rattle.anyhow.specs.declared.error.Error.{Error}
 use Rattle.txn_types.specs.declared.codec.CodecFault.{CodecFault}
 use Rattle.txn_types.specs.declared.codec.CodecFault.TheVariants.{Refused}
 use Rattle.txn_types.specs.Refusal.{OnRefused}
-use Rattle.txn_history.specs.declared.trace.Row.{Row}
+use Rattle.txn_history.specs.Trace.{Row}
 use Rattle.txn_history.specs.Lists.{numbered}
 use Rattle.txn_history.specs.History.{Version, bytes_as, created_by, has_id, with_version, versions_of, newest, history}
 use Rattle.txn_history.specs.OneHistory.{IsOneHistory}

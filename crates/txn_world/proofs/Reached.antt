@@ -1,9 +1,9 @@
 -- What the calls of a world owe, by what the machine proves of reached states.
 use Rattle.std.proofs.Common.{◌≡◌, ℕ, ◌+◌, List, [], ◌∷◌, ◌++◌, Bool, true, false, cond, is_ok, Option, Result, Ok, Err, OnErr, IfOk, refl, sym, ◌∙◌, ap, subst, arith}
 use Rattle.std.proofs.lemmas.List.{map-append}
-use Rattle.txn_history.specs.declared.event.Event.{Event}
+use Rattle.txn_history.specs.Trace.{Event}
 use Rattle.txn_history.specs.declared.event.EventFault.{EventFault}
-use Rattle.txn_history.specs.declared.event.Told.{Told}
+use Rattle.txn_history.specs.Trace.{Told}
 use Rattle.txn_history.specs.Added.{AddsRows}
 use Rattle.txn_history.specs.GoesOn.{GoesOn}
 use Rattle.txn_machine.specs.Machine.{State, WorldState, seen_of, fault_met, refusal_of, Takes, Meets, Outcomes, taken_count, RunsPast, IsReached}

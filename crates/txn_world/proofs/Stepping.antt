@@ -19,9 +19,9 @@ use Rattle.txn_steps.specs.Listings.{listing_turned}
 use Rattle.txn_steps.specs.Deletes.{delete_turned}
 use Rattle.txn_history.specs.declared.event.Answer.{Answer}
 use Rattle.txn_history.specs.declared.event.Answer.TheVariants as answers
-use Rattle.txn_history.specs.declared.event.Told.{Told}
-use Rattle.txn_history.specs.declared.event.Told.TheVariants as told
-use Rattle.txn_history.specs.declared.trace.Row.{Row}
+use Rattle.txn_history.specs.Trace.{Told}
+use Rattle.txn_history.specs.declared.event.ToldOf.TheVariants as told
+use Rattle.txn_history.specs.Trace.{Row}
 use Rattle.txn_history.specs.Lists.{numbered}
 use Rattle.txn_history.specs.Names.{world_names, world_boundary}
 use Rattle.txn_history.specs.Seen.{Ask, Store, Look}

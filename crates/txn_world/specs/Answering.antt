@@ -6,8 +6,8 @@ use Rattle.txn_store.specs.declared.request.Request.{Request}
 use Rattle.txn_store.specs.declared.request.Reply.{Reply}
 use Rattle.txn_caches.specs.declared.caches.Caches.{Caches}
 use Rattle.txn_history.specs.declared.event.Answer.TheVariants as answers
-use Rattle.txn_history.specs.declared.event.Told.{Told}
-use Rattle.txn_history.specs.declared.event.Told.TheVariants as told
+use Rattle.txn_history.specs.Trace.{Told}
+use Rattle.txn_history.specs.declared.event.ToldOf.TheVariants as told
 use Rattle.txn_history.specs.Lists.{numbered}
 use Rattle.txn_history.specs.Seen.{Ask, Store, Look}
 use Rattle.txn_machine.specs.declared.doing.Operation.{Operation}

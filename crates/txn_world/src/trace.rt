@@ -56,6 +56,7 @@ impl<T: Drop, C: ObjectCodec<T> + Drop, E: EpochField<T>> Trace<T, C, E> {
     ghost use Rattle.txn_history.specs.Names.{world_names, world_boundary};
     ghost use Rattle.txn_history.specs.History.{created, epoch_at};
     ghost use Rattle.txn_history.specs.Calls.{was_told, is_below_told};
+    ghost use Rattle.txn_history.specs.declared.trace.RowOf.TheVariants.{Begun, Answered};
     ghost use Rattle.txn_machine.specs.Doing.{first_of};
     ghost use Rattle.txn_machine.specs.Machine.{effect_rows};
     ghost use Rattle.txn_world.specs.Beside.{epoch_made, told_count, IsAfforded};
@@ -165,7 +166,7 @@ impl<T: Drop, C: ObjectCodec<T> + Drop, E: EpochField<T>> Trace<T, C, E> {
         requires { vec_len self.old.rows < vec_capacity self.old.rows }
         ensures layout { self.new.layout ≡ self.old.layout }
         ensures field { self.new.field ≡ self.old.field }
-        ensures rows { self.new.rows.items ≡ self.old.rows.items ++ Row.Begun op call ∷ [] }
+        ensures rows { self.new.rows.items ≡ self.old.rows.items ++ Begun op call ∷ [] }
         ensures len { vec_len self.new.rows ≡ vec_len self.old.rows + 1 }
         ensures capacity { vec_capacity self.old.rows ≤ vec_capacity self.new.rows }
         ensures spare { spare self.new.told ≡ spare self.old.told }
@@ -202,7 +203,7 @@ impl<T: Drop, C: ObjectCodec<T> + Drop, E: EpochField<T>> Trace<T, C, E> {
         requires spare { told_count answer ≤ spare self.old.told }
         ensures layout { self.new.layout ≡ self.old.layout }
         ensures field { self.new.field ≡ self.old.field }
-        ensures rows { self.new.rows.items ≡ self.old.rows.items ++ Row.Answered op answer ∷ [] }
+        ensures rows { self.new.rows.items ≡ self.old.rows.items ++ Answered op answer ∷ [] }
     {
         tell(&mut self.told, &mut self.greatest, &answer);
         push_within(&mut self.rows, Row::Answered(op, answer));

@@ -11,8 +11,8 @@ use Rattle.txn_threads.specs.declared.work.Worked.{Worked}
 use Rattle.txn_threads.specs.declared.work.Worker.{Worker}
 use Rattle.txn_threads.specs.declared.gate.FreeGate.{FreeGate}
 use Rattle.txn_threads.specs.declared.kept.Share.{Share}
-use Rattle.txn_history.specs.declared.trace.Row.{Row}
-use Rattle.txn_history.specs.declared.trace.Row.TheVariants.{Effect, Begun, Answered}
+use Rattle.txn_history.specs.Trace.{Row}
+use Rattle.txn_history.specs.declared.trace.RowOf.TheVariants.{Effect, Begun, Answered}
 use Rattle.txnworld_cli.specs.declared.threads.Tally.{Tally}
 use Rattle.txnworld_cli.specs.declared.threads.Halt.{Halt}
 use Rattle.txnworld_cli.specs.declared.threads.Halt.TheVariants as halts

@@ -1,6 +1,6 @@
 use Rattle.std.proofs.Common.{Bool, [], ◌++◌, refl, sym, ◌∙◌, ap, subst}
 use Rattle.std.proofs.lemmas.List.{append-nil}
-use Rattle.txn_history.specs.declared.event.Event.{Event}
+use Rattle.txn_history.specs.Trace.{Event}
 use Rattle.txn_lines.specs.declared.record.Record.{Record}
 use Rattle.txn_script.specs.Script.{Steps, asked_event}
 use Rattle.txn_script.proofs.Steps.{on_nothing, same_after, run_more, run_last, run_ended}

@@ -1,6 +1,6 @@
 use Rattle.std.proofs.Common.{sym, ◌∙◌, ap, List}
 use Rattle.txn_history.specs.History.{Version, has_id}
-use Rattle.txn_history.specs.declared.trace.Row.TheVariants.{Begun}
+use Rattle.txn_history.specs.declared.trace.RowOf.TheVariants.{Begun}
 use Rattle.txn_history.proofs.Rows.{versions_of-more}
 use Rattle.txn_world.specs.Beside.{epochs_of}
 use Rattle.txn_world.proofs.Indexes.{begun_told, begun_below, begun_reached, begun_erased}

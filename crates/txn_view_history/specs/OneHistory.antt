@@ -1,0 +1,255 @@
+-- One history: when a row fits the rows before it.
+-- What stands in the history, and what a call without a view may answer, is read as in `txn_history`.
+use Rattle.std.specs.Prelude.{◌≡◌, ◌≢◌, ℕ, List, ◌+◌, ◌<◌, ◌≤◌, ◌⊎◌, ◌==◌, ◌&&◌, ◌||◌, not, Bool, true, false, if◌then◌else◌, Option, Some, None, is_some, take, slice_get}
+use Rattle.txn_store.specs.declared.request.Request.{Request}
+use Rattle.txn_types.specs.Numbers.{number_of}
+use Rattle.txn_history.specs.declared.event.Call.TheVariants as calls
+use Rattle.txn_history.specs.declared.event.Answer.TheVariants as plain_answers
+use Rattle.txn_history.specs.declared.trace.RowOf.TheVariants.{Effect, Begun, Answered}
+use Rattle.txn_history.specs.History.{Version, created, raised, removed, has_id, versions_of, newest, boundary, was_erased, IsEntry, epoch_at}
+use Rattle.txn_history.specs.Calls.{was_answered, IsCall, begun_count}
+use Rattle.txn_history.specs.OneHistory as plain
+use Rattle.txn_history.specs.OneHistory.{base_on, is_high, greatest, Entered, WasNewest, WasEmpty, NoTokens, WriteRefused, Fails}
+use Rattle.txn_view_history.specs.declared.event.ViewCall.TheVariants as view_calls
+use Rattle.txn_view_history.specs.declared.event.AnyCall.{AnyCall}
+use Rattle.txn_view_history.specs.declared.event.AnyCall.TheVariants as any
+use Rattle.txn_view_history.specs.declared.event.AnyAnswer.{AnyAnswer}
+use Rattle.txn_view_history.specs.declared.event.AnyAnswer.TheVariants as answers
+use Rattle.txn_view_history.specs.Trace.{AnyRow}
+use Rattle.txn_view_history.specs.Calls.{before_begin, view_used, is_holders, value_written, was_told, is_below_told}
+use Rattle.txn_view_history.specs.Views.{view_at, epoch_held, view_count}
+
+-- both or neither
+abbrev pub agree : Bool → Bool → Bool
+agree one other = if one then other else not other
+
+-- a base is none, or an id that some call answered
+abbrev pub is_known_base : {T : Type 0} → List (AnyRow T) → Option ℕ → Bool
+is_known_base rows None = true
+is_known_base rows (Some n) = was_told rows n
+
+module _ {T : Type 0} where
+  -- the base that a call writes on, by where its view stands: the view's id for an update
+  abbrev pub base_of : Option ℕ → AnyCall T → Option ℕ
+  base_of at (any.Plain (calls.Write base value)) = base
+  base_of at (any.Plain (calls.WriteUnchecked base value)) = base
+  base_of at (any.View (view_calls.Update view value)) = at
+  base_of at (any.View (view_calls.HolderUpdate view value)) = at
+  base_of at _ = None
+
+  -- where the view of a call stands, none of a call without a view
+  abbrev pub stands_at : List (AnyRow T) → Option ℕ → Option ℕ
+  stands_at rows None = None
+  stands_at rows (Some view) = view_at rows view
+
+  -- the base of a call after these rows: an update's is where its view stands
+  abbrev pub base_now : List (AnyRow T) → AnyCall T → Option ℕ
+  base_now rows call = base_of (stands_at rows (view_used call)) call
+
+  -- the base of an operation: an update's is where its view stood when the call began
+  abbrev pub base_by : List (AnyRow T) → ℕ → AnyCall T → Option ℕ
+  base_by before op call = base_now (before_begin op before) call
+
+  -- a boundary to advance to is 0, or below an id that some call answered
+  abbrev pub has_low_boundary : List (AnyRow T) → AnyCall T → Bool
+  has_low_boundary rows (any.Plain (calls.Advance to)) = to == 0 || is_below_told rows to
+  has_low_boundary rows _ = true
+
+  -- the view that a call uses was shown, and is a holder exactly where the call is a holder's
+  abbrev pub has_shown_view : List (AnyRow T) → Option ℕ → Bool → Bool
+  has_shown_view rows None holders = true
+  has_shown_view rows (Some view) holders = is_some (view_at rows view) && agree holders (is_some (epoch_held rows view))
+
+module _ {T : Type 0} (decode : List ℕ → Option T) (get_epoch : T → ℕ) where
+  -- the value that a call writes has an epoch of at least that of its base's entry
+  abbrev pub keeps_epoch : List (AnyRow T) → Option ℕ → AnyCall T → Bool
+  keeps_epoch rows base call = is_high get_epoch (epoch_at decode get_epoch rows (number_of base)) (value_written call)
+
+  -- An operation has the next number, a view that was shown, a base that is known, a boundary that is low enough, and a value that keeps the epoch.
+  pub record Opens (before : List (AnyRow T)) (op : ℕ) (call : AnyCall T) : Type 0 where
+    pub next : op ≡ begun_count before + 1
+    pub shown : has_shown_view before (view_used call) (is_holders call) ≡ true
+    pub known : is_known_base before (base_now before call) ≡ true
+    pub low : has_low_boundary before call ≡ true
+    pub keeps : keeps_epoch before (base_now before call) call ≡ true
+
+module _ {T : Type 0} where
+  -- A raise: the boundary goes up to what its operation advances to, and stays below the newest entry.
+  pub record Raises (before : List (AnyRow T)) (op to : ℕ) : Type 0 where
+    pub called : IsCall before op (any.Plain (calls.Advance to))
+    pub up : boundary before < to
+    pub under : to < newest before
+
+  -- the boundary that is put, if one is, is a raise
+  abbrev pub BoundaryPut : List (AnyRow T) → ℕ → Option ℕ → Type 0
+  BoundaryPut before op None = ⊥
+  BoundaryPut before op (Some to) = Raises before op to
+
+  -- An erasure: the name that its operation deletes goes, and the boundary has reached its id.
+  pub record Erases (before : List (AnyRow T)) (op id : ℕ) : Type 0 where
+    pub called : IsCall before op (any.Plain (calls.Delete id))
+    pub below : id ≤ boundary before
+
+  -- the version that is removed, if one is, is an erasure
+  abbrev pub VersionRemoved : List (AnyRow T) → ℕ → Option ℕ → Type 0
+  VersionRemoved before op None = ⊥
+  VersionRemoved before op (Some id) = Erases before op id
+
+module _ {T : Type 0} (decode : List ℕ → Option T) (get_epoch : T → ℕ) (set_epoch : T → ℕ → T) where
+  -- a claim enters entry n again with its epoch one higher
+  pub record ClaimsOn (before : List (AnyRow T)) (n : ℕ) (entry : T) : Type 0 where
+    pub old : T
+    pub found : IsEntry decode before n old
+    pub raised : entry ≡ set_epoch old (get_epoch old + 1)
+
+  -- a claim at an epoch enters entry n again with this epoch, which is higher
+  pub record ClaimsAtOn (before : List (AnyRow T)) (n epoch : ℕ) (entry : T) : Type 0 where
+    pub old : T
+    pub found : IsEntry decode before n old
+    pub higher : get_epoch old < epoch
+    pub raised : entry ≡ set_epoch old epoch
+
+  -- the call writes this entry directly on entry n
+  abbrev pub WritesOn : List (AnyRow T) → ℕ → AnyCall T → ℕ → T → Type 0
+  WritesOn before op (any.Plain (calls.Write base value)) n entry = (base ≡ base_on n) × (entry ≡ value)
+  WritesOn before op (any.Plain (calls.WriteUnchecked base value)) n entry = (base ≡ base_on n) × (entry ≡ value)
+  WritesOn before op (any.View (view_calls.Init value)) n entry = (n ≡ 0) × (entry ≡ value)
+  WritesOn before op (any.View (view_calls.Update view value)) n entry = (base_by before op (any.View (view_calls.Update view value)) ≡ base_on n) × (entry ≡ value)
+  WritesOn before op (any.View (view_calls.HolderUpdate view value)) n entry = (base_by before op (any.View (view_calls.HolderUpdate view value)) ≡ base_on n) × (entry ≡ value)
+  WritesOn before op (any.View (view_calls.Claim view)) n entry = ClaimsOn before n entry
+  WritesOn before op (any.View (view_calls.ClaimAt view epoch)) n entry = ClaimsAtOn before n epoch entry
+  WritesOn before op _ n entry = ⊥
+
+  -- the value has the epoch of a holder, and no entry has an epoch above it
+  pub record IsUnfenced (before : List (AnyRow T)) (view : ℕ) (value : T) : Type 0 where
+    pub epoch : ℕ
+    pub holder : epoch_held before view ≡ Some epoch
+    pub keeps : get_epoch value ≡ epoch
+    pub none_above : (id : ℕ) → epoch_at decode get_epoch before id ≤ epoch
+
+  -- a holder's update appends a value of its own epoch, and nothing once an entry has an epoch above it
+  abbrev pub MayAppend : List (AnyRow T) → AnyCall T → Type 0
+  MayAppend before (any.View (view_calls.HolderUpdate view value)) = IsUnfenced before view value
+  MayAppend before _ = Unit {0}
+
+  -- An append: the name is the next, the value is its operation's, written directly on the newest entry, whose epoch is no greater.
+  pub record Appends (before : List (AnyRow T)) (op id : ℕ) (bytes : List ℕ) : Type 0 where
+    pub call : AnyCall T
+    pub called : IsCall before op call
+    pub value : T
+    pub reads : decode bytes ≡ Some value
+    pub next : id ≡ newest before + 1
+    pub written : WritesOn before op call (newest before) value
+    pub rises : epoch_at decode get_epoch before (newest before) ≤ get_epoch value
+    pub unfenced : MayAppend before call
+
+  -- A re-creation: the name was created before, was erased, and the boundary has reached its id. It is no move, since the history keeps the first create.
+  pub record Recreates (before : List (AnyRow T)) (op id : ℕ) (bytes : List ℕ) : Type 0 where
+    pub call : AnyCall T
+    pub called : IsCall before op call
+    pub value : T
+    pub reads : decode bytes ≡ Some value
+    pub base : ℕ
+    pub next : id ≡ base + 1
+    pub written : WritesOn before op call base value
+    pub again : has_id (versions_of before) id ≡ true
+    pub erased : was_erased before id ≡ true
+    pub below : id ≤ boundary before
+
+  -- the version that is put, if one is, is an append or a re-creation
+  abbrev pub VersionPut : List (AnyRow T) → ℕ → Option Version → Type 0
+  VersionPut before op None = ⊥
+  VersionPut before op (Some version) = Appends before op version.0 version.1 ⊎ Recreates before op version.0 version.1
+
+  -- An effect is a legal move, which is an append, a raise or an erasure, or it is a re-creation.
+  abbrev pub IsLegal : List (AnyRow T) → ℕ → Request → Type 0
+  IsLegal before op request = VersionPut before op (created request) ⊎ BoundaryPut before op (raised request) ⊎ VersionRemoved before op (removed request)
+
+-- The answers. Each refusal has its number: 2, a failed store call, or no token left; 4, no version; 5, a conflict;
+-- 6, fenced by a greater epoch; 7, not to be deleted, or a value of another epoch than its holder's; 9, want of memory; 10, no id or no epoch left.
+
+module _ {T : Type 0} where
+  -- An answer shows this view, at an id no lower than where it stood.
+  pub record Shows (before : List (AnyRow T)) (view shown id : ℕ) : Type 0 where
+    pub same : shown ≡ view
+    pub rises : number_of (view_at before view) ≤ id
+
+module _ {T : Type 0} (decode : List ℕ → Option T) (get_epoch : T → ℕ) where
+  -- some entry has an epoch of at least this
+  pub record HasReached (rows : List (AnyRow T)) (epoch : ℕ) : Type 0 where
+    pub id : ℕ
+    pub value : T
+    pub entry : IsEntry decode rows id value
+    pub high : epoch ≤ get_epoch value
+
+  -- An entry has an epoch above that of the holder.
+  pub record HolderFenced (before : List (AnyRow T)) (view : ℕ) : Type 0 where
+    pub epoch : ℕ
+    pub holder : epoch_held before view ≡ Some epoch
+    pub above : HasReached before (epoch + 1)
+
+  -- A claim is held: its entry is its own and has the holder's epoch, and the entry before has a smaller one.
+  pub record Holds (before : List (AnyRow T)) (op n : ℕ) (value : T) (epoch : ℕ) : Type 0 where
+    pub entered : Entered decode before op n value
+    pub has : get_epoch value ≡ epoch
+    pub base : ℕ
+    pub next : n ≡ base + 1
+    pub old : T
+    pub entry : IsEntry decode before base old
+    pub smaller : get_epoch old < epoch
+
+module _ {T : Type 0} (decode : List ℕ → Option T) (get_epoch : T → ℕ) (failed : List ℕ) where
+  -- An answer that is no refusal fits the call. A write on a view answers its own version, with its value; a load or a refresh what was newest.
+  abbrev pub Succeeds : List (AnyRow T) → ℕ → AnyCall T → AnyAnswer T → Type 0
+  Succeeds before op (any.Plain call) (answers.Plain answer) = plain.Succeeds decode get_epoch failed before op call answer
+  Succeeds before op (any.View (view_calls.Init value)) (answers.View shown n entry) = Shows before (view_count before + 1) shown n × Entered decode before op n entry
+  Succeeds before op (any.View view_calls.Load) (answers.View shown n entry) = Shows before (view_count before + 1) shown n × WasNewest decode before op n entry
+  Succeeds before op (any.View (view_calls.Refresh view)) (answers.View shown n entry) = Shows before view shown n × WasNewest decode before op n entry
+  Succeeds before op (any.View (view_calls.Update view value)) (answers.View shown n entry) = Shows before view shown n × Entered decode before op n entry
+  Succeeds before op (any.View (view_calls.Claim view)) (answers.Held shown n entry epoch) = Shows before view shown n × Holds decode get_epoch before op n entry epoch
+  Succeeds before op (any.View (view_calls.ClaimAt view at)) (answers.Held shown n entry epoch) = Shows before view shown n × Holds decode get_epoch before op n entry epoch × (epoch ≡ at)
+  Succeeds before op (any.View (view_calls.HolderRefresh view)) (answers.View shown n entry) = Shows before view shown n × WasNewest decode before op n entry × (epoch_held before view ≡ Some (get_epoch entry))
+  Succeeds before op (any.View (view_calls.HolderUpdate view value)) (answers.View shown n entry) = Shows before view shown n × Entered decode before op n entry
+  Succeeds before op call answer = ⊥
+
+  -- a claim is refused because the store has no token left, or because no id is left
+  abbrev pub ClaimRefused : List (AnyRow T) → ℕ → Type 0
+  ClaimRefused before number = ((number ≡ 2) × NoTokens before) ⊎ ((number ≡ 10) × (greatest ≤ newest before))
+
+  -- a refusal fits the call, by its number
+  abbrev pub Refuses : List (AnyRow T) → ℕ → AnyCall T → ℕ → Type 0
+  Refuses before op (any.Plain call) number = plain.Refuses decode get_epoch failed before op call number
+  Refuses before op (any.View (view_calls.Init value)) number = WriteRefused decode get_epoch failed before op None number
+  Refuses before op (any.View view_calls.Load) number = (number ≡ 4) × WasEmpty decode before op
+  Refuses before op (any.View (view_calls.Update view value)) number = WriteRefused decode get_epoch failed before op (base_by before op (any.View (view_calls.Update view value))) number
+  Refuses before op (any.View (view_calls.Claim view)) number = ((number ≡ 10) × HasReached decode get_epoch before greatest) ⊎ ClaimRefused before number
+  Refuses before op (any.View (view_calls.ClaimAt view at)) number = ((number ≡ 6) × HasReached decode get_epoch before at) ⊎ ClaimRefused before number
+  Refuses before op (any.View (view_calls.HolderRefresh view)) number = (number ≡ 6) × HolderFenced decode get_epoch before view
+  Refuses before op (any.View (view_calls.HolderUpdate view value)) number =
+      ((number ≡ 6) × HolderFenced decode get_epoch before view)
+      ⊎ ((number ≡ 7) × (epoch_held before view ≢ Some (get_epoch value)))
+      ⊎ WriteRefused decode get_epoch failed before op (base_by before op (any.View (view_calls.HolderUpdate view value))) number
+  Refuses before op call number = ⊥
+
+  -- the answer fits the call: every call is also refused where its store call failed, or for want of memory
+  abbrev pub AnswerFits : List (AnyRow T) → ℕ → AnyCall T → AnyAnswer T → Type 0
+  AnswerFits before op call (answers.Plain (plain_answers.Refused number)) = Refuses before op call number ⊎ Fails decode get_epoch failed op number
+  AnswerFits before op call answer = Succeeds before op call answer
+
+  -- The one answer of a call that began, and it fits.
+  pub record Answers (before : List (AnyRow T)) (op : ℕ) (answer : AnyAnswer T) : Type 0 where
+    pub call : AnyCall T
+    pub called : IsCall before op call
+    pub once : was_answered before op ≡ false
+    pub fits : AnswerFits before op call answer
+
+module _ {T : Type 0} (decode : List ℕ → Option T) (get_epoch : T → ℕ) (set_epoch : T → ℕ → T) (failed : List ℕ) where
+  -- a row fits the rows before it
+  abbrev pub Fits : List (AnyRow T) → AnyRow T → Type 0
+  Fits before (Effect op request) = IsLegal decode get_epoch set_epoch before op request
+  Fits before (Begun op call) = Opens decode get_epoch before op call
+  Fits before (Answered op answer) = Answers decode get_epoch failed before op answer
+
+  -- each row fits the rows before it
+  abbrev pub IsOneHistory : List (AnyRow T) → Type 0
+  IsOneHistory rows = (k : ℕ) (row : AnyRow T) → slice_get rows k ≡ Some row → Fits (take k rows) row
