@@ -198,6 +198,7 @@ module _ {T : Type 0} (decode : List ℕ → Option T) (get_epoch : T → ℕ) w
     pub entry : IsEntry decode before base old
     pub smaller : get_epoch old < epoch
 
+-- Rows do not show that a store call failed: the operations that were told so are a list beside them.
 module _ {T : Type 0} (decode : List ℕ → Option T) (get_epoch : T → ℕ) (failed : List ℕ) where
   -- An answer that is no refusal fits the call. A write on a view answers its own version, with its value; a load or a refresh what was newest.
   abbrev pub Succeeds : List (AnyRow T) → ℕ → AnyCall T → AnyAnswer T → Type 0

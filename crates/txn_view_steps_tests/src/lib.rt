@@ -11,6 +11,8 @@ mod driven;
 #[cfg(test)]
 mod epochs;
 #[cfg(test)]
+mod events;
+#[cfg(test)]
 mod fits;
 #[cfg(test)]
 mod game;
