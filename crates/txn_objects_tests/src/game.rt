@@ -1,7 +1,5 @@
 //! A game: two objects over one store, and their steps, one at a time.
-use crate::calls::{
-    Holder, View, applied, call, claimed, counted, opened, stored, unclaimed, write,
-};
+use crate::calls::{Holder, View, applied, call, claimed, counted, opened, stored, unclaimed};
 use crate::clock::ScriptedClock;
 use crate::invariants::Ceiling;
 use crate::looks::{holds, made};
@@ -235,10 +233,28 @@ fn anew(setting: &mut Setting) -> Told {
     }
 }
 
-/// A write by a protocol of its own.
-fn write_elsewhere(setting: &mut Setting, base: u64, epoch: u64, payload: u64) -> Told {
+/// A call by a protocol of its own.
+fn elsewhere(setting: &mut Setting, step: Step) -> Told {
+    let Setting {
+        alloc,
+        store,
+        turns,
+        clock,
+        ..
+    } = setting;
+    match a_protocol(*alloc) {
+        Ok(mut protocol) => stored(*alloc, &mut protocol, store, turns, clock, step),
+        Err(_) => Told::Fails(9),
+    }
+}
+
+/// Another protocol, with so many files a page, one at least.
+fn paged(setting: &mut Setting, page: u64) -> Told {
     match a_protocol(setting.alloc) {
-        Ok(mut protocol) => write(&mut protocol, &mut setting.store, base, epoch, payload),
+        Ok(protocol) => {
+            setting.protocol = protocol.with_page(page.max(1));
+            Told::Did
+        }
         Err(_) => Told::Fails(9),
     }
 }
@@ -258,9 +274,8 @@ fn arrange(setting: &mut Setting, step: Step) -> Told {
         Step::Holds(path, bytes, token) => {
             holds(setting.alloc, &mut setting.store, path, bytes, token)
         }
-        Step::WriteElsewhere(base, epoch, payload) => {
-            write_elsewhere(setting, base, epoch, payload)
-        }
+        Step::Elsewhere(step) => elsewhere(setting, *step),
+        Step::Paged(page) => paged(setting, page),
         Step::Anew => anew(setting),
         _ => stored(
             setting.alloc,

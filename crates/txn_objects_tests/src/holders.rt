@@ -2,10 +2,10 @@
 use crate::game::other;
 use crate::steps::Seat::{A, B};
 use crate::steps::Step::{
-    Advance, Calls, Claim, ClaimAt, ClaimBy, ClaimIn, Copy, Delete, Fences, Holds, Init, List,
-    Load, Newest, Prepare, Refresh, Shows, UpdateAs, Write, WriteElsewhere,
+    Advance, Calls, Claim, ClaimAt, ClaimBy, ClaimIn, Copy, Delete, Elsewhere, Fences, Holds, Init,
+    Left, List, Load, Newest, Paged, Prepare, Refresh, Shows, UpdateAs, Write,
 };
-use crate::steps::Told::{At, Claimed, Did, Fails, Ids, Is, Made, Nothing, TimesOut, Wrote};
+use crate::steps::Told::{At, Claimed, Did, Fails, Ids, Is, Made, Nothing, TimesOut, Turns, Wrote};
 use crate::steps::{BOUNDARY, FIRST, Row, SECOND, Told};
 use std::test::Fail;
 
@@ -106,7 +106,7 @@ fn a_claim_ends_at_its_deadline(rt: HostRuntime) -> Result<(), Fail> {
 fn a_claim_past_its_deadline_makes_no_call(rt: HostRuntime) -> Result<(), Fail> {
     const ROWS: &[Row] = &[
         (A, Init(0, 1), Did),
-        (A, WriteElsewhere(1, 0, 2), Wrote(2)),
+        (A, Elsewhere(&Write(1, 0, 2)), Wrote(2)),
         (B, Copy, Did),
         (A, Calls, Made(2, 2, 0, 0)),
         (A, ClaimBy(5, &[0, 4, 5]), TimesOut(5)),
@@ -117,6 +117,27 @@ fn a_claim_past_its_deadline_makes_no_call(rt: HostRuntime) -> Result<(), Fail> 
         (A, Holds(FIRST, b"0:1", 1), Is(true)),
         (A, Holds(SECOND, b"0:2", 2), Is(true)),
         (A, Holds(BOUNDARY, b"", 0), Nothing),
+    ];
+    assert_eq!(rt; other(rt.alloc(), ROWS)?, None);
+    Ok(())
+}
+
+#[test]
+fn a_claim_reads_page_by_page(rt: HostRuntime) -> Result<(), Fail> {
+    const ROWS: &[Row] = &[
+        (A, Paged(3), Did),
+        (A, Init(0, 1), Did),
+        (A, Elsewhere(&Write(1, 0, 2)), Wrote(2)),
+        (A, Elsewhere(&Write(2, 0, 3)), Wrote(3)),
+        (A, Newest, At(3, 0, 3)),
+        (A, Elsewhere(&Write(3, 0, 4)), Wrote(4)),
+        (A, Elsewhere(&Write(4, 0, 5)), Wrote(5)),
+        (A, Elsewhere(&Advance(4)), Did),
+        (A, Elsewhere(&Delete(2)), Did),
+        (A, Elsewhere(&Delete(4)), Did),
+        (A, Claim, Claimed(6, 1)),
+        (A, Left, Turns(15)),
+        (A, Newest, At(6, 1, 5)),
     ];
     assert_eq!(rt; other(rt.alloc(), ROWS)?, None);
     Ok(())

@@ -13,8 +13,10 @@ pub(crate) enum Seat {
 pub(crate) enum Step {
     /// The protocol writes a record, by its epoch and payload, on a base.
     Write(u64, u64, u64),
-    /// Another protocol over the store does.
-    WriteElsewhere(u64, u64, u64),
+    /// Another protocol over the store makes this call.
+    Elsewhere(&'static Step),
+    /// From here on the protocol is another one over the store, with so many files a page of a listing.
+    Paged(u64),
     /// The protocol reads the newest version.
     Newest,
     Advance(u64),

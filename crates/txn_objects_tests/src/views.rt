@@ -3,8 +3,8 @@ use crate::game::other;
 use crate::invariants::Ceiling;
 use crate::steps::Seat::{A, B};
 use crate::steps::Step::{
-    Advance, Anew, Apply, ApplyAttempt, Calls, Copy, Delete, Holds, Init, Keep, Left, List, Load,
-    Newest, Refresh, Shows, TryLoad, Update, UpdateOf, Write, WriteElsewhere,
+    Advance, Anew, Apply, ApplyAttempt, Calls, Copy, Delete, Elsewhere, Holds, Init, Keep, Left,
+    List, Load, Newest, Refresh, Shows, TryLoad, Update, UpdateOf, Write,
 };
 use crate::steps::Told::{
     At, Attempts, Did, Fails, Ids, Is, Made, Nothing, RefusedByFirst, Turns, Wrote,
@@ -59,8 +59,8 @@ fn test_update_dirty_id_mismatch_errors(rt: HostRuntime) -> Result<(), Fail> {
 fn test_maybe_apply_update_retries_write_behind_boundary(rt: HostRuntime) -> Result<(), Fail> {
     const ROWS: &[Row] = &[
         (A, Init(0, 1), Did),
-        (A, WriteElsewhere(1, 0, 2), Wrote(2)),
-        (A, WriteElsewhere(2, 0, 3), Wrote(3)),
+        (A, Elsewhere(&Write(1, 0, 2)), Wrote(2)),
+        (A, Elsewhere(&Write(2, 0, 3)), Wrote(3)),
         (A, Advance(2), Did),
         (A, Delete(2), Did),
         (A, Holds(SECOND, b"", 0), Nothing),

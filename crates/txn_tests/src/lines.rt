@@ -150,7 +150,7 @@ const ANSWERS: [(Answer<Record>, &str); 17] = [
     (Answer::Refused(11), "op 7: refused 11 TurnsExhausted"),
 ];
 
-const FAULTS: [(EventFault, &str); 6] = [
+const FAULTS: [(EventFault, &str); 7] = [
     (EventFault::UnknownNumber, "fault 1 UnknownNumber"),
     (EventFault::NotAsked, "fault 2 NotAsked"),
     (EventFault::UnknownBase, "fault 3 UnknownBase"),
