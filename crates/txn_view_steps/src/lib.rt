@@ -8,6 +8,7 @@
 //! - `RefreshOp`, `UpdateOp`: they move a view.
 //! - `ClaimOp`, `ClaimAtOp`: they make a view a holder.
 //! - `HolderRefreshOp`, `HolderUpdateOp`: they move a holder's view, where its epoch is still the newest.
+//! - `ViewOp`: any of them.
 //! - `Outcome`: what a call comes to, which says what becomes of the view, with the `Copies` that an answer needs.
 //!
 //! `start` is lent the view and gives the state, or at once the refusal that is the call's answer. `ask` is what is due, a
@@ -25,6 +26,7 @@ pub mod epochs;
 pub mod holder;
 pub mod init;
 pub mod load;
+pub mod op;
 pub mod outcome;
 mod reading;
 pub mod refresh;

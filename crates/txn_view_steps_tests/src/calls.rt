@@ -1,5 +1,5 @@
 //! Calls on views, as values.
-use crate::driven::{Operation, Played, Told, drive, refused};
+use crate::driven::{Played, Told, drive, refused};
 use bytes::Bytes;
 use std::alloc::Global;
 use std::test::Fail;
@@ -14,6 +14,7 @@ use txn_view_steps::claim_at::ClaimAtOp;
 use txn_view_steps::holder::{HolderRefreshOp, HolderUpdateOp};
 use txn_view_steps::init::InitOp;
 use txn_view_steps::load::LoadOp;
+use txn_view_steps::op::ViewOp;
 use txn_view_steps::refresh::RefreshOp;
 use txn_view_steps::update::UpdateOp;
 
@@ -56,7 +57,7 @@ fn init(
     value: Record,
 ) -> Result<Played, Fail> {
     match InitOp::start(alloc, layout, &value) {
-        Ok(op) => drive(alloc, store, layout, caches, op),
+        Ok(op) => drive(alloc, store, layout, caches, ViewOp::Init(op)),
         Err(error) => refused(error),
     }
 }
@@ -68,7 +69,7 @@ fn load(
     caches: &mut Caches,
 ) -> Result<Played, Fail> {
     let op: LoadOp<Record> = LoadOp::start(layout)?;
-    drive(alloc, store, layout, caches, op)
+    drive(alloc, store, layout, caches, ViewOp::Load(op))
 }
 
 fn refresh(
@@ -78,7 +79,7 @@ fn refresh(
     caches: &mut Caches,
 ) -> Result<Played, Fail> {
     let op: RefreshOp<Record> = RefreshOp::start(layout)?;
-    drive(alloc, store, layout, caches, op)
+    drive(alloc, store, layout, caches, ViewOp::Refresh(op))
 }
 
 fn update(
@@ -90,7 +91,7 @@ fn update(
     value: Record,
 ) -> Result<Played, Fail> {
     match UpdateOp::start(alloc, layout, id, &value) {
-        Ok(op) => drive(alloc, store, layout, caches, op),
+        Ok(op) => drive(alloc, store, layout, caches, ViewOp::Update(op)),
         Err(error) => refused(error),
     }
 }
@@ -114,13 +115,13 @@ fn overtake(
 }
 
 /// Drives an operation that the other client's update comes before.
-fn overtaken<O: Operation + Drop>(
+fn overtaken(
     alloc: Global,
     store: &mut InMemory,
     layout: &Layout<RecordCodec>,
     caches: &mut Caches,
     others: &mut Caches,
-    op: O,
+    op: ViewOp<Record>,
     beside: Beside,
 ) -> Result<Played, Fail> {
     overtake(alloc, store, layout, others, beside)?;
@@ -137,7 +138,15 @@ fn claim(
     beside: Beside,
 ) -> Result<Played, Fail> {
     match ClaimOp::start(alloc, layout, &RecordEpoch, view.id, &view.value) {
-        Ok(op) => overtaken(alloc, store, layout, caches, others, op, beside),
+        Ok(op) => overtaken(
+            alloc,
+            store,
+            layout,
+            caches,
+            others,
+            ViewOp::Claim(op),
+            beside,
+        ),
         Err(error) => refused(error),
     }
 }
@@ -153,7 +162,15 @@ fn claim_at(
     beside: Beside,
 ) -> Result<Played, Fail> {
     match ClaimAtOp::start(alloc, layout, &RecordEpoch, epoch, view.id, &view.value) {
-        Ok(op) => overtaken(alloc, store, layout, caches, others, op, beside),
+        Ok(op) => overtaken(
+            alloc,
+            store,
+            layout,
+            caches,
+            others,
+            ViewOp::ClaimAt(op),
+            beside,
+        ),
         Err(error) => refused(error),
     }
 }
@@ -166,7 +183,7 @@ fn holder_refresh(
     held: u64,
 ) -> Result<Played, Fail> {
     let op: HolderRefreshOp<Record> = HolderRefreshOp::start(layout, held)?;
-    drive(alloc, store, layout, caches, op)
+    drive(alloc, store, layout, caches, ViewOp::HolderRefresh(op))
 }
 
 fn holder_update(
@@ -187,7 +204,7 @@ fn holder_update(
         &view.value,
         &value,
     ) {
-        Ok(op) => drive(alloc, store, layout, caches, op),
+        Ok(op) => drive(alloc, store, layout, caches, ViewOp::HolderUpdate(op)),
         Err(error) => refused(error),
     }
 }

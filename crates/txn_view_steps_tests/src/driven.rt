@@ -1,5 +1,5 @@
 //! Operations driven to their answer: each asks, is given the store's reply or looks, and takes that.
-use crate::fits::{fits_claiming, fits_entry, fits_read};
+use crate::fits::fits;
 use std::alloc::Global;
 use std::test::Fail;
 use txn_caches::ask::Ask;
@@ -10,14 +10,8 @@ use txn_store::in_memory::InMemory;
 use txn_store::request::{Reply, Request, serve};
 use txn_types::error::TransactionalObjectError;
 use txn_types::layout::Layout;
-use txn_view_steps::claim::ClaimOp;
-use txn_view_steps::claim_at::ClaimAtOp;
-use txn_view_steps::holder::{HolderRefreshOp, HolderUpdateOp};
-use txn_view_steps::init::InitOp;
-use txn_view_steps::load::LoadOp;
+use txn_view_steps::op::ViewOp;
 use txn_view_steps::outcome::{Outcome, ViewAnswer};
-use txn_view_steps::refresh::RefreshOp;
-use txn_view_steps::update::UpdateOp;
 
 /// What a call comes to: an id with its record's epoch and payload, an error as its number.
 #[derive(Clone, Copy, Debug, PartialEq, Eq)]
@@ -35,20 +29,6 @@ pub(crate) enum Told {
 
 /// What a call comes to, and how many calls of the store and how many looks it takes.
 pub(crate) type Played = (Told, u64, u64);
-
-/// An operation as a driver sees it.
-pub(crate) trait Operation {
-    fn asks(&self) -> Ask<'_>;
-
-    /// Takes a reply, or none for a look, and says what it comes to where it is done. What it didn't ask for is a failure.
-    fn turn(
-        &mut self,
-        alloc: Global,
-        layout: &Layout<RecordCodec>,
-        caches: &mut Caches,
-        reply: Option<Reply>,
-    ) -> Result<Option<Told>, Fail>;
-}
 
 fn replied(alloc: Global, store: &mut InMemory, request: &Request) -> Result<Reply, Fail> {
     match request {
@@ -68,33 +48,48 @@ fn made(alloc: Global, store: &mut InMemory, ask: Ask<'_>) -> Result<Option<Repl
 /// How many steps an operation has at most.
 const STEPS: u64 = 40;
 
-/// Drives an operation to its answer, and drops it. That is proved once here, for any type; in each caller it is slow.
-pub(crate) fn drive<O: Operation + Drop>(
+/// Takes a reply, or none for a look, and says what it comes to where it is done. What it didn't ask for is a failure.
+fn turn(
+    alloc: Global,
+    layout: &Layout<RecordCodec>,
+    caches: &mut Caches,
+    op: &mut ViewOp<Record>,
+    reply: Option<Reply>,
+) -> Result<Option<Told>, Fail> {
+    if fits(op, &reply) {
+        Ok(says(op.take(alloc, layout, &RecordEpoch, caches, reply)))
+    } else {
+        of_another_kind(reply)
+    }
+}
+
+/// Drives an operation to its answer, and drops it.
+pub(crate) fn drive(
     alloc: Global,
     store: &mut InMemory,
     layout: &Layout<RecordCodec>,
     caches: &mut Caches,
-    op: O,
+    op: ViewOp<Record>,
 ) -> Result<Played, Fail> {
     let mut op = op;
     drive_on(alloc, store, layout, caches, &mut op)
 }
 
 /// The same, of an operation that its caller drops.
-fn drive_on<O: Operation>(
+fn drive_on(
     alloc: Global,
     store: &mut InMemory,
     layout: &Layout<RecordCodec>,
     caches: &mut Caches,
-    op: &mut O,
+    op: &mut ViewOp<Record>,
 ) -> Result<Played, Fail> {
     let mut looks = 0u64;
     for step in 1..STEPS {
-        let reply = made(alloc, store, op.asks())?;
+        let reply = made(alloc, store, op.ask())?;
         if reply.is_none() {
             looks = looks.saturating_add(1);
         }
-        if let Some(told) = op.turn(alloc, layout, caches, reply)? {
+        if let Some(told) = turn(alloc, layout, caches, op, reply)? {
             return Ok((told, step.saturating_sub(looks), looks));
         }
     }
@@ -133,164 +128,4 @@ fn says(turned: Turned<ViewAnswer<Record>>) -> Option<Told> {
 /// It drops the reply.
 fn of_another_kind(_reply: Option<Reply>) -> Result<Option<Told>, Fail> {
     Err("a reply of another kind")?
-}
-
-impl Operation for InitOp<Record> {
-    fn asks(&self) -> Ask<'_> {
-        self.ask()
-    }
-
-    fn turn(
-        &mut self,
-        _alloc: Global,
-        _layout: &Layout<RecordCodec>,
-        caches: &mut Caches,
-        reply: Option<Reply>,
-    ) -> Result<Option<Told>, Fail> {
-        if fits_entry(&self.entry, &reply) {
-            Ok(says(self.take(caches, reply)))
-        } else {
-            of_another_kind(reply)
-        }
-    }
-}
-
-impl Operation for UpdateOp<Record> {
-    fn asks(&self) -> Ask<'_> {
-        self.ask()
-    }
-
-    fn turn(
-        &mut self,
-        _alloc: Global,
-        _layout: &Layout<RecordCodec>,
-        caches: &mut Caches,
-        reply: Option<Reply>,
-    ) -> Result<Option<Told>, Fail> {
-        if fits_entry(&self.entry, &reply) {
-            Ok(says(self.take(caches, reply)))
-        } else {
-            of_another_kind(reply)
-        }
-    }
-}
-
-impl Operation for HolderUpdateOp<Record> {
-    fn asks(&self) -> Ask<'_> {
-        self.ask()
-    }
-
-    fn turn(
-        &mut self,
-        _alloc: Global,
-        _layout: &Layout<RecordCodec>,
-        caches: &mut Caches,
-        reply: Option<Reply>,
-    ) -> Result<Option<Told>, Fail> {
-        if fits_entry(&self.entry, &reply) {
-            Ok(says(self.take(caches, reply)))
-        } else {
-            of_another_kind(reply)
-        }
-    }
-}
-
-impl Operation for LoadOp<Record> {
-    fn asks(&self) -> Ask<'_> {
-        self.ask()
-    }
-
-    fn turn(
-        &mut self,
-        alloc: Global,
-        layout: &Layout<RecordCodec>,
-        caches: &mut Caches,
-        reply: Option<Reply>,
-    ) -> Result<Option<Told>, Fail> {
-        if fits_read(&self.read, &reply) {
-            Ok(says(self.take(alloc, layout, caches, reply)))
-        } else {
-            of_another_kind(reply)
-        }
-    }
-}
-
-impl Operation for RefreshOp<Record> {
-    fn asks(&self) -> Ask<'_> {
-        self.ask()
-    }
-
-    fn turn(
-        &mut self,
-        alloc: Global,
-        layout: &Layout<RecordCodec>,
-        caches: &mut Caches,
-        reply: Option<Reply>,
-    ) -> Result<Option<Told>, Fail> {
-        if fits_read(&self.read, &reply) {
-            Ok(says(self.take(alloc, layout, caches, reply)))
-        } else {
-            of_another_kind(reply)
-        }
-    }
-}
-
-impl Operation for HolderRefreshOp<Record> {
-    fn asks(&self) -> Ask<'_> {
-        self.ask()
-    }
-
-    fn turn(
-        &mut self,
-        alloc: Global,
-        layout: &Layout<RecordCodec>,
-        caches: &mut Caches,
-        reply: Option<Reply>,
-    ) -> Result<Option<Told>, Fail> {
-        if fits_read(&self.read, &reply) {
-            Ok(says(self.take(alloc, layout, &RecordEpoch, caches, reply)))
-        } else {
-            of_another_kind(reply)
-        }
-    }
-}
-
-impl Operation for ClaimOp<Record> {
-    fn asks(&self) -> Ask<'_> {
-        self.ask()
-    }
-
-    fn turn(
-        &mut self,
-        alloc: Global,
-        layout: &Layout<RecordCodec>,
-        caches: &mut Caches,
-        reply: Option<Reply>,
-    ) -> Result<Option<Told>, Fail> {
-        if fits_claiming(&self.claiming, &reply) {
-            Ok(says(self.take(alloc, layout, &RecordEpoch, caches, reply)))
-        } else {
-            of_another_kind(reply)
-        }
-    }
-}
-
-impl Operation for ClaimAtOp<Record> {
-    fn asks(&self) -> Ask<'_> {
-        self.ask()
-    }
-
-    fn turn(
-        &mut self,
-        alloc: Global,
-        layout: &Layout<RecordCodec>,
-        caches: &mut Caches,
-        reply: Option<Reply>,
-    ) -> Result<Option<Told>, Fail> {
-        if fits_claiming(&self.claiming, &reply) {
-            Ok(says(self.take(alloc, layout, &RecordEpoch, caches, reply)))
-        } else {
-            of_another_kind(reply)
-        }
-    }
 }

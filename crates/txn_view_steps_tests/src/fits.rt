@@ -9,6 +9,7 @@ ghost use Rattle.txn_steps.specs.Latest.{IsLatestReply, InRange};
 ghost use Rattle.txn_steps.specs.Reads.{IsReadReply, IsInRange};
 ghost use Rattle.txn_view_steps.specs.Entries.{IsEntryReply};
 ghost use Rattle.txn_view_steps.specs.Attempts.{IsClaimingReply, IsClaimingInRange};
+ghost use Rattle.txn_view_steps.specs.ViewOps.{IsViewReply, IsViewInRange};
 
 use txn_caches::boundary_read::BoundaryRead;
 use txn_caches::check::{BoundaryCheck, BoundaryStep, CheckOp};
@@ -19,6 +20,7 @@ use txn_steps::write::{WriteOp, WriteStep, WriteUncheckedOp};
 use txn_store::request::Reply;
 use txn_view_steps::claiming::Claiming;
 use txn_view_steps::entry::EntryOp;
+use txn_view_steps::op::ViewOp;
 
 fn is_look(reply: &Option<Reply>) -> bool
     ensures { IsTrue result → IsLook reply.now }
@@ -105,7 +107,7 @@ fn fits_latest(op: &LatestOp<Record>, reply: &Option<Reply>) -> bool
     }
 }
 
-pub(crate) fn fits_read(op: &ReadOp<Record>, reply: &Option<Reply>) -> bool
+fn fits_read(op: &ReadOp<Record>, reply: &Option<Reply>) -> bool
     ensures reply { IsTrue result → IsReadReply op.now reply.now }
     ensures range { IsTrue result → IsInRange op.now }
 {
@@ -116,7 +118,7 @@ pub(crate) fn fits_read(op: &ReadOp<Record>, reply: &Option<Reply>) -> bool
     }
 }
 
-pub(crate) fn fits_entry(op: &EntryOp<Record>, reply: &Option<Reply>) -> bool
+fn fits_entry(op: &EntryOp<Record>, reply: &Option<Reply>) -> bool
     ensures { IsTrue result → IsEntryReply op.now reply.now }
 {
     match op {
@@ -125,7 +127,7 @@ pub(crate) fn fits_entry(op: &EntryOp<Record>, reply: &Option<Reply>) -> bool
     }
 }
 
-pub(crate) fn fits_claiming(op: &Claiming<Record>, reply: &Option<Reply>) -> bool
+fn fits_claiming(op: &Claiming<Record>, reply: &Option<Reply>) -> bool
     ensures reply { IsTrue result → IsClaimingReply op.now reply.now }
     ensures range { IsTrue result → IsClaimingInRange op.now }
 {
@@ -133,5 +135,22 @@ pub(crate) fn fits_claiming(op: &Claiming<Record>, reply: &Option<Reply>) -> boo
         Claiming::Writes(write, _, _) => fits_write(write, reply),
         Claiming::Reads(read) => fits_read(read, reply),
         Claiming::Ended => false,
+    }
+}
+
+/// A read inside it has found no more than four successors besides.
+pub(crate) fn fits(op: &ViewOp<Record>, reply: &Option<Reply>) -> bool
+    ensures reply { IsTrue result → IsViewReply op.now reply.now }
+    ensures range { IsTrue result → IsViewInRange op.now }
+{
+    match op {
+        ViewOp::Init(init) => fits_entry(&init.entry, reply),
+        ViewOp::Load(load) => fits_read(&load.read, reply),
+        ViewOp::Refresh(refresh) => fits_read(&refresh.read, reply),
+        ViewOp::Update(update) => fits_entry(&update.entry, reply),
+        ViewOp::Claim(claim) => fits_claiming(&claim.claiming, reply),
+        ViewOp::ClaimAt(claim) => fits_claiming(&claim.claiming, reply),
+        ViewOp::HolderRefresh(refresh) => fits_read(&refresh.read, reply),
+        ViewOp::HolderUpdate(update) => fits_entry(&update.entry, reply),
     }
 }

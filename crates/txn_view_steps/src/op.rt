@@ -1,0 +1,92 @@
+//! Any call on a view.
+ghost use Rattle.std.specs.Prelude.{◌≡◌};
+ghost use Rattle.txn_types.specs.Clones.{IsExactClone};
+ghost use Rattle.txn_caches.specs.Steps.{turned_by_number, lacks_memory, TellsErrorOf};
+ghost use Rattle.txn_caches.specs.Asking.{asks, reply_told};
+ghost use Rattle.txn_view_steps.specs.ViewOps.{view_asked, view_left, view_turned, is_claim, IsViewReply, IsViewInRange};
+
+use crate::claim::ClaimOp;
+use crate::claim_at::ClaimAtOp;
+use crate::holder::{HolderRefreshOp, HolderUpdateOp};
+use crate::init::InitOp;
+use crate::load::LoadOp;
+use crate::outcome::ViewAnswer;
+use crate::refresh::RefreshOp;
+use crate::update::UpdateOp;
+use std::alloc::Global;
+use txn_caches::ask::Ask;
+use txn_caches::caches::Caches;
+use txn_caches::turned::Turned;
+use txn_store::request::Reply;
+use txn_types::codec::ObjectCodec;
+use txn_types::epoch::EpochField;
+use txn_types::layout::Layout;
+
+/// The state of any call on a view.
+#[derive(Drop)]
+pub enum ViewOp<T> {
+    Init(InitOp<T>),
+    Load(LoadOp<T>),
+    Refresh(RefreshOp<T>),
+    Update(UpdateOp<T>),
+    Claim(ClaimOp<T>),
+    ClaimAt(ClaimAtOp<T>),
+    HolderRefresh(HolderRefreshOp<T>),
+    HolderUpdate(HolderUpdateOp<T>),
+}
+
+impl<T: Drop> ViewOp<T> {
+    /// What it asks for. It takes no memory.
+    pub fn ask(&self) -> Ask<'_>
+        ensures { asks result ≡ view_asked self.now }
+    {
+        match self {
+            ViewOp::Init(op) => op.ask(),
+            ViewOp::Load(op) => op.ask(),
+            ViewOp::Refresh(op) => op.ask(),
+            ViewOp::Update(op) => op.ask(),
+            ViewOp::Claim(op) => op.ask(),
+            ViewOp::ClaimAt(op) => op.ask(),
+            ViewOp::HolderRefresh(op) => op.ask(),
+            ViewOp::HolderUpdate(op) => op.ask(),
+        }
+    }
+
+    /// Whether it is a claim, whose view ends where it is refused or given up.
+    pub fn is_claim(&self) -> bool
+        ensures { result ≡ is_claim self.now }
+    {
+        matches!(self, ViewOp::Claim(_) | ViewOp::ClaimAt(_))
+    }
+}
+
+impl<T: Clone> ViewOp<T> {
+    /// Takes the store's reply to what it asks, or none for a look, as the call's own state does, and answers as that. An
+    /// answer ends it. It asks that a clone is the same value.
+    pub fn take<C: ObjectCodec<T>, X: EpochField<T>>(
+        &mut self,
+        alloc: Global,
+        layout: &Layout<C>,
+        epochs: &X,
+        caches: &mut Caches,
+        reply: Option<Reply>,
+    ) -> Turned<ViewAnswer<T>>
+        requires exact { IsExactClone T.is_clone }
+        requires reply { IsViewReply self.old reply }
+        requires range { IsViewInRange self.old }
+        ensures turned { (self.new, turned_by_number result) ≡ view_turned layout.now.names layout.now.boundary layout.now.page (C.encoded layout.now.codec) (C.decoded layout.now.codec) (X.epoch_of epochs.now) (X.with_epoch epochs.now) (lacks_memory (turned_by_number result)) self.old caches.old reply }
+        ensures caches { caches.new ≡ view_left self.old caches.old (turned_by_number result) }
+        ensures store_error { TellsErrorOf (reply_told reply) result }
+    {
+        match self {
+            ViewOp::Init(op) => op.take(caches, reply),
+            ViewOp::Load(op) => op.take(alloc, layout, caches, reply),
+            ViewOp::Refresh(op) => op.take(alloc, layout, caches, reply),
+            ViewOp::Update(op) => op.take(caches, reply),
+            ViewOp::Claim(op) => op.take(alloc, layout, epochs, caches, reply),
+            ViewOp::ClaimAt(op) => op.take(alloc, layout, epochs, caches, reply),
+            ViewOp::HolderRefresh(op) => op.take(alloc, layout, epochs, caches, reply),
+            ViewOp::HolderUpdate(op) => op.take(caches, reply),
+        }
+    }
+}
