@@ -96,6 +96,20 @@ module _ {T : Type 0} where
   count_more (Effect op request ∷ rows) row = count_more rows row
   count_more (Begun op call ∷ rows) row = count_more rows row
 
+  -- an operation that writes
+  abbrev pub is_write : Inner T → Bool
+  is_write (Writes base value epoch) = true
+  is_write inner = false
+
+  -- views are at or below the newest id
+  abbrev pub AreKnown : List (AnyRow T) → (ℕ → Option (Used T)) → Type 0
+  AreKnown rows views = (number : ℕ) (used : Used T) → views number ≡ Some used → used.view.id ≤ newest rows
+
+  uses_more : (rows : List (AnyRow T)) (row : AnyRow T) (views : ℕ → Option (Used T)) → AreKnown rows views → (op : ℕ) (o : Operation T) (number : Option ℕ) → Uses rows views op o number → Uses (rows ++ row ∷ []) views op o number
+  uses_more rows row views k op o None h = tt
+  uses_more rows row views k op o (Some number) h =
+      record { used = h.used; there = h.there; busy = h.busy; client = h.client; kind = h.kind; least = never_more rows row op h.used.view.id (k number h.used h.there) h.least }
+
 module _ {T : Type 0} (decode : List ℕ → Option T) (get_epoch : T → ℕ) (set_epoch : T → ℕ → T) where
   pub entry_kept : (rows : List (AnyRow T)) (row : AnyRow T) (n : ℕ) (v : T) → IsEntry decode rows n v → IsEntry decode (rows ++ row ∷ []) n v
   entry_kept rows row n v h = entry_more decode get_epoch rows row n v h
@@ -193,24 +207,11 @@ module _ {T : Type 0} (decode : List ℕ → Option T) (get_epoch : T → ℕ) (
 
   -- operations
 
-  abbrev pub is_write : Inner T → Bool
-  is_write (Writes base value epoch) = true
-  is_write inner = false
-
   inner_more : (rows : List (AnyRow T)) (row : AnyRow T) (op : ℕ) → boundary rows ≤ boundary (rows ++ row ∷ []) → (call : AnyCall T) (inner : Inner T) → (is_write inner ≡ false → NotBy row op) → InnerStands decode get_epoch set_epoch rows op call inner → InnerStands decode get_epoch set_epoch (rows ++ row ∷ []) op call inner
   inner_more rows row op up call (Writes base value epoch) nb h = (write_more rows row op call base value h.0, attempts_more rows row call base value epoch h.1)
   inner_more rows row op up call Reads nb h = (h.0, own_more rows row op up (nb refl) h.1)
   inner_more rows row op up call Starts nb h = own_more rows row op up (nb refl) h
   inner_more rows row op up call Acts nb h = tt
-
-  -- views are at or below the newest id
-  abbrev pub AreKnown : List (AnyRow T) → (ℕ → Option (Used T)) → Type 0
-  AreKnown rows views = (number : ℕ) (used : Used T) → views number ≡ Some used → used.view.id ≤ newest rows
-
-  uses_more : (rows : List (AnyRow T)) (row : AnyRow T) (views : ℕ → Option (Used T)) → AreKnown rows views → (op : ℕ) (o : Operation T) (number : Option ℕ) → Uses rows views op o number → Uses (rows ++ row ∷ []) views op o number
-  uses_more rows row views k op o None h = tt
-  uses_more rows row views k op o (Some number) h =
-      record { used = h.used; there = h.there; busy = h.busy; client = h.client; kind = h.kind; least = never_more rows row op h.used.view.id (k number h.used h.there) h.least }
 
   pub op_more : (rows : List (AnyRow T)) (row : AnyRow T) (views : ℕ → Option (Used T)) → boundary rows ≤ boundary (rows ++ row ∷ []) → AreKnown rows views → (op : ℕ) (o : Operation T) → ends op row ≡ false → (is_write o.inner ≡ false → NotBy row op) → OpStands decode get_epoch set_epoch rows views op o → OpStands decode get_epoch set_epoch (rows ++ row ∷ []) views op o
   op_more rows row views up k op o e nb h =
