@@ -4,3 +4,6 @@ pub mod Stands
 pub mod Frames
 pub mod Tables
 pub mod Turns
+pub mod Failed
+pub mod Effects
+pub mod Ends
