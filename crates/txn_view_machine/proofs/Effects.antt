@@ -50,7 +50,7 @@ module _ {T : Type 0} where
   makes_none : (op o : ℕ) (request : Request) → created request ≡ None → NotBy {T = T} (Effect o request) op
   makes_none op o request none other n bytes same creates =
       let is : request ≡ other = cc in
-      let clash : None ≡ Some (n, bytes) = sym none ∙ (ap created is ∙ creates) in
+      let clash = sym none ∙ (ap created is ∙ creates) in
       cc
 
 module _ {T : Type 0} (decode : List ℕ → Option T) (get_epoch : T → ℕ) (set_epoch : T → ℕ → T) where

@@ -7,3 +7,5 @@ pub mod Turns
 pub mod Failed
 pub mod Effects
 pub mod Ends
+pub mod Shows
+pub mod Attempts
