@@ -23,7 +23,7 @@ use Rattle.txn_view_machine.specs.Layer.{Used, Inner, Operation, Asked, Layer, w
 use Rattle.txn_view_machine.specs.Steps.{IsAsked, IsDue, WasRemoved, Creates, Advances, Removes}
 use Rattle.txn_view_machine.proofs.History.{one_history-more, boundary_up, top_epoch}
 use Rattle.txn_view_machine.proofs.Stands.{MayWrite, WriteStands, OpStands, OpAt, AskedStand, Stands}
-use Rattle.txn_view_machine.proofs.Frames.{NotBy, is_write, AreKnown, count_more, view_at_more, unheld_more, asked_more, op_more}
+use Rattle.txn_view_machine.proofs.Frames.{NotBy, is_write, AreKnown, count_more, view_at_more, unseen_more, asked_more, op_more}
 use Rattle.txn_view_machine.proofs.Tables.{op_of, known_of, op_row}
 use Rattle.txn_view_machine.proofs.Turns.{count_same}
 
@@ -78,7 +78,7 @@ module _ {T : Type 0} (decode : List ℕ → Option T) (get_epoch : T → ℕ) (
           | inr apart ↦ op_row decode get_epoch set_epoch s.rows row s.views up k n (λ e. apart (sym e)) (s.ops n) (st.ops n)
         ];
         asked = asked_more decode get_epoch set_epoch s.rows row s.asked st.asked;
-        unheld = λ number le. unheld_more decode get_epoch set_epoch s.rows row number refl (st.unheld number le);
+        unseen = λ number le. unseen_more s.rows row number (refl, refl) (st.unseen number le);
         begun = st.begun ∙ ap (λ (n : ℕ). n + 1) (sym (begun_count-more s.rows row refl));
         fresh = λ n le. (let f = st.fresh n le in (record { begun = any_false (begins n) s.rows row f.0.begun refl; running = any_false (ends n) s.rows row f.0.running refl }, f.1));
       }

@@ -54,7 +54,7 @@ module _ {T : Type 0} (decode : List ℕ → Option T) (get_epoch : T → ℕ) (
           | inr q ↦ rw q (op_leaves decode get_epoch set_epoch s.rows s.views (set_used s.views (view_used g.o.call) new) n (used_leaves s.views n (view_used g.o.call) new (alone s.rows s.views op n g.o (eqb-false n op q) (view_used g.o.call) own.uses)) (s.ops n) (st.ops n))
         ];
         asked = st.asked;
-        unheld = st.unheld;
+        unseen = st.unseen;
         begun = st.begun;
         fresh = λ n le. (let ne = numbered decode get_epoch set_epoch s st op n g.o g.runs le in let f = st.fresh n le in (f.0, set_other s.ops op None n ne ∙ f.1));
       })
@@ -83,7 +83,7 @@ module _ {T : Type 0} (decode : List ℕ → Option T) (get_epoch : T → ℕ) (
         views = λ number. crashed_view s.rows s.count number c.client (s.views number) (st.views number);
         ops = λ op. crashed_op s.rows s.views c.client op (s.ops op) (st.ops op);
         asked = st.asked;
-        unheld = st.unheld;
+        unseen = st.unseen;
         begun = st.begun;
         fresh = λ n le. (let f = st.fresh n le in (f.0, rw f.1 refl));
       })

@@ -97,7 +97,7 @@ module _ {T : Type 0} (decode : List ℕ → Option T) (get_epoch : T → ℕ) (
         views = st.views;
         ops = st.ops;
         asked = st.asked;
-        unheld = st.unheld;
+        unseen = st.unseen;
         begun = st.begun;
         fresh = st.fresh;
       })

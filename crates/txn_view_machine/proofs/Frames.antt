@@ -25,7 +25,7 @@ use Rattle.txn_view_history.specs.OneHistory.{base_now, base_by, WritesOn}
 use Rattle.txn_view_history.proofs.Holders.{told_in, last_more, first_more}
 use Rattle.txn_view_machine.specs.Layer.{Used, Inner, Starts, Writes, Reads, Acts, Operation, Asked}
 use Rattle.txn_view_machine.proofs.History.{front_before, front_all}
-use Rattle.txn_view_machine.proofs.Stands.{NeverBelow, UsesView, Uses, Fresh, Quiet, shown_by, HolderWrites, MayWrite, WriteStands, AttemptStands, Attempts, OwnFenced, InnerStands, OpStands, AskedStand, ViewAt}
+use Rattle.txn_view_machine.proofs.Stands.{NeverBelow, UsesView, Uses, Fresh, Quiet, IsUnseen, shown_by, HolderWrites, MayWrite, WriteStands, AttemptStands, Attempts, OwnFenced, InnerStands, OpStands, AskedStand, ViewAt}
 
 held_or : (a b c : Option ℕ) → b ≡ None → or_else a b ≡ c → a ≡ c
 held_or None b c e f = sym e ∙ f
@@ -95,6 +95,10 @@ module _ {T : Type 0} where
   count_more (Answered op (answers.Plain answer) ∷ rows) row = count_more rows row
   count_more (Effect op request ∷ rows) row = count_more rows row
   count_more (Begun op call ∷ rows) row = count_more rows row
+
+  -- a row that says nothing of a view leaves it unseen
+  pub unseen_more : (rows : List (AnyRow T)) (row : AnyRow T) (number : ℕ) → Quiet row number → IsUnseen rows number → IsUnseen (rows ++ row ∷ []) number
+  unseen_more rows row number q h = (last_more (id_shown number) None rows row ∙ rw q.0 h.0, first_more (epoch_shown number) rows row ∙ rw h.1 q.1)
 
   -- an operation that writes
   abbrev pub is_write : Inner T → Bool
@@ -200,10 +204,6 @@ module _ {T : Type 0} (decode : List ℕ → Option T) (get_epoch : T → ℕ) (
   pub view_at_more : (rows : List (AnyRow T)) (row : AnyRow T) (count more number : ℕ) → count ≤ more → (used : Option (Used T)) → Quiet row number → ViewAt decode get_epoch set_epoch rows count number used → ViewAt decode get_epoch set_epoch (rows ++ row ∷ []) more number used
   view_at_more rows row count more number le None q h = tt
   view_at_more rows row count more number le (Some used) q h = (omega (arith, le, h.0), view_more rows row number used.view q h.1)
-
-  -- a view that was never held is not held by a row that says nothing of it
-  pub unheld_more : (rows : List (AnyRow T)) (row : AnyRow T) (number : ℕ) → told_in (epoch_shown number) row ≡ None → epoch_held rows number ≡ None → epoch_held (rows ++ row ∷ []) number ≡ None
-  unheld_more rows row number q h = first_more (epoch_shown number) rows row ∙ (rw h q)
 
   -- operations
 

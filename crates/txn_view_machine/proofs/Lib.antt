@@ -9,3 +9,4 @@ pub mod Effects
 pub mod Ends
 pub mod Shows
 pub mod Attempts
+pub mod Takes

@@ -11,7 +11,7 @@ use Rattle.txn_view_history.specs.declared.event.AnyAnswer.{AnyAnswer}
 use Rattle.txn_view_history.specs.declared.event.AnyAnswer.TheVariants as answers
 use Rattle.txn_view_history.specs.Trace.{AnyRow}
 use Rattle.txn_view_history.specs.Calls.{view_used, is_holders}
-use Rattle.txn_view_history.specs.Views.{id_shown, epoch_shown, epoch_held, view_count, ViewFits}
+use Rattle.txn_view_history.specs.Views.{id_shown, epoch_shown, view_at, epoch_held, view_count, ViewFits}
 use Rattle.txn_view_history.specs.OneHistory.{WritesOn, AnswerFits, IsOneHistory}
 use Rattle.txn_view_history.proofs.Holders.{told_in}
 use Rattle.txn_view_machine.specs.Layer.{Used, Inner, Starts, Writes, Reads, Acts, Operation, Asked, Layer, Change, Next, Goes, Ends, Opens, changed}
@@ -51,6 +51,10 @@ module _ {T : Type 0} where
   -- a row says nothing of a view
   abbrev pub Quiet : AnyRow T → ℕ → Type 0
   Quiet row number = (told_in (id_shown number) row ≡ None) × (told_in (epoch_shown number) row ≡ None)
+
+  -- no answer showed the view: its number was not given out
+  abbrev pub IsUnseen : List (AnyRow T) → ℕ → Type 0
+  IsUnseen rows number = (view_at rows number ≡ None) × (epoch_held rows number ≡ None)
 
   -- the number of the view that an answer shows
   abbrev pub shown_by : AnyAnswer T → ℕ
@@ -127,8 +131,7 @@ module _ {T : Type 0} (decode : List ℕ → Option T) (get_epoch : T → ℕ) (
     pub views : (number : ℕ) → ViewAt s.rows s.count number (s.views number)
     pub ops : (op : ℕ) → OpAt s.rows s.views op (s.ops op)
     pub asked : AskedStand s.rows s.asked
-    -- a number of a view that was not given out was never held
-    pub unheld : (number : ℕ) → s.count < number → epoch_held s.rows number ≡ None
+    pub unseen : (number : ℕ) → s.count < number → IsUnseen s.rows number
     pub begun : s.next ≡ begun_count s.rows + 1
     pub fresh : (op : ℕ) → s.next ≤ op → Fresh s.rows op × (s.ops op ≡ None)
 

@@ -15,8 +15,8 @@ use Rattle.txn_view_history.specs.OneHistory.{Answers, IsOneHistory}
 use Rattle.txn_view_history.proofs.Holders.{last_more, first_more}
 use Rattle.txn_view_machine.specs.Layer.{Used, Inner, Starts, Writes, Reads, Acts, Operation, Asked, Layer, Change, Next, Goes, Ends, Opens, look_up, changed, new_view, views_changed, set_at, set_used, noted, turned}
 use Rattle.txn_view_machine.proofs.History.{one_history-more, boundary_up}
-use Rattle.txn_view_machine.proofs.Stands.{UsesView, Uses, InnerStands, OpStands, OpAt, AskedStand, ViewAt, Stands, Quiet, shown_by, EndStands, OpenStands, NextStands}
-use Rattle.txn_view_machine.proofs.Frames.{count_more, entry_kept, view_at_more, unheld_more, asked_more, fresh_more}
+use Rattle.txn_view_machine.proofs.Stands.{UsesView, Uses, InnerStands, OpStands, OpAt, AskedStand, ViewAt, Stands, Quiet, IsUnseen, shown_by, EndStands, OpenStands, NextStands}
+use Rattle.txn_view_machine.proofs.Frames.{count_more, entry_kept, view_at_more, unseen_more, asked_more, fresh_more}
 use Rattle.txn_view_machine.proofs.Tables.{set_other, set_leaves, used_leaves, alone, view_of, op_of, known_of, numbered, used_known, op_leaves, op_row}
 
 pub count_same : (count more shown all : ℕ) → all ≡ max more shown → count ≡ more → shown ≤ count → count ≡ all
@@ -58,7 +58,7 @@ module _ {T : Type 0} (decode : List ℕ → Option T) (get_epoch : T → ℕ) (
               (s.ops n) (op_row decode get_epoch set_epoch s.rows row s.views up k n (λ x. eqb-false n op q (sym x)) (s.ops n) (st.ops n)))
         ];
         asked = asked_more decode get_epoch set_epoch s.rows row s.asked st.asked;
-        unheld = λ number le. unheld_more decode get_epoch set_epoch s.rows row number (h.quiet number (λ q. absurd (omega (arith, used_known decode get_epoch set_epoch s st op o (view_used o.call) own.uses number q, le)))).1 (st.unheld number le);
+        unseen = λ number le. unseen_more s.rows row number (h.quiet number (λ q. absurd (omega (arith, used_known decode get_epoch set_epoch s st op o (view_used o.call) own.uses number q, le)))) (st.unseen number le);
         begun = st.begun ∙ ap (λ (n : ℕ). n + 1) (sym (begun_count-more s.rows row refl));
         fresh = λ n le. (let ne = numbered decode get_epoch set_epoch s st op n o e le in let f = st.fresh n le in (fresh_more s.rows row n (λ x. ne (sym x)) f.0, set_other s.ops op None n ne ∙ f.1));
       }
@@ -68,9 +68,9 @@ module _ {T : Type 0} (decode : List ℕ → Option T) (get_epoch : T → ℕ) (
   quiet_other : (op count id : ℕ) (value : T) (number : ℕ) → number ≢ count + 1 → Quiet (Answered op (answers.View (count + 1) id value)) number
   quiet_other op count id value number ne = (rw (ne_eqb (count + 1) number (λ e. ne (sym e))) refl, refl)
 
-  open_views : (rows : List (AnyRow T)) (views : ℕ → Option (Used T)) (count op client id : ℕ) (value : T) → ((number : ℕ) → ViewAt decode get_epoch set_epoch rows count number (views number)) → ((number : ℕ) → count < number → epoch_held rows number ≡ None) → IsEntry decode rows id value → (number : ℕ) →
+  open_views : (rows : List (AnyRow T)) (views : ℕ → Option (Used T)) (count op client id : ℕ) (value : T) → ((number : ℕ) → ViewAt decode get_epoch set_epoch rows count number (views number)) → ((number : ℕ) → count < number → IsUnseen rows number) → IsEntry decode rows id value → (number : ℕ) →
       ViewAt decode get_epoch set_epoch (rows ++ Answered op (answers.View (count + 1) id value) ∷ []) (count + 1) number (set_at views (count + 1) (Some (new_view client id value)) number)
-  open_views rows views count op client id value all unheld there number =
+  open_views rows views count op client id value all unseen there number =
       let row : AnyRow T = Answered op (answers.View (count + 1) id value) in
       elim (cases_Bool (number == count + 1)) [
         | inl h ↦ rw h (
@@ -81,7 +81,7 @@ module _ {T : Type 0} (decode : List ℕ → Option T) (get_epoch : T → ℕ) (
                 shown = id;
                 last = last_more (id_shown number) None rows row ∙ rw (subst (λ (n : ℕ). (count + 1 == n) ≡ true) (sym same) (eq-eqb (count + 1) (count + 1) refl)) refl;
                 stands = inl refl;
-                epoch = sym (unheld_more decode get_epoch set_epoch rows row number refl (unheld number (omega (arith, same))));
+                epoch = sym (first_more (epoch_shown number) rows row ∙ rw (unseen number (omega (arith, same))).1 refl);
               },
             )
             )
@@ -100,7 +100,7 @@ module _ {T : Type 0} (decode : List ℕ → Option T) (get_epoch : T → ℕ) (
       record {
         good = good;
         count = count_one s.count (view_count s.rows) (view_count (s.rows ++ row ∷ [])) (count_more s.rows row) st.count;
-        views = open_views s.rows s.views s.count op o.client id value st.views st.unheld h.object;
+        views = open_views s.rows s.views s.count op o.client id value st.views st.unseen h.object;
         ops = λ n. elim (cases_Bool (n == op)) [
           | inl q ↦ rw q tt
           | inr q ↦ rw q (op_leaves decode get_epoch set_epoch (s.rows ++ row ∷ []) s.views (set_at s.views (s.count + 1) (Some new)) n
@@ -108,7 +108,7 @@ module _ {T : Type 0} (decode : List ℕ → Option T) (get_epoch : T → ℕ) (
               (s.ops n) (op_row decode get_epoch set_epoch s.rows row s.views up k n (λ x. eqb-false n op q (sym x)) (s.ops n) (st.ops n)))
         ];
         asked = asked_more decode get_epoch set_epoch s.rows row s.asked st.asked;
-        unheld = λ number le. unheld_more decode get_epoch set_epoch s.rows row number refl (st.unheld number (omega (arith, le)));
+        unseen = λ number le. unseen_more s.rows row number (quiet_other op s.count id value number (λ same. absurd (omega (arith, le, same)))) (st.unseen number (omega (arith, le)));
         begun = st.begun ∙ ap (λ (n : ℕ). n + 1) (sym (begun_count-more s.rows row refl));
         fresh = λ n le. (let ne = numbered decode get_epoch set_epoch s st op n o e le in let f = st.fresh n le in (fresh_more s.rows row n (λ x. ne (sym x)) f.0, set_other s.ops op None n ne ∙ f.1));
       }
@@ -148,7 +148,7 @@ module _ {T : Type 0} (decode : List ℕ → Option T) (get_epoch : T → ℕ) (
           | inr q ↦ rw q (st.ops n)
         ];
         asked = noted_stand s.rows op o.call inner s.asked h st.asked;
-        unheld = st.unheld;
+        unseen = st.unseen;
         begun = st.begun;
         fresh = λ n le. (let ne = numbered decode get_epoch set_epoch s st op n o e le in let f = st.fresh n le in (f.0, set_other s.ops op (Some new) n ne ∙ f.1));
       }
