@@ -10,3 +10,5 @@ pub mod Ends
 pub mod Shows
 pub mod Attempts
 pub mod Takes
+pub mod Opens
+pub mod Begins
