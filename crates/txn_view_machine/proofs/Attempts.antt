@@ -1,7 +1,6 @@
 -- A write on a version stands where there is a next id, and so does a claim's attempt.
-use Rattle.std.proofs.Common.{◌≡◌, ℕ, ◌+◌, ◌<◌, ◌≤◌, List, Bool, true, false, cond, if◌then◌else◌, ◌==◌, nat_le, Option, Some, None, Result, Ok, Err, ◌⊎◌, inl, inr, refl, sym, ◌∙◌, ap, subst, arith}
-use Rattle.std.proofs.lemmas.Bool.{cases_lt, cases_Bool, eqb-true, eqb-false, both_ways, leb-true, le-leb}
-use Rattle.txn_types.specs.declared.error.TransactionalObjectError.{TransactionalObjectError}
+use Rattle.std.proofs.Common.{◌≡◌, ℕ, ◌+◌, ◌<◌, ◌≤◌, List, Bool, true, false, if◌then◌else◌, ◌==◌, nat_le, Option, Some, None, Ok, Err, inl, inr, refl, subst, arith}
+use Rattle.std.proofs.lemmas.Bool.{cases_lt, eqb-true, both_ways, leb-true, le-leb}
 use Rattle.txn_types.specs.declared.error.TransactionalObjectError.TheVariants.{Fenced, IdExhausted}
 use Rattle.txn_history.specs.History.{newest, IsEntry, epoch_at}
 use Rattle.txn_history.specs.Calls.{was_begun, IsCall}
@@ -9,12 +8,11 @@ use Rattle.txn_history.specs.OneHistory.{greatest}
 use Rattle.txn_view_history.specs.declared.event.ViewCall.TheVariants as view_calls
 use Rattle.txn_view_history.specs.declared.event.AnyCall.{AnyCall}
 use Rattle.txn_view_history.specs.declared.event.AnyCall.TheVariants as any
-use Rattle.txn_view_history.specs.Trace.{AnyRow}
-use Rattle.txn_view_history.specs.OneHistory.{ClaimsOn, ClaimsAtOn, HasReached, AnswerFits}
-use Rattle.txn_view_machine.specs.Layer.{Inner, Writes, Operation, Layer, Next, Goes, refused}
+use Rattle.txn_view_history.specs.OneHistory.{AnswerFits}
+use Rattle.txn_view_machine.specs.Layer.{Inner, Writes, Layer, Next, Goes, refused}
 use Rattle.txn_view_machine.specs.Parts.{refusing, written, claimed, attempted, HasEpoch}
 use Rattle.txn_view_machine.proofs.History.{entry_within, epoch_is}
-use Rattle.txn_view_machine.proofs.Stands.{WriteStands, AttemptStands, Attempts, OwnFenced, Stands, NextStands}
+use Rattle.txn_view_machine.proofs.Stands.{WriteStands, Attempts, OwnFenced, Stands, NextStands}
 use Rattle.txn_view_machine.proofs.Shows.{op_as, refusing_stands}
 
 module _ {T : Type 0} (decode : List ℕ → Option T) (get_epoch : T → ℕ) (set_epoch : T → ℕ → T) (s : Layer T) (st : Stands decode get_epoch set_epoch s) (op client : ℕ) where
@@ -53,17 +51,20 @@ module _ {T : Type 0} (decode : List ℕ → Option T) (get_epoch : T → ℕ) (
       by false e has =
           written_stands (any.View (view_calls.Claim number)) inner id (set_epoch found (get_epoch found + 1)) (get_epoch found + 1) has
           (λ last. inl (inr (inr (refl, last_id id found there last))))
-          (λ own. ((
-            record {
-              called = called;
-              begun = begun;
-              known = (entry_within decode get_epoch set_epoch s.failed s.rows id found there).1;
-              written = record { old = found; found = there; raised = refl };
-              rises = rises_to id found (set_epoch found (get_epoch found + 1)) (get_epoch found + 1) there (omega arith) own;
-              may = tt;
-            },
-            record { has = own; old = found; entry = there; smaller = omega arith },
-          ), fenced))
+          (λ own. (
+            (
+              record {
+                called = called;
+                begun = begun;
+                known = (entry_within decode get_epoch set_epoch s.failed s.rows id found there).1;
+                written = record { old = found; found = there; raised = refl };
+                rises = rises_to id found (set_epoch found (get_epoch found + 1)) (get_epoch found + 1) there (omega arith) own;
+                may = tt;
+              },
+              record { has = own; old = found; entry = there; smaller = omega arith },
+            ),
+            fenced,
+          ))
 
   pub claim_at_stands : (number at : ℕ) (inner : Inner T) (id : ℕ) (found : T) → HasEpoch get_epoch (attempted get_epoch set_epoch (any.View (view_calls.ClaimAt number at)) (Some at) id found) → IsCall s.rows op (any.View (view_calls.ClaimAt number at)) → was_begun s.rows op ≡ true → IsEntry decode s.rows id found → OwnFenced decode get_epoch set_epoch s.rows op →
       NextFits (any.View (view_calls.ClaimAt number at)) inner (attempted get_epoch set_epoch (any.View (view_calls.ClaimAt number at)) (Some at) id found)
@@ -76,14 +77,17 @@ module _ {T : Type 0} (decode : List ℕ → Option T) (get_epoch : T → ℕ) (
           let lt : get_epoch found < at = elim (cases_lt (get_epoch found) at) [ inl h ↦ h | inr h ↦ absurd (both_ways (nat_le at (get_epoch found)) e (le-leb at (get_epoch found) h)) ] in
           written_stands (any.View (view_calls.ClaimAt number at)) inner id (set_epoch found at) at has
           (λ last. inl (inr (inr (refl, last_id id found there last))))
-          (λ own. ((
-            record {
-              called = called;
-              begun = begun;
-              known = (entry_within decode get_epoch set_epoch s.failed s.rows id found there).1;
-              written = record { old = found; found = there; higher = lt; raised = refl };
-              rises = rises_to id found (set_epoch found at) at there lt own;
-              may = tt;
-            },
-            (record { has = own; old = found; entry = there; smaller = lt }, refl),
-          ), fenced))
+          (λ own. (
+            (
+              record {
+                called = called;
+                begun = begun;
+                known = (entry_within decode get_epoch set_epoch s.failed s.rows id found there).1;
+                written = record { old = found; found = there; higher = lt; raised = refl };
+                rises = rises_to id found (set_epoch found at) at there lt own;
+                may = tt;
+              },
+              (record { has = own; old = found; entry = there; smaller = lt }, refl),
+            ),
+            fenced,
+          ))

@@ -1,15 +1,13 @@
 -- What each call does first stands.
-use Rattle.std.proofs.Common.{◌≡◌, ◌≢◌, ℕ, zero, suc, ◌+◌, ◌<◌, ◌≤◌, List, [], ◌∷◌, ◌++◌, Bool, true, false, if◌then◌else◌, ◌==◌, nat_lt, Option, Some, None, is_some, Result, Ok, Err, ◌⊎◌, inl, inr, refl, sym, ◌∙◌, ap, subst, arith}
+use Rattle.std.proofs.Common.{◌≡◌, ◌≢◌, ℕ, zero, suc, ◌+◌, ◌<◌, ◌≤◌, List, [], ◌∷◌, Bool, true, false, if◌then◌else◌, ◌==◌, nat_lt, Option, Some, None, Ok, Err, inl, inr, refl, sym, ◌∙◌, ap, subst, arith}
 use Rattle.std.proofs.lemmas.Bool.{cases_lt, both_ways, eqb-true, eqb-false, ltb-true, lt-ltb, leb-true}
 use Rattle.std.proofs.lemmas.Option.{same_Some}
 use Rattle.txn_types.specs.Numbers.{number_of}
-use Rattle.txn_types.specs.declared.error.TransactionalObjectError.{TransactionalObjectError}
 use Rattle.txn_types.specs.declared.error.TransactionalObjectError.TheVariants.{Fenced, InvalidObjectState}
 use Rattle.txn_history.specs.declared.event.Call.{Call}
 use Rattle.txn_history.specs.declared.event.Call.TheVariants as calls
 use Rattle.txn_history.specs.declared.trace.RowOf.TheVariants.{Begun}
-use Rattle.txn_history.specs.History.{newest, IsEntry, epoch_at}
-use Rattle.txn_history.specs.Calls.{was_begun}
+use Rattle.txn_history.specs.History.{newest, epoch_at}
 use Rattle.txn_history.specs.OneHistory.{base_on, greatest}
 use Rattle.txn_history.proofs.Rows.{newest_grows}
 use Rattle.txn_history.proofs.More.{epoch_kept}
@@ -19,20 +17,20 @@ use Rattle.txn_view_history.specs.declared.event.AnyCall.{AnyCall}
 use Rattle.txn_view_history.specs.declared.event.AnyCall.TheVariants as any
 use Rattle.txn_view_history.specs.Trace.{AnyRow}
 use Rattle.txn_view_history.specs.Calls.{view_used}
-use Rattle.txn_view_history.specs.Views.{view_at, epoch_held, View, ViewFits}
+use Rattle.txn_view_history.specs.Views.{view_at, epoch_held, ViewFits}
 use Rattle.txn_view_history.specs.OneHistory as history
 use Rattle.txn_view_history.specs.OneHistory.{base_now, base_by, AnswerFits}
-use Rattle.txn_view_machine.specs.Layer.{Used, Inner, Starts, Operation, Layer, Next, Goes, look_up, refused, starting, opened, turned}
-use Rattle.txn_view_machine.specs.Parts.{refusing, tested, with_local, plain_inner, started_on, started, HasEpoch, OrLacking}
+use Rattle.txn_view_machine.specs.Layer.{Used, Starts, Layer, Next, Goes, look_up, starting, opened}
+use Rattle.txn_view_machine.specs.Parts.{tested, with_local, plain_inner, started_on, started, HasEpoch}
 use Rattle.txn_view_machine.specs.Steps.{MayUse, Allowed, Begins}
 use Rattle.txn_view_machine.proofs.History.{entry_within, epoch_is}
 use Rattle.txn_view_machine.proofs.Told.{told_within}
-use Rattle.txn_view_machine.proofs.Stands.{HolderWrites, WriteStands, OpStands, OwnFenced, Stands, NextStands}
+use Rattle.txn_view_machine.proofs.Stands.{WriteStands, OpStands, Stands, NextStands}
 use Rattle.txn_view_machine.proofs.Frames.{view_more}
 use Rattle.txn_view_machine.proofs.Tables.{set_here, view_of, op_of}
 use Rattle.txn_view_machine.proofs.Turns.{turn_keeps}
 use Rattle.txn_view_machine.proofs.Shows.{no_epoch, some_epoch, least_at, refusing_stands}
-use Rattle.txn_view_machine.proofs.Attempts.{NextFits, written_stands, claim_stands, claim_at_stands}
+use Rattle.txn_view_machine.proofs.Attempts.{written_stands, claim_stands, claim_at_stands}
 use Rattle.txn_view_machine.proofs.Opens.{before_now, begin_opens}
 
 -- a base above 0 is its own
@@ -144,17 +142,20 @@ module _ {T : Type 0} (decode : List ℕ → Option T) (get_epoch : T → ℕ) (
         let within = id_within s st client call m opens w m in
         written_stands decode get_epoch set_epoch (now s st client call m opens) (stands s st client call m opens) s.next client call Starts m.used.view.id v (get_epoch v) has
         (λ e. inl (inr (inr (refl, at_greatest s st client call m opens w m refl at e))))
-        (λ e. ((
-          record {
-            called = o.called;
-            begun = o.begun;
-            known = known_now s st client call m opens w m;
-            written = (on_base s st client call m opens w m refl at, refl);
-            rises = epoch_now s st client call m opens m.used.view.id (get_epoch v) within.1 high;
-            may = tt;
-          },
-          tt,
-        ), o.inner))
+        (λ e. (
+          (
+            record {
+              called = o.called;
+              begun = o.begun;
+              known = known_now s st client call m opens w m;
+              written = (on_base s st client call m opens w m refl at, refl);
+              rises = epoch_now s st client call m opens m.used.view.id (get_epoch v) within.1 high;
+              may = tt;
+            },
+            tt,
+          ),
+          o.inner,
+        ))
 
     -- a holder's update is fenced, or its value has another epoch, or it writes on the id of its view
     module _ (w : ℕ) (v : T) (m : MayUse s client (any.View (view_calls.HolderUpdate w v)) w) (opens : history.Opens decode get_epoch s.rows s.next (any.View (view_calls.HolderUpdate w v))) (local : ℕ) (holder : m.used.view.epoch ≡ Some local) where
@@ -179,17 +180,20 @@ module _ {T : Type 0} (decode : List ℕ → Option T) (get_epoch : T → ℕ) (
           let here = epoch_here s st client update m opens w m in
           written_stands decode get_epoch set_epoch (now s st client update m opens) (stands s st client update m opens) s.next client update Starts m.used.view.id v (get_epoch v) has
           (λ q. inl (inr (inr (inr (inr (refl, at_greatest s st client update m opens w m refl at q))))))
-          (λ q. ((
-            record {
-              called = o.called;
-              begun = o.begun;
-              known = known_now s st client update m opens w m;
-              written = (on_base s st client update m opens w m refl at, refl);
-              rises = omega (arith, here, le, keeps);
-              may = record { epoch = local; holder = held_now; keeps = keeps; below = omega (arith, here, le) };
-            },
-            tt,
-          ), o.inner))
+          (λ q. (
+            (
+              record {
+                called = o.called;
+                begun = o.begun;
+                known = known_now s st client update m opens w m;
+                written = (on_base s st client update m opens w m refl at, refl);
+                rises = omega (arith, here, le, keeps);
+                may = record { epoch = local; holder = held_now; keeps = keeps; below = omega (arith, here, le) };
+              },
+              tt,
+            ),
+            o.inner,
+          ))
 
       holder_first : (b c : Bool) → nat_lt local viewed ≡ b → nat_lt viewed local ≡ c → HasEpoch get_epoch (tested update m.used.view.id v (get_epoch v) (value_tested local (get_epoch v) (if b then Err Fenced else (if c then Err InvalidObjectState else Ok tt)))) →
           First s st client update m opens (tested update m.used.view.id v (get_epoch v) (value_tested local (get_epoch v) (if b then Err Fenced else (if c then Err InvalidObjectState else Ok tt))))

@@ -1,14 +1,13 @@
 -- Effects: a write that is due is legal where it takes effect, and each legal effect keeps the layer.
-use Rattle.std.proofs.Common.{◌≡◌, ◌≢◌, ℕ, ◌+◌, ◌<◌, ◌≤◌, max, List, [], ◌∷◌, ◌++◌, Bool, true, false, cond, Option, Some, None, ◌⊎◌, inl, inr, refl, sym, ◌∙◌, ap, subst, arith}
+use Rattle.std.proofs.Common.{◌≡◌, ℕ, ◌+◌, ◌≤◌, List, [], ◌∷◌, ◌++◌, Bool, true, false, cond, Option, Some, None, ◌⊎◌, inl, inr, refl, sym, ◌∙◌, ap, subst, arith}
 use Rattle.std.proofs.lemmas.Bool.{cases_eq, both_ways}
-use Rattle.std.proofs.lemmas.Option.{same_Some}
 use Rattle.txn_store.specs.Paths.{Segments}
 use Rattle.txn_store.specs.declared.request.Request.{Request}
 use Rattle.txn_store.specs.declared.request.Request.TheVariants as requests
 use Rattle.txn_store.specs.declared.store.PutMode.{PutMode}
 use Rattle.txn_types.specs.BoundaryText.{boundary_read}
 use Rattle.txn_history.specs.declared.trace.RowOf.TheVariants.{Effect}
-use Rattle.txn_history.specs.History.{Version, is_boundary, created, raised, removed, newest, boundary, epoch_at}
+use Rattle.txn_history.specs.History.{Version, is_boundary, created, raised, removed, newest, boundary}
 use Rattle.txn_history.specs.Calls.{begins, ends}
 use Rattle.txn_history.proofs.Lists.{any_false}
 use Rattle.txn_history.proofs.More.{begun_count-more}
@@ -18,12 +17,12 @@ use Rattle.txn_view_history.specs.declared.event.AnyCall.{AnyCall}
 use Rattle.txn_view_history.specs.declared.event.AnyCall.TheVariants as any
 use Rattle.txn_view_history.specs.Trace.{AnyRow}
 use Rattle.txn_view_history.specs.Views.{view_count}
-use Rattle.txn_view_history.specs.OneHistory.{WritesOn, MayAppend, Appends, Recreates, VersionPut, BoundaryPut, VersionRemoved, IsLegal, IsOneHistory}
-use Rattle.txn_view_machine.specs.Layer.{Used, Inner, Operation, Asked, Layer, with_row}
+use Rattle.txn_view_history.specs.OneHistory.{MayAppend, Appends, Recreates, VersionPut, BoundaryPut, VersionRemoved, IsLegal, IsOneHistory}
+use Rattle.txn_view_machine.specs.Layer.{Operation, Asked, Layer, with_row}
 use Rattle.txn_view_machine.specs.Steps.{IsAsked, IsDue, WasRemoved, Creates, Advances, Removes}
 use Rattle.txn_view_machine.proofs.History.{one_history-more, boundary_up, top_epoch}
-use Rattle.txn_view_machine.proofs.Stands.{MayWrite, WriteStands, OpStands, OpAt, AskedStand, Stands}
-use Rattle.txn_view_machine.proofs.Frames.{NotBy, is_write, AreKnown, count_more, view_at_more, unseen_more, asked_more, op_more}
+use Rattle.txn_view_machine.proofs.Stands.{MayWrite, WriteStands, OpAt, AskedStand, Stands}
+use Rattle.txn_view_machine.proofs.Frames.{NotBy, is_write, count_more, view_at_more, unseen_more, asked_more, op_more}
 use Rattle.txn_view_machine.proofs.Tables.{op_of, known_of, op_row}
 use Rattle.txn_view_machine.proofs.Turns.{count_same}
 

@@ -1,10 +1,9 @@
 -- Give-ups and crashes keep the layer.
-use Rattle.std.proofs.Common.{◌≡◌, ◌≢◌, ℕ, List, Bool, true, false, ◌==◌, if◌then◌else◌, Option, Some, None, inl, inr, refl, sym, ◌∙◌, ap, subst}
+use Rattle.std.proofs.Common.{◌≡◌, ℕ, List, Bool, true, false, ◌==◌, if◌then◌else◌, Option, Some, None, inl, inr, refl, sym, ◌∙◌, subst}
 use Rattle.std.proofs.lemmas.Bool.{cases_Bool, eqb-true, eqb-false}
 use Rattle.txn_view_history.specs.Trace.{AnyRow}
 use Rattle.txn_view_history.specs.Calls.{view_used}
-use Rattle.txn_view_history.specs.Views.{View, ViewFits}
-use Rattle.txn_view_machine.specs.Layer.{Used, Operation, Layer, Keeps, Closes, look_up, changed, views_changed, set_used}
+use Rattle.txn_view_machine.specs.Layer.{Used, Operation, Layer, Keeps, Closes, look_up, changed, set_used}
 use Rattle.txn_view_machine.specs.Parts.{is_claim}
 use Rattle.txn_view_machine.specs.Steps.{view_without, op_without, GivesUp, Crashes}
 use Rattle.txn_view_machine.proofs.Stands.{Uses, OpStands, OpAt, ViewAt, Stands}

@@ -8,14 +8,13 @@ use Rattle.txn_history.specs.declared.trace.RowOf.TheVariants.{Effect, Begun, An
 use Rattle.txn_history.specs.OneHistory as plain
 use Rattle.txn_history.specs.OneHistory.{Fails}
 use Rattle.txn_history.proofs.Lists.{any_true}
-use Rattle.txn_view_history.specs.declared.event.ViewCall.{ViewCall}
 use Rattle.txn_view_history.specs.declared.event.ViewCall.TheVariants as view_calls
 use Rattle.txn_view_history.specs.declared.event.AnyCall.{AnyCall}
 use Rattle.txn_view_history.specs.declared.event.AnyCall.TheVariants as any
 use Rattle.txn_view_history.specs.declared.event.AnyAnswer.{AnyAnswer}
 use Rattle.txn_view_history.specs.declared.event.AnyAnswer.TheVariants as answers
 use Rattle.txn_view_history.specs.Trace.{AnyRow}
-use Rattle.txn_view_history.specs.OneHistory.{Succeeds, Refuses, AnswerFits, Fits, IsOneHistory}
+use Rattle.txn_view_history.specs.OneHistory.{Succeeds, Refuses, AnswerFits, Fits}
 use Rattle.txn_view_machine.specs.Layer.{Layer}
 use Rattle.txn_view_machine.specs.Steps.{Fails as FailsStep}
 use Rattle.txn_view_machine.proofs.Stands.{Stands}

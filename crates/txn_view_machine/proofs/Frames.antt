@@ -1,14 +1,14 @@
 -- What one more row keeps.
-use Rattle.std.proofs.Common.{◌≡◌, ◌≢◌, ℕ, ◌+◌, ◌≤◌, max, List, [], ◌∷◌, ◌++◌, length, take, slice_get, Bool, true, false, ◌==◌, ◌||◌, Option, Some, None, ◌⊎◌, inl, inr, refl, sym, ◌∙◌, ap, subst, arith}
+use Rattle.std.proofs.Common.{◌≡◌, ◌≢◌, ℕ, ◌≤◌, max, List, [], ◌∷◌, ◌++◌, length, Bool, true, false, ◌||◌, Option, Some, None, inl, inr, refl, sym, ◌∙◌, ap, subst, arith}
 use Rattle.std.specs.List.{list_any}
-use Rattle.std.proofs.lemmas.Bool.{cases_lt, both_ways}
+use Rattle.std.proofs.lemmas.Bool.{cases_lt}
 use Rattle.std.proofs.lemmas.Option.{slice_get_within}
 use Rattle.txn_store.specs.declared.request.Request.{Request}
 use Rattle.txn_history.specs.declared.event.Call.{Call}
 use Rattle.txn_history.specs.declared.event.Call.TheVariants as calls
 use Rattle.txn_history.specs.declared.trace.RowOf.TheVariants.{Effect, Begun, Answered}
 use Rattle.txn_history.specs.History.{created, has_id, versions_of, newest, boundary, IsEntry, epoch_at}
-use Rattle.txn_history.specs.Calls.{begins, ends, was_begun, was_answered, IsCall}
+use Rattle.txn_history.specs.Calls.{begins, ends, was_begun}
 use Rattle.txn_history.specs.OneHistory.{base_on, Entered}
 use Rattle.txn_history.proofs.Lists.{get_more, any_false}
 use Rattle.txn_history.proofs.Rows.{row_op, newest_grows}
@@ -20,12 +20,12 @@ use Rattle.txn_view_history.specs.declared.event.AnyCall.TheVariants as any
 use Rattle.txn_view_history.specs.declared.event.AnyAnswer.TheVariants as answers
 use Rattle.txn_view_history.specs.Trace.{AnyRow}
 use Rattle.txn_view_history.specs.Calls.{before_begin, view_used}
-use Rattle.txn_view_history.specs.Views.{or_else, id_shown, epoch_shown, view_at, epoch_held, view_count, View, ViewFits}
+use Rattle.txn_view_history.specs.Views.{or_else, id_shown, epoch_shown, epoch_held, view_count, View, ViewFits}
 use Rattle.txn_view_history.specs.OneHistory.{base_now, base_by, WritesOn}
 use Rattle.txn_view_history.proofs.Holders.{told_in, last_more, first_more}
 use Rattle.txn_view_machine.specs.Layer.{Used, Inner, Starts, Writes, Reads, Acts, Operation, Asked}
 use Rattle.txn_view_machine.proofs.History.{front_before, front_all}
-use Rattle.txn_view_machine.proofs.Stands.{NeverBelow, UsesView, Uses, Fresh, Quiet, IsUnseen, shown_by, HolderWrites, MayWrite, WriteStands, AttemptStands, Attempts, OwnFenced, InnerStands, OpStands, AskedStand, ViewAt}
+use Rattle.txn_view_machine.proofs.Stands.{NeverBelow, Uses, Fresh, Quiet, IsUnseen, shown_by, MayWrite, WriteStands, AttemptStands, Attempts, OwnFenced, InnerStands, OpStands, AskedStand, ViewAt}
 
 held_or : (a b c : Option ℕ) → b ≡ None → or_else a b ≡ c → a ≡ c
 held_or None b c e f = sym e ∙ f

@@ -1,14 +1,12 @@
 -- What one history says of its rows now: entries, the boundary, and one's own entries.
-use Rattle.std.proofs.Common.{◌≡◌, ℕ, zero, suc, ◌+◌, ◌<◌, ◌≤◌, List, [], ◌∷◌, ◌++◌, length, take, slice_get, Bool, true, false, Option, Some, None, ◌⊎◌, inl, inr, refl, sym, ◌∙◌, ap, subst, arith}
+use Rattle.std.proofs.Common.{◌≡◌, ℕ, suc, ◌<◌, ◌≤◌, List, [], ◌∷◌, ◌++◌, length, take, true, false, Option, Some, None, inl, inr, refl, sym, ◌∙◌, ap, subst, arith}
 use Rattle.std.proofs.lemmas.List.{length-append, take-append-le, take_all}
-use Rattle.std.proofs.lemmas.Bool.{both_ways, cases_eq}
-use Rattle.std.proofs.lemmas.Option.{slice_get_within, get_or_from_slice_get, same_Some}
-use Rattle.std.proofs.lemmas.List.Folds.{list_any-append}
-use Rattle.std.specs.List.{list_any}
+use Rattle.std.proofs.lemmas.Bool.{both_ways}
+use Rattle.std.proofs.lemmas.Option.{slice_get_within, get_or_from_slice_get}
 use Rattle.txn_store.specs.declared.request.Request.{Request}
-use Rattle.txn_history.specs.declared.trace.RowOf.TheVariants.{Effect, Begun, Answered}
+use Rattle.txn_history.specs.declared.trace.RowOf.TheVariants.{Effect}
 use Rattle.txn_history.specs.Lists.{numbered}
-use Rattle.txn_history.specs.History.{Version, history, created, has_id, with_version, versions_of, newest, boundary, IsEntry, epoch_in, epoch_at}
+use Rattle.txn_history.specs.History.{history, created, has_id, with_version, versions_of, newest, boundary, IsEntry, epoch_in, epoch_at}
 use Rattle.txn_history.specs.Calls.{begins, was_begun, AtRow}
 use Rattle.txn_history.specs.OneHistory.{Entered, WasNewest}
 use Rattle.txn_history.proofs.Lists.{get_more, any_true}

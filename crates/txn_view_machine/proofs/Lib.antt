@@ -12,3 +12,4 @@ pub mod Attempts
 pub mod Takes
 pub mod Opens
 pub mod Begins
+pub mod Runs

@@ -1,14 +1,12 @@
 -- A begin keeps the layer, before the operation does anything.
-use Rattle.std.proofs.Common.{◌≡◌, ◌≢◌, ℕ, zero, suc, ◌+◌, ◌<◌, ◌≤◌, List, [], ◌∷◌, ◌++◌, length, take, Bool, true, false, ◌==◌, ◌||◌, Option, Some, None, inl, inr, refl, sym, ◌∙◌, ap, subst, arith}
+use Rattle.std.proofs.Common.{◌≡◌, ◌≢◌, ℕ, zero, suc, ◌≤◌, List, [], ◌∷◌, ◌++◌, length, take, Bool, true, false, ◌==◌, ◌||◌, Option, Some, None, inl, inr, refl, sym, ◌∙◌, ap, subst, arith}
 use Rattle.std.specs.List.{list_any}
 use Rattle.std.specs.Option.{option_map}
-use Rattle.std.proofs.lemmas.List.{append-nil}
 use Rattle.std.proofs.lemmas.Bool.{cases_Bool, cases_lt, eqb-true, eqb-false, eq-eqb, both_ways}
 use Rattle.std.proofs.lemmas.Option.{same_Some, slice_get_within}
-use Rattle.txn_history.specs.declared.trace.RowOf.TheVariants.{Effect, Begun, Answered}
-use Rattle.txn_history.specs.History.{newest, boundary}
-use Rattle.txn_history.specs.Calls.{begins, ends, was_begun, was_answered, IsCall}
-use Rattle.txn_history.specs.OneHistory.{Entered}
+use Rattle.txn_history.specs.declared.trace.RowOf.TheVariants.{Effect, Begun}
+use Rattle.txn_history.specs.History.{newest}
+use Rattle.txn_history.specs.Calls.{begins, ends, was_begun}
 use Rattle.txn_history.proofs.Lists.{get_last, get_more, any_false, any_last}
 use Rattle.txn_history.proofs.Rows.{newest_grows}
 use Rattle.txn_history.proofs.More.{begun_count-begun}
@@ -17,10 +15,10 @@ use Rattle.txn_view_history.specs.Trace.{AnyRow}
 use Rattle.txn_view_history.specs.Calls.{before_begin, view_used}
 use Rattle.txn_view_history.specs.Views.{view_count}
 use Rattle.txn_view_history.specs.OneHistory as history
-use Rattle.txn_view_machine.specs.Layer.{Used, Operation, Layer, look_up, with_busy, starting, set_at, set_used, opened}
-use Rattle.txn_view_machine.specs.Steps.{MayUse, Allowed}
+use Rattle.txn_view_machine.specs.Layer.{Used, Layer, look_up, with_busy, starting, set_used, opened}
+use Rattle.txn_view_machine.specs.Steps.{Allowed}
 use Rattle.txn_view_machine.proofs.History.{front_before, front_all, one_history-more, boundary_up}
-use Rattle.txn_view_machine.proofs.Stands.{NeverBelow, Uses, OwnFenced, OpStands, OpAt, ViewAt, Stands}
+use Rattle.txn_view_machine.proofs.Stands.{NeverBelow, Uses, OwnFenced, OpStands, ViewAt, Stands}
 use Rattle.txn_view_machine.proofs.Frames.{unseen_more, count_more, view_at_more, asked_more, fresh_more}
 use Rattle.txn_view_machine.proofs.Tables.{set_here, set_other, Leaves, set_leaves, known_of, op_leaves, op_row}
 use Rattle.txn_view_machine.proofs.Turns.{count_same}

@@ -1,25 +1,24 @@
 -- What an answer owes of the view that its call uses: one lemma for each way to change it.
-use Rattle.std.proofs.Common.{◌≡◌, ◌≢◌, ℕ, ◌+◌, ◌<◌, ◌≤◌, List, [], ◌∷◌, ◌++◌, length, take, Bool, true, false, cond, ◌==◌, Option, Some, None, is_some, ◌⊎◌, inl, inr, refl, sym, ◌∙◌, ap, subst, arith}
+use Rattle.std.proofs.Common.{◌≡◌, ◌≢◌, ℕ, ◌<◌, ◌≤◌, List, [], ◌∷◌, ◌++◌, length, true, false, Option, Some, None, is_some, inl, inr, refl, sym, ◌∙◌, ap, subst, arith}
 use Rattle.std.proofs.lemmas.Bool.{eq-eqb, ne_eqb}
 use Rattle.std.proofs.lemmas.Option.{same_Some}
 use Rattle.txn_types.specs.Numbers.{number_of}
 use Rattle.txn_history.specs.declared.trace.RowOf.TheVariants.{Answered}
-use Rattle.txn_history.specs.History.{newest, IsEntry}
+use Rattle.txn_history.specs.History.{IsEntry}
 use Rattle.txn_view_history.specs.declared.event.ViewCall.TheVariants as view_calls
 use Rattle.txn_view_history.specs.declared.event.AnyCall.{AnyCall}
 use Rattle.txn_view_history.specs.declared.event.AnyCall.TheVariants as any
-use Rattle.txn_view_history.specs.declared.event.AnyAnswer.{AnyAnswer}
 use Rattle.txn_view_history.specs.declared.event.AnyAnswer.TheVariants as answers
 use Rattle.txn_view_history.specs.Trace.{AnyRow}
 use Rattle.txn_view_history.specs.Calls.{view_used}
-use Rattle.txn_view_history.specs.Views.{or_else, id_shown, epoch_shown, view_at, epoch_held, View, IsFenced, ViewFits}
+use Rattle.txn_view_history.specs.Views.{or_else, id_shown, epoch_shown, view_at, epoch_held, View, ViewFits}
 use Rattle.txn_view_history.specs.OneHistory.{Shows, AnswerFits, IsOneHistory}
-use Rattle.txn_view_history.proofs.Holders.{told_in, last_more, first_more, rises_from}
-use Rattle.txn_view_machine.specs.Layer.{Used, Inner, Operation, Layer, Next, Keeps, Puts, Makes, Closes, refused, view_put, changed}
+use Rattle.txn_view_history.proofs.Holders.{last_more, first_more, rises_from}
+use Rattle.txn_view_machine.specs.Layer.{Used, Inner, Operation, Layer, Keeps, Puts, Makes, Closes, refused, view_put, changed}
 use Rattle.txn_view_machine.specs.Parts.{refusing}
 use Rattle.txn_view_machine.proofs.History.{whole_front}
 use Rattle.txn_view_machine.proofs.Stands.{ViewAt, Stands, Quiet, EndStands, NextStands}
-use Rattle.txn_view_machine.proofs.Frames.{entry_kept, view_at_more, view_more}
+use Rattle.txn_view_machine.proofs.Frames.{entry_kept, view_more}
 use Rattle.txn_view_machine.proofs.Tables.{view_of}
 
 or_none : (a : Option ℕ) → or_else a None ≡ a

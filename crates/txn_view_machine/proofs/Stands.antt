@@ -1,6 +1,6 @@
 -- What stands of the layer, and what an operation owes for what it does next.
-use Rattle.std.proofs.Common.{◌≡◌, ◌≢◌, ℕ, ◌+◌, ◌<◌, ◌≤◌, List, [], ◌∷◌, ◌++◌, length, take, true, false, Bool, Option, Some, None, is_some}
-use Rattle.txn_history.specs.declared.trace.RowOf.TheVariants.{Effect, Answered}
+use Rattle.std.proofs.Common.{◌≡◌, ◌≢◌, ℕ, ◌+◌, ◌<◌, ◌≤◌, List, [], ◌∷◌, ◌++◌, length, take, true, false, Option, Some, None, is_some}
+use Rattle.txn_history.specs.declared.trace.RowOf.TheVariants.{Answered}
 use Rattle.txn_history.specs.History.{newest, boundary, IsEntry, epoch_at}
 use Rattle.txn_history.specs.Calls.{was_begun, was_answered, IsCall, begun_count}
 use Rattle.txn_history.specs.OneHistory.{Entered}

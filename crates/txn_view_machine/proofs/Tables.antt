@@ -1,17 +1,16 @@
 -- Views and operations by their numbers: what a change of one leaves of the others.
-use Rattle.std.proofs.Common.{◌≡◌, ◌≢◌, ℕ, ◌+◌, ◌<◌, ◌≤◌, max, List, [], ◌∷◌, ◌++◌, true, false, ◌==◌, Option, Some, None, inl, inr, refl, sym, ◌∙◌, ap, subst, arith}
-use Rattle.std.proofs.lemmas.Bool.{cases_Bool, eqb-true, eqb-false, eq-eqb, ne_eqb}
+use Rattle.std.proofs.Common.{◌≡◌, ◌≢◌, ℕ, ◌≤◌, List, [], ◌∷◌, ◌++◌, ◌==◌, Option, Some, None, inl, inr, refl, sym, ◌∙◌, ap, subst}
+use Rattle.std.proofs.lemmas.Bool.{cases_Bool, eqb-true, eq-eqb, ne_eqb}
 use Rattle.std.proofs.lemmas.Option.{same_Some}
-use Rattle.txn_history.specs.declared.trace.RowOf.TheVariants.{Effect, Begun, Answered}
-use Rattle.txn_history.specs.History.{newest, boundary}
+use Rattle.txn_history.specs.History.{boundary}
 use Rattle.txn_history.proofs.Rows.{row_op}
 use Rattle.txn_history.proofs.More.{ends_other}
 use Rattle.txn_view_history.specs.Trace.{AnyRow}
 use Rattle.txn_view_history.specs.Calls.{view_used}
-use Rattle.txn_view_history.specs.Views.{View, ViewFits}
-use Rattle.txn_view_machine.specs.Layer.{Used, Inner, Operation, Layer, look_up, set_at, set_used}
+use Rattle.txn_view_history.specs.Views.{ViewFits}
+use Rattle.txn_view_machine.specs.Layer.{Used, Operation, Layer, set_at, set_used}
 use Rattle.txn_view_machine.proofs.History.{entry_within}
-use Rattle.txn_view_machine.proofs.Stands.{UsesView, Uses, OpStands, OpAt, ViewAt, Stands}
+use Rattle.txn_view_machine.proofs.Stands.{Uses, OpStands, OpAt, ViewAt, Stands}
 use Rattle.txn_view_machine.proofs.Frames.{other_row, AreKnown, op_more}
 
 pub set_here : {A : Type 0} (table : ℕ → Option A) (place : ℕ) (new : Option A) → set_at table place new place ≡ new

@@ -1,25 +1,23 @@
 -- What each call makes of the answer of its write or its read stands.
-use Rattle.std.proofs.Common.{◌≡◌, ℕ, zero, suc, ◌+◌, ◌<◌, ◌≤◌, List, length, take, Bool, true, false, if◌then◌else◌, ◌==◌, nat_lt, Option, Some, None, is_some, Result, Ok, Err, ◌⊎◌, inl, inr, refl, sym, ◌∙◌, ap, subst, arith}
+use Rattle.std.proofs.Common.{◌≡◌, ℕ, zero, suc, ◌+◌, ◌≤◌, List, Bool, true, false, if◌then◌else◌, ◌==◌, nat_lt, Option, Some, None, Ok, Err, ◌⊎◌, inl, inr, refl, sym, ◌∙◌, ap, subst, arith}
 use Rattle.std.proofs.lemmas.Bool.{cases_lt, both_ways, ltb-true, lt-ltb}
 use Rattle.std.proofs.lemmas.Option.{same_Some}
 use Rattle.txn_types.specs.Numbers.{number_of}
 use Rattle.txn_types.specs.declared.error.TransactionalObjectError.TheVariants.{Fenced, InvalidObjectState}
-use Rattle.txn_history.specs.History.{newest, boundary, IsEntry}
+use Rattle.txn_history.specs.History.{newest, IsEntry}
 use Rattle.txn_history.specs.Calls.{AtRow}
 use Rattle.txn_history.specs.OneHistory.{base_on, greatest, Entered, WasNewest, WasEmpty, WriteRefused, Fails}
 use Rattle.txn_view_history.specs.declared.event.ViewCall.{ViewCall}
 use Rattle.txn_view_history.specs.declared.event.ViewCall.TheVariants as view_calls
-use Rattle.txn_view_history.specs.declared.event.AnyCall.{AnyCall}
 use Rattle.txn_view_history.specs.declared.event.AnyCall.TheVariants as any
-use Rattle.txn_view_history.specs.Trace.{AnyRow}
 use Rattle.txn_view_history.specs.Calls.{view_used}
 use Rattle.txn_view_history.specs.Views.{view_at, view_count}
 use Rattle.txn_view_history.specs.OneHistory.{Shows, ClaimRefused, AnswerFits}
-use Rattle.txn_view_machine.specs.Layer.{Used, Inner, Starts, Writes, Reads, Acts, Operation, Layer, Next, Goes, look_up, local_of, refused, turned}
+use Rattle.txn_view_machine.specs.Layer.{Inner, Writes, Reads, Operation, Layer, Next, Goes, look_up, local_of, refused}
 use Rattle.txn_view_machine.specs.Parts.{Inside, Wrote, Found, Nothing, Refused, InsideFits, refusing, entered, denied, missed, viewed, found, taken, HasEpoch, OrLacking}
 use Rattle.txn_view_machine.specs.Steps.{Takes}
 use Rattle.txn_view_machine.proofs.History.{entry_within, entered_now, newest_now, was_newest}
-use Rattle.txn_view_machine.proofs.Stands.{MayRead, UsesView, OpStands, OwnFenced, Stands, NextStands}
+use Rattle.txn_view_machine.proofs.Stands.{MayRead, UsesView, OpStands, Stands}
 use Rattle.txn_view_machine.proofs.Tables.{view_of, op_of}
 use Rattle.txn_view_machine.proofs.Turns.{turn_keeps}
 use Rattle.txn_view_machine.proofs.Shows.{op_as, no_epoch, some_epoch, least_at, refuses, refusing_stands, Showing, rises, shows, holds, fences}

@@ -1,5 +1,5 @@
 -- Ids that were answered are those of entries.
-use Rattle.std.proofs.Common.{◌≡◌, ℕ, zero, suc, ◌+◌, ◌<◌, ◌≤◌, List, [], ◌∷◌, ◌++◌, take, drop, slice_get, nat_eq, ◌||◌, Bool, true, false, Option, Some, None, ◌⊎◌, inl, inr, refl, sym, ◌∙◌, ap, subst, arith}
+use Rattle.std.proofs.Common.{◌≡◌, ℕ, suc, ◌<◌, ◌≤◌, List, [], ◌∷◌, take, drop, slice_get, nat_eq, ◌||◌, Bool, true, false, Option, Some, refl, sym, subst, arith}
 use Rattle.std.specs.List.{list_any}
 use Rattle.std.proofs.lemmas.Bool.{eqb-true}
 use Rattle.std.proofs.lemmas.List.{take-append-drop}
@@ -9,7 +9,6 @@ use Rattle.txn_history.specs.declared.event.Call.{Call}
 use Rattle.txn_history.specs.declared.event.Call.TheVariants as calls
 use Rattle.txn_history.specs.declared.trace.RowOf.TheVariants.{Effect, Begun, Answered}
 use Rattle.txn_history.specs.History.{newest}
-use Rattle.txn_history.specs.Calls as plain
 use Rattle.txn_history.specs.OneHistory as plain_history
 use Rattle.txn_history.specs.OneHistory.{Entered, WasNewest}
 use Rattle.txn_history.proofs.More.{newest_grows_by}

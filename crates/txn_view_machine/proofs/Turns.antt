@@ -1,21 +1,21 @@
 -- What an operation does next keeps the layer, whatever its call is: it owes only that what it does next stands.
-use Rattle.std.proofs.Common.{◌≡◌, ◌≢◌, ℕ, ◌+◌, ◌<◌, ◌≤◌, max, List, [], ◌∷◌, ◌++◌, true, false, ◌==◌, Option, Some, None, inl, inr, refl, sym, ◌∙◌, ap, subst, arith}
+use Rattle.std.proofs.Common.{◌≡◌, ◌≢◌, ℕ, ◌+◌, ◌<◌, ◌≤◌, max, List, [], ◌∷◌, ◌++◌, true, ◌==◌, Option, Some, None, inl, inr, refl, sym, ◌∙◌, ap, subst, arith}
 use Rattle.std.proofs.lemmas.Bool.{cases_Bool, eqb-true, eqb-false, eq-eqb, ne_eqb}
 use Rattle.std.proofs.lemmas.Option.{same_Some}
-use Rattle.txn_history.specs.declared.trace.RowOf.TheVariants.{Effect, Begun, Answered}
-use Rattle.txn_history.specs.History.{boundary, IsEntry}
+use Rattle.txn_history.specs.declared.trace.RowOf.TheVariants.{Answered}
+use Rattle.txn_history.specs.History.{IsEntry}
 use Rattle.txn_history.proofs.More.{begun_count-more}
 use Rattle.txn_view_history.specs.declared.event.AnyCall.{AnyCall}
 use Rattle.txn_view_history.specs.declared.event.AnyAnswer.{AnyAnswer}
 use Rattle.txn_view_history.specs.declared.event.AnyAnswer.TheVariants as answers
 use Rattle.txn_view_history.specs.Trace.{AnyRow}
 use Rattle.txn_view_history.specs.Calls.{view_used}
-use Rattle.txn_view_history.specs.Views.{id_shown, epoch_shown, epoch_held, view_count}
+use Rattle.txn_view_history.specs.Views.{id_shown, epoch_shown, view_count}
 use Rattle.txn_view_history.specs.OneHistory.{Answers, IsOneHistory}
 use Rattle.txn_view_history.proofs.Holders.{last_more, first_more}
-use Rattle.txn_view_machine.specs.Layer.{Used, Inner, Starts, Writes, Reads, Acts, Operation, Asked, Layer, Change, Next, Goes, Ends, Opens, look_up, changed, new_view, views_changed, set_at, set_used, noted, turned}
+use Rattle.txn_view_machine.specs.Layer.{Used, Inner, Starts, Writes, Reads, Acts, Operation, Asked, Layer, Change, Next, Goes, Ends, Opens, look_up, changed, new_view, set_at, set_used, noted, turned}
 use Rattle.txn_view_machine.proofs.History.{one_history-more, boundary_up}
-use Rattle.txn_view_machine.proofs.Stands.{UsesView, Uses, InnerStands, OpStands, OpAt, AskedStand, ViewAt, Stands, Quiet, IsUnseen, shown_by, EndStands, OpenStands, NextStands}
+use Rattle.txn_view_machine.proofs.Stands.{Uses, InnerStands, OpStands, AskedStand, ViewAt, Stands, Quiet, IsUnseen, shown_by, EndStands, OpenStands, NextStands}
 use Rattle.txn_view_machine.proofs.Frames.{count_more, entry_kept, view_at_more, unseen_more, asked_more, fresh_more}
 use Rattle.txn_view_machine.proofs.Tables.{set_other, set_leaves, used_leaves, alone, view_of, op_of, known_of, numbered, used_known, op_leaves, op_row}
 

@@ -1,6 +1,6 @@
 -- Views and holders as a layer over writes and reads: its state, and what an operation does next.
 -- Of the write or the read inside a call the layer knows what its answer owes, and when its create is due.
-use Rattle.std.specs.Prelude.{ℕ, ◌+◌, ◌==◌, if◌then◌else◌, List, [], ◌∷◌, ◌++◌, Bool, true, false, Option, Some, None}
+use Rattle.std.specs.Prelude.{ℕ, ◌+◌, ◌==◌, if◌then◌else◌, List, [], ◌∷◌, ◌++◌, Option, Some, None}
 use Rattle.std.specs.Option.{option_map}
 use Rattle.txn_history.specs.declared.event.Answer.TheVariants as plain_answers
 use Rattle.txn_history.specs.declared.trace.RowOf.TheVariants.{Begun, Answered}

@@ -15,7 +15,7 @@ use Rattle.txn_view_history.specs.declared.event.AnyCall.TheVariants as any
 use Rattle.txn_view_history.specs.declared.event.AnyAnswer.TheVariants as answers
 use Rattle.txn_view_history.specs.Trace.{AnyRow}
 use Rattle.txn_view_history.specs.Views.{View}
-use Rattle.txn_view_machine.specs.Layer.{Used, Inner, Starts, Writes, Reads, Acts, Keeps, Puts, Makes, Closes, Next, Goes, Ends, Opens, refused}
+use Rattle.txn_view_machine.specs.Layer.{Used, Inner, Writes, Reads, Acts, Keeps, Puts, Makes, Closes, Next, Goes, Ends, Opens, refused}
 
 -- the answer of a write or a read: written under this id, found, nothing there, or refused
 pub data Inside (T : Type 0) : Type 0 where
