@@ -136,7 +136,7 @@ module _ {C A T : Type 0} (decode : List ℕ → Option T) (get_epoch : T → �
       cc
   not_raised rows path bytes mode version false e creates up = up
 
-  move_create : (rows : List (RowOf C A)) (request : Request) (version : Version) → created request ≡ Some version → IsMove decode get_epoch rows request → IsPut decode get_epoch rows (Some version)
+  pub move_create : (rows : List (RowOf C A)) (request : Request) (version : Version) → created request ≡ Some version → IsMove decode get_epoch rows request → IsPut decode get_epoch rows (Some version)
   move_create rows (requests.Put path bytes mode) version e (inl put) = subst (IsPut decode get_epoch rows) e put
   move_create rows (requests.Put path bytes mode) version e (inr (inl up)) = absurd (not_raised rows path bytes mode version (is_boundary path) refl e up)
   move_create rows (requests.Put path bytes mode) version e (inr (inr gone)) = absurd gone

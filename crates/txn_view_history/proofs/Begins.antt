@@ -86,7 +86,7 @@ module _ {T : Type 0} where
   own_view client holders (Some v) e = (v, refl, (and_parts (v.client == client) (agree holders (is_some v.epoch)) e).1)
 
 module _ {T : Type 0} (decode : List ℕ → Option T) (get_epoch : T → ℕ) (set_epoch : T → ℕ → T) (failed : List ℕ) where
-  now_front : (rows : List (AnyRow T)) → IsOneHistory decode get_epoch set_epoch failed rows → Front decode get_epoch (versions_of rows)
+  pub now_front : (rows : List (AnyRow T)) → IsOneHistory decode get_epoch set_epoch failed rows → Front decode get_epoch (versions_of rows)
   now_front rows good = subst (λ (rs : List (AnyRow T)). Front decode get_epoch (versions_of rs)) (take_all (length rows) rows (omega arith)) (fronts_of decode get_epoch rows (are_moves decode get_epoch set_epoch failed rows good) (length rows))
 
   -- a view never stood at an entry of a greater epoch than the one where it stands

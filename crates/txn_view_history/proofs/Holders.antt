@@ -30,12 +30,12 @@ or_none None = refl
 or_none (Some n) = refl
 
 module _ {T : Type 0} where
-  abbrev told_in : (AnyAnswer T → Option ℕ) → AnyRow T → Option ℕ
+  abbrev pub told_in : (AnyAnswer T → Option ℕ) → AnyRow T → Option ℕ
   told_in reading (Answered op answer) = reading answer
   told_in reading (Effect op request) = None
   told_in reading (Begun op call) = None
 
-  last_more : (reading : AnyAnswer T → Option ℕ) (last : Option ℕ) (rows : List (AnyRow T)) (row : AnyRow T) → last_told reading last (rows ++ row ∷ []) ≡ or_else (told_in reading row) (last_told reading last rows)
+  pub last_more : (reading : AnyAnswer T → Option ℕ) (last : Option ℕ) (rows : List (AnyRow T)) (row : AnyRow T) → last_told reading last (rows ++ row ∷ []) ≡ or_else (told_in reading row) (last_told reading last rows)
   last_more reading last [] (Answered op answer) = refl
   last_more reading last [] (Effect op request) = refl
   last_more reading last [] (Begun op call) = refl
@@ -43,7 +43,7 @@ module _ {T : Type 0} where
   last_more reading last (Effect op request ∷ rows) row = last_more reading last rows row
   last_more reading last (Begun op call ∷ rows) row = last_more reading last rows row
 
-  first_more : (reading : AnyAnswer T → Option ℕ) (rows : List (AnyRow T)) (row : AnyRow T) → first_told reading (rows ++ row ∷ []) ≡ or_else (first_told reading rows) (told_in reading row)
+  pub first_more : (reading : AnyAnswer T → Option ℕ) (rows : List (AnyRow T)) (row : AnyRow T) → first_told reading (rows ++ row ∷ []) ≡ or_else (first_told reading rows) (told_in reading row)
   first_more reading [] (Answered op answer) = sym (or_none (reading answer))
   first_more reading [] (Effect op request) = refl
   first_more reading [] (Begun op call) = refl
@@ -159,7 +159,7 @@ module _ {T : Type 0} (decode : List ℕ → Option T) (get_epoch : T → ℕ) (
   holders_at rows good view k = later_at (HoldersAt view) rows (λ n row e h. row_holders rows good n view row (good n row e) h) 0 k (omega arith) (λ epoch e. cc)
 
   -- an entry at or above a holder's view has an epoch of at least the holder's
-  rises_from : (rows : List (AnyRow T)) → IsOneHistory decode get_epoch set_epoch failed rows → (k view epoch n : ℕ) (value : T) → epoch_held (take k rows) view ≡ Some epoch → number_of (view_at (take k rows) view) ≤ n → IsEntry decode (take k rows) n value → epoch ≤ get_epoch value
+  pub rises_from : (rows : List (AnyRow T)) → IsOneHistory decode get_epoch set_epoch failed rows → (k view epoch n : ℕ) (value : T) → epoch_held (take k rows) view ≡ Some epoch → number_of (view_at (take k rows) view) ≤ n → IsEntry decode (take k rows) n value → epoch ≤ get_epoch value
   rises_from rows good k view epoch n value e le there =
       let h = holders_at rows good view k epoch e in
       let up = (fronts_of decode get_epoch rows (are_moves decode get_epoch set_epoch failed rows good) k).rising h.id n h.value value (let b = h.below in omega (arith, b, le)) h.entry there in

@@ -1,0 +1,15 @@
+pub mod History
+pub mod Told
+pub mod Stands
+pub mod Frames
+pub mod Tables
+pub mod Turns
+pub mod Failed
+pub mod Effects
+pub mod Ends
+pub mod Shows
+pub mod Attempts
+pub mod Takes
+pub mod Opens
+pub mod Begins
+pub mod Runs

@@ -1,0 +1,16 @@
+//! What holds after every run of the layer, whatever the writes and the reads do that its calls make.
+ghost use Rattle.std.specs.Prelude.{◌≡◌, ◌≤◌, List, Option, Some, ℕ};
+ghost use Rattle.txn_view_history.specs.Laws.{HasOneClaimer};
+ghost use Rattle.txn_view_history.specs.OneHistory.{IsOneHistory};
+ghost use Rattle.txn_view_history.specs.Views.{view_count, ViewFits};
+ghost use Rattle.txn_view_machine.specs.Layer.{Layer, Used, opening};
+ghost use Rattle.txn_view_machine.specs.Steps.{Runs};
+
+/// After every run the rows are one history of all calls, each view that is there fits, and no two claims are held with
+/// one epoch.
+pub fn one_history<T: Drop>(_value: &T)
+    ensures rows { (decode : List ℕ → Option T) (get_epoch : T → ℕ) (set_epoch : T → ℕ → T) (n : ℕ) (s : Layer T) → Runs decode get_epoch set_epoch n opening s → IsOneHistory decode get_epoch set_epoch s.failed s.rows }
+    ensures count { (decode : List ℕ → Option T) (get_epoch : T → ℕ) (set_epoch : T → ℕ → T) (n : ℕ) (s : Layer T) → Runs decode get_epoch set_epoch n opening s → s.count ≡ view_count s.rows }
+    ensures views { (decode : List ℕ → Option T) (get_epoch : T → ℕ) (set_epoch : T → ℕ → T) (n : ℕ) (s : Layer T) → Runs decode get_epoch set_epoch n opening s → (number : ℕ) (used : Used T) → s.views number ≡ Some used → (number ≤ s.count) × ViewFits decode get_epoch s.rows number used.view }
+    ensures claims { (decode : List ℕ → Option T) (get_epoch : T → ℕ) (set_epoch : T → ℕ → T) (n : ℕ) (s : Layer T) → Runs decode get_epoch set_epoch n opening s → HasOneClaimer s.rows }
+{}
