@@ -243,12 +243,16 @@ module _ {T : Type 0} (decode : List ℕ → Option T) (get_epoch : T → ℕ) (
         (subst (λ (x : Option ℕ). HasEpoch get_epoch (with_local call x first) → First s st client call m opens (with_local call x first)) (sym e.1)
         (λ h. holder_first w v m opens e.0 e.1 (nat_lt e.0 viewed) (nat_lt viewed e.0) refl refl h)) has
 
+  -- what an operation does first stands
+  pub begin_stands : (s after : Layer T) (st : Stands decode get_epoch set_epoch s) (b : Begins decode get_epoch set_epoch s after) → First s st b.client b.call b.allowed b.opens b.next
+  begin_stands s after st b =
+      elim b.first [
+        | inl due ↦ subst (First s st b.client b.call b.allowed b.opens) (sym due) (first_stands s st b.client b.call b.allowed b.opens (subst (HasEpoch get_epoch) due b.has))
+        | inr lacking ↦ subst (First s st b.client b.call b.allowed b.opens) (sym lacking) (refusing_stands decode get_epoch set_epoch (now s st b.client b.call b.allowed b.opens) (stands s st b.client b.call b.allowed b.opens) s.next b.client b.call Starts 9 (inr (inr refl)))
+      ]
+
   pub begin_keeps : (s after : Layer T) → Stands decode get_epoch set_epoch s → Begins decode get_epoch set_epoch s after → Stands decode get_epoch set_epoch after
   begin_keeps s after st b =
       let o = starting b.client b.call in
       let there = set_here s.ops s.next (Some o) in
-      let first : First s st b.client b.call b.allowed b.opens b.next = elim b.first [
-        | inl due ↦ subst (First s st b.client b.call b.allowed b.opens) (sym due) (first_stands s st b.client b.call b.allowed b.opens (subst (HasEpoch get_epoch) due b.has))
-        | inr lacking ↦ subst (First s st b.client b.call b.allowed b.opens) (sym lacking) (refusing_stands decode get_epoch set_epoch (now s st b.client b.call b.allowed b.opens) (stands s st b.client b.call b.allowed b.opens) s.next b.client b.call Starts 9 (inr (inr refl)))
-      ] in
-      subst (Stands decode get_epoch set_epoch) (sym b.new) (turn_keeps decode get_epoch set_epoch (opened s b.client b.call) s.next o b.next (stands s st b.client b.call b.allowed b.opens) there first)
+      subst (Stands decode get_epoch set_epoch) (sym b.new) (turn_keeps decode get_epoch set_epoch (opened s b.client b.call) s.next o b.next (stands s st b.client b.call b.allowed b.opens) there (begin_stands s after st b))

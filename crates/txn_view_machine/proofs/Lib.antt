@@ -13,3 +13,4 @@ pub mod Takes
 pub mod Opens
 pub mod Begins
 pub mod Runs
+pub mod Goes

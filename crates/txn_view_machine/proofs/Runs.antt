@@ -2,9 +2,9 @@
 use Rattle.std.proofs.Common.{◌≡◌, ℕ, zero, suc, List, Option, Some, None, inl, inr, refl, sym, subst, arith}
 use Rattle.txn_view_history.specs.declared.event.AnyCall.TheVariants as any
 use Rattle.txn_view_history.specs.declared.event.AnyAnswer.TheVariants as answers
-use Rattle.txn_view_machine.specs.Layer.{Operation, Layer, Keeps, Ends, opening}
+use Rattle.txn_view_machine.specs.Layer.{Layer, Keeps, Ends, opening}
 use Rattle.txn_view_machine.specs.Steps.{Tells, Steps, Runs}
-use Rattle.txn_view_machine.proofs.Stands.{Stands}
+use Rattle.txn_view_machine.proofs.Stands.{Stands, EndStands}
 use Rattle.txn_view_machine.proofs.Turns.{turn_keeps}
 use Rattle.txn_view_machine.proofs.Shows.{op_as}
 use Rattle.txn_view_machine.proofs.Begins.{begin_keeps}
@@ -15,12 +15,11 @@ use Rattle.txn_view_machine.proofs.Failed.{fail_keeps}
 
 module _ {T : Type 0} (decode : List ℕ → Option T) (get_epoch : T → ℕ) (set_epoch : T → ℕ → T) where
   -- the answer of a call without a view
+  pub tell_stands : (s after : Layer T) (t : Tells decode get_epoch set_epoch s after) → EndStands decode get_epoch set_epoch s.failed s.rows s.views s.count t.op (op_as t.client (any.Plain t.call) t.inner) (answers.Plain t.answer) Keeps
+  tell_stands s after t = record { fits = t.fits; known = omega arith; quiet = λ number ne. (refl, refl); own = λ number e. absurd (let clash : None ≡ Some number = e in cc); rises = λ number used e there. tt }
+
   pub tell_keeps : (s after : Layer T) → Stands decode get_epoch set_epoch s → Tells decode get_epoch set_epoch s after → Stands decode get_epoch set_epoch after
-  tell_keeps s after st t =
-      let o : Operation T = op_as t.client (any.Plain t.call) t.inner in
-      subst (Stands decode get_epoch set_epoch) (sym t.new)
-      (turn_keeps decode get_epoch set_epoch s t.op o (Ends (answers.Plain t.answer) Keeps) st t.runs
-      (record { fits = t.fits; known = omega arith; quiet = λ number ne. (refl, refl); own = λ number e. absurd (let clash : None ≡ Some number = e in cc) }))
+  tell_keeps s after st t = subst (Stands decode get_epoch set_epoch) (sym t.new) (turn_keeps decode get_epoch set_epoch s t.op (op_as t.client (any.Plain t.call) t.inner) (Ends (answers.Plain t.answer) Keeps) st t.runs (tell_stands s after t))
 
   pub opening_stands : Stands decode get_epoch set_epoch opening
   opening_stands =

@@ -64,14 +64,14 @@ module _ {T : Type 0} (decode : List ℕ → Option T) (get_epoch : T → ℕ) (
     kept_at number k (Some used) h = (h.0, view_more decode get_epoch set_epoch s.rows (Answered op (refused k)) number used.view (refl, refl) h.1)
 
     pub refuses : (o : Operation T) (k : ℕ) → AnswerFits decode get_epoch s.failed s.rows op o.call (refused k) → EndStands decode get_epoch set_epoch s.failed s.rows s.views s.count op o (refused k) Keeps
-    refuses o k fits = record { fits = fits; known = omega arith; quiet = λ number ne. (refl, refl); own = λ number e. kept_at number k (s.views number) (st.views number) }
+    refuses o k fits = record { fits = fits; known = omega arith; quiet = λ number ne. (refl, refl); own = λ number e. kept_at number k (s.views number) (st.views number); rises = λ number used e there. tt }
 
     closed_at : (number k : ℕ) (used : Option (Used T)) → ViewAt decode get_epoch set_epoch (s.rows ++ Answered op (refused k) ∷ []) s.count number (changed used Closes)
     closed_at number k None = tt
     closed_at number k (Some used) = tt
 
     pub refuses_closing : (o : Operation T) (k : ℕ) → AnswerFits decode get_epoch s.failed s.rows op o.call (refused k) → EndStands decode get_epoch set_epoch s.failed s.rows s.views s.count op o (refused k) Closes
-    refuses_closing o k fits = record { fits = fits; known = omega arith; quiet = λ number ne. (refl, refl); own = λ number e. closed_at number k (s.views number) }
+    refuses_closing o k fits = record { fits = fits; known = omega arith; quiet = λ number ne. (refl, refl); own = λ number e. closed_at number k (s.views number); rises = λ number used e there. tt }
 
     pub refusing_stands : (client : ℕ) (call : AnyCall T) (inner : Inner T) (k : ℕ) → AnswerFits decode get_epoch s.failed s.rows op call (refused k) → NextStands decode get_epoch set_epoch s.failed s.rows s.views s.count op (op_as client call inner) (refusing call k)
     refusing_stands client (any.View (view_calls.Claim w)) inner k fits = refuses_closing (op_as client (any.View (view_calls.Claim w)) inner) k fits
@@ -98,6 +98,15 @@ module _ {T : Type 0} (decode : List ℕ → Option T) (get_epoch : T → ℕ) (
 
     pub rises : (number id : ℕ) (value : T) → Showing number id value → Shows s.rows number number id
     rises number id value w = record { same = refl; rises = stood_below s.rows number w.used.view (fits_of number id value w).1 id w.up }
+
+    -- the view that a call uses is this one
+    same_used : (number id : ℕ) (value : T) (w : Showing number id value) (used : Option ℕ) → used ≡ Some number → (i : ℕ) (other : Used T) → used ≡ Some i → s.views i ≡ Some other → w.used ≡ other
+    same_used number id value w used is i other e there =
+        let same : number ≡ i = same_Some number i (sym is ∙ e) in
+        same_Some w.used other (sym w.there ∙ (ap s.views same ∙ there))
+
+    up_used : (number id : ℕ) (value : T) (w : Showing number id value) (used : Option ℕ) → used ≡ Some number → (i : ℕ) (other : Used T) → used ≡ Some i → s.views i ≡ Some other → other.view.id ≤ id
+    up_used number id value w used is i other e there = subst (λ (u : Used T). u.view.id ≤ id) (same_used number id value w used is i other e there) w.up
 
     -- an answer shows no other view
     other_shown : (number id : ℕ) (value : T) (used : Option ℕ) → used ≡ Some number → (i : ℕ) → used ≢ Some i → Quiet (Answered op (answers.View number id value)) i
@@ -126,6 +135,7 @@ module _ {T : Type 0} (decode : List ℕ → Option T) (get_epoch : T → ℕ) (
           fits = fits;
           known = f.0;
           quiet = λ i ne. other_shown number id value (view_used o.call) used i ne;
+          rises = λ i other e there. up_used number id value w (view_used o.call) used i other e there;
           own = λ i e. (
               let same : number ≡ i = same_Some number i (sym used ∙ e) in
               subst (λ (n : ℕ). ViewAt decode get_epoch set_epoch (s.rows ++ row ∷ []) s.count n (changed (s.views n) (Puts id value))) same (rw w.there (f.0, put_fits number id value w))
@@ -156,6 +166,7 @@ module _ {T : Type 0} (decode : List ℕ → Option T) (get_epoch : T → ℕ) (
           fits = fits;
           known = omega arith;
           quiet = λ i ne. other_held number id epoch value (view_used o.call) used i ne;
+          rises = λ i other e there. (up_used number id value w (view_used o.call) used i other e there, subst (λ (u : Used T). u.view.epoch ≡ None) (same_used number id value w (view_used o.call) used i other e there) none);
           own = λ i e. (
               let same : number ≡ i = same_Some number i (sym used ∙ e) in
               subst (λ (n : ℕ). ViewAt decode get_epoch set_epoch (s.rows ++ row ∷ []) s.count n (changed (s.views n) (Makes id value epoch))) same (rw w.there (f.0, made_fits number id epoch value w none))
@@ -186,6 +197,7 @@ module _ {T : Type 0} (decode : List ℕ → Option T) (get_epoch : T → ℕ) (
           fits = fits;
           known = omega arith;
           quiet = λ i ne. (refl, refl);
+          rises = λ i other e there. up_used number id value w (view_used o.call) used i other e there;
           own = λ i e. (
               let same : number ≡ i = same_Some number i (sym used ∙ e) in
               subst (λ (n : ℕ). ViewAt decode get_epoch set_epoch (s.rows ++ row ∷ []) s.count n (changed (s.views n) (Puts id value))) same (rw w.there (f.0, fenced_fits number id k value w epoch holder lt))

@@ -11,10 +11,10 @@ use Rattle.txn_view_history.specs.declared.event.AnyAnswer.{AnyAnswer}
 use Rattle.txn_view_history.specs.declared.event.AnyAnswer.TheVariants as answers
 use Rattle.txn_view_history.specs.Trace.{AnyRow}
 use Rattle.txn_view_history.specs.Calls.{view_used, is_holders}
-use Rattle.txn_view_history.specs.Views.{id_shown, epoch_shown, view_at, epoch_held, view_count, ViewFits}
+use Rattle.txn_view_history.specs.Views.{id_shown, epoch_shown, view_at, epoch_held, view_count, View, ViewFits}
 use Rattle.txn_view_history.specs.OneHistory.{WritesOn, AnswerFits, IsOneHistory}
 use Rattle.txn_view_history.proofs.Holders.{told_in}
-use Rattle.txn_view_machine.specs.Layer.{Used, Inner, Starts, Writes, Reads, Acts, Operation, Asked, Layer, Change, Next, Goes, Ends, Opens, changed}
+use Rattle.txn_view_machine.specs.Layer.{Used, Inner, Starts, Writes, Reads, Acts, Operation, Asked, Layer, Change, Keeps, Puts, Makes, Closes, Next, Goes, Ends, Opens, changed}
 
 module _ {T : Type 0} where
   -- The newest id was at least this at every row of the call.
@@ -55,6 +55,13 @@ module _ {T : Type 0} where
   -- no answer showed the view: its number was not given out
   abbrev pub IsUnseen : List (AnyRow T) → ℕ → Type 0
   IsUnseen rows number = (view_at rows number ≡ None) × (epoch_held rows number ≡ None)
+
+  -- a change does not lower a view, and makes a holder of no holder
+  abbrev pub IsUp : View T → Change T → Type 0
+  IsUp view Keeps = Unit {0}
+  IsUp view (Puts id value) = view.id ≤ id
+  IsUp view (Makes id value epoch) = (view.id ≤ id) × (view.epoch ≡ None)
+  IsUp view Closes = Unit {0}
 
   -- the number of the view that an answer shows
   abbrev pub shown_by : AnyAnswer T → ℕ
@@ -144,6 +151,7 @@ module _ {T : Type 0} (decode : List ℕ → Option T) (get_epoch : T → ℕ) (
     pub known : shown_by answer ≤ count
     pub quiet : (number : ℕ) → view_used o.call ≢ Some number → Quiet (Answered op answer) number
     pub own : (number : ℕ) → view_used o.call ≡ Some number → ViewAt decode get_epoch set_epoch (rows ++ Answered op answer ∷ []) count number (changed (views number) change)
+    pub rises : (number : ℕ) (used : Used T) → view_used o.call ≡ Some number → views number ≡ Some used → IsUp used.view change
 
   -- a new view fits
   pub record OpenStands (rows : List (AnyRow T)) (count op : ℕ) (o : Operation T) (id : ℕ) (value : T) : Type 0 where

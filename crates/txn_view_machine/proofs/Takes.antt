@@ -13,11 +13,11 @@ use Rattle.txn_view_history.specs.declared.event.AnyCall.TheVariants as any
 use Rattle.txn_view_history.specs.Calls.{view_used}
 use Rattle.txn_view_history.specs.Views.{view_at, view_count}
 use Rattle.txn_view_history.specs.OneHistory.{Shows, ClaimRefused, AnswerFits}
-use Rattle.txn_view_machine.specs.Layer.{Inner, Writes, Reads, Operation, Layer, Next, Goes, look_up, local_of, refused}
+use Rattle.txn_view_machine.specs.Layer.{Inner, Writes, Reads, Layer, Next, Goes, look_up, local_of, refused}
 use Rattle.txn_view_machine.specs.Parts.{Inside, Wrote, Found, Nothing, Refused, InsideFits, refusing, entered, denied, missed, viewed, found, taken, HasEpoch, OrLacking}
 use Rattle.txn_view_machine.specs.Steps.{Takes}
 use Rattle.txn_view_machine.proofs.History.{entry_within, entered_now, newest_now, was_newest}
-use Rattle.txn_view_machine.proofs.Stands.{MayRead, UsesView, OpStands, Stands}
+use Rattle.txn_view_machine.proofs.Stands.{MayRead, UsesView, OpStands, Stands, NextStands}
 use Rattle.txn_view_machine.proofs.Tables.{view_of, op_of}
 use Rattle.txn_view_machine.proofs.Turns.{turn_keeps}
 use Rattle.txn_view_machine.proofs.Shows.{op_as, no_epoch, some_epoch, least_at, refuses, refusing_stands, Showing, rises, shows, holds, fences}
@@ -207,8 +207,9 @@ module _ {T : Type 0} (decode : List ℕ → Option T) (get_epoch : T → ℕ) (
   next_stands call inner h answer f next (inr lacking) has = subst (Fit call inner) (sym lacking) (refusing_stands decode get_epoch set_epoch s st op client (any.View call) inner 9 (inr (inr refl)))
 
 module _ {T : Type 0} (decode : List ℕ → Option T) (get_epoch : T → ℕ) (set_epoch : T → ℕ → T) where
+  -- what an operation does next stands
+  pub take_stands : (s after : Layer T) → Stands decode get_epoch set_epoch s → (t : Takes decode get_epoch set_epoch s after) → NextStands decode get_epoch set_epoch s.failed s.rows s.views s.count t.op (op_as t.client (any.View t.call) t.inner) t.next
+  take_stands s after st t = next_stands decode get_epoch set_epoch s st t.op t.client t.call t.inner (op_of decode get_epoch set_epoch s st t.op (op_as t.client (any.View t.call) t.inner) t.runs) t.answer t.fits t.next t.makes t.has
+
   pub take_keeps : (s after : Layer T) → Stands decode get_epoch set_epoch s → Takes decode get_epoch set_epoch s after → Stands decode get_epoch set_epoch after
-  take_keeps s after st t =
-      let o : Operation T = op_as t.client (any.View t.call) t.inner in
-      let own = op_of decode get_epoch set_epoch s st t.op o t.runs in
-      subst (Stands decode get_epoch set_epoch) (sym t.new) (turn_keeps decode get_epoch set_epoch s t.op o t.next st t.runs (next_stands decode get_epoch set_epoch s st t.op t.client t.call t.inner own t.answer t.fits t.next t.makes t.has))
+  take_keeps s after st t = subst (Stands decode get_epoch set_epoch) (sym t.new) (turn_keeps decode get_epoch set_epoch s t.op (op_as t.client (any.View t.call) t.inner) t.next st t.runs (take_stands s after st t))

@@ -11,6 +11,7 @@ use Rattle.txn_view_history.specs.declared.event.AnyCall.TheVariants as any
 use Rattle.txn_view_history.specs.declared.event.AnyAnswer.TheVariants as answers
 use Rattle.txn_view_history.specs.Trace.{AnyRow}
 use Rattle.txn_view_history.specs.Calls.{view_used, is_holders}
+use Rattle.txn_view_history.specs.Views.{ViewGoesOn}
 use Rattle.txn_view_history.specs.OneHistory as history
 use Rattle.txn_view_history.specs.OneHistory.{Raises, Erases, AnswerFits}
 use Rattle.txn_view_machine.specs.Layer.{Used, Inner, Writes, Operation, Asked, Layer, Keeps, Closes, Next, Ends, look_up, local_of, starting, views_changed, set_at, turned, opened, with_row}
@@ -153,3 +154,10 @@ module _ {T : Type 0} (decode : List ℕ → Option T) (get_epoch : T → ℕ) (
   abbrev pub Runs : ℕ → Layer T → Layer T → Type 0
   Runs zero s after = after ≡ s
   Runs (suc n) s after = (middle : Layer T) × Steps s middle × Runs n middle after
+
+module _ {T : Type 0} where
+  -- From step to step a view keeps its client, its id never falls, and a holder stays one of the same epoch; an ended one stays ended.
+  abbrev pub GoesOn : Option (Used T) → Option (Used T) → Type 0
+  GoesOn None new = new ≡ None
+  GoesOn (Some old) None = Unit {0}
+  GoesOn (Some old) (Some new) = ViewGoesOn old.view new.view

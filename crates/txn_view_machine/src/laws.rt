@@ -4,7 +4,7 @@ ghost use Rattle.txn_view_history.specs.Laws.{HasOneClaimer};
 ghost use Rattle.txn_view_history.specs.OneHistory.{IsOneHistory};
 ghost use Rattle.txn_view_history.specs.Views.{view_count, ViewFits};
 ghost use Rattle.txn_view_machine.specs.Layer.{Layer, Used, opening};
-ghost use Rattle.txn_view_machine.specs.Steps.{Runs};
+ghost use Rattle.txn_view_machine.specs.Steps.{Runs, Steps, GoesOn};
 
 /// After every run the rows are one history of all calls, each view that is there fits, and no two claims are held with
 /// one epoch.
@@ -13,4 +13,10 @@ pub fn one_history<T: Drop>(_value: &T)
     ensures count { (decode : List ℕ → Option T) (get_epoch : T → ℕ) (set_epoch : T → ℕ → T) (n : ℕ) (s : Layer T) → Runs decode get_epoch set_epoch n opening s → s.count ≡ view_count s.rows }
     ensures views { (decode : List ℕ → Option T) (get_epoch : T → ℕ) (set_epoch : T → ℕ → T) (n : ℕ) (s : Layer T) → Runs decode get_epoch set_epoch n opening s → (number : ℕ) (used : Used T) → s.views number ≡ Some used → (number ≤ s.count) × ViewFits decode get_epoch s.rows number used.view }
     ensures claims { (decode : List ℕ → Option T) (get_epoch : T → ℕ) (set_epoch : T → ℕ → T) (n : ℕ) (s : Layer T) → Runs decode get_epoch set_epoch n opening s → HasOneClaimer s.rows }
+{}
+
+/// From step to step, of what a run leads to, each view that was made goes on: its client stays, its id never falls, and
+/// a holder stays one of the same epoch. A view that has ended stays ended.
+pub fn views_go_on<T: Drop>(_value: &T)
+    ensures { (decode : List ℕ → Option T) (get_epoch : T → ℕ) (set_epoch : T → ℕ → T) (n : ℕ) (s after : Layer T) → Runs decode get_epoch set_epoch n opening s → Steps decode get_epoch set_epoch s after → (number : ℕ) → number ≤ s.count → GoesOn (s.views number) (after.views number) }
 {}
