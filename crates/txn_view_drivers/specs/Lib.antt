@@ -1,0 +1,4 @@
+pub mod CallRuns
+pub mod Layers
+pub mod CallLayers
+pub mod CallLaws

@@ -1,0 +1,7 @@
+//! The calls on views driven to their end over a store that one client is lent: one look or one store call at a time.
+#![tactic(auto)]
+
+pub mod call;
+pub mod drive_entries;
+pub mod drive_views;
+pub mod with_epochs;
