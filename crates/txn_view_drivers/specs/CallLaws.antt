@@ -28,9 +28,9 @@ use Rattle.txn_view_steps.specs.declared.refresh.RefreshOp.{RefreshOp}
 use Rattle.txn_view_steps.specs.declared.update.UpdateOp.{UpdateOp}
 use Rattle.txn_view_steps.specs.Holders.{holder_refresh_ended, holder_refresh_asked, holder_update_asked, holder_update_turned, holder_update_caches}
 use Rattle.txn_view_steps.specs.Inits.{init_asked, init_turned, init_caches}
-use Rattle.txn_view_steps.specs.Loads.{as_load, load_ended, load_asked, load_turned}
+use Rattle.txn_view_steps.specs.Loads.{load_ended, load_asked, load_turned}
 use Rattle.txn_view_steps.specs.Readings.{said}
-use Rattle.txn_view_steps.specs.Refreshes.{as_refresh, refresh_ended, refresh_asked, refresh_turned}
+use Rattle.txn_view_steps.specs.Refreshes.{refresh_ended, refresh_asked, refresh_turned}
 use Rattle.txn_view_steps.specs.Updates.{update_asked, update_turned, update_caches}
 use Rattle.txn_view_drivers.specs.declared.call.ViewCall.{ViewCall}
 use Rattle.txn_view_drivers.specs.declared.with_epochs.WithEpochs.{WithEpochs}

@@ -1,5 +1,5 @@
 -- Calls on views that run alone: a step of one, and when a store can serve what it asks.
-use Rattle.std.specs.Prelude.{◌≡◌, ℕ, ◌≤◌, ◌&&◌, Bool, true, false, List, Option, Result}
+use Rattle.std.specs.Prelude.{◌≡◌, ℕ, ◌&&◌, Bool, true, false, List, Option, Result}
 use Rattle.txn_store.specs.Paths.{Segments}
 use Rattle.txn_store.specs.VersionName.{Names}
 use Rattle.txn_store.specs.declared.request.Request.{Request}
@@ -12,7 +12,7 @@ use Rattle.txn_caches.specs.Steps.{turned_by_number, lacks_memory, TellsErrorOf}
 use Rattle.txn_steps.specs.Reads.{read_left}
 use Rattle.txn_drivers.specs.Asked.{Replies}
 use Rattle.txn_drivers.specs.DriveRuns.{Scene}
-use Rattle.txn_drivers.specs.DriveSteps.{CanWriteChecked, CanRead}
+use Rattle.txn_drivers.specs.DriveSteps.{CanWriteChecked}
 use Rattle.txn_view_steps.specs.declared.entry.EntryOp.{EntryOp}
 use Rattle.txn_view_steps.specs.declared.entry.EntryOp.TheVariants as entries
 use Rattle.txn_view_steps.specs.declared.holder.HolderRefreshOp.{HolderRefreshOp}

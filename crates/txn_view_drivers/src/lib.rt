@@ -4,4 +4,6 @@
 pub mod call;
 pub mod drive_entries;
 pub mod drive_views;
+pub mod driven_entries;
+pub mod driven_views;
 pub mod with_epochs;

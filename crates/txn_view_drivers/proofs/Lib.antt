@@ -1,0 +1,3 @@
+pub mod EntryRuns
+pub mod ViewRuns
+pub mod Driven
