@@ -10,3 +10,4 @@ pub mod Attempts
 pub mod Claims
 pub mod Holders
 pub mod CallsLeft
+pub mod Shortages
