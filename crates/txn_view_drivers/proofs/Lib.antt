@@ -1,3 +1,4 @@
 pub mod EntryRuns
 pub mod ViewRuns
 pub mod Driven
+pub mod ClaimTakes

@@ -4,3 +4,6 @@ pub mod CallLayers
 pub mod CallLaws
 pub mod Entering
 pub mod Viewing
+pub mod ClaimSteps
+pub mod ClaimLayers
+pub mod ClaimLaws

@@ -2,6 +2,7 @@
 #![tactic(auto)]
 
 pub mod call;
+pub mod drive_claims;
 pub mod drive_entries;
 pub mod drive_views;
 pub mod driven_entries;
