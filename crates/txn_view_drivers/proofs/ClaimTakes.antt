@@ -19,7 +19,6 @@ use Rattle.txn_view_steps.specs.declared.outcome.Outcome.{Outcome}
 use Rattle.txn_view_steps.specs.Attempts.{claiming_asked, claiming_turned, claiming_left, IsMade, IsRefreshing}
 use Rattle.txn_view_steps.specs.Claims.{claim_ended, claim_next, claim_turned, claim_at_ended, claim_at_next, claim_at_turned}
 use Rattle.txn_view_steps.specs.Shortages.{LacksAsWrite}
-use Rattle.txn_view_drivers.specs.declared.with_epochs.WithEpochs.{WithEpochs}
 use Rattle.txn_view_drivers.specs.ClaimSteps.{ClaimSteps, ClaimAtSteps}
 
 module _ {T : Type 0} where

@@ -56,7 +56,7 @@ store_cause_since old mid new errors.Failed rise cause = omega (arith, rise, cau
 store_cause_since old mid new errors.TokensExhausted rise cause = cause
 store_cause_since old mid new error rise cause = absurd cause
 
-cause_since : (old mid new : State) (error : TransactionalObjectError) → old.failures ≤ mid.failures → HasCause mid new error → HasCause old new error
+pub cause_since : (old mid new : State) (error : TransactionalObjectError) → old.failures ≤ mid.failures → HasCause mid new error → HasCause old new error
 cause_since old mid new (kinds.ObjectStoreError error) rise cause = store_cause_since old mid new error rise cause
 cause_since old mid new kinds.NoMemory rise cause = cause
 cause_since old mid new error rise cause = absurd cause

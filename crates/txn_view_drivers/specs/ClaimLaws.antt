@@ -1,6 +1,6 @@
 -- A claim that goes on after a step asks again for what a store can serve.
 use Rattle.std.specs.Prelude.{◌≡◌, ◌⊎◌, ℕ, ◌≤◌, ◌==◌, if◌then◌else◌, Bool, true, false, List, Option, Some, None, Result, Ok, Err}
-use Rattle.std.proofs.Common.{refl, sym, ap, subst, ◌∙◌, inl, inr}
+use Rattle.std.proofs.Common.{refl, sym, subst, inl, inr}
 use Rattle.std.proofs.lemmas.Bool.{eqb-true}
 use Rattle.txn_store.specs.Paths.{Segments}
 use Rattle.txn_store.specs.VersionName.{Names}

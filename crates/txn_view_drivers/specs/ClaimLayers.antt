@@ -1,15 +1,13 @@
 -- A claim's step as one of its write, or of its read.
-use Rattle.std.specs.Prelude.{◌≡◌, ◌⊎◌, ℕ, ◌==◌, if◌then◌else◌, Bool, true, false, List, Option, Some, None, Result, Ok, Err}
+use Rattle.std.specs.Prelude.{◌≡◌, ◌⊎◌, ℕ, ◌==◌, if◌then◌else◌, Bool, true, false, List, Option, Result, Ok, Err}
 use Rattle.std.proofs.Common.{refl, sym, ap, subst, ◌∙◌, inl, inr}
 use Rattle.std.proofs.lemmas.Bool.{eqb-true, eqb-false}
 use Rattle.txn_store.specs.Paths.{Segments}
 use Rattle.txn_store.specs.VersionName.{Names}
-use Rattle.txn_store.specs.declared.request.Request.{Request}
 use Rattle.txn_store.specs.declared.request.Reply.{Reply}
 use Rattle.txn_types.specs.Errors.{error_number}
 use Rattle.txn_types.specs.declared.error.TransactionalObjectError.{TransactionalObjectError}
 use Rattle.txn_types.specs.declared.error.TransactionalObjectError.TheVariants.{ObjectVersionExists, NoMemory}
-use Rattle.txn_caches.specs.declared.caches.Caches.{Caches}
 use Rattle.txn_caches.specs.declared.turned.Turned.{Turned}
 use Rattle.txn_caches.specs.declared.turned.Turned.TheVariants.{Goes, Done}
 use Rattle.txn_caches.specs.Asking.{reply_told, unless_lacking}
@@ -20,8 +18,6 @@ use Rattle.txn_steps.specs.Latest.{ReadAnswer}
 use Rattle.txn_steps.specs.Reads.{read_started, read_asked, read_turned, read_left}
 use Rattle.txn_steps.specs.Writes.{write_asked, write_turned, write_caches}
 use Rattle.txn_drivers.specs.Asked.{Replies}
-use Rattle.txn_drivers.specs.DriveChecked.{write_asks}
-use Rattle.txn_drivers.specs.DriveReads.{read_asks}
 use Rattle.txn_drivers.specs.DriveRuns.{Scene}
 use Rattle.txn_drivers.specs.DriveSteps.{WriteSteps, ReadSteps}
 use Rattle.txn_drivers.proofs.Refusals.{is_no_memory}
@@ -30,7 +26,7 @@ use Rattle.txn_view_steps.specs.declared.claiming.Claiming.TheVariants.{Writes, 
 use Rattle.txn_view_steps.specs.declared.outcome.Outcome.{Outcome}
 use Rattle.txn_view_steps.specs.declared.outcome.Outcome.TheVariants.{Held}
 use Rattle.txn_view_steps.specs.Attempts.{attempted_again, attempt_turned, refreshed_turned, followed, claiming_asked, claiming_turned, claiming_left, IsMade, IsRefreshing}
-use Rattle.txn_view_steps.specs.Readings.{said, OnAnswer}
+use Rattle.txn_view_steps.specs.Readings.{said}
 use Rattle.txn_view_steps.specs.Shortages.{IsShort, LacksAsWrite}
 use Rattle.txn_view_steps.proofs.ReadLemmas.{left_as_said, left_where_answered}
 use Rattle.txn_view_drivers.specs.ClaimSteps.{AttemptStepped}

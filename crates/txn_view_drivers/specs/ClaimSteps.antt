@@ -15,7 +15,7 @@ use Rattle.txn_view_steps.specs.declared.outcome.Outcome.{Outcome}
 use Rattle.txn_view_steps.specs.Attempts.{claiming_asked, claiming_turned, claiming_left, IsMade, IsRefreshing}
 use Rattle.txn_view_steps.specs.Shortages.{LacksAsWrite}
 use Rattle.txn_view_drivers.specs.declared.with_epochs.WithEpochs.{WithEpochs}
-use Rattle.txn_view_drivers.specs.CallRuns.{CallStepped, StepsOf}
+use Rattle.txn_view_drivers.specs.CallRuns.{CallStepped}
 use Rattle.txn_view_drivers.specs.Layers.{part_of}
 
 module _ {T : Type 0} where

@@ -7,3 +7,4 @@ pub mod Viewing
 pub mod ClaimSteps
 pub mod ClaimLayers
 pub mod ClaimLaws
+pub mod Claimed

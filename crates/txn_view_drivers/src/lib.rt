@@ -5,6 +5,7 @@ pub mod call;
 pub mod drive_claims;
 pub mod drive_entries;
 pub mod drive_views;
+pub mod driven_claims;
 pub mod driven_entries;
 pub mod driven_views;
 pub mod with_epochs;
