@@ -2,9 +2,13 @@
 #![tactic(auto)]
 
 pub mod call;
-pub mod drive_claims;
-pub mod drive_entries;
-pub mod drive_views;
+pub mod drive_claim;
+pub mod drive_claim_at;
+pub mod drive_holder_update;
+pub mod drive_init;
+pub mod drive_load;
+pub mod drive_refresh;
+pub mod drive_update;
 pub mod driven_claims;
 pub mod driven_entries;
 pub mod driven_views;
