@@ -11,3 +11,4 @@ pub mod Claims
 pub mod Holders
 pub mod CallsLeft
 pub mod ViewOps
+pub mod Shortages

@@ -6,6 +6,7 @@ ghost use Rattle.txn_caches.specs.Asking.{asks, reply_told, unless_lacking};
 ghost use Rattle.txn_view_steps.specs.Lacking.{lacks, or_lacking};
 ghost use Rattle.txn_view_steps.specs.Attempts.{claiming_asked, claiming_left, IsMade, IsRefreshing, IsClaimingReply, IsClaimingInRange};
 ghost use Rattle.txn_view_steps.specs.Claims.{claim_at_started, claim_at_ended, claim_at_turned};
+ghost use Rattle.txn_view_steps.specs.Shortages.{LacksAsWrite};
 
 use crate::claiming::{Claiming, begin};
 use crate::outcome::ViewAnswer;
@@ -65,6 +66,8 @@ impl<T: Clone> ClaimAtOp<T> {
         requires range { IsClaimingInRange self.old.claiming }
         ensures turned { (self.new, turned_by_number result) ≡ unless_lacking (lacks_memory (turned_by_number result)) (claim_at_ended self.old) (claim_at_turned layout.now.names layout.now.boundary layout.now.page (C.encoded layout.now.codec) (C.decoded layout.now.codec) (X.epoch_of epochs.now) (X.with_epoch epochs.now) self.old caches.old reply) }
         ensures made { IsRefreshing self.old.claiming → IsMade (C.encoded layout.now.codec) (C.decoded layout.now.codec) (X.epoch_of epochs.now) self.new.claiming }
+        // Memory is lacked in an attempt only once its write is overtaken, or where that lacks it.
+        ensures short { LacksAsWrite self.old.claiming caches.old reply (lacks_memory (turned_by_number result)) }
         ensures caches { caches.new ≡ claiming_left self.old.claiming caches.old (turned_by_number result) }
         ensures store_error { TellsErrorOf (reply_told reply) result }
     {

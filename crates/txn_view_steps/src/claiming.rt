@@ -1,11 +1,12 @@
 //! The attempts of a claim.
-ghost use Rattle.std.specs.Prelude.{◌≡◌, Some, None, Option, IfOk};
+ghost use Rattle.std.specs.Prelude.{◌≡◌, true, Some, None, Option, IfOk};
 ghost use Rattle.txn_store.specs.declared.store.StoreError.{StoreError};
 ghost use Rattle.txn_types.specs.Clones.{IsExactClone};
 ghost use Rattle.txn_caches.specs.Steps.{by_number, turned_by_number, lacks_memory, HasErrorOf, TellsErrorOf};
 ghost use Rattle.txn_caches.specs.Asking.{asks, reply_told, unless_lacking};
 ghost use Rattle.txn_view_steps.specs.Lacking.{lacks, or_lacking};
 ghost use Rattle.txn_view_steps.specs.Attempts.{entered, attempted, attempted_again, followed, held_at, refreshing, GoesAs, attempt_told, refresh_told, claiming_asked, claiming_turned, claiming_left, IsMade, IsAttempting, IsRefreshing, IsClaimingReply, IsClaimingInRange};
+ghost use Rattle.txn_view_steps.specs.Shortages.{IsShort, LacksAsWrite};
 
 use crate::copies::Copies;
 use crate::epochs::next_epoch;
@@ -179,6 +180,7 @@ impl<T: Drop> Claiming<T> {
     ) -> Turned<ViewAnswer<T>>
         requires { IsAttempting self.old }
         ensures turned { (self.new, turned_by_number result) ≡ unless_lacking (lacks_memory (turned_by_number result)) Claiming.Ended (attempt_told layout.now.boundary self.old (turned_by_number told)) }
+        ensures short { lacks_memory (turned_by_number result) ≡ true → IsShort (turned_by_number told) }
         ensures store_error { (error : Option StoreError) → TellsErrorOf error told → TellsErrorOf error result }
     {
         match told {
@@ -239,6 +241,7 @@ impl<T: Clone> Claiming<T> {
         requires range { IsClaimingInRange self.old }
         ensures turned { (self.new, turned_by_number result) ≡ unless_lacking (lacks_memory (turned_by_number result)) Claiming.Ended (claiming_turned layout.now.names layout.now.boundary layout.now.page (C.encoded layout.now.codec) (C.decoded layout.now.codec) (X.epoch_of epochs.now) (X.with_epoch epochs.now) asked self.old caches.old reply) }
         ensures made { IsRefreshing self.old → IsMade (C.encoded layout.now.codec) (C.decoded layout.now.codec) (X.epoch_of epochs.now) self.new }
+        ensures short { LacksAsWrite self.old caches.old reply (lacks_memory (turned_by_number result)) }
         ensures caches { caches.new ≡ claiming_left self.old caches.old (turned_by_number result) }
         ensures store_error { TellsErrorOf (reply_told reply) result }
     {

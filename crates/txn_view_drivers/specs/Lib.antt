@@ -1,0 +1,10 @@
+pub mod CallRuns
+pub mod Layers
+pub mod CallLayers
+pub mod CallLaws
+pub mod Entering
+pub mod Viewing
+pub mod ClaimSteps
+pub mod ClaimLayers
+pub mod ClaimLaws
+pub mod Claimed
