@@ -14,3 +14,4 @@ pub mod Opens
 pub mod Begins
 pub mod Runs
 pub mod Goes
+pub mod Examples

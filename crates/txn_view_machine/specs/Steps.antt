@@ -1,10 +1,11 @@
 -- The steps of the layer, and its runs.
-use Rattle.std.specs.Prelude.{◌≡◌, ℕ, zero, suc, ◌+◌, ◌≤◌, ◌==◌, ◌⊎◌, if◌then◌else◌, List, [], ◌∷◌, ◌++◌, true, Option, Some, None, is_some}
+use Rattle.std.specs.Prelude.{◌≡◌, ℕ, zero, suc, ◌+◌, ◌≤◌, ◌==◌, ◌⊎◌, if◌then◌else◌, List, [], ◌∷◌, ◌++◌, true, false, Option, Some, None, is_some}
 use Rattle.txn_store.specs.declared.request.Request.{Request}
 use Rattle.txn_history.specs.declared.event.Call.{Call}
 use Rattle.txn_history.specs.declared.event.Answer.{Answer}
 use Rattle.txn_history.specs.declared.trace.RowOf.TheVariants.{Effect}
 use Rattle.txn_history.specs.History.{created, raised, removed, has_id, versions_of, newest, boundary, was_erased}
+use Rattle.txn_history.specs.OneHistory.{greatest}
 use Rattle.txn_view_history.specs.declared.event.ViewCall.{ViewCall}
 use Rattle.txn_view_history.specs.declared.event.AnyCall.{AnyCall}
 use Rattle.txn_view_history.specs.declared.event.AnyCall.TheVariants as any
@@ -161,3 +162,24 @@ module _ {T : Type 0} where
   GoesOn None new = new ≡ None
   GoesOn (Some old) None = Unit {0}
   GoesOn (Some old) (Some new) = ViewGoesOn old.view new.view
+
+module _ {T : Type 0} where
+  -- The view of this number is a holder of this epoch.
+  pub record IsHeld (s : Layer T) (number epoch : ℕ) : Type 0 where
+    pub used : Used T
+    pub there : s.views number ≡ Some used
+    pub holder : used.view.epoch ≡ Some epoch
+
+module _ {T : Type 0} (decode : List ℕ → Option T) (get_epoch : T → ℕ) (set_epoch : T → ℕ → T) where
+  -- A value can be made the first version, and claimed: there is an epoch above its own, and what is written is read back.
+  pub record Makeable (value : T) : Type 0 where
+    pub first : Request
+    pub bytes : List ℕ
+    pub creates : created first ≡ Some (1, bytes)
+    pub reads : decode bytes ≡ Some value
+    pub room : (get_epoch value == greatest) ≡ false
+    pub second : Request
+    pub more : List ℕ
+    pub creates_more : created second ≡ Some (2, more)
+    pub reads_more : decode more ≡ Some (set_epoch value (get_epoch value + 1))
+    pub reads_back : get_epoch (set_epoch value (get_epoch value + 1)) ≡ get_epoch value + 1

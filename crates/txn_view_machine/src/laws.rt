@@ -1,10 +1,10 @@
 //! What holds after every run of the layer, whatever the writes and the reads do that its calls make.
-ghost use Rattle.std.specs.Prelude.{◌≡◌, ◌≤◌, List, Option, Some, ℕ};
+ghost use Rattle.std.specs.Prelude.{◌≡◌, ◌≤◌, ◌+◌, List, Option, Some, ℕ};
 ghost use Rattle.txn_view_history.specs.Laws.{HasOneClaimer};
 ghost use Rattle.txn_view_history.specs.OneHistory.{IsOneHistory};
 ghost use Rattle.txn_view_history.specs.Views.{view_count, ViewFits};
 ghost use Rattle.txn_view_machine.specs.Layer.{Layer, Used, opening};
-ghost use Rattle.txn_view_machine.specs.Steps.{Runs, Steps, GoesOn};
+ghost use Rattle.txn_view_machine.specs.Steps.{Runs, Steps, GoesOn, IsHeld, Makeable};
 
 /// After every run the rows are one history of all calls, each view that is there fits, and no two claims are held with
 /// one epoch.
@@ -19,4 +19,9 @@ pub fn one_history<T: Drop>(_value: &T)
 /// a holder stays one of the same epoch. A view that has ended stays ended.
 pub fn views_go_on<T: Drop>(_value: &T)
     ensures { (decode : List ℕ → Option T) (get_epoch : T → ℕ) (set_epoch : T → ℕ → T) (n : ℕ) (s after : Layer T) → Runs decode get_epoch set_epoch n opening s → Steps decode get_epoch set_epoch s after → (number : ℕ) → number ≤ s.count → GoesOn (s.views number) (after.views number) }
+{}
+
+/// There is a run: a client makes the first version and a view of it, and claims that, with an epoch above the version's.
+pub fn a_view_is_claimed<T: Drop>(_value: &T)
+    ensures { (decode : List ℕ → Option T) (get_epoch : T → ℕ) (set_epoch : T → ℕ → T) (value : T) → Makeable decode get_epoch set_epoch value → (s : Layer T) × Runs decode get_epoch set_epoch 6 opening s × IsHeld s 1 (get_epoch value + 1) }
 {}
