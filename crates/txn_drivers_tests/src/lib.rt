@@ -5,3 +5,5 @@
 mod alone;
 #[cfg(test)]
 mod calls;
+#[cfg(test)]
+mod views;

@@ -35,15 +35,15 @@ use Rattle.txn_view_steps.specs.declared.claiming.Claiming.TheVariants.{Writes, 
 use Rattle.txn_view_steps.specs.declared.outcome.Outcome.{Outcome}
 use Rattle.txn_view_steps.specs.Attempts.{attempted, attempted_again, IsMade}
 use Rattle.txn_view_steps.specs.Epochs.{claimed_epoch}
-use Rattle.txn_view_drivers.specs.CallLayers.{entry_seen}
 use Rattle.txn_view_drivers.specs.Claimed.{IsAt, NotClaimed, HasCauseOfClaim, ClaimStood, ClaimRan}
 use Rattle.txn_view_drivers.specs.ClaimLaws.{Begun, NotBegun, begun, not_begun}
 use Rattle.txn_view_drivers.specs.ClaimLayers.{HeldAs, AttemptLed, EndsRead, ReadLed, ClaimLed, claim_led}
 use Rattle.txn_view_drivers.specs.ClaimSteps.{AttemptStepped}
 use Rattle.txn_view_drivers.specs.Entering.{IsApart, HasCauseOfEntry, EntryStood, EntryAnswers}
-use Rattle.txn_view_drivers.specs.Layers.{part_of, seen_as}
+use Rattle.txn_view_drivers.specs.Layers.{part_of}
 use Rattle.txn_view_drivers.proofs.EntryRuns.{cause_since, write_answers, write_spends}
 use Rattle.txn_view_drivers.proofs.PageCounts.{pages_written}
+use Rattle.txn_view_drivers.specs.Seen.{entry_seen, seen_as}
 
 -- what a checked write leaves of the window ascends
 

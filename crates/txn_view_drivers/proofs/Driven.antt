@@ -23,11 +23,12 @@ use Rattle.txn_view_steps.specs.Refreshes.{refresh_started, refresh_ended, refre
 use Rattle.txn_view_steps.specs.Updates.{update_started, update_asked, update_turned, update_caches}
 use Rattle.txn_view_drivers.specs.declared.call.ViewCall.{ViewCall}
 use Rattle.txn_view_drivers.specs.declared.with_epochs.WithEpochs.{WithEpochs}
-use Rattle.txn_view_drivers.specs.CallLayers.{as_init_op, as_update_op, as_holder_update_op, init_layer, update_layer, holder_update_layer, load_at, refresh_at, holder_at, load_seen, refresh_seen, holder_seen, load_layer, refresh_layer, holder_layer}
+use Rattle.txn_view_drivers.specs.CallLayers.{as_init_op, as_update_op, as_holder_update_op, init_layer, update_layer, holder_update_layer, load_at, refresh_at, holder_at, load_layer, refresh_layer, holder_layer}
 use Rattle.txn_view_drivers.specs.CallRuns.{InitSteps, UpdateSteps, HolderUpdateSteps, LoadSteps, RefreshSteps, HolderRefreshSteps, call_turned, holder_call_turned}
 use Rattle.txn_view_drivers.specs.Entering.{EntryDriven}
 use Rattle.txn_view_drivers.specs.Viewing.{LoadAnswers, RefreshAnswers, HolderAnswers, LoadDriven, RefreshDriven, HolderDriven}
 use Rattle.txn_view_drivers.proofs.ViewRuns.{entry_driven, view_driven, load_answers, refresh_answers, holder_answers}
+use Rattle.txn_view_drivers.specs.Seen.{load_seen, refresh_seen, holder_seen}
 
 -- the calls over a write
 

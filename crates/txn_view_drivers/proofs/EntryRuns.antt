@@ -26,9 +26,8 @@ use Rattle.txn_drivers.specs.WriteRuns.{TellsName, VersionsStand, WriteStands, W
 use Rattle.txn_drivers.proofs.Frames.{BoundaryStands-frame, FilesStand-kept}
 use Rattle.txn_drivers.proofs.Windows.{above_fits}
 use Rattle.txn_view_steps.specs.declared.outcome.Outcome.TheVariants.{Viewed}
-use Rattle.txn_view_drivers.specs.CallLayers.{entry_seen}
 use Rattle.txn_view_drivers.specs.Entering.{IsApart, HasCauseOfEntry, EntryAnswers, EntryStood}
-use Rattle.txn_view_drivers.specs.Layers.{seen_as}
+use Rattle.txn_view_drivers.specs.Seen.{entry_seen, seen_as}
 
 -- the last entry of a history with one more
 

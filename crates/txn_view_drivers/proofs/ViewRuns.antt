@@ -27,12 +27,13 @@ use Rattle.txn_view_steps.specs.Epochs.{epoch_tested}
 use Rattle.txn_view_steps.specs.Holders.{holder_viewed}
 use Rattle.txn_view_steps.specs.Readings.{said}
 use Rattle.txn_view_drivers.specs.declared.call.ViewCall.{ViewCall}
-use Rattle.txn_view_drivers.specs.CallLayers.{EntryLayer, ReadLayer, entry_seen, entry_at, load_seen, refresh_seen, holder_seen}
+use Rattle.txn_view_drivers.specs.CallLayers.{EntryLayer, ReadLayer, entry_at}
 use Rattle.txn_view_drivers.specs.CallRuns.{CallStepped, WritingSteps, call_turned}
 use Rattle.txn_view_drivers.specs.Entering.{EntryStood, EntryDriven}
-use Rattle.txn_view_drivers.specs.Layers.{run_through, part_of, seen_as}
+use Rattle.txn_view_drivers.specs.Layers.{run_through, part_of}
 use Rattle.txn_view_drivers.specs.Viewing.{LoadAnswers, RefreshAnswers, HolderAnswers, ViewDriven}
 use Rattle.txn_view_drivers.proofs.EntryRuns.{write_answers, write_spends}
+use Rattle.txn_view_drivers.specs.Seen.{entry_seen, load_seen, refresh_seen, holder_seen, seen_as}
 
 -- a call over a write, which is based so and has an id
 

@@ -34,9 +34,10 @@ use Rattle.txn_view_steps.specs.Refreshes.{refresh_ended, refresh_asked, refresh
 use Rattle.txn_view_steps.specs.Updates.{update_asked, update_turned, update_caches}
 use Rattle.txn_view_drivers.specs.declared.call.ViewCall.{ViewCall}
 use Rattle.txn_view_drivers.specs.declared.with_epochs.WithEpochs.{WithEpochs}
-use Rattle.txn_view_drivers.specs.CallLayers.{EntryLayer, ReadLayer, entry_seen, load_seen, refresh_seen, holder_seen, entry_at, as_init_op, as_update_op, as_holder_update_op, load_at, refresh_at, holder_at, init_layer, update_layer, holder_update_layer, load_layer, refresh_layer, holder_layer}
+use Rattle.txn_view_drivers.specs.CallLayers.{EntryLayer, ReadLayer, entry_at, as_init_op, as_update_op, as_holder_update_op, load_at, refresh_at, holder_at, init_layer, update_layer, holder_update_layer, load_layer, refresh_layer, holder_layer}
 use Rattle.txn_view_drivers.specs.CallRuns.{CallStepped, CanEnter, WritingSteps, call_turned, InitSteps, UpdateSteps, HolderUpdateSteps, LoadSteps, RefreshSteps, HolderRefreshSteps, holder_call_turned}
 use Rattle.txn_view_drivers.specs.Layers.{step_through, part_of}
+use Rattle.txn_view_drivers.specs.Seen.{entry_seen, load_seen, refresh_seen, holder_seen}
 
 -- the calls over a write
 

@@ -43,28 +43,7 @@ use Rattle.txn_view_drivers.specs.declared.call.ViewCall.{ViewCall}
 use Rattle.txn_view_drivers.specs.declared.with_epochs.WithEpochs.{WithEpochs}
 use Rattle.txn_view_drivers.specs.CallRuns.{call_turned, holder_call_turned}
 use Rattle.txn_view_drivers.specs.Layers.{Alike, Layer, layered}
-
--- what each call makes of an answer
-
-module _ {T : Type 0} where
-  -- a write that answered an id: the view is at that, with the value
-  abbrev pub entry_seen : T → ℕ → Result (Outcome T) TransactionalObjectError
-  entry_seen value id = Ok (Viewed id value)
-
-  -- a read for a load: the view is at what was found, and there has to be a version
-  abbrev pub load_seen : Option (ℕ × T) → Result (Outcome T) TransactionalObjectError
-  load_seen (Some found) = Ok (Viewed found.0 found.1)
-  load_seen None = Err LatestRecordMissing
-
-  -- a read for a refresh
-  abbrev pub refresh_seen : Option (ℕ × T) → Result (Outcome T) TransactionalObjectError
-  refresh_seen (Some found) = Ok (Viewed found.0 found.1)
-  refresh_seen None = Err InvalidObjectState
-
-  -- a read for a holder's refresh: the holder is shut where the epoch is not its own
-  abbrev pub holder_seen : (T → ℕ) → ℕ → Option (ℕ × T) → Result (Outcome T) TransactionalObjectError
-  holder_seen epoch_of local (Some found) = Ok (holder_viewed found (epoch_tested local (epoch_of found.1)))
-  holder_seen epoch_of local None = Err InvalidObjectState
+use Rattle.txn_view_drivers.specs.Seen.{entry_seen, load_seen, refresh_seen, holder_seen}
 
 -- an answer that is known by its number
 

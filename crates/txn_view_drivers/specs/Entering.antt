@@ -16,8 +16,8 @@ use Rattle.txn_drivers.specs.DrivenWrites.{WriteFailed, WriteChecked}
 use Rattle.txn_drivers.specs.LatestReads.{IsLatest}
 use Rattle.txn_view_steps.specs.declared.outcome.Outcome.{Outcome}
 use Rattle.txn_view_steps.specs.declared.outcome.Outcome.TheVariants.{Viewed, Held, Shut}
-use Rattle.txn_view_drivers.specs.CallLayers.{entry_seen}
-use Rattle.txn_view_drivers.specs.Layers.{part_of, seen_as}
+use Rattle.txn_view_drivers.specs.Layers.{part_of}
+use Rattle.txn_view_drivers.specs.Seen.{entry_seen, seen_as}
 
 -- the boundary's file is no version's
 abbrev pub IsApart : Names → Segments → Type 0

@@ -14,6 +14,7 @@ use Rattle.txn_caches.specs.Steps.{by_number, turned_by_number, lacks_memory, Te
 use Rattle.txn_drivers.specs.Asked.{Replies}
 use Rattle.txn_drivers.specs.DriveRuns.{Scene, Stepped, GoesOn, Drives}
 use Rattle.txn_view_drivers.specs.CallRuns.{CallStepped}
+use Rattle.txn_view_drivers.specs.Seen.{seen_as}
 
 -- both go on, or both end
 abbrev pub Alike : {A B : Type 0} → Turned A → Turned B → Type 0
@@ -27,11 +28,6 @@ abbrev pub layered : {P O A B : Type 0} → (P → O) → O → (A → Result B 
 layered whole end see (part, Goes) = (whole part, Goes)
 layered whole end see (part, Done (Ok found)) = (end, Done (by_number (see found)))
 layered whole end see (part, Done (Err number)) = (end, Done (Err number))
-
--- what the call makes of the operation's answer: an error is its own
-abbrev pub seen_as : {A B : Type 0} → (A → Result B TransactionalObjectError) → Result A TransactionalObjectError → Result B TransactionalObjectError
-seen_as see (Ok found) = see found
-seen_as see (Err error) = Err error
 
 -- the operation in the place of the call
 abbrev pub part_of : {P O : Type 0} → P → Scene O → Scene P

@@ -1,3 +1,4 @@
+pub mod Seen
 pub mod CallRuns
 pub mod Layers
 pub mod CallLayers

@@ -16,8 +16,8 @@ use Rattle.txn_drivers.specs.PageCount.{pages_below}
 use Rattle.txn_view_steps.specs.declared.outcome.Outcome.{Outcome}
 use Rattle.txn_view_steps.specs.declared.outcome.Outcome.TheVariants.{Viewed, Held, Shut}
 use Rattle.txn_view_steps.specs.Epochs.{epoch_tested}
-use Rattle.txn_view_drivers.specs.CallLayers.{load_seen, refresh_seen, holder_seen}
-use Rattle.txn_view_drivers.specs.Layers.{part_of, seen_as}
+use Rattle.txn_view_drivers.specs.Layers.{part_of}
+use Rattle.txn_view_drivers.specs.Seen.{load_seen, refresh_seen, holder_seen, seen_as}
 
 -- What each call answers of a history, and why it failed.
 
