@@ -13,3 +13,5 @@ pub mod Takes
 pub mod Opens
 pub mod Begins
 pub mod Runs
+pub mod Tied
+pub mod Inner
