@@ -15,3 +15,4 @@ pub mod Begins
 pub mod Runs
 pub mod Tied
 pub mod Inner
+pub mod Carried
