@@ -15,3 +15,6 @@ pub mod Begins
 pub mod Runs
 pub mod Goes
 pub mod Examples
+pub mod Tied
+pub mod Inner
+pub mod Carried
