@@ -16,3 +16,4 @@ pub mod Runs
 pub mod Tied
 pub mod Inner
 pub mod Carried
+pub mod Owed
