@@ -17,3 +17,4 @@ pub mod Tied
 pub mod Inner
 pub mod Carried
 pub mod Owed
+pub mod Inside

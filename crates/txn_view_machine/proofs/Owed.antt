@@ -13,7 +13,7 @@ use Rattle.txn_view_history.specs.OneHistory as history
 use Rattle.txn_view_machine.specs.Steps.{WasRemoved}
 use Rattle.txn_view_machine.proofs.Tied.{Alike, same_versions, same_newest, same_boundary, same_erased}
 
-same_base : (n m : ℕ) → base_on n ≡ base_on m → n ≡ m
+pub same_base : (n m : ℕ) → base_on n ≡ base_on m → n ≡ m
 same_base zero zero e = refl
 same_base zero (suc m) e = cc
 same_base (suc n) zero e = cc
