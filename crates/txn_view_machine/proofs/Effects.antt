@@ -32,13 +32,13 @@ put_raises : (path : Segments) (bytes : List ℕ) (mode : PutMode) (to : ℕ) (b
 put_raises path bytes mode to true e said = ap (λ (p : Segments). created (requests.Put p bytes mode)) (is_boundary_path path e) ∙ raise_creates bytes mode
 put_raises path bytes mode to false e said = cc
 
-raised_creates : (request : Request) (to : ℕ) → raised request ≡ Some to → created request ≡ None
+pub raised_creates : (request : Request) (to : ℕ) → raised request ≡ Some to → created request ≡ None
 raised_creates (requests.Put path bytes mode) to e = put_raises path bytes mode to (is_boundary path) refl e
 raised_creates (requests.Get path known) to e = cc
 raised_creates (requests.List prefix after limit) to e = cc
 raised_creates (requests.Delete path) to e = cc
 
-removed_creates : (request : Request) (id : ℕ) → removed request ≡ Some id → created request ≡ None
+pub removed_creates : (request : Request) (id : ℕ) → removed request ≡ Some id → created request ≡ None
 removed_creates (requests.Put path bytes mode) id e = cc
 removed_creates (requests.Get path known) id e = cc
 removed_creates (requests.List prefix after limit) id e = cc

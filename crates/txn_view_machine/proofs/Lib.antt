@@ -18,3 +18,5 @@ pub mod Examples
 pub mod Tied
 pub mod Inner
 pub mod Carried
+pub mod Owed
+pub mod Inside
