@@ -5,6 +5,7 @@ use Rattle.std.specs.Prelude.{◌≡◌, ℕ, List, [], ◌∷◌, ◌<◌, ◌�
 use Rattle.txn_history.specs.declared.trace.RowOf.TheVariants.{Effect, Begun, Answered}
 use Rattle.txn_history.specs.Lists.{numbered}
 use Rattle.txn_history.specs.History.{IsEntry}
+use Rattle.txn_view_history.specs.declared.view.View as declared
 use Rattle.txn_view_history.specs.declared.event.AnyAnswer.{AnyAnswer}
 use Rattle.txn_view_history.specs.declared.event.AnyAnswer.TheVariants as answers
 use Rattle.txn_view_history.specs.Trace.{AnyRow}
@@ -58,11 +59,8 @@ module _ {T : Type 0} where
   view_count (Begun op call ∷ rows) = view_count rows
 
 -- a view as it stands: its client, its id, its object, and the epoch of a holder
-pub record View (T : Type 0) : Type 0 where
-  pub client : ℕ
-  pub id : ℕ
-  pub object : T
-  pub epoch : Option ℕ
+abbrev pub View : Type 0 → Type 0
+View T = declared.View T
 
 module _ {T : Type 0} (get_epoch : T → ℕ) where
   -- a holder has seen an entry with a greater epoch than its own

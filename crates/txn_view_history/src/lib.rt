@@ -8,3 +8,4 @@
 pub mod event;
 pub mod laws;
 pub mod trace;
+pub mod view;
