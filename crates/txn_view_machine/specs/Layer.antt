@@ -10,11 +10,11 @@ use Rattle.txn_view_history.specs.declared.event.AnyAnswer.TheVariants as answer
 use Rattle.txn_view_history.specs.Trace.{AnyRow}
 use Rattle.txn_view_history.specs.Calls.{view_used}
 use Rattle.txn_view_history.specs.Views.{View}
+use Rattle.txn_view_machine.specs.declared.used.Used as declared
 
 -- a view, and the operation that uses it
-pub record Used (T : Type 0) : Type 0 where
-  pub view : View T
-  pub busy : Option ℕ
+abbrev pub Used : Type 0 → Type 0
+Used T = declared.Used T
 
 -- What an operation does now: nothing yet, a write of a value of this epoch on a base, a read of the newest version, or
 -- what a call without a view does.

@@ -1,5 +1,5 @@
 -- The steps of any call on a view.
-use Rattle.std.specs.Prelude.{ℕ, List, Bool, true, false, Option, Result}
+use Rattle.std.specs.Prelude.{◌≡◌, ℕ, List, Bool, true, false, Option, Some, Result}
 use Rattle.txn_store.specs.Paths.{Segments}
 use Rattle.txn_store.specs.VersionName.{Names}
 use Rattle.txn_store.specs.declared.request.Request.{Request}
@@ -9,10 +9,13 @@ use Rattle.txn_caches.specs.declared.turned.Turned.{Turned}
 use Rattle.txn_caches.specs.Asking.{unless_lacking}
 use Rattle.txn_steps.specs.Reads.{read_left}
 use Rattle.txn_view_steps.specs.declared.outcome.Outcome.{Outcome}
+use Rattle.txn_view_steps.specs.declared.entry.EntryOp.{EntryOp}
+use Rattle.txn_view_steps.specs.declared.entry.EntryOp.TheVariants.{Writes, Ended}
 use Rattle.txn_view_steps.specs.declared.op.ViewOp.{ViewOp}
 use Rattle.txn_view_steps.specs.declared.op.ViewOp.TheVariants.{Init, Load, Refresh, Update, Claim, ClaimAt, HolderRefresh, HolderUpdate}
 use Rattle.txn_view_steps.specs.Readings.{said}
-use Rattle.txn_view_steps.specs.Attempts.{claiming_asked, claiming_left, IsClaimingReply, IsClaimingInRange}
+use Rattle.txn_view_steps.specs.Attempts.{claiming_asked, claiming_left, IsClaimingReply, IsClaimingInRange, IsRefreshing, IsMade}
+use Rattle.txn_view_steps.specs.Shortages.{LacksAsWrite}
 use Rattle.txn_view_steps.specs.Claims.{claim_ended, claim_turned, claim_at_ended, claim_at_turned}
 use Rattle.txn_view_steps.specs.Holders.{holder_refresh_asked, holder_refresh_ended, holder_refresh_turned, IsHolderRefreshReply, IsHolderRefreshInRange, holder_update_asked, holder_update_turned, holder_update_caches, IsHolderUpdateReply}
 use Rattle.txn_view_steps.specs.Inits.{init_asked, init_turned, init_caches, IsInitReply}
@@ -79,6 +82,46 @@ module _ {T : Type 0} where
   view_left (ClaimAt op) caches told = claiming_left op.claiming caches told
   view_left (HolderRefresh op) caches told = read_left op.read caches (said told)
   view_left (HolderUpdate op) caches told = holder_update_caches op caches
+
+  -- memory lacks in a claim's attempt only where its write was overtaken, or lacked it
+  abbrev pub MayLack : ViewOp T → Caches → Option Reply → Bool → Type 0
+  MayLack (Init op) caches reply lacks = Unit {0}
+  MayLack (Load op) caches reply lacks = Unit {0}
+  MayLack (Refresh op) caches reply lacks = Unit {0}
+  MayLack (Update op) caches reply lacks = Unit {0}
+  MayLack (Claim op) caches reply lacks = LacksAsWrite op.claiming caches reply lacks
+  MayLack (ClaimAt op) caches reply lacks = LacksAsWrite op.claiming caches reply lacks
+  MayLack (HolderRefresh op) caches reply lacks = Unit {0}
+  MayLack (HolderUpdate op) caches reply lacks = Unit {0}
+
+  -- a claim that reads
+  abbrev pub IsClaimReading : ViewOp T → Type 0
+  IsClaimReading (Init op) = ⊥
+  IsClaimReading (Load op) = ⊥
+  IsClaimReading (Refresh op) = ⊥
+  IsClaimReading (Update op) = ⊥
+  IsClaimReading (Claim op) = IsRefreshing op.claiming
+  IsClaimReading (ClaimAt op) = IsRefreshing op.claiming
+  IsClaimReading (HolderRefresh op) = ⊥
+  IsClaimReading (HolderUpdate op) = ⊥
+
+module _ {T : Type 0} (encode : T → List ℕ) (decode : List ℕ → Option T) where
+  -- the codec reads back what is to be written
+  abbrev pub EntryReads : EntryOp T → Type 0
+  EntryReads (Writes write value) = decode (encode value) ≡ Some value
+  EntryReads Ended = Unit {0}
+
+module _ {T : Type 0} (encode : T → List ℕ) (decode : List ℕ → Option T) (epoch_of : T → ℕ) where
+  -- what is to be written is read back, and that of a claim has the epoch that was set
+  abbrev pub IsViewMade : ViewOp T → Type 0
+  IsViewMade (Init op) = EntryReads encode decode op.entry
+  IsViewMade (Load op) = Unit {0}
+  IsViewMade (Refresh op) = Unit {0}
+  IsViewMade (Update op) = EntryReads encode decode op.entry
+  IsViewMade (Claim op) = IsMade encode decode epoch_of op.claiming
+  IsViewMade (ClaimAt op) = IsMade encode decode epoch_of op.claiming
+  IsViewMade (HolderRefresh op) = Unit {0}
+  IsViewMade (HolderUpdate op) = EntryReads encode decode op.entry
 
 module _ {T : Type 0} (names : Names) (path : Segments) (page : ℕ) (encode : T → List ℕ) (decode : List ℕ → Option T) (epoch_of : T → ℕ) (with_epoch : T → ℕ → T) where
   -- What it makes of a look or a reply, where a growth may have been refused. Those that only write ask for none here.

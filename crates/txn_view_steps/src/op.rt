@@ -3,7 +3,7 @@ ghost use Rattle.std.specs.Prelude.{◌≡◌};
 ghost use Rattle.txn_types.specs.Clones.{IsExactClone};
 ghost use Rattle.txn_caches.specs.Steps.{turned_by_number, lacks_memory, TellsErrorOf};
 ghost use Rattle.txn_caches.specs.Asking.{asks, reply_told};
-ghost use Rattle.txn_view_steps.specs.ViewOps.{view_asked, view_left, view_turned, is_claim, IsViewReply, IsViewInRange};
+ghost use Rattle.txn_view_steps.specs.ViewOps.{view_asked, view_left, view_turned, is_claim, IsViewReply, IsViewInRange, IsClaimReading, IsViewMade, MayLack};
 
 use crate::claim::ClaimOp;
 use crate::claim_at::ClaimAtOp;
@@ -75,6 +75,10 @@ impl<T: Clone> ViewOp<T> {
         requires reply { IsViewReply self.old reply }
         requires range { IsViewInRange self.old }
         ensures turned { (self.new, turned_by_number result) ≡ view_turned layout.now.names layout.now.boundary layout.now.page (C.encoded layout.now.codec) (C.decoded layout.now.codec) (X.epoch_of epochs.now) (X.with_epoch epochs.now) (lacks_memory (turned_by_number result)) self.old caches.old reply }
+        // What a claim that reads goes on to write is read back, and has the epoch that was set.
+        ensures made { IsClaimReading self.old → IsViewMade (C.encoded layout.now.codec) (C.decoded layout.now.codec) (X.epoch_of epochs.now) self.new }
+        // A claim's attempt lacks memory only where its write was overtaken, or lacked it.
+        ensures short { MayLack self.old caches.old reply (lacks_memory (turned_by_number result)) }
         ensures caches { caches.new ≡ view_left self.old caches.old (turned_by_number result) }
         ensures store_error { TellsErrorOf (reply_told reply) result }
     {

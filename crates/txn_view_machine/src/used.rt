@@ -1,0 +1,11 @@
+//! Views, and what uses them.
+
+use txn_view_history::view::View;
+
+/// A view, and the operation that uses it.
+#[derive(Debug, Drop, PartialEq, Eq)]
+pub struct Used<T> {
+    pub view: View<T>,
+    /// The operation that uses it, none where it is free.
+    pub busy: Option<u64>,
+}
