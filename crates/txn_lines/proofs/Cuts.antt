@@ -12,12 +12,12 @@ use denote.Ref.{Bor}
 use lib.Pointwise.{pointwise}
 use Rattle.std.specs.declared.ops.Bound.{Bound}
 use Rattle.std.specs.declared.ops.Bound.TheVariants as bounds
-use Rattle.txn_history.specs.declared.event.Call.{Call}
+use Rattle.txn_view_history.specs.declared.event.AnyCall.{AnyCall}
 use Rattle.txn_history.specs.declared.event.Failure.{Failure}
 use Rattle.txn_lines.specs.declared.record.Record.{Record}
 use Rattle.txn_lines.specs.Record.{record_text}
 use Rattle.txn_lines.proofs.RecordLemmas.{own}
-use Rattle.txn_lines.specs.Grammar.{base_text, write_text, bound_text, list_text, call_text, begin_text, failure_text, fail_text, BaseFits, BoundFits}
+use Rattle.txn_lines.specs.Grammar.{base_text, write_text, bound_text, list_text, update_text, claim_text, call_text, begin_text, failure_text, fail_text, BaseFits, BoundFits}
 
 -- the bytes do not have this one among them
 abbrev pub Lacks : ℕ → List ℕ → Type 0
@@ -73,10 +73,10 @@ pub same : {A : Type 0} (r : Option A) (x y : A) → r ≡ Some x → r ≡ Some
 same r x y one two = let both : Some y ≡ Some x = sym two ∙ one in cc
 
 -- the client and the call of a begin
-pub begin_cut : (bs : List ℕ) (client : ℕ) (call : Call Record) (r : Found) (a b : Bor (List ℕ)) → IsSplitOnceResult 32 bs r → client < 2 ^ 64 → bs ≡ begin_text client call → r ≡ Some (a, b) → (a.now ≡ decimal client) × (b.now ≡ call_text call)
+pub begin_cut : (bs : List ℕ) (client : ℕ) (call : AnyCall Record) (r : Found) (a b : Bor (List ℕ)) → IsSplitOnceResult 32 bs r → client < 2 ^ 64 → bs ≡ begin_text client call → r ≡ Some (a, b) → (a.now ≡ decimal client) × (b.now ≡ call_text call)
 begin_cut bs client call r a b h small e is = at_some (decimal client) (call_text call) r a b (cut bs (decimal client) (call_text call) r h (decimal_lacks 32 client small (λ k. omega (arith, k))) e) is
 
-pub begin_no_cut : (bs : List ℕ) (client : ℕ) (call : Call Record) (r : Found) → IsSplitOnceResult 32 bs r → client < 2 ^ 64 → bs ≡ begin_text client call → r ≡ None → ⊥
+pub begin_no_cut : (bs : List ℕ) (client : ℕ) (call : AnyCall Record) (r : Found) → IsSplitOnceResult 32 bs r → client < 2 ^ 64 → bs ≡ begin_text client call → r ≡ None → ⊥
 begin_no_cut bs client call r h small e is = at_none (decimal client) (call_text call) r (cut bs (decimal client) (call_text call) r h (decimal_lacks 32 client small (λ k. omega (arith, k))) e) is
 
 -- the base and the value of a write
@@ -92,6 +92,20 @@ list_cut bs from to r a b h fits e is = at_some (bound_text from) (bound_text to
 
 pub list_no_cut : (bs : List ℕ) (from to : Bound ℕ) (r : Found) → IsSplitOnceResult 32 bs r → BoundFits from → bs ≡ list_text from to → r ≡ None → ⊥
 list_no_cut bs from to r h fits e is = at_none (bound_text from) (bound_text to) r (cut bs (bound_text from) (bound_text to) r h (bound_lacks from fits) e) is
+
+-- the view and the value of an update
+pub update_cut : (bs : List ℕ) (view : ℕ) (value : Record) (r : Found) (a b : Bor (List ℕ)) → IsSplitOnceResult 32 bs r → view < 2 ^ 64 → bs ≡ update_text view value → r ≡ Some (a, b) → (a.now ≡ decimal view) × (b.now ≡ record_text value)
+update_cut bs view value r a b h small e is = at_some (decimal view) (record_text value) r a b (cut bs (decimal view) (record_text value) r h (decimal_lacks 32 view small (λ k. omega (arith, k))) e) is
+
+pub update_no_cut : (bs : List ℕ) (view : ℕ) (value : Record) (r : Found) → IsSplitOnceResult 32 bs r → view < 2 ^ 64 → bs ≡ update_text view value → r ≡ None → ⊥
+update_no_cut bs view value r h small e is = at_none (decimal view) (record_text value) r (cut bs (decimal view) (record_text value) r h (decimal_lacks 32 view small (λ k. omega (arith, k))) e) is
+
+-- the view and the epoch of a claim
+pub claim_cut : (bs : List ℕ) (view epoch : ℕ) (r : Found) (a b : Bor (List ℕ)) → IsSplitOnceResult 32 bs r → view < 2 ^ 64 → bs ≡ claim_text view epoch → r ≡ Some (a, b) → (a.now ≡ decimal view) × (b.now ≡ decimal epoch)
+claim_cut bs view epoch r a b h small e is = at_some (decimal view) (decimal epoch) r a b (cut bs (decimal view) (decimal epoch) r h (decimal_lacks 32 view small (λ k. omega (arith, k))) e) is
+
+pub claim_no_cut : (bs : List ℕ) (view epoch : ℕ) (r : Found) → IsSplitOnceResult 32 bs r → view < 2 ^ 64 → bs ≡ claim_text view epoch → r ≡ None → ⊥
+claim_no_cut bs view epoch r h small e is = at_none (decimal view) (decimal epoch) r (cut bs (decimal view) (decimal epoch) r h (decimal_lacks 32 view small (λ k. omega (arith, k))) e) is
 
 -- the operation and the way to fail
 pub fail_cut : (bs : List ℕ) (op : ℕ) (failure : Failure) (r : Found) (a b : Bor (List ℕ)) → IsSplitOnceResult 32 bs r → op < 2 ^ 64 → bs ≡ fail_text op failure → r ≡ Some (a, b) → (a.now ≡ decimal op) × (b.now ≡ failure_text failure)

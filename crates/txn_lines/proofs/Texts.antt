@@ -10,16 +10,20 @@ use Rattle.std.specs.declared.ops.Bound.{Bound}
 use Rattle.std.specs.declared.ops.Bound.TheVariants as bounds
 use Rattle.txn_history.specs.declared.event.Call.{Call}
 use Rattle.txn_history.specs.declared.event.Call.TheVariants as calls
-use Rattle.txn_history.specs.Trace.{Event}
 use Rattle.txn_history.specs.declared.event.EventOf.TheVariants as events
 use Rattle.txn_history.specs.declared.event.Failure.{Failure}
 use Rattle.txn_history.specs.declared.event.Failure.TheVariants as failures
+use Rattle.txn_view_history.specs.Trace.{AnyEvent}
+use Rattle.txn_view_history.specs.declared.event.ViewCall.{ViewCall}
+use Rattle.txn_view_history.specs.declared.event.ViewCall.TheVariants as view_calls
+use Rattle.txn_view_history.specs.declared.event.AnyCall.{AnyCall}
+use Rattle.txn_view_history.specs.declared.event.AnyCall.TheVariants as any
 use Rattle.txn_lines.specs.declared.record.Record.{Record}
 use Rattle.txn_lines.specs.Record.{record_text, IsNumbers}
 use Rattle.txn_lines.specs.declared.line.Line.{Line}
 use Rattle.txn_lines.specs.declared.line.Line.TheVariants as lines
 use Rattle.txn_lines.specs.declared.lines.TheConstants.{MOST_BYTES}
-use Rattle.txn_lines.specs.Grammar.{base_text, write_text, bound_text, list_text, call_text, begin_text, failure_text, fail_text, event_text, line_text, BaseFits, WriteFits, BoundFits, ListFits, CallFits, EventFits, LineFits, Says}
+use Rattle.txn_lines.specs.Grammar.{base_text, write_text, bound_text, list_text, plain_text, update_text, claim_text, view_call_text, call_text, begin_text, failure_text, fail_text, event_text, line_text, BaseFits, WriteFits, BoundFits, ListFits, PlainFits, UpdateFits, ClaimFits, ViewCallFits, CallFits, EventFits, LineFits, Says}
 
 -- words that are written out
 ascii_of : (xs : List ℕ) → list_all (λ b. nat_lt b 128) xs ≡ true → IsAscii xs
@@ -57,18 +61,38 @@ bound_ascii bounds.Unbounded fits = ascii_of (codes "-") refl
 list_ascii : (from to : Bound ℕ) → ListFits from to → IsAscii (list_text from to)
 list_ascii from to fits = ascii_with (bound_text from) (bound_text to) 32 (lit< tt) (bound_ascii from fits.0) (bound_ascii to fits.1)
 
-call_ascii : (call : Call Record) → CallFits call → IsAscii (call_text call)
-call_ascii (calls.Write base value) fits = ascii_with (codes "write") (write_text base value) 32 (lit< tt) (ascii_of (codes "write") refl) (write_ascii base value fits)
-call_ascii (calls.WriteUnchecked base value) fits = ascii_with (codes "write_unchecked") (write_text base value) 32 (lit< tt) (ascii_of (codes "write_unchecked") refl) (write_ascii base value fits)
-call_ascii calls.Read fits = ascii_of (codes "read") refl
-call_ascii (calls.ReadUnchecked id) fits = word_ascii (codes "read_unchecked") id refl fits
-call_ascii (calls.ReadSeen id) fits = word_ascii (codes "read_seen") id refl fits
-call_ascii (calls.ListIds from to) fits = ascii_with (codes "list") (list_text from to) 32 (lit< tt) (ascii_of (codes "list") refl) (list_ascii from to fits)
-call_ascii (calls.Delete id) fits = word_ascii (codes "delete") id refl fits
-call_ascii (calls.Check id) fits = word_ascii (codes "check") id refl fits
-call_ascii (calls.Advance to) fits = word_ascii (codes "advance") to refl fits
+plain_ascii : (call : Call Record) → PlainFits call → IsAscii (plain_text call)
+plain_ascii (calls.Write base value) fits = ascii_with (codes "write") (write_text base value) 32 (lit< tt) (ascii_of (codes "write") refl) (write_ascii base value fits)
+plain_ascii (calls.WriteUnchecked base value) fits = ascii_with (codes "write_unchecked") (write_text base value) 32 (lit< tt) (ascii_of (codes "write_unchecked") refl) (write_ascii base value fits)
+plain_ascii calls.Read fits = ascii_of (codes "read") refl
+plain_ascii (calls.ReadUnchecked id) fits = word_ascii (codes "read_unchecked") id refl fits
+plain_ascii (calls.ReadSeen id) fits = word_ascii (codes "read_seen") id refl fits
+plain_ascii (calls.ListIds from to) fits = ascii_with (codes "list") (list_text from to) 32 (lit< tt) (ascii_of (codes "list") refl) (list_ascii from to fits)
+plain_ascii (calls.Delete id) fits = word_ascii (codes "delete") id refl fits
+plain_ascii (calls.Check id) fits = word_ascii (codes "check") id refl fits
+plain_ascii (calls.Advance to) fits = word_ascii (codes "advance") to refl fits
 
-begin_ascii : (client : ℕ) (call : Call Record) → client < 2 ^ 64 → CallFits call → IsAscii (begin_text client call)
+update_ascii : (view : ℕ) (value : Record) → UpdateFits view value → IsAscii (update_text view value)
+update_ascii view value fits = ascii_with (decimal view) (record_text value) 32 (lit< tt) (IsAscii-decimal view fits.0) (record_ascii value fits.1)
+
+claim_ascii : (view epoch : ℕ) → ClaimFits view epoch → IsAscii (claim_text view epoch)
+claim_ascii view epoch fits = ascii_with (decimal view) (decimal epoch) 32 (lit< tt) (IsAscii-decimal view fits.0) (IsAscii-decimal epoch fits.1)
+
+view_call_ascii : (call : ViewCall Record) → ViewCallFits call → IsAscii (view_call_text call)
+view_call_ascii (view_calls.Init value) fits = ascii_with (codes "init") (record_text value) 32 (lit< tt) (ascii_of (codes "init") refl) (record_ascii value fits)
+view_call_ascii view_calls.Load fits = ascii_of (codes "load") refl
+view_call_ascii (view_calls.Refresh view) fits = word_ascii (codes "refresh") view refl fits
+view_call_ascii (view_calls.Update view value) fits = ascii_with (codes "update") (update_text view value) 32 (lit< tt) (ascii_of (codes "update") refl) (update_ascii view value fits)
+view_call_ascii (view_calls.Claim view) fits = word_ascii (codes "claim") view refl fits
+view_call_ascii (view_calls.ClaimAt view epoch) fits = ascii_with (codes "claim_at") (claim_text view epoch) 32 (lit< tt) (ascii_of (codes "claim_at") refl) (claim_ascii view epoch fits)
+view_call_ascii (view_calls.HolderRefresh view) fits = word_ascii (codes "holder_refresh") view refl fits
+view_call_ascii (view_calls.HolderUpdate view value) fits = ascii_with (codes "holder_update") (update_text view value) 32 (lit< tt) (ascii_of (codes "holder_update") refl) (update_ascii view value fits)
+
+call_ascii : (call : AnyCall Record) → CallFits call → IsAscii (call_text call)
+call_ascii (any.Plain call) fits = plain_ascii call fits
+call_ascii (any.View call) fits = view_call_ascii call fits
+
+begin_ascii : (client : ℕ) (call : AnyCall Record) → client < 2 ^ 64 → CallFits call → IsAscii (begin_text client call)
 begin_ascii client call small fits = ascii_with (decimal client) (call_text call) 32 (lit< tt) (IsAscii-decimal client small) (call_ascii call fits)
 
 failure_ascii : (failure : Failure) → IsAscii (failure_text failure)
@@ -79,7 +103,7 @@ failure_ascii failures.Loose = ascii_of (codes "loose") refl
 fail_ascii : (op : ℕ) (failure : Failure) → op < 2 ^ 64 → IsAscii (fail_text op failure)
 fail_ascii op failure fits = ascii_with (decimal op) (failure_text failure) 32 (lit< tt) (IsAscii-decimal op fits) (failure_ascii failure)
 
-event_ascii : (event : Event Record) → EventFits event → IsAscii (event_text event)
+event_ascii : (event : AnyEvent Record) → EventFits event → IsAscii (event_text event)
 event_ascii (events.Begin client call) fits = ascii_with (codes "begin") (begin_text client call) 32 (lit< tt) (ascii_of (codes "begin") refl) (begin_ascii client call fits.0 fits.1)
 event_ascii (events.Look op) fits = word_ascii (codes "look") op refl fits
 event_ascii (events.Serve op) fits = word_ascii (codes "serve") op refl fits
@@ -123,23 +147,43 @@ bound_short bounds.Unbounded fits = lit≤ tt
 list_short : (from to : Bound ℕ) → ListFits from to → length (list_text from to) ≤ 43
 list_short from to fits = omega (arith, length-with (bound_text from) (bound_text to) 32, bound_short from fits.0, bound_short to fits.1)
 
-call_short : (call : Call Record) → CallFits call → length (call_text call) ≤ 78
-call_short (calls.Write base value) fits = omega (arith, length-with (codes "write") (write_text base value) 32, write_short base value fits)
-call_short (calls.WriteUnchecked base value) fits = omega (arith, length-with (codes "write_unchecked") (write_text base value) 32, write_short base value fits)
-call_short calls.Read fits = lit≤ tt
-call_short (calls.ReadUnchecked id) fits = omega (arith, length-with (codes "read_unchecked") (decimal id) 32, digits id fits)
-call_short (calls.ReadSeen id) fits = omega (arith, length-with (codes "read_seen") (decimal id) 32, digits id fits)
-call_short (calls.ListIds from to) fits = omega (arith, length-with (codes "list") (list_text from to) 32, list_short from to fits)
-call_short (calls.Delete id) fits = omega (arith, length-with (codes "delete") (decimal id) 32, digits id fits)
-call_short (calls.Check id) fits = omega (arith, length-with (codes "check") (decimal id) 32, digits id fits)
-call_short (calls.Advance to) fits = omega (arith, length-with (codes "advance") (decimal to) 32, digits to fits)
+plain_short : (call : Call Record) → PlainFits call → length (plain_text call) ≤ 78
+plain_short (calls.Write base value) fits = omega (arith, length-with (codes "write") (write_text base value) 32, write_short base value fits)
+plain_short (calls.WriteUnchecked base value) fits = omega (arith, length-with (codes "write_unchecked") (write_text base value) 32, write_short base value fits)
+plain_short calls.Read fits = lit≤ tt
+plain_short (calls.ReadUnchecked id) fits = omega (arith, length-with (codes "read_unchecked") (decimal id) 32, digits id fits)
+plain_short (calls.ReadSeen id) fits = omega (arith, length-with (codes "read_seen") (decimal id) 32, digits id fits)
+plain_short (calls.ListIds from to) fits = omega (arith, length-with (codes "list") (list_text from to) 32, list_short from to fits)
+plain_short (calls.Delete id) fits = omega (arith, length-with (codes "delete") (decimal id) 32, digits id fits)
+plain_short (calls.Check id) fits = omega (arith, length-with (codes "check") (decimal id) 32, digits id fits)
+plain_short (calls.Advance to) fits = omega (arith, length-with (codes "advance") (decimal to) 32, digits to fits)
+
+update_short : (view : ℕ) (value : Record) → UpdateFits view value → length (update_text view value) ≤ 62
+update_short view value fits = omega (arith, length-with (decimal view) (record_text value) 32, digits view fits.0, record_short value fits.1)
+
+claim_short : (view epoch : ℕ) → ClaimFits view epoch → length (claim_text view epoch) ≤ 41
+claim_short view epoch fits = omega (arith, length-with (decimal view) (decimal epoch) 32, digits view fits.0, digits epoch fits.1)
+
+view_call_short : (call : ViewCall Record) → ViewCallFits call → length (view_call_text call) ≤ 78
+view_call_short (view_calls.Init value) fits = omega (arith, length-with (codes "init") (record_text value) 32, record_short value fits)
+view_call_short view_calls.Load fits = lit≤ tt
+view_call_short (view_calls.Refresh view) fits = omega (arith, length-with (codes "refresh") (decimal view) 32, digits view fits)
+view_call_short (view_calls.Update view value) fits = omega (arith, length-with (codes "update") (update_text view value) 32, update_short view value fits)
+view_call_short (view_calls.Claim view) fits = omega (arith, length-with (codes "claim") (decimal view) 32, digits view fits)
+view_call_short (view_calls.ClaimAt view epoch) fits = omega (arith, length-with (codes "claim_at") (claim_text view epoch) 32, claim_short view epoch fits)
+view_call_short (view_calls.HolderRefresh view) fits = omega (arith, length-with (codes "holder_refresh") (decimal view) 32, digits view fits)
+view_call_short (view_calls.HolderUpdate view value) fits = omega (arith, length-with (codes "holder_update") (update_text view value) 32, update_short view value fits)
+
+call_short : (call : AnyCall Record) → CallFits call → length (call_text call) ≤ 78
+call_short (any.Plain call) fits = plain_short call fits
+call_short (any.View call) fits = view_call_short call fits
 
 failure_short : (failure : Failure) → length (failure_text failure) ≤ 6
 failure_short failures.Before = lit≤ tt
 failure_short failures.After = lit≤ tt
 failure_short failures.Loose = lit≤ tt
 
-event_short : (event : Event Record) → EventFits event → length (event_text event) ≤ 105
+event_short : (event : AnyEvent Record) → EventFits event → length (event_text event) ≤ 105
 event_short (events.Begin client call) fits = omega (arith, length-with (codes "begin") (begin_text client call) 32, length-with (decimal client) (call_text call) 32, digits client fits.0, call_short call fits.1)
 event_short (events.Look op) fits = omega (arith, length-with (codes "look") (decimal op) 32, digits op fits)
 event_short (events.Serve op) fits = omega (arith, length-with (codes "serve") (decimal op) 32, digits op fits)

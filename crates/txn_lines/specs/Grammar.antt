@@ -4,10 +4,14 @@ use Rattle.std.specs.declared.ops.Bound.{Bound}
 use Rattle.std.specs.declared.ops.Bound.TheVariants as bounds
 use Rattle.txn_history.specs.declared.event.Call.{Call}
 use Rattle.txn_history.specs.declared.event.Call.TheVariants as calls
-use Rattle.txn_history.specs.Trace.{Event}
 use Rattle.txn_history.specs.declared.event.EventOf.TheVariants as events
 use Rattle.txn_history.specs.declared.event.Failure.{Failure}
 use Rattle.txn_history.specs.declared.event.Failure.TheVariants as failures
+use Rattle.txn_view_history.specs.Trace.{AnyEvent}
+use Rattle.txn_view_history.specs.declared.event.ViewCall.{ViewCall}
+use Rattle.txn_view_history.specs.declared.event.ViewCall.TheVariants as view_calls
+use Rattle.txn_view_history.specs.declared.event.AnyCall.{AnyCall}
+use Rattle.txn_view_history.specs.declared.event.AnyCall.TheVariants as any
 use Rattle.txn_lines.specs.declared.record.Record.{Record}
 use Rattle.txn_lines.specs.Record.{record_text, IsNumbers}
 use Rattle.txn_lines.specs.declared.line.Line.{Line}
@@ -30,18 +34,42 @@ bound_text bounds.Unbounded = codes "-"
 abbrev pub list_text : Bound ℕ → Bound ℕ → List ℕ
 list_text from to = bound_text from ++ (32 ∷ bound_text to)
 
-abbrev pub call_text : Call Record → List ℕ
-call_text (calls.Write base value) = codes "write" ++ (32 ∷ write_text base value)
-call_text (calls.WriteUnchecked base value) = codes "write_unchecked" ++ (32 ∷ write_text base value)
-call_text calls.Read = codes "read"
-call_text (calls.ReadUnchecked id) = codes "read_unchecked" ++ (32 ∷ decimal id)
-call_text (calls.ReadSeen id) = codes "read_seen" ++ (32 ∷ decimal id)
-call_text (calls.ListIds from to) = codes "list" ++ (32 ∷ list_text from to)
-call_text (calls.Delete id) = codes "delete" ++ (32 ∷ decimal id)
-call_text (calls.Check id) = codes "check" ++ (32 ∷ decimal id)
-call_text (calls.Advance to) = codes "advance" ++ (32 ∷ decimal to)
+-- a call without a view
+abbrev pub plain_text : Call Record → List ℕ
+plain_text (calls.Write base value) = codes "write" ++ (32 ∷ write_text base value)
+plain_text (calls.WriteUnchecked base value) = codes "write_unchecked" ++ (32 ∷ write_text base value)
+plain_text calls.Read = codes "read"
+plain_text (calls.ReadUnchecked id) = codes "read_unchecked" ++ (32 ∷ decimal id)
+plain_text (calls.ReadSeen id) = codes "read_seen" ++ (32 ∷ decimal id)
+plain_text (calls.ListIds from to) = codes "list" ++ (32 ∷ list_text from to)
+plain_text (calls.Delete id) = codes "delete" ++ (32 ∷ decimal id)
+plain_text (calls.Check id) = codes "check" ++ (32 ∷ decimal id)
+plain_text (calls.Advance to) = codes "advance" ++ (32 ∷ decimal to)
 
-abbrev pub begin_text : ℕ → Call Record → List ℕ
+-- a view's number, and the value that is written on its version
+abbrev pub update_text : ℕ → Record → List ℕ
+update_text view value = decimal view ++ (32 ∷ record_text value)
+
+-- a view's number, and the epoch that is claimed for it
+abbrev pub claim_text : ℕ → ℕ → List ℕ
+claim_text view epoch = decimal view ++ (32 ∷ decimal epoch)
+
+-- a call that makes a view, or uses one
+abbrev pub view_call_text : ViewCall Record → List ℕ
+view_call_text (view_calls.Init value) = codes "init" ++ (32 ∷ record_text value)
+view_call_text view_calls.Load = codes "load"
+view_call_text (view_calls.Refresh view) = codes "refresh" ++ (32 ∷ decimal view)
+view_call_text (view_calls.Update view value) = codes "update" ++ (32 ∷ update_text view value)
+view_call_text (view_calls.Claim view) = codes "claim" ++ (32 ∷ decimal view)
+view_call_text (view_calls.ClaimAt view epoch) = codes "claim_at" ++ (32 ∷ claim_text view epoch)
+view_call_text (view_calls.HolderRefresh view) = codes "holder_refresh" ++ (32 ∷ decimal view)
+view_call_text (view_calls.HolderUpdate view value) = codes "holder_update" ++ (32 ∷ update_text view value)
+
+abbrev pub call_text : AnyCall Record → List ℕ
+call_text (any.Plain call) = plain_text call
+call_text (any.View call) = view_call_text call
+
+abbrev pub begin_text : ℕ → AnyCall Record → List ℕ
 begin_text client call = decimal client ++ (32 ∷ call_text call)
 
 -- how a store call fails: before its effect, after it, or with its request loose
@@ -53,7 +81,7 @@ failure_text failures.Loose = codes "loose"
 abbrev pub fail_text : ℕ → Failure → List ℕ
 fail_text op failure = decimal op ++ (32 ∷ failure_text failure)
 
-abbrev pub event_text : Event Record → List ℕ
+abbrev pub event_text : AnyEvent Record → List ℕ
 event_text (events.Begin client call) = codes "begin" ++ (32 ∷ begin_text client call)
 event_text (events.Look op) = codes "look" ++ (32 ∷ decimal op)
 event_text (events.Serve op) = codes "serve" ++ (32 ∷ decimal op)
@@ -85,18 +113,38 @@ BoundFits bounds.Unbounded = Unit {0}
 abbrev pub ListFits : Bound ℕ → Bound ℕ → Type 0
 ListFits from to = BoundFits from × BoundFits to
 
-abbrev pub CallFits : Call Record → Type 0
-CallFits (calls.Write base value) = WriteFits base value
-CallFits (calls.WriteUnchecked base value) = WriteFits base value
-CallFits calls.Read = Unit {0}
-CallFits (calls.ReadUnchecked id) = id < 2 ^ 64
-CallFits (calls.ReadSeen id) = id < 2 ^ 64
-CallFits (calls.ListIds from to) = ListFits from to
-CallFits (calls.Delete id) = id < 2 ^ 64
-CallFits (calls.Check id) = id < 2 ^ 64
-CallFits (calls.Advance to) = to < 2 ^ 64
+abbrev pub PlainFits : Call Record → Type 0
+PlainFits (calls.Write base value) = WriteFits base value
+PlainFits (calls.WriteUnchecked base value) = WriteFits base value
+PlainFits calls.Read = Unit {0}
+PlainFits (calls.ReadUnchecked id) = id < 2 ^ 64
+PlainFits (calls.ReadSeen id) = id < 2 ^ 64
+PlainFits (calls.ListIds from to) = ListFits from to
+PlainFits (calls.Delete id) = id < 2 ^ 64
+PlainFits (calls.Check id) = id < 2 ^ 64
+PlainFits (calls.Advance to) = to < 2 ^ 64
 
-abbrev pub EventFits : Event Record → Type 0
+abbrev pub UpdateFits : ℕ → Record → Type 0
+UpdateFits view value = (view < 2 ^ 64) × IsNumbers value
+
+abbrev pub ClaimFits : ℕ → ℕ → Type 0
+ClaimFits view epoch = (view < 2 ^ 64) × (epoch < 2 ^ 64)
+
+abbrev pub ViewCallFits : ViewCall Record → Type 0
+ViewCallFits (view_calls.Init value) = IsNumbers value
+ViewCallFits view_calls.Load = Unit {0}
+ViewCallFits (view_calls.Refresh view) = view < 2 ^ 64
+ViewCallFits (view_calls.Update view value) = UpdateFits view value
+ViewCallFits (view_calls.Claim view) = view < 2 ^ 64
+ViewCallFits (view_calls.ClaimAt view epoch) = ClaimFits view epoch
+ViewCallFits (view_calls.HolderRefresh view) = view < 2 ^ 64
+ViewCallFits (view_calls.HolderUpdate view value) = UpdateFits view value
+
+abbrev pub CallFits : AnyCall Record → Type 0
+CallFits (any.Plain call) = PlainFits call
+CallFits (any.View call) = ViewCallFits call
+
+abbrev pub EventFits : AnyEvent Record → Type 0
 EventFits (events.Begin client call) = (client < 2 ^ 64) × CallFits call
 EventFits (events.Look op) = op < 2 ^ 64
 EventFits (events.Serve op) = op < 2 ^ 64

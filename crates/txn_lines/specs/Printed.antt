@@ -3,6 +3,9 @@ use Rattle.std.specs.Prelude.{ℕ, List, [], ◌∷◌, ◌++◌, ◌==◌, if�
 use Rattle.txn_lines.specs.declared.record.Record.{Record}
 use Rattle.txn_history.specs.declared.event.Answer.{Answer}
 use Rattle.txn_history.specs.declared.event.Answer.TheVariants as answers
+use Rattle.txn_view_history.specs.declared.event.AnyAnswer.{AnyAnswer}
+use Rattle.txn_view_history.specs.declared.event.AnyAnswer.TheVariants as any
+use Rattle.txn_view_history.specs.Views.{View}
 use Rattle.txn_history.specs.declared.event.EventFault.{EventFault}
 use Rattle.txn_history.specs.declared.event.EventFault.TheVariants as faults
 use Rattle.txn_lines.specs.Record.{record_text}
@@ -43,16 +46,30 @@ abbrev pub listed_text : List ℕ → List ℕ
 listed_text [] = codes " none"
 listed_text (id ∷ ids) = ids_text (id ∷ ids)
 
-abbrev pub answered_text : Answer Record → List ℕ
-answered_text (answers.Wrote id) = codes "wrote " ++ decimal id
-answered_text (answers.Read found) = read_text found
-answered_text (answers.Value found) = value_text found
-answered_text (answers.Ids ids) = codes "ids" ++ listed_text ids
-answered_text answers.Done = codes "done"
-answered_text (answers.Refused number) = codes "refused " ++ (decimal number ++ (codes " " ++ refusal_name number))
+-- the answer of a call without a view, or a refusal
+abbrev pub plain_answer_text : Answer Record → List ℕ
+plain_answer_text (answers.Wrote id) = codes "wrote " ++ decimal id
+plain_answer_text (answers.Read found) = read_text found
+plain_answer_text (answers.Value found) = value_text found
+plain_answer_text (answers.Ids ids) = codes "ids" ++ listed_text ids
+plain_answer_text answers.Done = codes "done"
+plain_answer_text (answers.Refused number) = codes "refused " ++ (decimal number ++ (codes " " ++ refusal_name number))
+
+-- the view of this number is at the version of this id, with this value
+abbrev pub view_text : ℕ → ℕ → Record → List ℕ
+view_text view id value = codes "view " ++ (decimal view ++ (codes " at " ++ (decimal id ++ (codes " " ++ record_text value))))
+
+-- the same, as the holder of this epoch
+abbrev pub holder_text : ℕ → ℕ → Record → ℕ → List ℕ
+holder_text view id value epoch = codes "holder " ++ (decimal view ++ (codes " at " ++ (decimal id ++ (codes " " ++ (record_text value ++ (codes " epoch " ++ decimal epoch))))))
+
+abbrev pub answered_text : AnyAnswer Record → List ℕ
+answered_text (any.Plain answer) = plain_answer_text answer
+answered_text (any.View view id value) = view_text view id value
+answered_text (any.Held view id value epoch) = holder_text view id value epoch
 
 -- the line of an answer
-abbrev pub answer_text : ℕ → Answer Record → List ℕ
+abbrev pub answer_text : ℕ → AnyAnswer Record → List ℕ
 answer_text op answer = codes "op " ++ (decimal op ++ (codes ": " ++ answered_text answer))
 
 -- the line of a refused event
@@ -76,6 +93,15 @@ boundary_text boundary = codes "boundary " ++ decimal boundary
 -- the line of the erased ids
 abbrev pub erased_text : List ℕ → List ℕ
 erased_text ids = codes "erased" ++ listed_text ids
+
+-- how a view stands, by the epoch of a holder
+abbrev pub stands_by : ℕ → ℕ → Record → Option ℕ → List ℕ
+stands_by number id value None = view_text number id value
+stands_by number id value (Some epoch) = holder_text number id value epoch
+
+-- the line of a view that has not ended
+abbrev pub stands_text : ℕ → View Record → List ℕ
+stands_text number view = stands_by number view.id view.object view.epoch
 
 -- the line of a script that stops
 abbrev pub stop_text : Stop → List ℕ

@@ -3,16 +3,19 @@
 ghost use Rattle.std.specs.Prelude.{◌≡◌, ℕ, ◌<◌, ◌^◌, IfSome, Some, Option};
 ghost use Rattle.std.specs.declared.ops.Bound.{Bound};
 ghost use Rattle.txn_history.specs.declared.event.Call.{Call};
-ghost use Rattle.txn_history.specs.Trace.{Event};
 ghost use Rattle.txn_history.specs.declared.event.Failure.{Failure};
+ghost use Rattle.txn_view_history.specs.Trace.{AnyEvent};
+ghost use Rattle.txn_view_history.specs.declared.event.ViewCall.{ViewCall};
+ghost use Rattle.txn_view_history.specs.declared.event.AnyCall.{AnyCall};
 ghost use Rattle.txn_lines.specs.declared.record.Record.{Record};
-ghost use Rattle.txn_lines.specs.Grammar.{base_text, write_text, bound_text, list_text, call_text, begin_text, failure_text, fail_text, event_text, BaseFits, WriteFits, BoundFits, ListFits, CallFits, EventFits, Says};
+ghost use Rattle.txn_lines.specs.Grammar.{base_text, write_text, bound_text, list_text, plain_text, update_text, claim_text, view_call_text, call_text, begin_text, failure_text, fail_text, event_text, BaseFits, WriteFits, BoundFits, ListFits, PlainFits, UpdateFits, ClaimFits, ViewCallFits, CallFits, EventFits, Says};
 ghost use Rattle.txn_lines.specs.declared.line.Line.{Line};
 
 use crate::numerals::read_decimal;
 use crate::record::{Record, read_record};
 use std::ops::Bound;
-use txn_history::event::{Call, Event, Failure};
+use txn_history::event::{Call, Failure};
+use txn_view_history::event::{AnyCall, AnyEvent, ViewCall};
 
 /// What a line of a script says.
 #[derive(Debug, Drop)]
@@ -22,7 +25,7 @@ pub enum Line {
     /// A listing goes in pages of so many files at most.
     Page(u64),
     /// One step of the world.
-    Event(Event<Record>),
+    Event(AnyEvent<Record>),
     /// The operation goes on until it is answered.
     Run(u64),
 }
@@ -81,12 +84,12 @@ fn read_list(text: &str) -> Option<(Bound<u64>, Bound<u64>)>
     Some((from, read_bound(to_word)?))
 }
 
-/// The call that these words say.
-fn read_call(text: &str) -> Option<Call<Record>>
-    ensures fits { IfSome result CallFits }
-    ensures reads { IfSome result (λ call. text.now ≡ call_text call) }
+/// The call without a view that these words say.
+fn read_plain_call(text: &str) -> Option<Call<Record>>
+    ensures fits { IfSome result PlainFits }
+    ensures reads { IfSome result (λ call. text.now ≡ plain_text call) }
     ensures all { (call : Call Record)
-        → CallFits call → text.now ≡ call_text call → result ≡ Some call }
+        → PlainFits call → text.now ≡ plain_text call → result ≡ Some call }
 {
     if text == "read" {
         return Some(Call::Read);
@@ -114,11 +117,82 @@ fn read_call(text: &str) -> Option<Call<Record>>
     }
 }
 
+/// The view and the value of the update that these words say.
+fn read_update(text: &str) -> Option<(u64, Record)>
+    ensures fits { IfSome result (λ update. UpdateFits update.0 update.1) }
+    ensures reads { IfSome result (λ update. text.now ≡ update_text update.0 update.1) }
+    ensures all { (view : ℕ) (value : Record)
+        → UpdateFits view value → text.now ≡ update_text view value
+        → result ≡ Some (view, value) }
+{
+    let (view_word, value) = text.split_once(' ')?;
+    let view = read_decimal(view_word)?;
+    Some((view, read_record(value.as_bytes())?))
+}
+
+/// The view and the epoch of the claim that these words say.
+fn read_claim(text: &str) -> Option<(u64, u64)>
+    ensures fits { IfSome result (λ claim. ClaimFits claim.0 claim.1) }
+    ensures reads { IfSome result (λ claim. text.now ≡ claim_text claim.0 claim.1) }
+    ensures all { (view epoch : ℕ)
+        → ClaimFits view epoch → text.now ≡ claim_text view epoch
+        → result ≡ Some (view, epoch) }
+{
+    let (view_word, epoch_word) = text.split_once(' ')?;
+    let view = read_decimal(view_word)?;
+    Some((view, read_decimal(epoch_word)?))
+}
+
+/// The call on a view that these words say.
+fn read_view_call(text: &str) -> Option<ViewCall<Record>>
+    ensures fits { IfSome result ViewCallFits }
+    ensures reads { IfSome result (λ call. text.now ≡ view_call_text call) }
+    ensures all { (call : ViewCall Record)
+        → ViewCallFits call → text.now ≡ view_call_text call → result ≡ Some call }
+{
+    if text == "load" {
+        return Some(ViewCall::Load);
+    }
+    let (word, rest) = text.split_once(' ')?;
+    match word {
+        "init" => Some(ViewCall::Init(read_record(rest.as_bytes())?)),
+        "refresh" => Some(ViewCall::Refresh(read_decimal(rest)?)),
+        "update" => {
+            let (view, value) = read_update(rest)?;
+            Some(ViewCall::Update(view, value))
+        }
+        "claim" => Some(ViewCall::Claim(read_decimal(rest)?)),
+        "claim_at" => {
+            let (view, epoch) = read_claim(rest)?;
+            Some(ViewCall::ClaimAt(view, epoch))
+        }
+        "holder_refresh" => Some(ViewCall::HolderRefresh(read_decimal(rest)?)),
+        "holder_update" => {
+            let (view, value) = read_update(rest)?;
+            Some(ViewCall::HolderUpdate(view, value))
+        }
+        _ => None,
+    }
+}
+
+/// The call that these words say.
+fn read_call(text: &str) -> Option<AnyCall<Record>>
+    ensures fits { IfSome result CallFits }
+    ensures reads { IfSome result (λ call. text.now ≡ call_text call) }
+    ensures all { (call : AnyCall Record)
+        → CallFits call → text.now ≡ call_text call → result ≡ Some call }
+{
+    match read_plain_call(text) {
+        Some(call) => Some(AnyCall::Plain(call)),
+        None => Some(AnyCall::View(read_view_call(text)?)),
+    }
+}
+
 /// The client and the call that these words say.
-fn read_begin(text: &str) -> Option<(u64, Call<Record>)>
+fn read_begin(text: &str) -> Option<(u64, AnyCall<Record>)>
     ensures fits { IfSome result (λ begun. (begun.0 < 2 ^ 64) × CallFits begun.1) }
     ensures reads { IfSome result (λ begun. text.now ≡ begin_text begun.0 begun.1) }
-    ensures all { (client : ℕ) (call : Call Record)
+    ensures all { (client : ℕ) (call : AnyCall Record)
         → client < 2 ^ 64 → CallFits call → text.now ≡ begin_text client call
         → result ≡ Some (client, call) }
 {
@@ -153,27 +227,27 @@ fn read_fail(text: &str) -> Option<(u64, Failure)>
 }
 
 /// The event that these words say.
-fn read_event(text: &str) -> Option<Event<Record>>
+fn read_event(text: &str) -> Option<AnyEvent<Record>>
     ensures fits { IfSome result EventFits }
     ensures reads { IfSome result (λ event. text.now ≡ event_text event) }
-    ensures all { (event : Event Record)
+    ensures all { (event : AnyEvent Record)
         → EventFits event → text.now ≡ event_text event → result ≡ Some event }
 {
     let (word, rest) = text.split_once(' ')?;
     match word {
         "begin" => {
             let (client, call) = read_begin(rest)?;
-            Some(Event::Begin(client, call))
+            Some(AnyEvent::Begin(client, call))
         }
-        "look" => Some(Event::Look(read_decimal(rest)?)),
-        "serve" => Some(Event::Serve(read_decimal(rest)?)),
+        "look" => Some(AnyEvent::Look(read_decimal(rest)?)),
+        "serve" => Some(AnyEvent::Serve(read_decimal(rest)?)),
         "fail" => {
             let (op, failure) = read_fail(rest)?;
-            Some(Event::Fail(op, failure))
+            Some(AnyEvent::Fail(op, failure))
         }
-        "giveup" => Some(Event::GiveUp(read_decimal(rest)?)),
-        "land" => Some(Event::Land(read_decimal(rest)?)),
-        "crash" => Some(Event::Crash(read_decimal(rest)?)),
+        "giveup" => Some(AnyEvent::GiveUp(read_decimal(rest)?)),
+        "land" => Some(AnyEvent::Land(read_decimal(rest)?)),
+        "crash" => Some(AnyEvent::Crash(read_decimal(rest)?)),
         _ => None,
     }
 }

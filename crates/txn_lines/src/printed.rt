@@ -1,11 +1,13 @@
 //! The printed lines.
 
 ghost use Rattle.std.specs.Prelude.{◌≡◌, Some};
-ghost use Rattle.txn_lines.specs.Printed.{refusal_name, answered_text, answer_text, entry_text, boundary_text, erased_text, listed_text, fault_text};
+ghost use Rattle.txn_lines.specs.Printed.{refusal_name, plain_answer_text, answered_text, answer_text, entry_text, boundary_text, erased_text, stands_text, listed_text, fault_text};
 
 use crate::record::Record;
 use std::fmt;
 use txn_history::event::{Answer, EventFault};
+use txn_view_history::event::AnyAnswer;
+use txn_view_history::view::View;
 
 /// The name of a refusal.
 fn refusal_name(number: u8) -> &'static str
@@ -44,15 +46,15 @@ impl fmt::Display for Listed<'_> {
     }
 }
 
-/// An answer as it is printed.
-#[derive(Debug, Drop)]
-pub struct Answered(pub Answer<Record>);
+/// The answer of a call without a view, or a refusal, as it is printed.
+#[derive(Clone, Copy, Debug)]
+struct PlainAnswered<'a>(&'a Answer<Record>);
 
-impl fmt::Display for Answered {
-    ghost output = { λ answered. Some (answered_text answered.0) };
+impl fmt::Display for PlainAnswered<'_> {
+    ghost output = { λ answered. Some (plain_answer_text answered.0.now) };
 
     fn fmt<W: fmt::Write>(&self, f: &mut fmt::Formatter<W>) -> fmt::Result {
-        match &self.0 {
+        match self.0 {
             Answer::Wrote(id) => write!(f, "wrote {id}"),
             Answer::Read(None) => write!(f, "read none"),
             Answer::Read(Some((id, value))) => write!(f, "read {id} {value}"),
@@ -66,6 +68,27 @@ impl fmt::Display for Answered {
             Answer::Refused(number) => {
                 let name = refusal_name(*number);
                 write!(f, "refused {number} {name}")
+            }
+        }
+    }
+}
+
+/// An answer as it is printed.
+#[derive(Debug, Drop)]
+pub struct Answered(pub AnyAnswer<Record>);
+
+impl fmt::Display for Answered {
+    ghost output = { λ answered. Some (answered_text answered.0) };
+
+    fn fmt<W: fmt::Write>(&self, f: &mut fmt::Formatter<W>) -> fmt::Result {
+        match &self.0 {
+            AnyAnswer::Plain(answer) => {
+                let answered = PlainAnswered(answer);
+                write!(f, "{answered}")
+            }
+            AnyAnswer::View(view, id, value) => write!(f, "view {view} at {id} {value}"),
+            AnyAnswer::Held(view, id, value, epoch) => {
+                write!(f, "holder {view} at {id} {value} epoch {epoch}")
             }
         }
     }
@@ -128,6 +151,27 @@ impl fmt::Display for ErasedLine {
     fn fmt<W: fmt::Write>(&self, f: &mut fmt::Formatter<W>) -> fmt::Result {
         let listed = Listed(&self.0);
         write!(f, "erased{listed}")
+    }
+}
+
+/// The line of a view that has not ended.
+#[derive(Clone, Copy, Debug)]
+pub struct ViewLine<'a> {
+    pub number: u64,
+    pub view: &'a View<Record>,
+}
+
+impl fmt::Display for ViewLine<'_> {
+    ghost output = { λ line. Some (stands_text line.number line.view.now) };
+
+    fn fmt<W: fmt::Write>(&self, f: &mut fmt::Formatter<W>) -> fmt::Result {
+        let number = self.number;
+        let id = self.view.id;
+        let value = self.view.object;
+        match self.view.epoch {
+            None => write!(f, "view {number} at {id} {value}"),
+            Some(epoch) => write!(f, "holder {number} at {id} {value} epoch {epoch}"),
+        }
     }
 }
 

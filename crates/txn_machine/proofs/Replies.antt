@@ -56,7 +56,7 @@ use Rattle.txn_machine.specs.declared.doing.Doing.TheVariants.{Write, WriteUnche
 use Rattle.txn_machine.specs.declared.doing.Operation.{Operation}
 use Rattle.txn_machine.specs.Doing.{asked, InRange, IsReply}
 use Rattle.txn_machine.specs.Machine.{State, IsReached}
-use Rattle.txn_machine.proofs.Stands.{ReadingStands, StepStands, CheckStands, RaiseStands, AdvanceStands, WasAbove, RemovalStands, DeleteStepStands, LatestStands, ReadStands, SeenStands, UncheckedStands, WriteStands, DoingStands, OpStands}
+use Rattle.txn_machine.proofs.Stands.{ReadingStands, Stands, StepStands, CheckStands, RaiseStands, AdvanceStands, WasAbove, RemovalStands, DeleteStepStands, LatestStands, ReadStands, SeenStands, UncheckedStands, WriteStands, DoingStands, OpStands}
 use Rattle.txn_machine.proofs.BoundServes.{asks_request, asks_look}
 use Rattle.txn_machine.proofs.States.{at_place}
 use Rattle.txn_machine.proofs.Events.{run_of}
@@ -285,23 +285,23 @@ module _ {T : Type 0} (decode : List ℕ → Option T) (get_epoch : T → ℕ) (
   doing_look (Advance advance) h e = advance_look advance (asks_look (advance_asked advance) e)
   doing_look Ended h e = absurd h
 
-module _ {T : Type 0} (encode : T → List ℕ) (decode : List ℕ → Option T) (get_epoch : T → ℕ) (s : State T) (r : IsReached encode decode get_epoch s) (op : ℕ) (o : Operation T) (found : numbered s.operations op ≡ Some o) where
-  -- of a reached state
+module _ {T : Type 0} (decode : List ℕ → Option T) (get_epoch : T → ℕ) (s : State T) (st : Stands decode get_epoch s) (op : ℕ) (o : Operation T) (found : numbered s.operations op ≡ Some o) where
+  -- of a state that stands
 
-  pub reached_replies : (request : Request) (reply : Reply) (new : StoreState) → asked o.doing ≡ Some (Store request) → Serves request s.store reply new → IsReply o.doing (Some reply)
-  reached_replies request reply new asks serves =
-      let at = at_place decode get_epoch s op o (reached_stands encode decode get_epoch s r) found in
+  pub stood_replies : (request : Request) (reply : Reply) (new : StoreState) → asked o.doing ≡ Some (Store request) → Serves request s.store reply new → IsReply o.doing (Some reply)
+  stood_replies request reply new asks serves =
+      let at = at_place decode get_epoch s op o st found in
       let run = run_of decode get_epoch s.trace s.store at.0.boundary op o.doing (Store request) asks at.2 in
       doing_reply s.store new request reply serves decode get_epoch s.trace s.store at.0.boundary op run.0 o.doing run.1.stands asks
 
-  pub reached_looks : asked o.doing ≡ Some Look → IsReply o.doing None
-  reached_looks asks =
-      let at = at_place decode get_epoch s op o (reached_stands encode decode get_epoch s r) found in
+  pub stood_looks : asked o.doing ≡ Some Look → IsReply o.doing None
+  stood_looks asks =
+      let at = at_place decode get_epoch s op o st found in
       let run = run_of decode get_epoch s.trace s.store at.0.boundary op o.doing Look asks at.2 in
       doing_look decode get_epoch s.trace s.store at.0.boundary op run.0 o.doing run.1.stands asks
 
-  pub reached_range : InRange o.doing
-  reached_range = let at = at_place decode get_epoch s op o (reached_stands encode decode get_epoch s r) found in by s.trace s.store at.0.boundary op o.doing at.2
+  pub stood_range : InRange o.doing
+  stood_range = let at = at_place decode get_epoch s op o st found in by s.trace s.store at.0.boundary op o.doing at.2
     where
       by : (rows : List (Row T)) (store : StoreState) (cached : Option CachedBoundary) (op : ℕ) (doing : Doing T) → OpStands decode get_epoch rows store cached op doing → InRange doing
       by rows store cached op (Read read) h = h.1.range
@@ -314,3 +314,15 @@ module _ {T : Type 0} (encode : T → List ℕ) (decode : List ℕ → Option T)
       by rows store cached op (Check check) h = tt
       by rows store cached op (Advance advance) h = tt
       by rows store cached op Ended h = tt
+
+module _ {T : Type 0} (encode : T → List ℕ) (decode : List ℕ → Option T) (get_epoch : T → ℕ) (s : State T) (r : IsReached encode decode get_epoch s) (op : ℕ) (o : Operation T) (found : numbered s.operations op ≡ Some o) where
+  -- of a reached state
+
+  pub reached_replies : (request : Request) (reply : Reply) (new : StoreState) → asked o.doing ≡ Some (Store request) → Serves request s.store reply new → IsReply o.doing (Some reply)
+  reached_replies = stood_replies decode get_epoch s (reached_stands encode decode get_epoch s r) op o found
+
+  pub reached_looks : asked o.doing ≡ Some Look → IsReply o.doing None
+  reached_looks = stood_looks decode get_epoch s (reached_stands encode decode get_epoch s r) op o found
+
+  pub reached_range : InRange o.doing
+  reached_range = stood_range decode get_epoch s (reached_stands encode decode get_epoch s r) op o found

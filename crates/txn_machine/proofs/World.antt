@@ -40,16 +40,16 @@ use Rattle.txn_machine.proofs.Events.{look_keeps, serve_keeps, fail_keeps, give_
 use Rattle.txn_machine.proofs.Crashes.{crash_keeps}
 
 -- clients are numbered from 1
-client_within : (clients client : ℕ) → is_client clients client ≡ true → (0 < client) × (client ≤ clients)
+pub client_within : (clients client : ℕ) → is_client clients client ≡ true → (0 < client) × (client ≤ clients)
 client_within clients zero e = cc
 client_within clients (suc n) e = (omega arith, (let lt = ltb-true n clients e in omega (arith, lt)))
 
-first_true : (b : Bool) (fault : EventFault) (rest : List (Bool × EventFault)) → first_fault ((b, fault) ∷ rest) ≡ None → b ≡ true
+pub first_true : (b : Bool) (fault : EventFault) (rest : List (Bool × EventFault)) → first_fault ((b, fault) ∷ rest) ≡ None → b ≡ true
 first_true true fault rest e = refl
 first_true false fault rest e = cc
 
 -- a test that passed
-tested : (b : Bool) (fault : EventFault) → cond b None (Some fault) ≡ None → b ≡ true
+pub tested : (b : Bool) (fault : EventFault) → cond b None (Some fault) ≡ None → b ≡ true
 tested true fault e = refl
 tested false fault e = cc
 
@@ -125,16 +125,20 @@ module _ {T : Type 0} (encode : T → List ℕ) (decode : List ℕ → Option T)
         (λ o' e. subst (λ (x : Operation T). AtClient decode get_epoch (record s' { trace = rows ++ row ∷ [] }) op x) (at_end o o' e)
         (caches, there, subst (λ (d : Doing T). OpStands decode get_epoch (rows ++ row ∷ []) s.store caches.boundary op d) (sym turn.is_end) begun))
 
-  begin_keeps : (old : State T) (client : ℕ) (call : Call T) (said : Told T) (new : State T) → fault_of decode get_epoch (seen_of old) old.trace (events.Begin client call) ≡ None → Begins encode decode old client call said new → Stands decode get_epoch old → Stands decode get_epoch new
-  begin_keeps old client call said new allowed v st =
-      let is = client_within old.clients client (first_true (is_client old.clients client) faults.UnknownNumber ((is_known_base old.trace (base_of call), faults.UnknownBase) ∷ (has_low_boundary old.trace call, faults.BoundaryTooHigh) ∷ (keeps_epoch decode get_epoch old.trace call, faults.EpochLowered) ∷ []) allowed) in
-      let caches = numbered_there old.caches client is.0 (let wide = st.wide in omega (arith, is.1, wide)) in
-      let opens' = opens_next decode get_epoch old.trace (seen_of old) client call allowed in
-      let same : begun_count old.trace + 1 ≡ next_op old = ap (λ n. n + 1) (sym st.count) in
-      let opens = subst (λ (n : ℕ). Opens decode get_epoch old.trace n call) same opens' in
+  -- a call of a client of the world opens the next operation
+  pub opened_keeps : (old : State T) (client : ℕ) (call : Call T) (said : Told T) (new : State T) → 0 < client → client ≤ old.clients → Opens decode get_epoch old.trace (next_op old) call → Begins encode decode old client call said new → Stands decode get_epoch old → Stands decode get_epoch new
+  opened_keeps old client call said new some most opens v st =
+      let caches = numbered_there old.caches client some (let wide = st.wide in omega (arith, most, wide)) in
       let turn' = start_turn encode decode get_epoch old.failed old.trace old.store (next_op old) st.know (st.fresh (next_op old) (omega arith)) caches.0.boundary old.page st.paged call opens v.reads_back v.word in
       let turn = subst (λ (n : Next T). TurnStands decode get_epoch old.failed (old.trace ++ Begun (next_op old) call ∷ []) old.store caches.0.boundary (next_op old) call n) (sym v.starts) turn' in
       subst (λ (s : State T). Stands decode get_epoch s) (sym v.state) (begun_stands old client call st opens caches.0 caches.1 v.next.0 v.next.1 turn)
+
+  begin_keeps : (old : State T) (client : ℕ) (call : Call T) (said : Told T) (new : State T) → fault_of decode get_epoch (seen_of old) old.trace (events.Begin client call) ≡ None → Begins encode decode old client call said new → Stands decode get_epoch old → Stands decode get_epoch new
+  begin_keeps old client call said new allowed v st =
+      let is = client_within old.clients client (first_true (is_client old.clients client) faults.UnknownNumber ((is_known_base old.trace (base_of call), faults.UnknownBase) ∷ (has_low_boundary old.trace call, faults.BoundaryTooHigh) ∷ (keeps_epoch decode get_epoch old.trace call, faults.EpochLowered) ∷ []) allowed) in
+      let opens' = opens_next decode get_epoch old.trace (seen_of old) client call allowed in
+      let same : begun_count old.trace + 1 ≡ next_op old = ap (λ n. n + 1) (sym st.count) in
+      opened_keeps old client call said new is.0 is.1 (subst (λ (n : ℕ). Opens decode get_epoch old.trace n call) same opens') v st
 
   -- runs
 

@@ -1,11 +1,15 @@
 -- What a script prints, one line after another.
 use Rattle.std.proofs.Common.{◌≡◌, ℕ, ◌+◌, ◌<◌, List, [], ◌∷◌, ◌++◌, Bool, true, false, length, drop, get_or, add-one, Option, Some, None, IfSome, inl, inr, refl, sym, ◌∙◌, ap, subst, arith, length-append}
 use Rattle.std.proofs.lemmas.List.{append_assoc, append-nil}
+use Rattle.std.proofs.lemmas.Option.{slice_get-get_or}
 use Rattle.std.proofs.Math.Seq.{drop-cons}
 use Rattle.std.specs.Prelude.{map}
 use Rattle.std.specs.Io.KnownBytes.{Appends, append_known}
 use Rattle.txn_history.specs.History.{history, boundary, AreErased}
-use Rattle.txn_machine.specs.Machine.{State, opening}
+use Rattle.txn_history.specs.Lists.{numbered}
+use Rattle.txn_view_history.specs.Views.{View}
+use Rattle.txn_view_history.specs.Seen.{view_in, view_of}
+use Rattle.txn_any_machine.specs.Machine.{State, opening, seen_of, seen_views}
 use Rattle.txn_lines.specs.declared.record.Record.{Record}
 use Rattle.txn_lines.specs.declared.line.Line.{Line}
 use Rattle.txn_lines.specs.declared.line.Line.TheVariants as lines
@@ -16,10 +20,10 @@ use Rattle.txn_lines.specs.Lines.{lines_of, is_skipped, kept}
 use Rattle.txn_lines.specs.Grammar.{Says}
 use Rattle.txn_lines.specs.Printed.{entry_text, boundary_text, erased_text}
 use Rattle.txn_lines.specs.Reading.{OnBadLine, SkipsTo, NextIs, ReadsNext, MeetsBad}
-use Rattle.txn_script.specs.Printed.{with_feed, entries_text, end_text}
+use Rattle.txn_script.specs.Printed.{with_feed, entries_text, view_line, views_text, end_text}
 use Rattle.txn_script.specs.Script.{Stage, IsPage, PageSteps, EventSteps, MayStand, LineSteps, Plays, EndsWith, IsBadNext, IsBadLine, IsFront, IsEndFront, IsPrinted, IsPrintedBefore, IsFrontPrinted, StopsAfter}
 use Rattle.txn_script.specs.Reading.{Opens, OpensBad}
-use Rattle.txn_script.specs.Printing.{Misplaced, StopsLine, StopsInEntries, StopsInEnd}
+use Rattle.txn_script.specs.Printing.{Misplaced, StopsLine, StopsWithin, StopsInEnd}
 use Rattle.txn_script.proofs.Steps.{both_after}
 
 -- what is gathered before it is written
@@ -46,28 +50,69 @@ gathers_line a b c old mid new text line before grown written =
 pub entries_step : (i : ℕ) (values : List Record) (d : Record) → i < length values → entries_text (i + 1) (drop i values) ≡ with_feed (entry_text (i + 1) (get_or values i d)) ++ entries_text (i + 1 + 1) (drop (i + 1) values)
 entries_step i values d lt = ap (entries_text (i + 1)) (drop-cons values i d lt) ∙ rw add-one refl
 
--- what more is printed after what was written
-pub gathers_end : (a b : Option (List ℕ)) (old mid new text one two : List ℕ) → Appends a (append_known b old) text → mid ≡ old ++ one → new ≡ mid ++ two → Appends a (append_known b new) (text ++ (one ++ two))
-gathers_end a b old mid new text one two before first second = appends_both a (append_known b old) (append_known b new) text (one ++ two) before (gathers b old new (one ++ two) (both_after old mid new one two first second))
+pub views_step : (i : ℕ) (views : List (Option (View Record))) → i < length views → views_text (i + 1) (drop i views) ≡ view_line (i + 1) (get_or views i None) ++ views_text (i + 1 + 1) (drop (i + 1) views)
+views_step i views lt = ap (views_text (i + 1)) (drop-cons views i None lt) ∙ rw add-one refl
+
+-- the view of a number, where there are views up to it
+pub view_there : (s : State Record) (i : ℕ) → i < length (seen_views s.views) → view_of (seen_of s) (i + 1) ≡ get_or (seen_views s.views) i None
+view_there s i lt = ap (λ n. view_in (numbered (seen_views s.views) n)) (add-one i) ∙ ap view_in (slice_get-get_or (seen_views s.views) i None lt)
 
 -- These are the history and the erased ids.
 pub record Ended (s : State Record) (values : List Record) (ids : List ℕ) : Type 0 where
   pub entries : map Some values ≡ history record_read s.trace
   pub erased : AreErased s.trace ids
 
+-- all end lines of this state
+abbrev pub ending_of : State Record → List Record → List ℕ → List ℕ
+ending_of s values ids = end_text values (boundary s.trace) ids (seen_views s.views)
+
 -- what was printed of the end lines, and what was still to print
-end_front : (s : State Record) (values : List Record) (ids text more : List ℕ) → Ended s values ids → text ++ more ≡ end_text values (boundary s.trace) ids → IsEndFront (Some (record { state = s; opened = None })) [] text
+end_front : (s : State Record) (values : List Record) (ids text more : List ℕ) → Ended s values ids → text ++ more ≡ ending_of s values ids → IsEndFront (Some (record { state = s; opened = None })) [] text
 end_front s values ids text more are e = inr (more, record { values = values; ids = ids; entries = are.entries; erased = are.erased; whole = e })
 
-pub entries_front : (stop : Stop) (s : State Record) (values : List Record) (ids : List ℕ) (old new : Option (List ℕ)) → Ended s values ids → StopsInEntries stop values old new → StopsInEnd stop s old new
-entries_front stop s values ids old new are (inl is) = inl is
-entries_front stop s values ids old new are (inr is) =
-    let rest = with_feed (boundary_text (boundary s.trace)) ++ with_feed (erased_text ids) in
-    let whole : is.1 ++ (is.2 ++ rest) ≡ entries_text 1 values ++ rest = sym (append_assoc is.1 is.2 rest) ∙ ap (λ xs. xs ++ rest) is.3 in
-    inr (is.0, is.1, end_front s values ids is.1 (is.2 ++ rest) are whole, is.4)
+-- a stop within some of the end lines, after those before them
+pub part_front : (stop : Stop) (s : State Record) (values : List Record) (ids : List ℕ) (old mid new : Option (List ℕ)) (before part after : List ℕ) → Ended s values ids → before ++ (part ++ after) ≡ ending_of s values ids → Appends old mid before → StopsWithin stop part mid new → StopsInEnd stop s old new
+part_front stop s values ids old mid new before part after are whole grown (inl is) = inl is
+part_front stop s values ids old mid new before part after are whole grown (inr is) =
+    let text = is.1 in
+    let more = is.2 in
+    let split : (before ++ text) ++ (more ++ after) ≡ before ++ (part ++ after) = append_assoc before text (more ++ after) ∙ ap (λ xs. before ++ xs) (sym (append_assoc text more after) ∙ ap (λ xs. xs ++ after) is.3) in
+    inr (is.0, before ++ text, end_front s values ids (before ++ text) (more ++ after) are (split ∙ whole), appends_both old mid new before text grown is.4)
 
-pub line_front : (stop : Stop) (s : State Record) (values : List Record) (ids : List ℕ) (old new : Option (List ℕ)) (text more : List ℕ) → Ended s values ids → stop ≡ stops.NoMemory → text ++ more ≡ end_text values (boundary s.trace) ids → Appends old new text → StopsInEnd stop s old new
+pub line_front : (stop : Stop) (s : State Record) (values : List Record) (ids : List ℕ) (old new : Option (List ℕ)) (text more : List ℕ) → Ended s values ids → stop ≡ stops.NoMemory → text ++ more ≡ ending_of s values ids → Appends old new text → StopsInEnd stop s old new
 line_front stop s values ids old new text more are is e grown = inr (is, text, end_front s values ids text more are e, grown)
+
+-- the lines before those of the views
+abbrev front_of_views : State Record → List Record → List ℕ → List ℕ
+front_of_views s values ids = entries_text 1 values ++ (with_feed (boundary_text (boundary s.trace)) ++ with_feed (erased_text ids))
+
+before_views : (s : State Record) (values : List Record) (ids views : List ℕ) → front_of_views s values ids ++ views ≡ entries_text 1 values ++ (with_feed (boundary_text (boundary s.trace)) ++ (with_feed (erased_text ids) ++ views))
+before_views s values ids views =
+    let one = with_feed (boundary_text (boundary s.trace)) in
+    let two = with_feed (erased_text ids) in
+    append_assoc (entries_text 1 values) (one ++ two) views ∙ ap (λ xs. entries_text 1 values ++ xs) (append_assoc one two views)
+
+-- the entries were printed, then the boundary and the erased ids
+printed_before : (s : State Record) (values : List Record) (ids : List ℕ) (old out : Option (List ℕ)) (first second third : List ℕ) → Appends old (append_known out first) (entries_text 1 values) → second ≡ first ++ with_feed (boundary_text (boundary s.trace)) → third ≡ second ++ with_feed (erased_text ids) → Appends old (append_known out third) (front_of_views s values ids)
+printed_before s values ids old out first second third before one two =
+    let both = with_feed (boundary_text (boundary s.trace)) ++ with_feed (erased_text ids) in
+    appends_both old (append_known out first) (append_known out third) (entries_text 1 values) both before (gathers out first third both (both_after first second third (with_feed (boundary_text (boundary s.trace))) (with_feed (erased_text ids)) one two))
+
+-- and then the views
+pub ends_with : (s : State Record) (values : List Record) (ids : List ℕ) (old out new : Option (List ℕ)) (first second third : List ℕ) → Ended s values ids → Appends old (append_known out first) (entries_text 1 values) → second ≡ first ++ with_feed (boundary_text (boundary s.trace)) → third ≡ second ++ with_feed (erased_text ids) → Appends (append_known out third) new (views_text 1 (seen_views s.views)) → (text : List ℕ) × EndsWith s text × Appends old new text
+ends_with s values ids old out new first second third are before one two last =
+    let views = views_text 1 (seen_views s.views) in (
+      front_of_views s values ids ++ views,
+      record { values = values; ids = ids; entries = are.entries; erased = are.erased; whole = before_views s values ids views },
+      appends_both old (append_known out third) new (front_of_views s values ids) views (printed_before s values ids old out first second third before one two) last,
+    )
+
+-- a stop within the lines of the views
+pub stops_in_views : (stop : Stop) (s : State Record) (values : List Record) (ids : List ℕ) (old out new : Option (List ℕ)) (first second third : List ℕ) → Ended s values ids → Appends old (append_known out first) (entries_text 1 values) → second ≡ first ++ with_feed (boundary_text (boundary s.trace)) → third ≡ second ++ with_feed (erased_text ids) → StopsWithin stop (views_text 1 (seen_views s.views)) (append_known out third) new → StopsInEnd stop s old new
+stops_in_views stop s values ids old out new first second third are before one two is =
+    let views = views_text 1 (seen_views s.views) in
+    let whole : front_of_views s values ids ++ (views ++ []) ≡ ending_of s values ids = ap (λ xs. front_of_views s values ids ++ xs) (append-nil views) ∙ before_views s values ids views in
+    part_front stop s values ids old (append_known out third) new (front_of_views s values ids) views [] are whole (printed_before s values ids old out first second third before one two) is
 
 -- the lines that are kept
 

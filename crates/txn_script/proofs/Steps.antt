@@ -1,19 +1,18 @@
 -- The steps of a run, one turn after another.
 use Rattle.std.proofs.Common.{◌≡◌, ℕ, suc, ◌-◌, ◌<◌, ◌≤◌, ◌+◌, List, [], ◌++◌, true, false, inl, inr, refl, sym, ◌∙◌, ap, subst, arith}
 use Rattle.std.proofs.lemmas.List.{append-nil, append_assoc}
-use Rattle.txn_history.specs.declared.event.Answer.{Answer}
-use Rattle.txn_history.specs.Trace.{Event}
-use Rattle.txn_history.specs.Trace.{Told}
+use Rattle.txn_view_history.specs.declared.event.AnyAnswer.{AnyAnswer}
+use Rattle.txn_view_history.specs.Trace.{AnyEvent, AnyTold}
 use Rattle.txn_history.specs.declared.event.ToldOf.TheVariants as told
-use Rattle.txn_machine.specs.Machine.{State, Takes}
+use Rattle.txn_any_machine.specs.Machine.{State, Takes}
 use Rattle.txn_lines.specs.declared.record.Record.{Record}
 use Rattle.txn_lines.specs.Record.{record_text, record_read}
 use Rattle.txn_lines.specs.Printed.{answer_text}
 use Rattle.txn_script.specs.Printed.{with_feed}
-use Rattle.txn_script.specs.Script.{Steps, RunsOperation, asked_event, goes_on, told_text, record_epoch}
+use Rattle.txn_script.specs.Script.{Steps, RunsOperation, asked_event, goes_on, told_text, record_epoch, record_with}
 
 -- what is told with no answer is not printed
-going_nothing : (t : Told Record) → true ≡ goes_on t → told_text t ≡ []
+going_nothing : (t : AnyTold Record) → true ≡ goes_on t → told_text t ≡ []
 going_nothing (told.Began op) e = refl
 going_nothing (told.Went op) e = refl
 going_nothing (told.Answered op answer) e = absurd (cc)
@@ -21,7 +20,7 @@ going_nothing (told.GaveUp op) e = refl
 going_nothing (told.Landed k changed) e = refl
 going_nothing (told.Crashed client) e = refl
 
-pub on_nothing : (old new : State Record) (event : Event Record) (text : List ℕ) → Steps old event true text new → text ≡ []
+pub on_nothing : (old new : State Record) (event : AnyEvent Record) (text : List ℕ) → Steps old event true text new → text ≡ []
 on_nothing old new event text (inl step) = step.3 ∙ going_nothing step.0 step.2
 on_nothing old new event text (inr step) = let e = step.3 in absurd (cc)
 
@@ -54,11 +53,11 @@ pub same_after : (old new text : List ℕ) → new ≡ old ++ text → text ≡ 
 same_after old new text e none = e ∙ ap (λ xs. old ++ xs) none ∙ append-nil old
 
 -- what is told and not printed
-pub quiet_step : (old new : State Record) (event : Event Record) (t : Told Record) → Takes record_text record_read record_epoch old event t new → true ≡ goes_on t → Steps old event true [] new
+pub quiet_step : (old new : State Record) (event : AnyEvent Record) (t : AnyTold Record) → Takes record_text record_read record_epoch record_with old event t new → true ≡ goes_on t → Steps old event true [] new
 quiet_step old new event t h e = inl (t, h, e, sym (going_nothing t e))
 
 -- what is told and printed
-pub answered_step : (old new : State Record) (event : Event Record) (t : Told Record) (op : ℕ) (answer : Answer Record) → Takes record_text record_read record_epoch old event t new → t ≡ told.Answered op answer → Steps old event false (with_feed (answer_text op answer)) new
+pub answered_step : (old new : State Record) (event : AnyEvent Record) (t : AnyTold Record) (op : ℕ) (answer : AnyAnswer Record) → Takes record_text record_read record_epoch record_with old event t new → t ≡ told.Answered op answer → Steps old event false (with_feed (answer_text op answer)) new
 answered_step old new event t op answer h e = inl (t, h, sym (ap goes_on e), sym (ap told_text e))
 
 -- two texts after what was printed

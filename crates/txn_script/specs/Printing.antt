@@ -1,14 +1,13 @@
 -- How lines are printed and a run stops, for the functions that print them.
 use Rattle.std.specs.Prelude.{◌≡◌, ℕ, List, [], ◌++◌, ◌⊎◌, Option, Some, None}
 use Rattle.std.specs.Io.KnownBytes.{Appends, append_known}
-use Rattle.txn_machine.specs.Machine.{State}
+use Rattle.txn_any_machine.specs.Machine.{State}
 use Rattle.txn_lines.specs.declared.record.Record.{Record}
 use Rattle.txn_lines.specs.declared.line.Line.{Line}
 use Rattle.txn_lines.specs.declared.line.Line.TheVariants as lines
 use Rattle.txn_lines.specs.declared.stop.Stop.{Stop}
 use Rattle.txn_lines.specs.declared.stop.Stop.TheVariants as stops
 use Rattle.txn_script.specs.declared.printer.Printer.{Printer}
-use Rattle.txn_script.specs.Printed.{entries_text}
 use Rattle.txn_script.specs.Script.{IsPage, IsEndFront}
 
 -- what a printer has not written yet
@@ -38,9 +37,9 @@ Misplaced opened (lines.Run op) = ⊥
 abbrev pub StopsInEnd : Stop → State Record → Option (List ℕ) → Option (List ℕ) → Type 0
 StopsInEnd stop s old new = (stop ≡ stops.WriteFailed) ⊎ ((stop ≡ stops.NoMemory) × (text : List ℕ) × IsEndFront (Some (record { state = s; opened = None })) [] text × Appends old new text)
 
--- A stop in the lines of the entries, some of which were printed.
-abbrev pub StopsInEntries : Stop → List Record → Option (List ℕ) → Option (List ℕ) → Type 0
-StopsInEntries stop entries old new = (stop ≡ stops.WriteFailed) ⊎ ((stop ≡ stops.NoMemory) × (text : List ℕ) × (more : List ℕ) × (text ++ more ≡ entries_text 1 entries) × Appends old new text)
+-- A stop within these lines, some of which were printed.
+abbrev pub StopsWithin : Stop → List ℕ → Option (List ℕ) → Option (List ℕ) → Type 0
+StopsWithin stop whole old new = (stop ≡ stops.WriteFailed) ⊎ ((stop ≡ stops.NoMemory) × (text : List ℕ) × (more : List ℕ) × (text ++ more ≡ whole) × Appends old new text)
 
 -- A line took no effect on what is printed: it may not stand there, or memory was wanting.
 abbrev pub StopsLine : Stop → Stop → Option ℕ → Line → Type 0

@@ -3,7 +3,7 @@ use Rattle.std.specs.Prelude.{◌≡◌, ℕ, ◌≤◌, List, Option, Some, Non
 use Rattle.txn_lines.specs.declared.record.Record.{Record}
 use Rattle.txn_lines.specs.declared.line.Line.TheVariants as lines
 use Rattle.txn_lines.specs.Reading.{SkipsTo, NextIs}
-use Rattle.txn_machine.specs.Machine.{State, opening}
+use Rattle.txn_any_machine.specs.Machine.{State, opening}
 use Rattle.txn_script.specs.Script.{IsBadNext}
 
 -- The first kept line opens a world for so many clients.

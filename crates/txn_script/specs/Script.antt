@@ -1,15 +1,14 @@
 -- What a script prints, as a relation of its bytes over the world's steps.
 use Rattle.std.specs.Prelude.{◌≡◌, ℕ, zero, suc, List, [], ◌∷◌, ◌++◌, ◌+◌, ◌≤◌, ◌⊎◌, Bool, true, false, map, Option, Some, None, IfSome, length}
 use Rattle.std.specs.Io.KnownBytes.{Appends}
-use Rattle.txn_history.specs.Trace.{Event}
 use Rattle.txn_history.specs.declared.event.EventOf.TheVariants as events
 use Rattle.txn_history.specs.declared.event.EventFault.{EventFault}
-use Rattle.txn_history.specs.Trace.{Told}
 use Rattle.txn_history.specs.declared.event.ToldOf.TheVariants as told
-use Rattle.txn_history.specs.Allowed.{fault_of}
 use Rattle.txn_history.specs.History.{history, boundary, AreErased}
 use Rattle.txn_history.specs.Seen.{Ask, Store, Look, asks_of}
-use Rattle.txn_machine.specs.Machine.{State, opening, seen_of, Takes}
+use Rattle.txn_view_history.specs.Trace.{AnyEvent, AnyTold}
+use Rattle.txn_view_history.specs.Allowed.{fault_of}
+use Rattle.txn_any_machine.specs.Machine.{State, opening, seen_of, seen_calls, seen_views, Takes}
 use Rattle.txn_lines.specs.declared.record.Record.{Record}
 use Rattle.txn_lines.specs.declared.line.Line.{Line}
 use Rattle.txn_lines.specs.declared.line.Line.TheVariants as lines
@@ -22,7 +21,7 @@ use Rattle.txn_lines.specs.Printed.{answer_text, fault_text}
 use Rattle.txn_script.specs.Printed.{with_feed, end_text}
 
 -- what is printed of what an event was told
-abbrev pub told_text : Told Record → List ℕ
+abbrev pub told_text : AnyTold Record → List ℕ
 told_text (told.Began op) = []
 told_text (told.Went op) = []
 told_text (told.Answered op answer) = with_feed (answer_text op answer)
@@ -31,7 +30,7 @@ told_text (told.Landed k changed) = []
 told_text (told.Crashed client) = []
 
 -- no answer was told: after a look or a serve, its operation goes on
-abbrev pub goes_on : Told Record → Bool
+abbrev pub goes_on : AnyTold Record → Bool
 goes_on (told.Began op) = true
 goes_on (told.Went op) = true
 goes_on (told.Answered op answer) = false
@@ -43,21 +42,25 @@ goes_on (told.Crashed client) = true
 abbrev pub record_epoch : Record → ℕ
 record_epoch value = value.epoch
 
+-- a record with another epoch
+abbrev pub record_with : Record → ℕ → Record
+record_with value epoch = record value { epoch = epoch }
+
 -- An event is taken, or is due its fault: whether neither an answer nor a fault was told, what is printed, and the state after it.
-abbrev pub Steps : State Record → Event Record → Bool → List ℕ → State Record → Type 0
+abbrev pub Steps : State Record → AnyEvent Record → Bool → List ℕ → State Record → Type 0
 Steps old event going text new =
-    ((t : Told Record) × Takes record_text record_read record_epoch old event t new × (going ≡ goes_on t) × (text ≡ told_text t))
+    ((t : AnyTold Record) × Takes record_text record_read record_epoch record_with old event t new × (going ≡ goes_on t) × (text ≡ told_text t))
     ⊎ ((fault : EventFault) × (fault_of record_read record_epoch (seen_of old) old.trace event ≡ Some fault) × (new ≡ old) × (going ≡ false) × (text ≡ with_feed (fault_text fault)))
 
 -- the event that gives an operation what it asks for: a serve or a look; where it asks for nothing a serve, which is refused
-abbrev pub event_for : ℕ → Option Ask → Event Record
+abbrev pub event_for : ℕ → Option Ask → AnyEvent Record
 event_for op None = events.Serve op
 event_for op (Some (Store request)) = events.Serve op
 event_for op (Some Look) = events.Look op
 
 -- the same at this state
-abbrev pub asked_event : State Record → ℕ → Event Record
-asked_event s op = event_for op (asks_of (seen_of s) op)
+abbrev pub asked_event : State Record → ℕ → AnyEvent Record
+asked_event s op = event_for op (asks_of (seen_calls s) op)
 
 -- An operation gets what it asks for while it goes on, at most n times. It is no abbreviation, so that `RunsOperation 100` stays as it is.
 unfoldable pub RunsOperation : ℕ → State Record → ℕ → List ℕ → State Record → Type 0
@@ -117,13 +120,13 @@ Plays old [] text new = (text ≡ []) × (new ≡ old)
 Plays old (bytes ∷ rest) text new =
     (line : Line) × (first : List ℕ) × (middle : Option Stage) × (more : List ℕ) × Says bytes line × MayStand old line × LineSteps old line first middle × Plays middle rest more new × (text ≡ first ++ more)
 
--- The lines that are printed at the end of a script: the history, the boundary and the erased ids of its trace.
+-- The lines that are printed at the end of a script: the history, the boundary and the erased ids of its trace, and the views as they stand.
 pub record EndsWith (s : State Record) (text : List ℕ) : Type 0 where
   pub values : List Record
   pub ids : List ℕ
   pub entries : map Some values ≡ history record_read s.trace
   pub erased : AreErased s.trace ids
-  pub whole : text ≡ end_text values (boundary s.trace) ids
+  pub whole : text ≡ end_text values (boundary s.trace) ids (seen_views s.views)
 
 -- What a whole script prints: what its kept lines print, and then the end lines.
 pub record Prints (input text : List ℕ) : Type 0 where

@@ -2,24 +2,29 @@
 
 ghost use Rattle.std.specs.Prelude.{◌≡◌, ℕ, ◌≤◌, ◌++◌, ◌∷◌, [], List, Some, None, IfOk, IfErr, IfSome, IfNone, OnOk};
 ghost use Rattle.std.specs.Io.KnownBytes.{Appends};
-ghost use Rattle.txn_script.specs.Printed.{with_feed, entries_text};
+ghost use Rattle.txn_script.specs.Printed.{with_feed, entries_text, view_line, views_text};
 ghost use Rattle.txn_script.specs.Script.{IsClients, Steps, asked_event, RunsOperation, PageSteps, EventSteps, MayStand, EndsWith, IsPrinted, IsPrintedBefore, StopsAfter};
 ghost use Rattle.txn_lines.specs.Reading.{reader_of, number_of, OnBadLine};
 ghost use Rattle.txn_script.specs.Reading.{Opens, OpensBad};
-ghost use Rattle.txn_script.specs.Printing.{held, Gathers, IsUnchanged, StopsLine, StopsInEntries, StopsInEnd};
+ghost use Rattle.txn_script.specs.Printing.{held, Gathers, IsUnchanged, StopsLine, StopsWithin, StopsInEnd};
+ghost use Rattle.txn_view_history.specs.Seen.{view_of};
+ghost use Rattle.txn_any_machine.specs.Machine.{seen_of, seen_views};
 
 use crate::printer::Printer;
 use std::alloc::Global;
 use std::io::{BufRead, BufReader, Read, Write};
 use std::mem;
 use txn_caches::ask::Ask;
-use txn_history::event::{Event, EventFault, Told};
+use txn_history::event::EventFault;
 use txn_lines::line::Line;
 use txn_lines::lines::Lines;
-use txn_lines::printed::{AnswerLine, Answered, BoundaryLine, EntryLine, ErasedLine, FaultLine};
+use txn_lines::printed::{
+    AnswerLine, Answered, BoundaryLine, EntryLine, ErasedLine, FaultLine, ViewLine,
+};
 use txn_lines::record::{Record, RecordCodec, RecordEpoch};
 use txn_lines::stop::Stop;
 use txn_types::layout::PAGE;
+use txn_view_history::event::{AnyEvent, AnyTold};
 use txn_world::world::World;
 
 /// The most clients that a script may have.
@@ -35,7 +40,7 @@ const MOST_TURNS: u64 = 100;
 /// a fault was told, so that an operation that took its turn goes on.
 fn take_event(
     world: &mut World<Record, RecordCodec, RecordEpoch>,
-    event: Event<Record>,
+    event: AnyEvent<Record>,
     printer: &mut Printer,
 ) -> Result<bool, Stop>
     ensures ok { IfOk result (λ going. (text : List ℕ)
@@ -45,16 +50,16 @@ fn take_event(
         (λ stop. (stop ≡ Stop.NoMemory) × IsUnchanged printer.old printer.new) }
 {
     match world.take(event) {
-        Ok(Told::Answered(op, answer)) => {
+        Ok(AnyTold::Answered(op, answer)) => {
             let answered = Answered(answer);
             printer.print_line(AnswerLine { op, answered })?;
             Ok(false)
         }
-        Ok(Told::Began(_)) => Ok(true),
-        Ok(Told::Went(_)) => Ok(true),
-        Ok(Told::GaveUp(_)) => Ok(true),
-        Ok(Told::Landed(_, _)) => Ok(true),
-        Ok(Told::Crashed(_)) => Ok(true),
+        Ok(AnyTold::Began(_)) => Ok(true),
+        Ok(AnyTold::Went(_)) => Ok(true),
+        Ok(AnyTold::GaveUp(_)) => Ok(true),
+        Ok(AnyTold::Landed(_, _)) => Ok(true),
+        Ok(AnyTold::Crashed(_)) => Ok(true),
         Err(EventFault::NoMemory) => Err(Stop::NoMemory),
         Err(fault) => {
             printer.print_line(FaultLine(fault))?;
@@ -65,13 +70,13 @@ fn take_event(
 
 /// The event that gives an operation what it asks for. Where it asks for nothing it is a serve, which
 /// is refused.
-fn asked_event(world: &World<Record, RecordCodec, RecordEpoch>, op: u64) -> Event<Record>
+fn asked_event(world: &World<Record, RecordCodec, RecordEpoch>, op: u64) -> AnyEvent<Record>
     ensures { result ≡ asked_event world.now.state op }
 {
     match world.asks(op) {
-        Some(Ask::Look) => Event::Look(op),
-        Some(Ask::Store(_)) => Event::Serve(op),
-        None => Event::Serve(op),
+        Some(Ask::Look) => AnyEvent::Look(op),
+        Some(Ask::Store(_)) => AnyEvent::Serve(op),
+        None => AnyEvent::Serve(op),
     }
 }
 
@@ -157,13 +162,49 @@ fn print_entries<W: Write>(
     ensures ok { OnOk result
         (Appends (held (W.contents out.old) printer.old) (held (W.contents out.new) printer.new)
         (entries_text 1 entries.now)) }
-    ensures err { IfErr result (λ stop. StopsInEntries stop entries.now
+    ensures err { IfErr result (λ stop. StopsWithin stop (entries_text 1 entries.now)
         (held (W.contents out.old) printer.old) (held (W.contents out.new) printer.new)) }
 {
     for (index, entry) in entries.iter().enumerate() {
         let number = index + 1;
         let value = *entry;
         printer.print_line(EntryLine { number, value })?;
+        printer.write_full(out)?;
+    }
+    Ok(())
+}
+
+/// Prints the line of the view of a number, where it has not ended.
+fn print_view(
+    world: &World<Record, RecordCodec, RecordEpoch>,
+    number: u64,
+    printer: &mut Printer,
+) -> Result<(), Stop>
+    ensures ok { OnOk result (Gathers printer.old printer.new
+        (view_line number (view_of (seen_of world.now.state) number))) }
+    ensures err { IfErr result
+        (λ stop. (stop ≡ Stop.NoMemory) × IsUnchanged printer.old printer.new) }
+{
+    match world.view(number) {
+        None => Ok(()),
+        Some(view) => printer.print_line(ViewLine { number, view }),
+    }
+}
+
+/// Prints the lines of the views that have not ended.
+fn print_views<W: Write>(
+    world: &World<Record, RecordCodec, RecordEpoch>,
+    printer: &mut Printer,
+    out: &mut W,
+) -> Result<(), Stop>
+    ensures ok { OnOk result (Appends (held (W.contents out.old) printer.old)
+        (held (W.contents out.new) printer.new) (views_text 1 (seen_views world.now.state.views))) }
+    ensures err { IfErr result (λ stop. StopsWithin stop
+        (views_text 1 (seen_views world.now.state.views))
+        (held (W.contents out.old) printer.old) (held (W.contents out.new) printer.new)) }
+{
+    for index in 0..world.views() {
+        print_view(world, index + 1, printer)?;
         printer.write_full(out)?;
     }
     Ok(())
@@ -190,7 +231,7 @@ fn print_end<W: Write>(
     print_entries(&entries, printer, out)?;
     printer.print_line(BoundaryLine(world.boundary()))?;
     printer.print_line(ErasedLine(erased))?;
-    Ok(())
+    print_views(world, printer, out)
 }
 
 /// For how many clients a line opens a script, if it may stand first.

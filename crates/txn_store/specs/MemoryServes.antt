@@ -1,5 +1,5 @@
 -- What a store in memory replies to a request, and what it then is.
-use Rattle.std.specs.Prelude.{◌≡◌, Ok, Err}
+use Rattle.std.specs.Prelude.{◌≡◌, Ok, Err, Bool, true, false}
 use Rattle.std.specs.FinMap as finmap
 use Rattle.txn_store.specs.Store.{put_fault, listing, page_of}
 use Rattle.txn_store.specs.Memory.{Memory, put_answer, get_answer, called, with_file, without_file}
@@ -22,6 +22,14 @@ LacksMemory (Put path bytes mode) reply = reply ≡ PutReply (Err NoMemory)
 LacksMemory (Get path known) reply = reply ≡ GetReply (Err NoMemory)
 LacksMemory (List prefix after limit) reply = reply ≡ ListReply (Err NoMemory)
 LacksMemory (Delete path) reply = ⊥
+
+-- whether a reply says that a growth was refused
+abbrev pub lacks_memory : Reply → Bool
+lacks_memory (PutReply (Err NoMemory)) = true
+lacks_memory (GetReply (Err NoMemory)) = true
+lacks_memory (ListReply (Err NoMemory)) = true
+lacks_memory (DeleteReply (Err NoMemory)) = true
+lacks_memory _ = false
 
 -- the store after a request and its reply
 abbrev pub memory_after : Request → Reply → Memory → Memory

@@ -24,6 +24,12 @@ impl Unread {
         Unread {}
     }
 
+    fn copy(&self) -> Unread
+        ensures { result.value ≡ self.now.value }
+    {
+        Unread {}
+    }
+
     fn next(&self) -> Unread
         ensures { result.value ≡ self.now.value + 1 }
     {
@@ -51,6 +57,14 @@ impl Count {
     {
         Count {
             unread: Unread::new(),
+        }
+    }
+
+    pub(crate) fn copy(&self) -> Count
+        ensures { result ≡ self.now }
+    {
+        Count {
+            unread: self.unread.copy(),
         }
     }
 

@@ -1,7 +1,8 @@
 //! A store in memory.
-ghost use Rattle.std.specs.Prelude.{◌≡◌, ◌≤◌, ◌*◌, is_some, IsOk, OnOk, OnErr};
+ghost use Rattle.std.specs.Prelude.{◌≡◌, ◌≤◌, ◌*◌, false, is_some, IfOk, IsOk, OnOk, OnErr};
 ghost use Rattle.std.specs.Option.{option_copied};
 ghost use Rattle.std.specs.FinMap as finmap;
+ghost use Rattle.txn_store.specs.MemoryServes.{lacks_memory};
 ghost use Rattle.txn_store.specs.Store.{put_fault, known_fault, listing, page_of};
 
 use crate::count::Count;
@@ -11,7 +12,7 @@ use crate::request::{Reply, Request};
 use crate::sorted::SortedFiles;
 use crate::store::{Got, ObjectStore, PutMode, StoreError, Token};
 use bytes::Bytes;
-use std::alloc::Global;
+use std::alloc::{AllocError, Global};
 use std::marker::Model;
 
 /// Files in memory, in the order of their paths. Its tokens are numbers that rise by one, and the greatest u64 is
@@ -90,6 +91,30 @@ impl InMemory {
         }
     }
 
+    /// The same where no growth is refused. Where one is, there was no call: the store is as it was.
+    pub fn try_serve(&mut self, alloc: Global, request: &Request) -> Result<Reply, AllocError>
+        ensures meaning { IfOk result (λ reply. Serves request.now (searched_state self.old) reply (searched_state self.new)) }
+        ensures exact { IfOk result (λ reply. reply ≡ exact_reply request.now self.old.memory) }
+        ensures answered { IfOk result (λ reply. lacks_memory reply ≡ false) }
+        ensures after { IfOk result (λ reply. self.new.memory ≡ memory_after request.now reply self.old.memory) }
+        ensures err { OnErr result (self.new ≡ self.old) }
+    {
+        let calls_before = self.calls.copy();
+        let compared_before = self.compared;
+        let reply = self.serve(alloc, request);
+        if lacks_memory(&reply) {
+            let InMemory {
+                calls,
+                compared,
+                ..
+            } = self;
+            *calls = calls_before;
+            *compared = compared_before;
+            return Err(AllocError);
+        }
+        Ok(reply)
+    }
+
     /// Counts a call, which has compared no path yet.
     fn begin(&mut self)
         ensures { self.new ≡ record { memory = called self.old.memory; compared = 0 } }
@@ -117,6 +142,19 @@ impl InMemory {
         let mut uncounted = 0;
         self.files.get(path, &mut uncounted).is_some()
     }
+}
+
+/// Whether a reply says that a growth was refused.
+fn lacks_memory(reply: &Reply) -> bool
+    ensures { result ≡ lacks_memory reply.now }
+{
+    matches!(
+        reply,
+        Reply::Put(Err(StoreError::NoMemory))
+            | Reply::Get(Err(StoreError::NoMemory))
+            | Reply::List(Err(StoreError::NoMemory))
+            | Reply::Delete(Err(StoreError::NoMemory))
+    )
 }
 
 /// Why a put is refused by the file that stands under its path.

@@ -126,7 +126,7 @@ fn replies(alloc: Global, store: &mut InMemory, request: &Request) -> Result<Rep
     }
 }
 
-/// What a request is answered, or the copy of its copy's answer.
+/// What a request is answered, or the copy of its copy's answer, where no growth is refused.
 fn served(
     alloc: Global,
     store: &mut InMemory,
@@ -134,7 +134,7 @@ fn served(
     copied: bool,
 ) -> Result<String, Fail> {
     let reply = if copied {
-        replies(alloc, store, &request.try_clone()?)?.try_clone()?
+        store.try_serve(alloc, &request.try_clone()?)?.try_clone()?
     } else {
         replies(alloc, store, request)?
     };

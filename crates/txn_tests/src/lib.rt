@@ -8,6 +8,8 @@ mod events;
 #[cfg(test)]
 mod lines;
 #[cfg(test)]
+mod refused;
+#[cfg(test)]
 mod schedules;
 #[cfg(test)]
 mod streams;

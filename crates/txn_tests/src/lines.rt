@@ -3,14 +3,18 @@ use bytes::Bytes;
 use std::alloc::{AllocError, Global};
 use std::ops::Bound;
 use std::test::Fail;
-use txn_history::event::{Answer, Call, Event, EventFault, Failure};
+use txn_history::event::{Answer, Call, EventFault, Failure};
 use txn_lines::line::{Line, read_line};
 use txn_lines::lines::Lines;
-use txn_lines::printed::{AnswerLine, Answered, BoundaryLine, EntryLine, ErasedLine, FaultLine};
+use txn_lines::printed::{
+    AnswerLine, Answered, BoundaryLine, EntryLine, ErasedLine, FaultLine, ViewLine,
+};
 use txn_lines::record::{Record, RecordCodec, RecordEpoch, read_record};
 use txn_lines::stop::Stop;
 use txn_types::codec::{CodecFault, ObjectCodec};
 use txn_types::epoch::EpochField;
+use txn_view_history::event::{AnyAnswer, AnyCall, AnyEvent, ViewCall};
+use txn_view_history::view::View;
 
 /// A record of epoch 3.
 const RECORD: Record = Record {
@@ -18,48 +22,61 @@ const RECORD: Record = Record {
     payload: 7,
 };
 
-/// A line of each event.
-const EVENTS: &[(&str, Event<Record>)] = &[
+/// A line of each call without a view.
+const PLAIN_CALLS: &[(&str, Call<Record>)] = &[
+    ("begin 1 write - 3:7", Call::Write(None, RECORD)),
+    ("begin 1 write 4 3:7", Call::Write(Some(4), RECORD)),
     (
-        "begin 1 write - 3:7",
-        Event::Begin(1, Call::Write(None, RECORD)),
+        "begin 1 write_unchecked - 3:7",
+        Call::WriteUnchecked(None, RECORD),
     ),
-    (
-        "begin 1 write 4 3:7",
-        Event::Begin(1, Call::Write(Some(4), RECORD)),
-    ),
-    (
-        "begin 2 write_unchecked - 3:7",
-        Event::Begin(2, Call::WriteUnchecked(None, RECORD)),
-    ),
-    ("begin 2 read", Event::Begin(2, Call::Read)),
-    (
-        "begin 2 read_unchecked 5",
-        Event::Begin(2, Call::ReadUnchecked(5)),
-    ),
-    ("begin 2 read_seen 6", Event::Begin(2, Call::ReadSeen(6))),
+    ("begin 1 read", Call::Read),
+    ("begin 1 read_unchecked 5", Call::ReadUnchecked(5)),
+    ("begin 1 read_seen 6", Call::ReadSeen(6)),
     (
         "begin 1 list =2 !9",
-        Event::Begin(1, Call::ListIds(Bound::Included(2), Bound::Excluded(9))),
+        Call::ListIds(Bound::Included(2), Bound::Excluded(9)),
     ),
     (
         "begin 1 list - -",
-        Event::Begin(1, Call::ListIds(Bound::Unbounded, Bound::Unbounded)),
+        Call::ListIds(Bound::Unbounded, Bound::Unbounded),
     ),
-    ("begin 1 delete 4", Event::Begin(1, Call::Delete(4))),
-    ("begin 1 check 5", Event::Begin(1, Call::Check(5))),
+    ("begin 1 delete 4", Call::Delete(4)),
+    ("begin 1 check 5", Call::Check(5)),
     (
         "begin 1 advance 18446744073709551615",
-        Event::Begin(1, Call::Advance(u64::MAX)),
+        Call::Advance(u64::MAX),
     ),
-    ("look 1", Event::Look(1)),
-    ("serve 2", Event::Serve(2)),
-    ("fail 3 before", Event::Fail(3, Failure::Before)),
-    ("fail 3 after", Event::Fail(3, Failure::After)),
-    ("fail 3 loose", Event::Fail(3, Failure::Loose)),
-    ("giveup 4", Event::GiveUp(4)),
-    ("land 5", Event::Land(5)),
-    ("crash 6", Event::Crash(6)),
+];
+
+/// A line of each call on views.
+const VIEW_CALLS: &[(&str, ViewCall<Record>)] = &[
+    ("begin 1 init 3:7", ViewCall::Init(RECORD)),
+    ("begin 1 load", ViewCall::Load),
+    (
+        "begin 1 refresh 18446744073709551615",
+        ViewCall::Refresh(u64::MAX),
+    ),
+    ("begin 1 update 2 3:7", ViewCall::Update(2, RECORD)),
+    ("begin 1 claim 3", ViewCall::Claim(3)),
+    ("begin 1 claim_at 4 9", ViewCall::ClaimAt(4, 9)),
+    ("begin 1 holder_refresh 5", ViewCall::HolderRefresh(5)),
+    (
+        "begin 1 holder_update 6 3:7",
+        ViewCall::HolderUpdate(6, RECORD),
+    ),
+];
+
+/// A line of each other event.
+const EVENTS: &[(&str, AnyEvent<Record>)] = &[
+    ("look 1", AnyEvent::Look(1)),
+    ("serve 2", AnyEvent::Serve(2)),
+    ("fail 3 before", AnyEvent::Fail(3, Failure::Before)),
+    ("fail 3 after", AnyEvent::Fail(3, Failure::After)),
+    ("fail 3 loose", AnyEvent::Fail(3, Failure::Loose)),
+    ("giveup 4", AnyEvent::GiveUp(4)),
+    ("land 5", AnyEvent::Land(5)),
+    ("crash 6", AnyEvent::Crash(6)),
 ];
 
 /// Texts that say nothing.
@@ -70,6 +87,11 @@ const BAD: &[&str] = &[
     "begin 1 list =2",
     "begin 1 list 2 3",
     "begin 1 write - 3",
+    "begin 1 init",
+    "begin 1 load 1",
+    "begin 1 update 1",
+    "begin 1 claim_at 1",
+    "begin 1 holder_refresh -",
     "fail 3",
     "fail 3 late",
     "look",
@@ -85,15 +107,45 @@ const BAD: &[&str] = &[
 ];
 
 /// Whether a text says an event.
-fn says(text: &str, wanted: &Event<Record>) -> bool {
+fn says(text: &str, wanted: &AnyEvent<Record>) -> bool {
     match read_line(text) {
         Some(Line::Event(event)) => event == *wanted,
         _ => false,
     }
 }
 
+/// The call that a text has client 1 begin.
+fn begun(text: &str) -> Option<AnyCall<Record>> {
+    match read_line(text)? {
+        Line::Event(AnyEvent::Begin(1, call)) => Some(call),
+        _ => None,
+    }
+}
+
+/// Whether it is this call without a view.
+fn is_plain(call: Option<AnyCall<Record>>, wanted: &Call<Record>) -> bool {
+    match call {
+        Some(AnyCall::Plain(call)) => call == *wanted,
+        _ => false,
+    }
+}
+
+/// Whether it is this call on views.
+fn is_on_views(call: Option<AnyCall<Record>>, wanted: &ViewCall<Record>) -> bool {
+    match call {
+        Some(AnyCall::View(call)) => call == *wanted,
+        _ => false,
+    }
+}
+
 #[test]
 fn a_line_says_its_event(rt: HostRuntime) -> Result<(), Fail> {
+    for (text, wanted) in PLAIN_CALLS {
+        assert!(rt; is_plain(begun(text), wanted), "{text:?}");
+    }
+    for (text, wanted) in VIEW_CALLS {
+        assert!(rt; is_on_views(begun(text), wanted), "{text:?}");
+    }
     for (text, wanted) in EVENTS {
         assert!(rt; says(text, wanted), "{text:?}");
     }
@@ -129,7 +181,7 @@ fn lines_are_counted(rt: HostRuntime) -> Result<(), Fail> {
     Ok(())
 }
 
-/// Answers of operation 7.
+/// Answers of calls without a view, of operation 7, and refusals.
 const ANSWERS: [(Answer<Record>, &str); 17] = [
     (Answer::Wrote(u64::MAX), "op 7: wrote 18446744073709551615"),
     (Answer::Read(None), "op 7: read none"),
@@ -148,6 +200,15 @@ const ANSWERS: [(Answer<Record>, &str); 17] = [
     (Answer::Refused(9), "op 7: refused 9 NoMemory"),
     (Answer::Refused(10), "op 7: refused 10 IdExhausted"),
     (Answer::Refused(11), "op 7: refused 11 TurnsExhausted"),
+];
+
+/// Answers of calls on views, of operation 7.
+const VIEW_ANSWERS: [(AnyAnswer<Record>, &str); 2] = [
+    (AnyAnswer::View(1, 2, RECORD), "op 7: view 1 at 2 3:7"),
+    (
+        AnyAnswer::Held(1, 2, RECORD, 4),
+        "op 7: holder 1 at 2 3:7 epoch 4",
+    ),
 ];
 
 const FAULTS: [(EventFault, &str); 7] = [
@@ -172,6 +233,11 @@ fn erased_line(alloc: Global, ids: &[u64]) -> Result<ErasedLine, AllocError> {
 #[test]
 fn answers_and_faults_are_printed(rt: HostRuntime) -> Result<(), Fail> {
     for (answer, want) in ANSWERS {
+        let answered = Answered(AnyAnswer::Plain(answer));
+        let line = AnswerLine { op: 7, answered };
+        assert_eq!(rt; format!(in rt.alloc(); "{line}")?.as_str(), want);
+    }
+    for (answer, want) in VIEW_ANSWERS {
         let answered = Answered(answer);
         let line = AnswerLine { op: 7, answered };
         assert_eq!(rt; format!(in rt.alloc(); "{line}")?.as_str(), want);
@@ -197,6 +263,37 @@ fn the_last_lines_are_printed(rt: HostRuntime) -> Result<(), Fail> {
     );
     let erased = erased_line(rt.alloc(), &[1, 3])?;
     assert_eq!(rt; format!(in rt.alloc(); "{erased}")?.as_str(), "erased 1 3");
+    Ok(())
+}
+
+/// A view at version 2, of a holder where there is an epoch.
+fn view_at_2(epoch: Option<u64>) -> View<Record> {
+    View {
+        client: 1,
+        id: 2,
+        object: RECORD,
+        epoch,
+    }
+}
+
+#[test]
+fn views_are_printed(rt: HostRuntime) -> Result<(), Fail> {
+    let view = ViewLine {
+        number: 5,
+        view: &view_at_2(None),
+    };
+    assert_eq!(rt;
+        format!(in rt.alloc(); "{view}")?.as_str(),
+        "view 5 at 2 3:7"
+    );
+    let holder = ViewLine {
+        number: 6,
+        view: &view_at_2(Some(1)),
+    };
+    assert_eq!(rt;
+        format!(in rt.alloc(); "{holder}")?.as_str(),
+        "holder 6 at 2 3:7 epoch 1"
+    );
     Ok(())
 }
 

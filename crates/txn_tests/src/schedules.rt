@@ -4,12 +4,12 @@ ghost use Rattle.std.specs.Prelude.{◌≤◌};
 use crate::worlds::{Records, event_of, serves};
 use std::alloc::{AllocError, Global};
 use std::test::Fail;
-use txn_history::trace::Row;
 use txn_lines::record::{Record, RecordCodec, RecordEpoch};
 use txn_store::path::Path;
 use txn_store::request::Request;
 use txn_types::boundary::read_boundary;
 use txn_types::layout::PAGE;
+use txn_view_history::trace::AnyRow;
 use txn_world::world::World;
 
 /// What is done in a schedule.
@@ -225,23 +225,23 @@ fn done(alloc: Global, clients: u64, steps: &[Step]) -> Result<Records, Fail>
 }
 
 /// A row as text.
-fn row_text(alloc: Global, row: &Row<Record>) -> Result<String, Fail> {
+fn row_text(alloc: Global, row: &AnyRow<Record>) -> Result<String, Fail> {
     Ok(match row {
-        Row::Effect(op, Request::Put { path, bytes, mode }) => {
+        AnyRow::Effect(op, Request::Put { path, bytes, mode }) => {
             format!(in alloc; "{op} puts {path} {mode:?} {bytes:?}")?
         }
-        Row::Effect(op, Request::Delete { path }) => format!(in alloc; "{op} removes {path}")?,
-        Row::Effect(..) => Err("a request that changes nothing")?,
-        Row::Begun(op, call) => format!(in alloc; "{op} begins {call:?}")?,
-        Row::Answered(op, answer) => format!(in alloc; "{op} is answered {answer:?}")?,
+        AnyRow::Effect(op, Request::Delete { path }) => format!(in alloc; "{op} removes {path}")?,
+        AnyRow::Effect(..) => Err("a request that changes nothing")?,
+        AnyRow::Begun(op, call) => format!(in alloc; "{op} begins {call:?}")?,
+        AnyRow::Answered(op, answer) => format!(in alloc; "{op} is answered {answer:?}")?,
     })
 }
 
 /// The texts of the rows of requests that changed the store.
-fn effect_texts(alloc: Global, rows: &[Row<Record>]) -> Result<Vec<String>, Fail> {
+fn effect_texts(alloc: Global, rows: &[AnyRow<Record>]) -> Result<Vec<String>, Fail> {
     let mut texts = Vec::new(alloc);
     for row in rows {
-        if let Row::Effect(..) = row {
+        if let AnyRow::Effect(..) = row {
             texts.push(row_text(alloc, row)?)?;
         }
     }
@@ -249,7 +249,7 @@ fn effect_texts(alloc: Global, rows: &[Row<Record>]) -> Result<Vec<String>, Fail
 }
 
 /// The texts of all rows.
-fn row_texts(alloc: Global, rows: &[Row<Record>]) -> Result<Vec<String>, Fail> {
+fn row_texts(alloc: Global, rows: &[AnyRow<Record>]) -> Result<Vec<String>, Fail> {
     let mut texts = Vec::new(alloc);
     for row in rows {
         texts.push(row_text(alloc, row)?)?;
@@ -262,8 +262,8 @@ fn is_boundary(alloc: Global, path: &Path) -> Result<bool, AllocError> {
 }
 
 /// The number that a row put in the boundary file, where it did.
-fn raised_by(alloc: Global, row: &Row<Record>) -> Result<Option<u64>, Fail> {
-    let Row::Effect(_, Request::Put { path, bytes, .. }) = row else {
+fn raised_by(alloc: Global, row: &AnyRow<Record>) -> Result<Option<u64>, Fail> {
+    let AnyRow::Effect(_, Request::Put { path, bytes, .. }) = row else {
         return Ok(None);
     };
     if !is_boundary(alloc, path)? {
@@ -276,7 +276,7 @@ fn raised_by(alloc: Global, row: &Row<Record>) -> Result<Option<u64>, Fail> {
 }
 
 /// The numbers that were put in the boundary file, in order.
-fn raised(alloc: Global, rows: &[Row<Record>]) -> Result<Vec<u64>, Fail> {
+fn raised(alloc: Global, rows: &[AnyRow<Record>]) -> Result<Vec<u64>, Fail> {
     let mut numbers = Vec::new(alloc);
     for row in rows {
         if let Some(number) = raised_by(alloc, row)? {
@@ -326,9 +326,9 @@ fn schedules_change_the_store_as_they_should(rt: HostRuntime) -> Result<(), Fail
 
 /// The rows of a first write.
 const WRITE_ROWS: &[&str] = &[
-    "1 begins Write(None, Record { epoch: 0, payload: 1 })",
+    "1 begins Plain(Write(None, Record { epoch: 0, payload: 1 }))",
     "1 puts root/test/00000000000000000001.val Create b\"0:1\"",
-    "1 is answered Wrote(1)",
+    "1 is answered Plain(Wrote(1))",
 ];
 
 const WRITE: &[Step] = &[Line("begin 1 write - 0:1"), Runs(1)];
@@ -358,7 +358,8 @@ const EFFECTS: &[Step] = &[
     Runs(6),
 ];
 
-fn are(texts: &[String], wanted: &[&str]) -> bool {
+/// Whether these are the texts.
+pub(crate) fn are(texts: &[String], wanted: &[&str]) -> bool {
     for (text, want) in texts.iter().zip(wanted) {
         if text.as_str() != *want {
             return false;

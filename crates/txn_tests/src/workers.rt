@@ -7,18 +7,20 @@ use std::sync::{Mutex, Wait};
 use std::test::Fail;
 use std::thread;
 use std::thread::Threads;
-use txn_history::event::{Call, Event, EventFault, Told};
+use txn_history::event::{Call, EventFault};
 use txn_lines::record::{Record, RecordCodec, RecordEpoch};
 use txn_threads::finish::{FinishFault, finish};
 use txn_threads::gate::{FreeGate, Gate, GateSpent};
 use txn_threads::kept::{Kept, Share};
 use txn_threads::work::{End, Job, Worker, work, work_all};
 use txn_types::layout::PAGE;
+use txn_view_history::event::{AnyCall, AnyEvent, AnyTold};
 use txn_world::world::World;
 
-type Records = Kept<Record, RecordCodec, RecordEpoch>;
+pub(crate) type Records = Kept<Record, RecordCodec, RecordEpoch>;
 
-fn kept_by(alloc: Global, workers: u64) -> Result<(Records, Vec<Share>), AllocError>
+/// A kept world in which nothing has happened, of as many clients as workers, and their shares.
+pub(crate) fn kept_by(alloc: Global, workers: u64) -> Result<(Records, Vec<Share>), AllocError>
     requires some { 1 ≤ workers }
     requires few { workers ≤ 64 }
     ensures { IfOk result (λ made. vec_len made.1 ≡ workers) }
@@ -44,8 +46,8 @@ const THREE: Record = Record {
 
 /// Begins a read of client 1, and says whether it was told that it began as the first operation.
 fn begins(kept: &mut Records, share: &mut Share) -> bool {
-    match kept.take(share, Event::Begin(1, Call::Read)) {
-        Ok(Told::Began(op)) => *op == 1,
+    match kept.take(share, AnyEvent::Begin(1, AnyCall::Plain(Call::Read))) {
+        Ok(AnyTold::Began(op)) => *op == 1,
         _ => false,
     }
 }
@@ -57,7 +59,7 @@ type Began = (bool, bool, (u64, u64), (usize, usize), usize);
 fn began(kept: &mut Records, first: &mut Share) -> Began {
     let is_told = begins(kept, first);
     // No operation has the number 2.
-    let is_refused = kept.take(first, Event::Serve(2)).is_err();
+    let is_refused = kept.take(first, AnyEvent::Serve(2)).is_err();
     let lengths = (kept.world().trace().len(), kept.journal().len());
     let mut others = 0usize;
     for row in kept.journal() {
@@ -102,10 +104,10 @@ struct JobsRow {
 const JOBS: &[JobsRow] = &[
     JobsRow {
         jobs: &[
-            Job::Call(Call::Write(None, ONE)),
+            Job::Call(AnyCall::Plain(Call::Write(None, ONE))),
             Job::WriteOnRead(TWO),
             // The boundary is 0, so that nothing is fenced and nothing is removed.
-            Job::Call(Call::Delete(1)),
+            Job::Call(AnyCall::Plain(Call::Delete(1))),
             Job::WriteOnRead(THREE),
         ],
         end: End::Done,
@@ -116,7 +118,10 @@ const JOBS: &[JobsRow] = &[
         entries: &[ONE, TWO, THREE],
     },
     JobsRow {
-        jobs: &[Job::Call(Call::Write(Some(5), ONE)), Job::WriteOnRead(TWO)],
+        jobs: &[
+            Job::Call(AnyCall::Plain(Call::Write(Some(5), ONE))),
+            Job::WriteOnRead(TWO),
+        ],
         end: End::Refused(EventFault::UnknownBase),
         count: 0,
         rows: 0,
@@ -305,7 +310,10 @@ fn at_a_meeting<'a>(
 ) -> Result<Vec<Worker<Record, Meeting<'a>>>, AllocError> {
     let mut workers = Vec::new(alloc);
     for share in shares {
-        let jobs = vec![in alloc; Job::Call(Call::Write(None, ONE)), Job::WriteOnRead(TWO)]?;
+        let jobs = vec![in alloc;
+            Job::Call(AnyCall::Plain(Call::Write(None, ONE))),
+            Job::WriteOnRead(TWO),
+        ]?;
         workers.push(Worker { share, gate, jobs })?;
     }
     Ok(workers)
@@ -414,8 +422,8 @@ impl<R: Wait> Gate for Fencing<'_, R> {
             payload: self.newest,
         };
         let jobs = [
-            Job::Call(Call::Write(base, value)),
-            Job::Call(Call::Advance(self.newest)),
+            Job::Call(AnyCall::Plain(Call::Write(base, value))),
+            Job::Call(AnyCall::Plain(Call::Advance(self.newest))),
         ];
         let worked = work(self.rt, self.kept, share, &mut FreeGate, &jobs);
         self.share = Some(worked.share);
@@ -437,7 +445,13 @@ fn fenced(rt: &(impl Wait + AllocGlobal)) -> Result<(End, u64), Fail> {
     let Some(share) = shares.pop() else {
         return Err("no share")?;
     };
-    let worked = work(rt, &kept, share, &mut gate, &[Job::Call(Call::Read)]);
+    let worked = work(
+        rt,
+        &kept,
+        share,
+        &mut gate,
+        &[Job::Call(AnyCall::Plain(Call::Read))],
+    );
     Ok((worked.end, worked.share.count()))
 }
 

@@ -3,24 +3,29 @@ ghost use Rattle.txn_types.specs.Clones.{IsExactClone};
 
 use std::alloc::{AllocError, Global};
 use std::test::Fail;
+use txn_any_machine::laws::{one_history, views_go_on};
 use txn_caches::ask::Ask;
-use txn_history::event::{Answer, Call, Event};
-use txn_history::laws::{above_boundary_is_not_removed, boundary_never_falls, one_writer_per_id};
-use txn_history::trace::Row;
+use txn_history::event::{Answer, Call};
 use txn_lines::line::{Line, read_line};
 use txn_lines::record::{Record, RecordCodec, RecordEpoch};
-use txn_machine::laws::one_history;
 use txn_types::codec::ObjectCodec;
 use txn_types::epoch::EpochField;
 use txn_types::layout::PAGE;
 use txn_types::test_utils::{NumberCodec, NumberEpoch};
+use txn_view_history::event::{AnyAnswer, AnyCall, AnyEvent, ViewCall};
+use txn_view_history::laws::{
+    above_boundary_is_not_removed, boundary_never_falls, holders_keep_their_epoch,
+    one_claimer_per_epoch, one_writer_per_id,
+};
+use txn_view_history::trace::AnyRow;
+use txn_view_history::view::View;
 use txn_world::world::World;
 
 /// A world of what scripts speak of.
 pub(crate) type Records = World<Record, RecordCodec, RecordEpoch>;
 
 /// The event that a line says.
-pub(crate) fn event_of(line: &str) -> Result<Event<Record>, Fail> {
+pub(crate) fn event_of(line: &str) -> Result<AnyEvent<Record>, Fail> {
     match read_line(line) {
         Some(Line::Event(event)) => Ok(event),
         _ => Err("no event")?,
@@ -48,7 +53,7 @@ const TOLD: &[ToldRow] = &[
             // Its check looks twice before it gets the boundary.
             ("look 1", "Went(1)"),
             ("look 1", "Went(1)"),
-            ("serve 1", "Answered(1, Wrote(1))"),
+            ("serve 1", "Answered(1, Plain(Wrote(1)))"),
             ("begin 2 read", "Began(2)"),
             ("look 2", "Went(2)"),
             ("serve 2", "Went(2)"),
@@ -59,7 +64,7 @@ const TOLD: &[ToldRow] = &[
             ("look 2", "Went(2)"),
             (
                 "serve 2",
-                "Answered(2, Read(Some((1, Record { epoch: 0, payload: 1 }))))",
+                "Answered(2, Plain(Read(Some((1, Record { epoch: 0, payload: 1 })))))",
             ),
         ],
         rows: 5,
@@ -74,8 +79,8 @@ const TOLD: &[ToldRow] = &[
             ("look 2", "Went(2)"),
             ("look 2", "Went(2)"),
             ("look 2", "Went(2)"),
-            ("serve 2", "Answered(2, Wrote(1))"),
-            ("serve 1", "Answered(1, Refused(5))"),
+            ("serve 2", "Answered(2, Plain(Wrote(1)))"),
+            ("serve 1", "Answered(1, Plain(Refused(5)))"),
         ],
         rows: 5,
         failed: &[],
@@ -86,7 +91,7 @@ const TOLD: &[ToldRow] = &[
             ("begin 1 read", "Began(1)"),
             ("look 1", "Went(1)"),
             ("serve 1", "Went(1)"),
-            ("look 1", "Answered(1, Read(None))"),
+            ("look 1", "Answered(1, Plain(Read(None)))"),
         ],
         rows: 2,
         failed: &[],
@@ -120,7 +125,7 @@ const TOLD: &[ToldRow] = &[
             ("fail 1 after", "NotAsked"),
             ("look 1", "Went(1)"),
             ("look 1", "NotAsked"),
-            ("fail 1 before", "Answered(1, Refused(2))"),
+            ("fail 1 before", "Answered(1, Plain(Refused(2)))"),
             ("look 1", "UnknownNumber"),
         ],
         rows: 2,
@@ -137,7 +142,7 @@ const TOLD: &[ToldRow] = &[
             ("look 1", "Went(1)"),
             ("look 1", "Went(1)"),
             ("look 1", "Went(1)"),
-            ("serve 1", "Answered(1, Wrote(1))"),
+            ("serve 1", "Answered(1, Plain(Wrote(1)))"),
             ("serve 1", "UnknownNumber"),
             ("begin 1 write 1 0:2", "Began(2)"),
         ],
@@ -149,7 +154,7 @@ const TOLD: &[ToldRow] = &[
         steps: &[
             ("begin 1 write_unchecked - 5:1", "Began(1)"),
             ("serve 1", "Went(1)"),
-            ("look 1", "Answered(1, Wrote(1))"),
+            ("look 1", "Answered(1, Plain(Wrote(1)))"),
             ("begin 2 write 1 4:2", "EpochLowered"),
             ("begin 2 write 1 5:2", "Began(2)"),
         ],
@@ -157,10 +162,44 @@ const TOLD: &[ToldRow] = &[
         failed: &[],
     },
     ToldRow {
+        name: "a view and its holder",
+        steps: &[
+            ("begin 1 init 0:1", "Began(1)"),
+            ("serve 1", "Went(1)"),
+            ("look 1", "Went(1)"),
+            ("look 1", "Went(1)"),
+            ("look 1", "Went(1)"),
+            (
+                "serve 1",
+                "Answered(1, View(1, 1, Record { epoch: 0, payload: 1 }))",
+            ),
+            ("begin 2 refresh 1", "UnknownNumber"),
+            ("begin 1 claim 1", "Began(2)"),
+            ("begin 1 update 1 0:2", "ViewBusy"),
+            ("serve 2", "Went(2)"),
+            ("look 2", "Went(2)"),
+            ("look 2", "Went(2)"),
+            ("look 2", "Went(2)"),
+            (
+                "serve 2",
+                "Answered(2, Held(1, 2, Record { epoch: 1, payload: 1 }, 1))",
+            ),
+            // A begin is answered where the value has another epoch.
+            (
+                "begin 1 holder_update 1 2:1",
+                "Answered(3, Plain(Refused(7)))",
+            ),
+            ("begin 1 holder_update 1 1:2", "Began(4)"),
+            ("fail 4 after", "Answered(4, Plain(Refused(2)))"),
+        ],
+        rows: 11,
+        failed: &[4],
+    },
+    ToldRow {
         name: "requests that reach the store late",
         steps: &[
             ("begin 1 write_unchecked - 0:1", "Began(1)"),
-            ("fail 1 loose", "Answered(1, Refused(2))"),
+            ("fail 1 loose", "Answered(1, Plain(Refused(2)))"),
             ("begin 2 write_unchecked - 0:2", "Began(2)"),
             ("giveup 2", "GaveUp(2)"),
             ("crash 1", "Crashed(1)"),
@@ -221,13 +260,13 @@ pub(crate) fn serves<T: Clone, C: ObjectCodec<T> + Drop, E: EpochField<T>>(
     for _turn in 0..64 {
         let event = match world.asks(op) {
             None => return,
-            Some(Ask::Look) => Event::Look(op),
+            Some(Ask::Look) => AnyEvent::Look(op),
             Some(Ask::Store(_)) => {
                 if left == 0 {
                     return;
                 }
                 left -= 1;
-                Event::Serve(op)
+                AnyEvent::Serve(op)
             }
         };
         drop(world.take(event));
@@ -237,8 +276,11 @@ pub(crate) fn serves<T: Clone, C: ObjectCodec<T> + Drop, E: EpochField<T>>(
 /// A world whose values are their own epochs.
 type Numbers = World<u64, NumberCodec, NumberEpoch>;
 
-/// Operations: the number, the client, the call, begun when the one before is answered, and its answer.
-const CALLS: [(u64, u64, Call<u64>, Answer<u64>); 11] = [
+/// An operation: its number, its client, its call, begun when the one before is answered, and its answer.
+type Done<C, A> = (u64, u64, C, A);
+
+/// Calls without a view.
+const CALLS: [Done<Call<u64>, Answer<u64>>; 11] = [
     (1, 1, Call::Write(None, 7), Answer::Wrote(1)),
     (2, 2, Call::Read, Answer::Read(Some((1, 7)))),
     (3, 1, Call::Write(Some(1), 8), Answer::Wrote(2)),
@@ -257,6 +299,35 @@ const CALLS: [(u64, u64, Call<u64>, Answer<u64>); 11] = [
     ),
 ];
 
+/// Calls on views, in a world of its own.
+const VIEW_CALLS: [Done<ViewCall<u64>, AnyAnswer<u64>>; 10] = [
+    (1, 1, ViewCall::Load, AnyAnswer::Plain(Answer::Refused(4))),
+    (2, 1, ViewCall::Init(7), AnyAnswer::View(1, 1, 7)),
+    (3, 2, ViewCall::Load, AnyAnswer::View(2, 1, 7)),
+    (4, 2, ViewCall::Update(2, 8), AnyAnswer::View(2, 2, 8)),
+    (5, 1, ViewCall::Claim(1), AnyAnswer::Held(1, 3, 9, 9)),
+    (6, 2, ViewCall::Refresh(2), AnyAnswer::View(2, 3, 9)),
+    (
+        7,
+        2,
+        ViewCall::ClaimAt(2, 12),
+        AnyAnswer::Held(2, 4, 12, 12),
+    ),
+    (
+        8,
+        2,
+        ViewCall::HolderUpdate(2, 12),
+        AnyAnswer::View(2, 5, 12),
+    ),
+    (
+        9,
+        1,
+        ViewCall::HolderRefresh(1),
+        AnyAnswer::Plain(Answer::Refused(6)),
+    ),
+    (10, 2, ViewCall::HolderRefresh(2), AnyAnswer::View(2, 5, 12)),
+];
+
 fn is_same(answer: &Answer<u64>, wanted: &Answer<u64>) -> bool {
     match (answer, wanted) {
         (Answer::Wrote(id), Answer::Wrote(other)) => id == other,
@@ -268,40 +339,119 @@ fn is_same(answer: &Answer<u64>, wanted: &Answer<u64>) -> bool {
     }
 }
 
-/// Whether the last row answers this operation so.
-fn ends_with(rows: &[Row<u64>], op: u64, wanted: &Answer<u64>) -> bool {
-    match rows.last() {
-        Some(Row::Answered(number, answer)) => *number == op && is_same(answer, wanted),
+fn is_same_of_any(answer: &AnyAnswer<u64>, wanted: &AnyAnswer<u64>) -> bool {
+    match (answer, wanted) {
+        (AnyAnswer::Plain(answer), AnyAnswer::Plain(other)) => is_same(answer, other),
+        (AnyAnswer::View(view, id, value), AnyAnswer::View(number, other, object)) => {
+            (view, id, value) == (number, other, object)
+        }
+        (AnyAnswer::Held(view, id, value, epoch), AnyAnswer::Held(number, other, object, local)) =>
+            { (view, id, value, epoch) == (number, other, object, local) }
         _ => false,
     }
 }
 
-/// A world in which the calls were answered, and whether each was answered as the table says.
-fn answered(alloc: Global) -> Result<(Numbers, bool), AllocError> {
+/// Whether the last row answers this operation so.
+fn ends_with(rows: &[AnyRow<u64>], op: u64, wanted: &AnyAnswer<u64>) -> bool {
+    match rows.last() {
+        Some(AnyRow::Answered(number, answer)) => *number == op && is_same_of_any(answer, wanted),
+        _ => false,
+    }
+}
+
+/// Has a client make a call, and says whether it is answered so.
+fn is_answered(
+    world: &mut Numbers,
+    op: u64,
+    client: u64,
+    call: AnyCall<u64>,
+    wanted: &AnyAnswer<u64>,
+) -> bool {
+    drop(world.take(AnyEvent::Begin(client, call)));
+    serves(world, op, 64);
+    ends_with(world.trace(), op, wanted)
+}
+
+/// A world in which calls were answered, and the first that was answered otherwise than its table says.
+type Answered = (Numbers, Option<u64>);
+
+fn answered(alloc: Global) -> Result<Answered, AllocError> {
     let mut world = World::new(alloc, NumberCodec, NumberEpoch, 2, 1000)?;
-    let mut right = true;
     for (op, client, call, answer) in CALLS {
-        drop(world.take(Event::Begin(client, call)));
-        serves(&mut world, op, 64);
-        if !ends_with(world.trace(), op, &answer) {
-            right = false;
+        if !is_answered(
+            &mut world,
+            op,
+            client,
+            AnyCall::Plain(call),
+            &AnyAnswer::Plain(answer),
+        ) {
+            return Ok((world, Some(op)));
         }
     }
-    Ok((world, right))
+    Ok((world, None))
+}
+
+fn answered_on_views(alloc: Global) -> Result<Answered, AllocError> {
+    let mut world = World::new(alloc, NumberCodec, NumberEpoch, 2, 1000)?;
+    for (op, client, call, answer) in VIEW_CALLS {
+        if !is_answered(&mut world, op, client, AnyCall::View(call), &answer) {
+            return Ok((world, Some(op)));
+        }
+    }
+    Ok((world, None))
 }
 
 #[test]
 fn calls_run_to_their_answers(rt: HostRuntime) -> Result<(), Fail> {
-    let (world, right) = answered(rt.alloc())?;
-    assert!(rt; right);
+    let (world, other) = answered(rt.alloc())?;
+    assert_eq!(rt; other, None);
     assert_eq!(rt; world.boundary(), 1);
     assert_eq!(rt; world.erased(rt.alloc())?.as_slice(), [1].as_slice());
     let entries = world.entries(rt.alloc())?;
     assert_eq!(rt; entries.as_slice(), [7, 8, u64::MAX].as_slice());
+    assert_eq!(rt; world.views(), 0);
     one_history::<u64, NumberCodec, NumberEpoch>(&NumberCodec, &NumberEpoch);
+    views_go_on::<u64, NumberCodec, NumberEpoch>(&NumberCodec, &NumberEpoch);
     boundary_never_falls(&7u64);
     above_boundary_is_not_removed(&7u64);
     one_writer_per_id(&7u64);
+    one_claimer_per_epoch(&7u64);
+    holders_keep_their_epoch(&7u64);
+    Ok(())
+}
+
+/// A view as it should stand: its client, its id, its value and a holder's epoch.
+fn is_at(view: Option<&View<u64>>, client: u64, id: u64, object: u64, epoch: u64) -> bool {
+    match view {
+        Some(view) => {
+            *view
+                == View {
+                    client,
+                    id,
+                    object,
+                    epoch: Some(epoch),
+                }
+        }
+        None => false,
+    }
+}
+
+#[test]
+fn calls_on_views_run_to_their_answers(rt: HostRuntime) -> Result<(), Fail> {
+    let (mut world, other) = answered_on_views(rt.alloc())?;
+    assert_eq!(rt; other, None);
+    let entries = world.entries(rt.alloc())?;
+    assert_eq!(rt; entries.as_slice(), [7, 8, 9, 12, 12].as_slice());
+    assert_eq!(rt; world.views(), 2);
+    // The refresh that fenced the older holder left its view at what it read.
+    assert!(rt; is_at(world.view(1), 1, 5, 12, 9));
+    assert!(rt; is_at(world.view(2), 2, 5, 12, 12));
+    assert!(rt; world.view(0).is_none());
+    assert!(rt; world.view(3).is_none());
+    assert!(rt; world.take(AnyEvent::Crash(1)).is_ok());
+    // An ended view keeps its number.
+    assert_eq!(rt; world.views(), 2);
+    assert!(rt; world.view(1).is_none());
     Ok(())
 }
 
@@ -309,8 +459,8 @@ fn calls_run_to_their_answers(rt: HostRuntime) -> Result<(), Fail> {
 fn run_of_two(alloc: Global) -> Result<u64, AllocError> {
     let mut world: Numbers = World::new(alloc, NumberCodec, NumberEpoch, 1, 1)?;
     let mut events = Vec::new(alloc);
-    events.push(Event::Begin(1, Call::Read))?;
-    events.push(Event::Begin(2, Call::Read))?;
+    events.push(AnyEvent::Begin(1, AnyCall::Plain(Call::Read)))?;
+    events.push(AnyEvent::Begin(2, AnyCall::View(ViewCall::Load)))?;
     Ok(world.run(events))
 }
 

@@ -1,14 +1,13 @@
 -- A world beside the journal of what its workers did, and the shares that its workers hold.
 use Rattle.std.specs.Prelude.{◌≡◌, ◌⊎◌, ◌+◌, ◌-◌, ◌^◌, ◌≤◌, ◌++◌, ◌∷◌, [], ℕ, List, Option, Some, None, Result, Ok, Err, All, count_by, length, map, nat_eq, if◌then◌else◌, slice_get, slice_index}
-use Rattle.txn_history.specs.Trace.{Event}
+use Rattle.txn_view_history.specs.Trace.{AnyEvent, AnyTold}
 use Rattle.txn_history.specs.declared.event.EventOf.TheVariants as events
-use Rattle.txn_history.specs.Trace.{Told}
 use Rattle.txn_history.specs.declared.event.EventFault.{EventFault}
 use Rattle.txn_history.specs.declared.event.EventFault.TheVariants as faults
 use Rattle.txn_threads.specs.declared.kept.JournalRow.{JournalRow}
 use Rattle.txn_threads.specs.declared.kept.Share.{Share}
 use Rattle.txn_history.specs.Seen.{Ask, Look, Store, asks_of}
-use Rattle.txn_machine.specs.Machine.{State, WorldState, opening, refusal_of, seen_of, Takes, Runs}
+use Rattle.txn_any_machine.specs.Machine.{State, WorldState, opening, refusal_of, seen_calls, Takes, Runs}
 use Rattle.txn_threads.specs.Lists.{AreEach}
 
 -- a world, how many workers it has, and what they did
@@ -19,7 +18,7 @@ pub record KeptState (T C E : Type 0) : Type 0 where
 
 module _ {T : Type 0} where
   -- the events of a journal, each with what it told
-  abbrev pub taken_of : List (JournalRow T) → List (Event T × Told T)
+  abbrev pub taken_of : List (JournalRow T) → List (AnyEvent T × AnyTold T)
   taken_of journal = map (λ row. (row.event, row.told)) journal
 
   -- how many rows of a journal are this worker's
@@ -27,18 +26,18 @@ module _ {T : Type 0} where
   rows_of journal worker = count_by (λ row. nat_eq row.worker worker) journal
 
   -- what the last row of a journal tells
-  abbrev pub IsLastTold : List (JournalRow T) → Told T → Type 0
+  abbrev pub IsLastTold : List (JournalRow T) → AnyTold T → Type 0
   IsLastTold journal told = (rows : List (JournalRow T)) × (row : JournalRow T) × (journal ≡ rows ++ row ∷ []) × (row.told ≡ told)
 
   -- what an operation that asks for this is given: a look at its client's caches, and else a store call
-  abbrev pub asked_event : Option Ask → ℕ → Event T
+  abbrev pub asked_event : Option Ask → ℕ → AnyEvent T
   asked_event None op = events.Serve op
   asked_event (Some (Store request)) op = events.Serve op
   asked_event (Some Look) op = events.Look op
 
   -- the event that an operation of this world asks for
-  abbrev pub next_event : {C E : Type 0} → WorldState T C E → ℕ → Event T
-  next_event world op = asked_event (asks_of (seen_of world.state) op) op
+  abbrev pub next_event : {C E : Type 0} → WorldState T C E → ℕ → AnyEvent T
+  next_event world op = asked_event (asks_of (seen_calls world.state) op) op
 
 -- An event that is due this fault, where it is due one, is refused with it, or for want of memory.
 abbrev pub IsRefusedAs : {A : Type 0} → Option EventFault → Result A EventFault → Type 0
@@ -57,20 +56,20 @@ AreZeros workers counts = AreEach (λ _. 0) workers counts
 abbrev pub one_more : Share → Share
 one_more share = record { worker = share.worker; count = if nat_eq share.count (2 ^ 64 - 1) then share.count else share.count + 1 }
 
-module _ {T : Type 0} (encode : T → List ℕ) (decode : List ℕ → Option T) (get_epoch : T → ℕ) where
+module _ {T : Type 0} (encode : T → List ℕ) (decode : List ℕ → Option T) (get_epoch : T → ℕ) (set_epoch : T → ℕ → T) where
   -- why this world refuses the event, where it does
-  abbrev pub due_fault : {C E : Type 0} → WorldState T C E → Event T → Option EventFault
-  due_fault world event = refusal_of encode decode get_epoch world.state event
+  abbrev pub due_fault : {C E : Type 0} → WorldState T C E → AnyEvent T → Option EventFault
+  due_fault world event = refusal_of encode decode get_epoch set_epoch world.state event
 
   -- Taking the journal's events in order, from a world in which nothing has happened, tells what the
   -- journal says and ends here.
   abbrev pub Replays : List (JournalRow T) → State T → Type 0
-  Replays journal state = Runs encode decode get_epoch (opening state.clients state.page) (taken_of journal) state
+  Replays journal state = Runs encode decode get_epoch set_epoch (opening state.clients state.page) (taken_of journal) state
 
   -- One row more, of this worker, event and what the world told of it; and the world took the event.
-  pub record AddsJournalRow {C E : Type 0} (old new : KeptState T C E) (worker : ℕ) (event : Event T) (told : Told T) : Type 0 where
+  pub record AddsJournalRow {C E : Type 0} (old new : KeptState T C E) (worker : ℕ) (event : AnyEvent T) (told : AnyTold T) : Type 0 where
     pub row : new.journal ≡ old.journal ++ record { worker = worker; event = event; told = told } ∷ []
-    pub step : Takes encode decode get_epoch old.world.state event told new.world.state
+    pub step : Takes encode decode get_epoch set_epoch old.world.state event told new.world.state
     pub codec : new.world.codec ≡ old.world.codec
     pub epochs : new.world.epochs ≡ old.world.epochs
     pub workers : new.workers ≡ old.workers

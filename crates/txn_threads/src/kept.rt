@@ -3,25 +3,26 @@ ghost use Rattle.std.specs.Prelude.{◌≡◌, ◌≤◌, ◌<◌, ◌+◌, ◌-
 ghost use Rattle.txn_types.specs.Clones.{IsExactClone};
 ghost use Rattle.txn_history.specs.Seen.{asks_of};
 ghost use Rattle.txn_machine.specs.Doing.{asks_as};
-ghost use Rattle.txn_machine.specs.Machine.{opening, seen_of};
+ghost use Rattle.txn_any_machine.specs.Machine.{opening, seen_calls};
 ghost use Rattle.txn_threads.specs.Lists.{AreEach};
 ghost use Rattle.txn_threads.specs.Kept.{asked_event, one_more, AreCounts, AreFirst, AreZeros};
 
 use std::alloc::{AllocError, Global};
 use std::marker::Model;
 use txn_caches::ask::Ask;
-use txn_history::event::{Event, EventFault, Told};
+use txn_history::event::EventFault;
 use txn_types::codec::ObjectCodec;
 use txn_types::epoch::EpochField;
 use txn_types::room::push_within;
+use txn_view_history::event::{AnyEvent, AnyTold, try_clone_event};
 use txn_world::world::World;
 
 /// One event that a worker took, and what it told.
 #[derive(Debug, Drop)]
 pub struct JournalRow<T> {
     pub worker: u64,
-    pub event: Event<T>,
-    pub told: Told<T>,
+    pub event: AnyEvent<T>,
+    pub told: AnyTold<T>,
 }
 
 /// A worker's own count of the events that it took. Workers are numbered from 1. It is made by
@@ -74,7 +75,7 @@ impl<T: Clone, C: ObjectCodec<T> + Drop, E: EpochField<T>> Model for Kept<T, C, 
 
     ghost view = { λ kept. record { world = kept.world; workers = kept.workers; journal = kept.journal.items } };
 
-    ghost invariant = { λ kept. Replays (C.encoded kept.world.codec) (C.decoded kept.world.codec) (E.epoch_of kept.world.epochs) kept.journal.items kept.world.state × AreZeros kept.workers kept.counts.items };
+    ghost invariant = { λ kept. Replays (C.encoded kept.world.codec) (C.decoded kept.world.codec) (E.epoch_of kept.world.epochs) (E.with_epoch kept.world.epochs) kept.journal.items kept.world.state × AreZeros kept.workers kept.counts.items };
 }
 
 /// The shares of workers 1 to `workers`, each with no event.
@@ -92,13 +93,13 @@ fn first_shares(alloc: Global, workers: u64) -> Result<Vec<Share>, AllocError>
 }
 
 /// What an operation that asks for this is given: a look where it asks for a look, and else a serve.
-fn asked_event<T>(ask: Option<Ask<'_>>, op: u64) -> Event<T>
+fn asked_event<T>(ask: Option<Ask<'_>>, op: u64) -> AnyEvent<T>
     ensures { result ≡ asked_event (asks_as ask.entry) op }
 {
     match ask {
-        Some(Ask::Look) => Event::Look(op),
-        Some(Ask::Store(_)) => Event::Serve(op),
-        None => Event::Serve(op),
+        Some(Ask::Look) => AnyEvent::Look(op),
+        Some(Ask::Store(_)) => AnyEvent::Serve(op),
+        None => AnyEvent::Serve(op),
     }
 }
 
@@ -130,9 +131,9 @@ impl<T: Clone, C: ObjectCodec<T> + Drop, E: EpochField<T>> Kept<T, C, E> {
     ghost use Rattle.std.specs.Borrow.{sem};
     ghost use Rattle.txn_types.specs.Clones.{IsExactClone};
     ghost use Rattle.txn_history.specs.Seen.{asks_of};
-    ghost use Rattle.txn_history.specs.Trace.{Told};
+    ghost use Rattle.txn_view_history.specs.Trace.{AnyTold};
     ghost use Rattle.txn_machine.specs.Doing.{asks_as};
-    ghost use Rattle.txn_machine.specs.Machine.{opening, seen_of};
+    ghost use Rattle.txn_any_machine.specs.Machine.{opening, seen_calls};
     ghost use Rattle.txn_threads.specs.Kept.{IsRefusedAs, due_fault, next_event, one_more, AreFirst, AddsJournalRow, IsLastTold, Replays, AreCounts};
     ghost use Rattle.txn_threads.specs.KeptLends.{ends_taken};
 
@@ -162,16 +163,16 @@ impl<T: Clone, C: ObjectCodec<T> + Drop, E: EpochField<T>> Kept<T, C, E> {
 
     /// Takes an event of a worker and adds its row. Room and the row's copy of the event are made before
     /// the world takes it.
-    fn add(&mut self, worker: u64, event: Event<T>) -> Result<(), EventFault>
+    fn add(&mut self, worker: u64, event: AnyEvent<T>) -> Result<(), EventFault>
         requires { IsExactClone T.is_clone }
-        ensures ok { OnOk result ((told : Told T) × AddsJournalRow (C.encoded self.old.world.codec) (C.decoded self.old.world.codec) (E.epoch_of self.old.world.epochs) self.old self.new worker event told) }
-        ensures refused { IsRefusedAs (due_fault (C.encoded self.old.world.codec) (C.decoded self.old.world.codec) (E.epoch_of self.old.world.epochs) self.old.world event) result }
+        ensures ok { OnOk result ((told : AnyTold T) × AddsJournalRow (C.encoded self.old.world.codec) (C.decoded self.old.world.codec) (E.epoch_of self.old.world.epochs) (E.with_epoch self.old.world.epochs) self.old self.new worker event told) }
+        ensures refused { IsRefusedAs (due_fault (C.encoded self.old.world.codec) (C.decoded self.old.world.codec) (E.epoch_of self.old.world.epochs) (E.with_epoch self.old.world.epochs) self.old.world event) result }
         ensures err { OnErr result (self.new ≡ self.old) }
     {
         let Ok(()) = self.journal.reserve(1) else {
             return Err(EventFault::NoMemory);
         };
-        let Ok(copy) = event.try_clone() else {
+        let Ok(copy) = try_clone_event(&event) else {
             return Err(EventFault::NoMemory);
         };
         let told = self.world.take(event)?;
@@ -187,7 +188,7 @@ impl<T: Clone, C: ObjectCodec<T> + Drop, E: EpochField<T>> Kept<T, C, E> {
     }
 
     /// What the last row of the journal tells.
-    fn last_told(&self) -> &Told<T>
+    fn last_told(&self) -> &AnyTold<T>
         requires { 0 < length self.now.journal }
         ensures { IsLastTold self.now.journal result.now }
     {
@@ -201,10 +202,10 @@ impl<T: Clone, C: ObjectCodec<T> + Drop, E: EpochField<T>> Kept<T, C, E> {
     pub fn take<'a>(
         &'a mut self,
         share: &mut Share,
-        event: Event<T>,
-    ) -> Result<&'a Told<T>, EventFault>
+        event: AnyEvent<T>,
+    ) -> Result<&'a AnyTold<T>, EventFault>
         requires { IsExactClone T.is_clone }
-        ensures refused { IsRefusedAs (due_fault (C.encoded self.old.world.codec) (C.decoded self.old.world.codec) (E.epoch_of self.old.world.epochs) self.old.world event) result }
+        ensures refused { IsRefusedAs (due_fault (C.encoded self.old.world.codec) (C.decoded self.old.world.codec) (E.epoch_of self.old.world.epochs) (E.with_epoch self.old.world.epochs) self.old.world event) result }
         ensures share { MatchResult result (λ _. share.new ≡ one_more share.old) (λ _. share.new ≡ share.old) }
         ensures* after { sem 𝓛 (ends_taken T.row C.row E.row T.Clone C.ObjectCodec E.EpochField self.entry share.old.worker event result) }
     {
@@ -219,9 +220,9 @@ impl<T: Clone, C: ObjectCodec<T> + Drop, E: EpochField<T>> Kept<T, C, E> {
         &'a mut self,
         share: &mut Share,
         op: u64,
-    ) -> Result<&'a Told<T>, EventFault>
+    ) -> Result<&'a AnyTold<T>, EventFault>
         requires { IsExactClone T.is_clone }
-        ensures refused { IsRefusedAs (due_fault (C.encoded self.old.world.codec) (C.decoded self.old.world.codec) (E.epoch_of self.old.world.epochs) self.old.world (next_event self.old.world op)) result }
+        ensures refused { IsRefusedAs (due_fault (C.encoded self.old.world.codec) (C.decoded self.old.world.codec) (E.epoch_of self.old.world.epochs) (E.with_epoch self.old.world.epochs) self.old.world (next_event self.old.world op)) result }
         ensures share { MatchResult result (λ _. share.new ≡ one_more share.old) (λ _. share.new ≡ share.old) }
         ensures* after { sem 𝓛 (ends_taken T.row C.row E.row T.Clone C.ObjectCodec E.EpochField self.entry share.old.worker (next_event self.old.world op) result) }
     {
@@ -232,7 +233,7 @@ impl<T: Clone, C: ObjectCodec<T> + Drop, E: EpochField<T>> Kept<T, C, E> {
     /// What an operation asks for: a store call, or a look at its client's caches, and nothing where it is
     /// not there or has ended. It takes no memory.
     pub fn asks(&self, op: u64) -> Option<Ask<'_>>
-        ensures { asks_as result ≡ asks_of (seen_of self.now.world.state) op }
+        ensures { asks_as result ≡ asks_of (seen_calls self.now.world.state) op }
     {
         self.world.asks(op)
     }
@@ -241,7 +242,7 @@ impl<T: Clone, C: ObjectCodec<T> + Drop, E: EpochField<T>> Kept<T, C, E> {
     pub fn world(&self) -> &World<T, C, E>
         ensures world { result.now ≡ self.now.world }
         // It is where the journal's events lead.
-        ensures replays { Replays (C.encoded self.now.world.codec) (C.decoded self.now.world.codec) (E.epoch_of self.now.world.epochs) self.now.journal self.now.world.state }
+        ensures replays { Replays (C.encoded self.now.world.codec) (C.decoded self.now.world.codec) (E.epoch_of self.now.world.epochs) (E.with_epoch self.now.world.epochs) self.now.journal self.now.world.state }
     {
         &self.world
     }

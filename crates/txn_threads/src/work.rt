@@ -10,9 +10,10 @@ use std::alloc::{AllocError, Global};
 use std::sync::{Mutex, Wait};
 use std::thread;
 use std::thread::Threads;
-use txn_history::event::{Answer, Call, Event, EventFault, Told};
+use txn_history::event::{Answer, Call, EventFault};
 use txn_types::codec::ObjectCodec;
 use txn_types::epoch::EpochField;
+use txn_view_history::event::{AnyAnswer, AnyCall, AnyEvent, AnyTold};
 
 /// The most events of one call of a worker, its begin among them.
 pub const EVENTS_OF_A_CALL: u64 = 200;
@@ -21,7 +22,7 @@ pub const EVENTS_OF_A_CALL: u64 = 200;
 #[derive(Debug, Drop, PartialEq, Eq)]
 pub enum Job<T> {
     /// Makes this call.
-    Call(Call<T>),
+    Call(AnyCall<T>),
     /// Reads, then writes the value on the id that it read, or as the first version where there was
     /// none. Where the read is refused there is no write.
     WriteOnRead(T),
@@ -57,24 +58,24 @@ enum Heard {
 }
 
 /// The base for a write that the answer gives.
-fn base_read<T>(answer: &Answer<T>) -> Option<Option<u64>>
+fn base_read<T>(answer: &AnyAnswer<T>) -> Option<Option<u64>>
     ensures { result ≡ base_read answer.now }
 {
     match answer {
-        Answer::Read(None) => Some(None),
-        Answer::Read(Some((id, _))) => Some(Some(*id)),
+        AnyAnswer::Plain(Answer::Read(None)) => Some(None),
+        AnyAnswer::Plain(Answer::Read(Some((id, _)))) => Some(Some(*id)),
         _ => None,
     }
 }
 
-fn hear<T>(told: &Told<T>) -> Heard
+fn hear<T>(told: &AnyTold<T>) -> Heard
     ensures { result ≡ heard_of told.now }
 {
     match told {
-        Told::Began(op) | Told::Went(op) => Heard::Goes(*op),
-        Told::Answered(_, answer) => Heard::Ended(base_read(answer)),
+        AnyTold::Began(op) | AnyTold::Went(op) => Heard::Goes(*op),
+        AnyTold::Answered(_, answer) => Heard::Ended(base_read(answer)),
         // A worker makes no event that tells these.
-        Told::GaveUp(_) | Told::Landed(_, _) | Told::Crashed(_) => Heard::Ended(None),
+        AnyTold::GaveUp(_) | AnyTold::Landed(_, _) | AnyTold::Crashed(_) => Heard::Ended(None),
     }
 }
 
@@ -106,13 +107,13 @@ impl Turns {
         rt: &R,
         kept: &Mutex<Kept<T, C, E>>,
         gate: &mut G,
-        call: Call<T>,
+        call: AnyCall<T>,
     ) -> Result<Heard, End>
         requires { IsExactClone T.is_clone }
         ensures { Grows self.old.share 1 self.new.share }
     {
         self.pass(gate)?;
-        let begin = Event::Begin(self.share.worker(), call);
+        let begin = AnyEvent::Begin(self.share.worker(), call);
         match kept.lock(rt).take(&mut self.share, begin) {
             Ok(told) => Ok(hear(told)),
             Err(fault) => Err(End::Refused(fault)),
@@ -144,7 +145,7 @@ impl Turns {
         rt: &R,
         kept: &Mutex<Kept<T, C, E>>,
         gate: &mut G,
-        call: Call<T>,
+        call: AnyCall<T>,
     ) -> Result<Option<Option<u64>>, End>
         requires { IsExactClone T.is_clone }
         ensures { Grows self.old.share 200 self.new.share }
@@ -173,8 +174,8 @@ impl Turns {
         requires { IsExactClone T.is_clone }
         ensures { Grows self.old.share 400 self.new.share }
     {
-        if let Some(base) = self.call(rt, kept, gate, Call::Read)? {
-            self.call(rt, kept, gate, Call::Write(base, value))?;
+        if let Some(base) = self.call(rt, kept, gate, AnyCall::Plain(Call::Read))? {
+            self.call(rt, kept, gate, AnyCall::Plain(Call::Write(base, value)))?;
         }
         Ok(())
     }

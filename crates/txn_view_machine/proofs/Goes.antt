@@ -16,11 +16,11 @@ use Rattle.txn_view_machine.proofs.Takes.{take_stands}
 use Rattle.txn_view_machine.proofs.Runs.{tell_stands}
 
 module _ {T : Type 0} where
-  same_goes : (used : Option (Used T)) → GoesOn used used
+  pub same_goes : (used : Option (Used T)) → GoesOn used used
   same_goes None = refl
   same_goes (Some used) = record { client = refl; rises = omega arith; holder = λ epoch e. e }
 
-  after_goes : (one two three : Option (Used T)) → GoesOn one two → GoesOn two three → GoesOn one three
+  pub after_goes : (one two three : Option (Used T)) → GoesOn one two → GoesOn two three → GoesOn one three
   after_goes None two three e h = none three (subst (λ (x : Option (Used T)). GoesOn x three) e h)
     where
       none : (x : Option (Used T)) → GoesOn None x → GoesOn None x
@@ -52,7 +52,7 @@ module _ {T : Type 0} where
   busied_goes op None = refl
   busied_goes op (Some used) = record { client = refl; rises = omega arith; holder = λ epoch e. e }
 
-  opened_goes : (views : ℕ → Option (Used T)) (op : ℕ) (used : Option ℕ) (number : ℕ) → GoesOn (views number) (set_used views used (option_map (with_busy (Some op)) (look_up views used)) number)
+  pub opened_goes : (views : ℕ → Option (Used T)) (op : ℕ) (used : Option ℕ) (number : ℕ) → GoesOn (views number) (set_used views used (option_map (with_busy (Some op)) (look_up views used)) number)
   opened_goes views op None number = same_goes (views number)
   opened_goes views op (Some i) number =
       elim (cases_Bool (number == i)) [
@@ -72,7 +72,7 @@ module _ {T : Type 0} where
   same_views s after views number e h = subst (λ (f : ℕ → Option (Used T)). GoesOn (s.views number) (f number)) (sym e) h
 
 module _ {T : Type 0} (decode : List ℕ → Option T) (get_epoch : T → ℕ) (set_epoch : T → ℕ → T) where
-  turned_goes : (s : Layer T) (op : ℕ) (o : Operation T) (next : Next T) → NextStands decode get_epoch set_epoch s.failed s.rows s.views s.count op o next → (number : ℕ) → number ≤ s.count → GoesOn (s.views number) ((turned s op o next).views number)
+  pub turned_goes : (s : Layer T) (op : ℕ) (o : Operation T) (next : Next T) → NextStands decode get_epoch set_epoch s.failed s.rows s.views s.count op o next → (number : ℕ) → number ≤ s.count → GoesOn (s.views number) ((turned s op o next).views number)
   turned_goes s op o (Goes inner) h number le = same_goes (s.views number)
   turned_goes s op o (Ends answer change) h number le = used_goes s.views (view_used o.call) change h.rises number
   turned_goes s op o (Opens id value) h number le =

@@ -1,6 +1,7 @@
 pub mod Indexes
 pub mod Ascending
 pub mod Running
+pub mod Owning
 pub mod Acting
 pub mod Stepping
 pub mod Reached

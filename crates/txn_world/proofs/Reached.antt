@@ -1,50 +1,52 @@
 -- What the calls of a world owe, by what the machine proves of reached states.
 use Rattle.std.proofs.Common.{◌≡◌, ℕ, ◌+◌, List, [], ◌∷◌, ◌++◌, Bool, true, false, cond, is_ok, Option, Result, Ok, Err, OnErr, IfOk, refl, sym, ◌∙◌, ap, subst, arith}
 use Rattle.std.proofs.lemmas.List.{map-append}
-use Rattle.txn_history.specs.Trace.{Event}
 use Rattle.txn_history.specs.declared.event.EventFault.{EventFault}
-use Rattle.txn_history.specs.Trace.{Told}
 use Rattle.txn_history.specs.Added.{AddsRows}
-use Rattle.txn_history.specs.GoesOn.{GoesOn}
-use Rattle.txn_machine.specs.Machine.{State, WorldState, seen_of, fault_met, refusal_of, Takes, Meets, Outcomes, taken_count, RunsPast, IsReached}
-use Rattle.txn_machine.proofs.Going.{goes_on_with}
-use Rattle.txn_machine.proofs.Replies.{reached_replies, reached_looks, reached_range}
-use Rattle.txn_machine.proofs.Runs.{taken_reached, added_rows}
+use Rattle.txn_view_history.specs.Trace.{AnyEvent, AnyTold}
+use Rattle.txn_view_history.specs.GoesOn.{GoesOn}
+use Rattle.txn_machine.specs.Machine.{fault_met}
+use Rattle.txn_any_machine.specs.Machine.{State, WorldState, seen_calls, seen_of, refusal_of, Takes, Meets, Outcomes, taken_count, RunsPast, IsReached}
+use Rattle.txn_any_machine.proofs.Runs.{taken_reached}
+use Rattle.txn_any_machine.proofs.AddedRows.{added_rows}
+use Rattle.txn_any_machine.proofs.Busy.{reached_busy}
+use Rattle.txn_any_machine.proofs.Reached.{reached_replies, reached_looks, reached_range, reached_goes_on}
 use Rattle.txn_world.specs.Answering.{IsAnswerable}
 
-module _ {T : Type 0} (encode : T → List ℕ) (decode : List ℕ → Option T) (get_epoch : T → ℕ) where
+module _ {T : Type 0} (encode : T → List ℕ) (decode : List ℕ → Option T) (get_epoch : T → ℕ) (set_epoch : T → ℕ → T) where
   -- what a reached state hands to an operation is of the kind that it takes
-  pub reached_answerable : (s : State T) → IsReached encode decode get_epoch s → IsAnswerable s
+  pub reached_answerable : (s : State T) → IsReached encode decode get_epoch set_epoch s → IsAnswerable s
   reached_answerable s r =
       record {
-        replies = λ op o found request reply new asks serves. reached_replies encode decode get_epoch s r op o found request reply new asks serves;
-        looks = λ op o found asks. reached_looks encode decode get_epoch s r op o found asks;
-        range = λ op o found. reached_range encode decode get_epoch s r op o found;
+        replies = λ op o found request reply new asks serves. reached_replies encode decode get_epoch set_epoch s r op o found request reply new asks serves;
+        looks = λ op o found asks. reached_looks encode decode get_epoch set_epoch s r op o found asks;
+        range = λ op o found. reached_range encode decode get_epoch set_epoch s r op o found;
+        busy = λ number used there. reached_busy encode decode get_epoch set_epoch s r number used there;
       }
 
-  pub reached_after : (r : Result (Told T) EventFault) (old : State T) (event : Event T) (new : State T) → IsReached encode decode get_epoch old → OnErr r (new ≡ old) → IfOk r (λ said. Takes encode decode get_epoch old event said new) → IsReached encode decode get_epoch new
-  reached_after (Ok said) old event new reached err ok = taken_reached encode decode get_epoch old event said new reached ok
-  reached_after (Err fault) old event new reached err ok = subst (IsReached encode decode get_epoch) (sym err) reached
+  pub reached_after : (r : Result (AnyTold T) EventFault) (old : State T) (event : AnyEvent T) (new : State T) → IsReached encode decode get_epoch set_epoch old → OnErr r (new ≡ old) → IfOk r (λ said. Takes encode decode get_epoch set_epoch old event said new) → IsReached encode decode get_epoch set_epoch new
+  reached_after (Ok said) old event new reached err ok = taken_reached encode decode get_epoch set_epoch old event said new reached ok
+  reached_after (Err fault) old event new reached err ok = subst (IsReached encode decode get_epoch set_epoch) (sym err) reached
 
-  pub adds_after : (r : Result (Told T) EventFault) (old : State T) (event : Event T) (new : State T) → IsReached encode decode get_epoch old → IfOk r (λ said. Takes encode decode get_epoch old event said new) → IfOk r (λ said. AddsRows (seen_of old) old.trace old.store.files event said new.trace new.store.files)
-  adds_after (Ok said) old event new reached ok = added_rows encode decode get_epoch old event said new reached ok
+  pub adds_after : (r : Result (AnyTold T) EventFault) (old : State T) (event : AnyEvent T) (new : State T) → IsReached encode decode get_epoch set_epoch old → IfOk r (λ said. Takes encode decode get_epoch set_epoch old event said new) → IfOk r (λ said. AddsRows (seen_calls old) old.trace old.store.files event said new.trace new.store.files)
+  adds_after (Ok said) old event new reached ok = added_rows encode decode get_epoch set_epoch old event said new reached ok
   adds_after (Err fault) old event new reached ok = tt
 
-  pub goes_after : (r : Result (Told T) EventFault) (old : State T) (event : Event T) (new : State T) → IfOk r (λ said. Takes encode decode get_epoch old event said new) → IfOk r (λ said. GoesOn (seen_of old) event said (seen_of new))
-  goes_after (Ok said) old event new ok = goes_on_with encode decode get_epoch old event said new ok
-  goes_after (Err fault) old event new ok = tt
+  pub goes_after : (r : Result (AnyTold T) EventFault) (old : State T) (event : AnyEvent T) (new : State T) → IsReached encode decode get_epoch set_epoch old → IfOk r (λ said. Takes encode decode get_epoch set_epoch old event said new) → IfOk r (λ said. GoesOn (seen_of old) event said new.trace (seen_of new))
+  goes_after (Ok said) old event new reached ok = reached_goes_on encode decode get_epoch set_epoch old event said new reached ok
+  goes_after (Err fault) old event new reached ok = tt
 
   -- a run past refused events, with one more
 
-  meets : (r : Result (Told T) EventFault) (old : State T) (event : Event T) (new : State T) → fault_met r ≡ refusal_of encode decode get_epoch old event → OnErr r (new ≡ old) → IfOk r (λ said. Takes encode decode get_epoch old event said new) → Meets encode decode get_epoch old event r new
+  meets : (r : Result (AnyTold T) EventFault) (old : State T) (event : AnyEvent T) (new : State T) → fault_met r ≡ refusal_of encode decode get_epoch set_epoch old event → OnErr r (new ≡ old) → IfOk r (λ said. Takes encode decode get_epoch set_epoch old event said new) → Meets encode decode get_epoch set_epoch old event r new
   meets (Ok said) old event new fault err ok = ok
   meets (Err fault') old event new fault err ok = (fault, err)
 
-  outcomes_more : (old : State T) (met : List (Event T × Result (Told T) EventFault)) (middle : State T) (event : Event T) (r : Result (Told T) EventFault) (new : State T) → Outcomes encode decode get_epoch old met middle → Meets encode decode get_epoch middle event r new → Outcomes encode decode get_epoch old (met ++ (event, r) ∷ []) new
-  outcomes_more old [] middle event r new run m = (new, subst (λ (s : State T). Meets encode decode get_epoch s event r new) run m, refl)
+  outcomes_more : (old : State T) (met : List (AnyEvent T × Result (AnyTold T) EventFault)) (middle : State T) (event : AnyEvent T) (r : Result (AnyTold T) EventFault) (new : State T) → Outcomes encode decode get_epoch set_epoch old met middle → Meets encode decode get_epoch set_epoch middle event r new → Outcomes encode decode get_epoch set_epoch old (met ++ (event, r) ∷ []) new
+  outcomes_more old [] middle event r new run m = (new, subst (λ (s : State T). Meets encode decode get_epoch set_epoch s event r new) run m, refl)
   outcomes_more old (first ∷ met) middle event r new run m = (run.0, run.1, outcomes_more run.0 met middle event r new run.2 m)
 
-  taken_more : (met : List (Event T × Result (Told T) EventFault)) (event : Event T) (r : Result (Told T) EventFault) → taken_count (met ++ (event, r) ∷ []) ≡ cond (is_ok r) (taken_count met + 1) (taken_count met)
+  taken_more : (met : List (AnyEvent T × Result (AnyTold T) EventFault)) (event : AnyEvent T) (r : Result (AnyTold T) EventFault) → taken_count (met ++ (event, r) ∷ []) ≡ cond (is_ok r) (taken_count met + 1) (taken_count met)
   taken_more [] event r = refl
   taken_more ((e, Ok said) ∷ met) event r = ap (λ n. 1 + n) (taken_more met event r) ∙ one_later (is_ok r) (taken_count met)
     where
@@ -53,17 +55,17 @@ module _ {T : Type 0} (encode : T → List ℕ) (decode : List ℕ → Option T)
       one_later false n = omega arith
   taken_more ((e, Err fault) ∷ met) event r = taken_more met event r
 
-  pub runs_past_more : (old : State T) (events : List (Event T)) (count : ℕ) (middle : State T) (event : Event T) (r : Result (Told T) EventFault) (new : State T) (count' : ℕ) → RunsPast encode decode get_epoch old events count middle →
-      fault_met r ≡ refusal_of encode decode get_epoch middle event → OnErr r (new ≡ middle) → IfOk r (λ said. Takes encode decode get_epoch middle event said new) → count' ≡ cond (is_ok r) (count + 1) count → RunsPast encode decode get_epoch old (events ++ event ∷ []) count' new
+  pub runs_past_more : (old : State T) (events : List (AnyEvent T)) (count : ℕ) (middle : State T) (event : AnyEvent T) (r : Result (AnyTold T) EventFault) (new : State T) (count' : ℕ) → RunsPast encode decode get_epoch set_epoch old events count middle →
+      fault_met r ≡ refusal_of encode decode get_epoch set_epoch middle event → OnErr r (new ≡ middle) → IfOk r (λ said. Takes encode decode get_epoch set_epoch middle event said new) → count' ≡ cond (is_ok r) (count + 1) count → RunsPast encode decode get_epoch set_epoch old (events ++ event ∷ []) count' new
   runs_past_more old events count middle event r new count' run fault err ok next =
       record {
         met = run.met ++ (event, r) ∷ [];
-        all = map-append _ run.met ((event, r) ∷ []) ∙ ap (λ (es : List (Event T)). es ++ event ∷ []) run.all;
+        all = map-append _ run.met ((event, r) ∷ []) ∙ ap (λ (es : List (AnyEvent T)). es ++ event ∷ []) run.all;
         run = outcomes_more old run.met middle event r new run.run (meets r middle event new fault err ok);
         taken = next ∙ (ap (λ n. cond (is_ok r) (n + 1) n) run.taken ∙ sym (taken_more run.met event r));
       }
 
 module _ {T : Type 0} where
-  pub err_state : {C E : Type 0} (r : Result (Told T) EventFault) (old new : WorldState T C E) → OnErr r (new ≡ old) → OnErr r (new.state ≡ old.state)
+  pub err_state : {C E : Type 0} (r : Result (AnyTold T) EventFault) (old new : WorldState T C E) → OnErr r (new ≡ old) → OnErr r (new.state ≡ old.state)
   err_state (Ok said) old new err = tt
   err_state (Err fault) old new err = ap (λ w. w.state) err

@@ -1,24 +1,29 @@
 -- What a state has to keep so that its operations can be handed what they ask for, and what a request does to the store.
-use Rattle.std.specs.Prelude.{◌≡◌, ℕ, Option, Some, None}
+use Rattle.std.specs.Prelude.{◌≡◌, ℕ, Option, Some, None, is_some}
 use Rattle.txn_store.specs.Store.{State as StoreState}
 use Rattle.txn_store.specs.Requests.{Serves}
 use Rattle.txn_store.specs.declared.request.Request.{Request}
 use Rattle.txn_store.specs.declared.request.Reply.{Reply}
 use Rattle.txn_caches.specs.declared.caches.Caches.{Caches}
-use Rattle.txn_history.specs.declared.event.Answer.TheVariants as answers
-use Rattle.txn_history.specs.Trace.{Told}
+use Rattle.txn_history.specs.declared.event.Answer.TheVariants as plain_answers
 use Rattle.txn_history.specs.declared.event.ToldOf.TheVariants as told
 use Rattle.txn_history.specs.Lists.{numbered}
 use Rattle.txn_history.specs.Seen.{Ask, Store, Look}
-use Rattle.txn_machine.specs.declared.doing.Operation.{Operation}
-use Rattle.txn_machine.specs.Doing.{asked, IsReply, InRange}
-use Rattle.txn_machine.specs.Machine.{State, acted, failing, told_failure}
+use Rattle.txn_view_history.specs.declared.event.AnyAnswer.TheVariants as answers
+use Rattle.txn_view_history.specs.Trace.{AnyTold}
+use Rattle.txn_view_history.specs.Allowed.{is_busy}
+use Rattle.txn_view_machine.specs.Layer.{Used}
+use Rattle.txn_any_machine.specs.declared.doing.AnyOperation.{AnyOperation}
+use Rattle.txn_any_machine.specs.Doing.{asked, refused, IsReply, InRange}
+use Rattle.txn_any_machine.specs.Machine.{State, acted, failing, seen_of}
 
--- The store's reply to what an operation asks for is of the kind that it takes, a look is taken where it is asked for, and no read has counted too far.
+-- The store's reply to what an operation asks for is of the kind that it takes, a look is taken where it is asked for, no
+-- read has counted too far, and a view is marked as busy exactly where an operation runs on it.
 pub record IsAnswerable {T : Type 0} (s : State T) : Type 0 where
-  pub replies : (op : ℕ) (o : Operation T) → numbered s.operations op ≡ Some o → (request : Request) (reply : Reply) (new : StoreState) → asked o.doing ≡ Some (Store request) → Serves request s.store reply new → IsReply o.doing (Some reply)
-  pub looks : (op : ℕ) (o : Operation T) → numbered s.operations op ≡ Some o → asked o.doing ≡ Some Look → IsReply o.doing None
-  pub range : (op : ℕ) (o : Operation T) → numbered s.operations op ≡ Some o → InRange o.doing
+  pub replies : (op : ℕ) (o : AnyOperation T) → numbered s.operations op ≡ Some o → (request : Request) (reply : Reply) (new : StoreState) → asked o.doing ≡ Some (Store request) → Serves request s.store reply new → IsReply o.doing (Some reply)
+  pub looks : (op : ℕ) (o : AnyOperation T) → numbered s.operations op ≡ Some o → asked o.doing ≡ Some Look → IsReply o.doing None
+  pub range : (op : ℕ) (o : AnyOperation T) → numbered s.operations op ≡ Some o → InRange o.doing
+  pub busy : (number : ℕ) (used : Used T) → numbered s.views number ≡ Some (Some used) → is_busy (seen_of s) s.trace (Some number) ≡ is_some used.busy
 
 -- the request of an ask for a store call
 abbrev pub request_of : Option Ask → Option Request
@@ -27,10 +32,10 @@ request_of (Some (Store request)) = Some request
 request_of (Some Look) = None
 
 -- An operation was told that its store call failed: it has ended, and is one of those that failed.
-pub record ToldFailure {T : Type 0} (old : State T) (op : ℕ) (said : Told T) (new : State T) : Type 0 where
-  pub operation : Operation T
+pub record ToldFailure {T : Type 0} (old : State T) (op : ℕ) (said : AnyTold T) (new : State T) : Type 0 where
+  pub operation : AnyOperation T
   pub found : numbered old.operations op ≡ Some operation
   pub caches : Caches
   pub kept : numbered old.caches operation.client ≡ Some caches
-  pub tells : said ≡ told.Answered op (answers.Refused 2)
-  pub state : new ≡ acted (failing old op) op operation told_failure caches
+  pub tells : said ≡ told.Answered op (answers.Plain (plain_answers.Refused 2))
+  pub state : new ≡ acted (failing old op) op operation (refused 2) caches

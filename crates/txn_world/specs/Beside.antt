@@ -3,7 +3,11 @@ use Rattle.std.specs.Prelude.{◌≡◌, ◌⊎◌, ℕ, List, length, map, if�
 use Rattle.txn_store.specs.declared.request.Request.{Request}
 use Rattle.txn_store.specs.declared.request.Request.TheVariants as requests
 use Rattle.txn_history.specs.declared.event.Answer.{Answer}
-use Rattle.txn_history.specs.declared.event.Answer.TheVariants as answers
+use Rattle.txn_history.specs.declared.event.Answer.TheVariants as plain_answers
+use Rattle.txn_view_history.specs.declared.event.AnyAnswer.{AnyAnswer}
+use Rattle.txn_view_history.specs.declared.event.AnyAnswer.TheVariants as answers
+use Rattle.txn_any_machine.specs.declared.doing.Ending.{Ending}
+use Rattle.txn_any_machine.specs.declared.doing.Ending.TheVariants as endings
 use Rattle.txn_history.specs.History.{Version, is_boundary, boundary_said, epoch_in}
 
 -- the boundary after a request that changed the store, by the boundary before it
@@ -33,21 +37,32 @@ module _ {T : Type 0} (decode : List ℕ → Option T) (get_epoch : T → ℕ) w
   epoch_made (Some version) = epoch_read version.1
 
 module _ {T : Type 0} where
+  -- how many ids an answer of a call without a view tells
+  abbrev pub plain_count : Answer T → ℕ
+  plain_count (plain_answers.Wrote id) = 1
+  plain_count (plain_answers.Read None) = 0
+  plain_count (plain_answers.Read (Some found)) = 1
+  plain_count (plain_answers.Ids ids) = length ids
+  plain_count (plain_answers.Value value) = 0
+  plain_count plain_answers.Done = 0
+  plain_count (plain_answers.Refused number) = 0
+
   -- how many ids an answer tells
-  abbrev pub told_count : Answer T → ℕ
-  told_count (answers.Wrote id) = 1
-  told_count (answers.Read None) = 0
-  told_count (answers.Read (Some found)) = 1
-  told_count (answers.Ids ids) = length ids
-  told_count (answers.Value value) = 0
-  told_count answers.Done = 0
-  told_count (answers.Refused number) = 0
+  abbrev pub told_count : AnyAnswer T → ℕ
+  told_count (answers.Plain answer) = plain_count answer
+  told_count (answers.View view id value) = 1
+  told_count (answers.Held view id value epoch) = 1
+
+  -- how many ids an answer tells at most, by how its operation ends
+  abbrev pub ending_count : Ending T → ℕ
+  ending_count (endings.Answers answer) = plain_count answer
+  ending_count (endings.Comes outcome) = 1
 
   -- a list of ids is answered
-  abbrev pub AreIds : Option (Answer T) → Type 0
-  AreIds (Some (answers.Ids ids)) = Unit {0}
-  AreIds answer = ⊥
+  abbrev pub AreIds : Option (Ending T) → Type 0
+  AreIds (Some (endings.Answers (plain_answers.Ids ids))) = Unit {0}
+  AreIds ending = ⊥
 
-  -- an answer stays, or a growth for the ids of a list was refused
-  abbrev pub IsAfforded : Option (Answer T) → Option (Answer T) → Type 0
-  IsAfforded answer told = (told ≡ answer) ⊎ ((told ≡ Some (answers.Refused 9)) × AreIds answer)
+  -- an ending stays, or a growth for the ids of a list was refused
+  abbrev pub IsAfforded : Option (Ending T) → Option (Ending T) → Type 0
+  IsAfforded ending new = (new ≡ ending) ⊎ ((new ≡ Some (endings.Answers (plain_answers.Refused 9))) × AreIds ending)

@@ -1,5 +1,6 @@
 pub mod Beside
 pub mod Running
+pub mod Owning
 pub mod Acting
 pub mod Answering
 pub mod Shown

@@ -6,9 +6,9 @@ use Rattle.txn_store.specs.declared.request.Request.{Request}
 use Rattle.txn_history.specs.Lists.{numbered}
 use Rattle.txn_history.specs.Seen.{Ask}
 use Rattle.txn_history.specs.GoesOn.{may_be_loose, left_loose}
-use Rattle.txn_machine.specs.declared.doing.Doing.TheVariants.{Ended}
-use Rattle.txn_machine.specs.declared.doing.Operation.{Operation}
-use Rattle.txn_machine.specs.Doing.{asked}
+use Rattle.txn_any_machine.specs.declared.doing.AnyOperation.{AnyOperation}
+use Rattle.txn_any_machine.specs.Doing.{asked, ended}
+use Rattle.txn_any_machine.specs.Machine.{doing_next}
 
 -- a set, where there is one, has the number
 abbrev pub is_in_set : Option (BTreeSet ℕ) → ℕ → Bool
@@ -26,29 +26,29 @@ loose_of (Some ask) = may_be_loose ask
 
 module _ {T : Type 0} where
   -- what it asks for, if it is there
-  abbrev pub asked_of : Option (Operation T) → Option Ask
+  abbrev pub asked_of : Option (AnyOperation T) → Option Ask
   asked_of None = None
   asked_of (Some operation) = asked operation.doing
 
   -- what an operation asks for: nothing where there is none, or it has ended
-  abbrev pub asked_by : List (Operation T) → ℕ → Option Ask
+  abbrev pub asked_by : List (AnyOperation T) → ℕ → Option Ask
   asked_by operations op = asked_of (numbered operations op)
 
   -- it is there, is this client's, and has not ended
-  abbrev pub runs_as : ℕ → Option (Operation T) → Bool
+  abbrev pub runs_as : ℕ → Option (AnyOperation T) → Bool
   runs_as client None = false
   runs_as client (Some operation) = operation.client == client && is_some (asked operation.doing)
 
   -- the operation runs, and is this client's
-  abbrev pub runs_for : List (Operation T) → ℕ → ℕ → Bool
+  abbrev pub runs_for : List (AnyOperation T) → ℕ → ℕ → Bool
   runs_for operations client op = runs_as client (numbered operations op)
 
   -- the requests that these operations leave loose, in this order
-  abbrev pub left_of : List (Operation T) → List ℕ → List (ℕ × Request)
+  abbrev pub left_of : List (AnyOperation T) → List ℕ → List (ℕ × Request)
   left_of operations [] = []
   left_of operations (op ∷ ops) = left_loose op (asked_by operations op) ++ left_of operations ops
 
   -- an operation, ended where this is so
-  abbrev pub ended_where : Bool → Option (Operation T) → Option (Operation T)
+  abbrev pub ended_where : Bool → Option (AnyOperation T) → Option (AnyOperation T)
   ended_where ends None = None
-  ended_where ends (Some operation) = Some (if ends then record { client = operation.client; doing = Ended } else operation)
+  ended_where ends (Some operation) = Some (if ends then doing_next operation ended else operation)

@@ -1,43 +1,56 @@
 //! What the clients keep: their caches, their operations, and which of those run.
-ghost use Rattle.std.specs.Prelude.{◌≡◌, ◌||◌, ◌&&◌, ◌==◌, ◌++◌, ◌∷◌, [], ◌<◌, ◌≤◌, ◌+◌, ◌-◌, ℕ, not, true, false, None, IfOk, OnOk, OnErr, IsSome, IfSome, IsTrue, is_some, is_ok, if◌then◌else◌, length, map, replicate, nat_eq, vec_len, vec_capacity};
-ghost use Rattle.std.specs.Ordering.{nat_cmp};
+ghost use Rattle.std.specs.Prelude.{◌≡◌, ◌||◌, ◌&&◌, ◌==◌, ◌++◌, ◌∷◌, [], ◌<◌, ◌≤◌, ◌+◌, ◌-◌, ℕ, not, true, false, None, Some, IfOk, OnOk, OnErr, IsSome, IfSome, IsTrue, is_some, is_ok, if◌then◌else◌, length, map, replicate, nat_eq, vec_len, vec_capacity};
 ghost use Rattle.std.specs.List.{list_any};
-ghost use Rattle.std.specs.BTreeSet.{contains as set_contains, IsEmpty};
-ghost use Rattle.std.specs.HashSet.{contains};
-ghost use Rattle.txn_history.specs.Lists.{AreAscending};
 ghost use Rattle.txn_history.specs.GoesOn.{as_loose};
-ghost use Rattle.txn_machine.specs.Doing.{asked, asks_as};
+ghost use Rattle.txn_machine.specs.Doing.{asks_as};
 ghost use Rattle.txn_machine.specs.Machine.{no_caches};
+ghost use Rattle.txn_any_machine.specs.declared.doing.AnyOperation.{AnyOperation};
+ghost use Rattle.txn_any_machine.specs.Doing.{asked};
 ghost use Rattle.txn_history.specs.Lists.{numbered};
 ghost use Rattle.txn_world.specs.Running.{is_in, loose_of, asked_by, runs_for, left_of, ended_where};
+ghost use Rattle.txn_world.specs.Owning.{IsFromOne};
 
+use crate::sets::numbers_of;
 use std::alloc::{AllocError, Global};
-use std::collections::{BTreeSet, HashSet};
+use std::collections::BTreeSet;
 use std::mem;
+use txn_any_machine::doing::{AnyDoing, AnyOperation, Ending};
 use txn_caches::ask::Ask;
 use txn_caches::caches::Caches;
-use txn_history::event::Answer;
-use txn_machine::doing::{Doing, Operation};
+use txn_machine::doing::Doing;
 use txn_store::request::{Reply, Request};
 use txn_types::codec::ObjectCodec;
+use txn_types::epoch::EpochField;
 use txn_types::layout::Layout;
 use txn_types::room::push_within;
 
+/// Whose an operation is, and the view that it uses.
+#[derive(Clone, Copy)]
+pub(crate) struct Usage {
+    pub client: u64,
+    pub view: Option<u64>,
+    /// Whether it is a claim, which ends its view unless it is held.
+    pub claims: bool,
+}
+
 /// What an operation asks for: nothing where it is not there, or has ended.
-pub(crate) fn asked<T: Drop>(operations: &[Operation<T>], op: u64) -> Option<Ask<'_>>
+pub(crate) fn asked<T: Drop>(operations: &[AnyOperation<T>], op: u64) -> Option<Ask<'_>>
     ensures { asks_as result ≡ asked_by operations.now op }
 {
     if op == 0 {
         return None;
     }
-    operations.get((op - 1) as usize)?.doing.ask()
+    match operations.get((op - 1) as usize) {
+        Some(operation) => operation.doing.ask(),
+        None => None,
+    }
 }
 
 /// Whether an operation has not ended.
-fn runs<T>(doing: &Doing<T>) -> bool
+fn runs<T>(doing: &AnyDoing<T>) -> bool
     ensures { result ≡ is_some (asked doing.now) }
 {
-    !matches!(doing, Doing::Ended)
+    !matches!(doing, AnyDoing::Plain(Doing::Ended))
 }
 
 /// A copy of the put or the delete that is asked for, where one is. The only error is want of memory.
@@ -67,7 +80,7 @@ pub(crate) fn push_loose(loose: &mut Vec<(u64, Request)>, op: u64, copy: Option<
 /// The requests that these operations leave loose, in this order. The only error is want of memory.
 fn left_of<T: Drop>(
     alloc: Global,
-    operations: &[Operation<T>],
+    operations: &[AnyOperation<T>],
     ops: &[u64],
 ) -> Result<Vec<(u64, Request)>, AllocError>
     ensures { IfOk result (λ left. left.items ≡ left_of operations.now ops.now) }
@@ -81,39 +94,24 @@ fn left_of<T: Drop>(
     Ok(left)
 }
 
-/// The numbers of a set, ascending. The only error is want of memory.
-fn numbers_of(alloc: Global, set: &BTreeSet<u64>) -> Result<Vec<u64>, AllocError>
-    ensures { IfOk result (λ list. AreAscending (set_contains nat_cmp set.now) list.items) }
+/// An operation that has ended.
+fn ended<T>() -> AnyDoing<T>
+    ensures { result ≡ AnyDoing.Plain Doing.Ended }
 {
-    let mut list = Vec::new(alloc);
-    for number in set {
-        list.push(*number)?;
-    }
-    Ok(list)
-}
-
-/// The numbers of a set, ascending. The only error is want of memory.
-pub(crate) fn ascending(alloc: Global, ids: &HashSet<u64>) -> Result<Vec<u64>, AllocError>
-    ensures { IfOk result (λ list. AreAscending (contains nat_eq ids.now) list.items) }
-{
-    let mut sorted = BTreeSet::new(alloc);
-    for id in ids {
-        sorted.insert(*id)?;
-    }
-    numbers_of(alloc, &sorted)
+    AnyDoing::Plain(Doing::Ended)
 }
 
 /// Ends an operation that is there.
-fn end_one<T: Drop>(operations: &mut Vec<Operation<T>>, op: u64)
+fn end_one<T: Drop>(operations: &mut Vec<AnyOperation<T>>, op: u64)
     requires { IsSome (numbered operations.old.items op) }
     ensures { (n : ℕ) → numbered operations.new.items n ≡ ended_where (nat_eq n op) (numbered operations.old.items n) }
 {
     let operation = &mut operations[(op - 1) as usize];
-    drop(mem::replace(&mut operation.doing, Doing::Ended));
+    drop(mem::replace(&mut operation.doing, ended()));
 }
 
 /// Ends these operations, which are there.
-fn end_all<T: Drop>(operations: &mut Vec<Operation<T>>, ops: &[u64])
+fn end_all<T: Drop>(operations: &mut Vec<AnyOperation<T>>, ops: &[u64])
     requires { (n : ℕ) → list_any (nat_eq n) ops.now ≡ true → IsSome (numbered operations.old.items n) }
     ensures { (n : ℕ) → numbered operations.new.items n ≡ ended_where (list_any (nat_eq n) ops.now) (numbered operations.old.items n) }
 {
@@ -142,7 +140,7 @@ fn enlist(
 
 /// Makes room for an operation, and enters it with its client's, where it runs.
 fn enter<T: Drop>(
-    operations: &mut Vec<Operation<T>>,
+    operations: &mut Vec<AnyOperation<T>>,
     running: &mut Vec<BTreeSet<u64>>,
     client: u64,
     runs: bool,
@@ -226,23 +224,27 @@ pub(crate) struct Clients<T> {
     /// What each client keeps.
     pub caches: Vec<Caches>,
     /// The operations of all clients, numbered from 1.
-    pub operations: Vec<Operation<T>>,
+    pub operations: Vec<AnyOperation<T>>,
     /// The numbers of each client's operations that have not ended.
     running: Vec<BTreeSet<u64>>,
     ghost wide: { vec_len caches ≡ count },
     ghost each: { vec_len running ≡ count },
     ghost all_running: { (client op : ℕ) → is_in running.items client op ≡ runs_for operations.items client op },
+    ghost from_one: { (op : ℕ) (o : AnyOperation T) → numbered operations.items op ≡ Some o → IsFromOne o.view },
 }
 
 impl<T: Clone> Clients<T> {
-    ghost use Rattle.std.specs.Prelude.{◌≡◌, ◌≤◌, ◌-◌, ◌++◌, ◌∷◌, [], map, replicate, slice_set, IfOk, OnOk, OnErr, IfSome, IsSome};
+    ghost use Rattle.std.specs.Prelude.{◌≡◌, ◌≤◌, ◌-◌, ◌++◌, ◌∷◌, [], map, replicate, slice_set, Some, IfOk, OnOk, OnErr, IfSome, IsSome};
+    ghost use Rattle.std.specs.Option.{option_map};
+    ghost use Rattle.txn_history.specs.Lists.{numbered};
     ghost use Rattle.txn_history.specs.GoesOn.{all_left_loose};
     ghost use Rattle.txn_history.specs.Names.{world_names, world_boundary};
-    ghost use Rattle.txn_machine.specs.Doing.{first_of};
     ghost use Rattle.txn_types.specs.Clones.{IsExactClone};
-    ghost use Rattle.txn_machine.specs.Machine.{no_caches, ended_by, seen_operations};
+    ghost use Rattle.txn_machine.specs.Machine.{no_caches};
+    ghost use Rattle.txn_any_machine.specs.Machine.{ended_by, seen_operations};
     ghost use Rattle.txn_world.specs.Running.{asked_by};
-    ghost use Rattle.txn_world.specs.Acting.{TakesReply, Ends, TakesTurn};
+    ghost use Rattle.txn_world.specs.Owning.{IsFromOne};
+    ghost use Rattle.txn_world.specs.Acting.{usage_of, TakesReply, Ends, TakesTurn};
 
     pub fn new(alloc: Global, count: u64) -> Result<Clients<T>, AllocError>
         ensures count { IfOk result (λ clients. clients.count ≡ count) }
@@ -257,46 +259,69 @@ impl<T: Clone> Clients<T> {
         })
     }
 
-    /// Adds an operation of a client. The only error is want of memory, and then nothing changes.
-    pub fn add(&mut self, client: u64, doing: Doing<T>) -> Result<(), AllocError>
-        requires some { 1 ≤ client }
-        requires within { client ≤ self.old.count }
+    /// Whose an operation is that has not ended, and the view that it uses.
+    pub fn usage(&self, op: u64) -> Usage
+        requires { IsSome (asked_by self.now.operations.items op) }
+        ensures same { option_map usage_of (numbered self.now.operations.items op) ≡ Some result }
+        ensures view { IsFromOne result.view }
+        ensures some { 1 ≤ result.client }
+        ensures within { result.client ≤ self.now.count }
+    {
+        let operation = &self.operations[(op - 1) as usize];
+        Usage {
+            client: operation.client,
+            view: operation.view,
+            claims: operation.claims,
+        }
+    }
+
+    /// Adds an operation. The only error is want of memory, and then nothing changes.
+    pub fn add(&mut self, of: Usage, doing: AnyDoing<T>) -> Result<(), AllocError>
+        requires some { 1 ≤ of.client }
+        requires within { of.client ≤ self.old.count }
+        requires view { IsFromOne of.view }
         ensures count { self.new.count ≡ self.old.count }
         ensures caches { self.new.caches.items ≡ self.old.caches.items }
-        ensures ok { OnOk result (self.new.operations.items ≡ self.old.operations.items ++ record { client = client; doing = doing } ∷ []) }
+        ensures ok { OnOk result (self.new.operations.items ≡ self.old.operations.items ++ record { client = of.client; view = of.view; claims = of.claims; doing = doing } ∷ []) }
         ensures err { OnErr result (self.new.operations.items ≡ self.old.operations.items) }
     {
         let made = enter(
             &mut self.operations,
             &mut self.running,
-            client,
+            of.client,
             runs(&doing),
         );
-        push_where(&mut self.operations, Operation { client, doing }, made)
+        let operation = AnyOperation {
+            client: of.client,
+            view: of.view,
+            claims: of.claims,
+            doing,
+        };
+        push_where(&mut self.operations, operation, made)
     }
 
-    /// Hands an operation the store's reply, or none for a look. An answer ends it.
-    pub fn turn<C: ObjectCodec<T>>(
+    /// Hands an operation the store's reply, or none for a look. Where it is answered it has ended.
+    pub fn turn<C: ObjectCodec<T>, E: EpochField<T>>(
         &mut self,
         alloc: Global,
         layout: &Layout<C>,
+        epochs: &E,
         op: u64,
         reply: Option<Reply>,
-    ) -> Option<(Answer<T>, Answer<T>)>
+    ) -> Option<Ending<T>>
         requires exact { IsExactClone T.is_clone }
         requires names { layout.now.names ≡ world_names }
         requires boundary { layout.now.boundary ≡ world_boundary }
         requires takes { TakesReply self.old.operations.items op reply }
         ensures count { self.new.count ≡ self.old.count }
-        ensures turned { TakesTurn layout.now.page (C.decoded layout.now.codec) self.old.operations.items self.old.caches.items op reply self.new.operations.items self.new.caches.items (first_of result) }
-        ensures twice { IfSome result (λ pair. pair.1 ≡ pair.0) }
+        ensures turned { TakesTurn layout.now.page (C.encoded layout.now.codec) (C.decoded layout.now.codec) (E.epoch_of epochs.now) (E.with_epoch epochs.now) self.old.operations.items self.old.caches.items op reply self.new.operations.items self.new.caches.items result }
     {
         let operation = &mut self.operations[(op - 1) as usize];
         let client = operation.client;
         let caches = &mut self.caches[(client - 1) as usize];
-        let answers = operation.doing.take(alloc, layout, caches, reply);
-        delist(&mut self.running, client, op, answers.is_some());
-        answers
+        let ending = operation.doing.take(alloc, layout, epochs, caches, reply);
+        delist(&mut self.running, client, op, ending.is_some());
+        ending
     }
 
     /// Ends an operation that runs.
@@ -308,7 +333,7 @@ impl<T: Clone> Clients<T> {
     {
         let operation = &mut self.operations[(op - 1) as usize];
         let client = operation.client;
-        drop(mem::replace(&mut operation.doing, Doing::Ended));
+        drop(mem::replace(&mut operation.doing, ended()));
         delist(&mut self.running, client, op, true);
     }
 

@@ -1,24 +1,27 @@
 //! The rows so far, with what is looked up in them.
-ghost use Rattle.std.specs.Prelude.{◌≡◌, ◌||◌, ◌++◌, ◌∷◌, [], ◌<◌, ◌≤◌, ◌+◌, ℕ, length, max, if◌then◌else◌, nat_eq, nat_lt, vec_len, vec_capacity};
+ghost use Rattle.std.specs.Prelude.{◌≡◌, ◌||◌, ◌++◌, ◌∷◌, [], ◌<◌, ◌≤◌, ◌+◌, ℕ, Some, length, max, if◌then◌else◌, nat_eq, nat_lt, vec_len, vec_capacity};
 ghost use Rattle.std.specs.HashSet.{contains, spare};
 ghost use Rattle.std.specs.List.{list_any};
 ghost use Rattle.std.specs.Option.{ForSome};
 ghost use Rattle.txn_history.specs.Names.{world_names, world_boundary};
 ghost use Rattle.txn_history.specs.History.{is_id, boundary, was_erased, has_id, versions_of};
-ghost use Rattle.txn_history.specs.Calls.{was_told, is_below_told, tells_id};
-ghost use Rattle.txn_machine.specs.Doing.{first_of};
-ghost use Rattle.txn_world.specs.Beside.{is_among, epochs_of, told_count, IsAfforded};
+ghost use Rattle.txn_history.specs.Calls as plain;
+ghost use Rattle.txn_view_history.specs.Calls.{was_told, is_below_told, tells_id};
+ghost use Rattle.txn_world.specs.Beside.{is_among, epochs_of, plain_count, told_count, ending_count, IsAfforded};
 
 use crate::requests::{boundary_after, created_id, created_version, removed_id};
+use crate::sets::insert_id;
 use std::alloc::{AllocError, Global};
 use std::collections::HashSet;
-use txn_history::event::{Answer, Call};
-use txn_history::trace::Row;
+use txn_any_machine::doing::{Ending, Twice};
+use txn_history::event::Answer;
 use txn_store::request::Request;
 use txn_types::codec::{CodecFault, ObjectCodec};
 use txn_types::epoch::EpochField;
 use txn_types::layout::Layout;
 use txn_types::room::push_within;
+use txn_view_history::event::{AnyAnswer, AnyCall};
+use txn_view_history::trace::AnyRow;
 
 /// The rows so far, where their files lie, and how their values are read. What the rows told, reached, created and
 /// erased stands beside them, so that it is looked up and not searched for.
@@ -26,7 +29,7 @@ use txn_types::room::push_within;
 pub(crate) struct Trace<T: Drop, C: ObjectCodec<T> + Drop, E: EpochField<T>> {
     pub layout: Layout<C>,
     pub field: E,
-    pub rows: Vec<Row<T>>,
+    pub rows: Vec<AnyRow<T>>,
     /// The ids that were told.
     pub told: HashSet<u64>,
     /// The greatest of them, 0 where there is none.
@@ -55,11 +58,10 @@ impl<T: Drop, C: ObjectCodec<T> + Drop, E: EpochField<T>> Trace<T, C, E> {
     ghost use Rattle.std.specs.Option.{ForSome};
     ghost use Rattle.txn_history.specs.Names.{world_names, world_boundary};
     ghost use Rattle.txn_history.specs.History.{created, epoch_at};
-    ghost use Rattle.txn_history.specs.Calls.{was_told, is_below_told};
     ghost use Rattle.txn_history.specs.declared.trace.RowOf.TheVariants.{Begun, Answered};
-    ghost use Rattle.txn_machine.specs.Doing.{first_of};
-    ghost use Rattle.txn_machine.specs.Machine.{effect_rows};
-    ghost use Rattle.txn_world.specs.Beside.{epoch_made, told_count, IsAfforded};
+    ghost use Rattle.txn_view_history.specs.Calls.{was_told, is_below_told};
+    ghost use Rattle.txn_any_machine.specs.Machine.{effect_rows};
+    ghost use Rattle.txn_world.specs.Beside.{epoch_made, told_count, ending_count, IsAfforded};
 
     pub fn new(alloc: Global, layout: Layout<C>, field: E) -> Trace<T, C, E>
         requires names { layout.names ≡ world_names }
@@ -143,26 +145,21 @@ impl<T: Drop, C: ObjectCodec<T> + Drop, E: EpochField<T>> Trace<T, C, E> {
 
     /// Makes room for the ids of an answer, for one of which there is room. Where that growth is refused the answer
     /// becomes the refusal 9, which only a list of ids does.
-    pub fn afford(
-        &mut self,
-        answers: Option<(Answer<T>, Answer<T>)>,
-    ) -> Option<(Answer<T>, Answer<T>)>
+    pub fn afford(&mut self, ending: Option<Ending<T>>) -> Option<Ending<T>>
         requires room { 1 ≤ spare self.old.told }
-        requires twice { ForSome answers (λ pair. pair.1 ≡ pair.0) }
         ensures layout { self.new.layout ≡ self.old.layout }
         ensures field { self.new.field ≡ self.old.field }
         ensures rows { self.new.rows.items ≡ self.old.rows.items }
         ensures len { vec_len self.new.rows ≡ vec_len self.old.rows }
         ensures capacity { vec_capacity self.new.rows ≡ vec_capacity self.old.rows }
-        ensures afforded { IsAfforded (first_of answers) (first_of result) }
-        ensures twice { ForSome result (λ pair. pair.1 ≡ pair.0) }
-        ensures spare { ForSome result (λ pair. told_count pair.0 ≤ spare self.new.told) }
+        ensures afforded { IsAfforded ending result }
+        ensures spare { ForSome result (λ e. ending_count e ≤ spare self.new.told) }
     {
-        afford(&mut self.told, answers)
+        afford(&mut self.told, ending)
     }
 
     /// Adds that an operation began.
-    pub fn begin(&mut self, op: u64, call: Call<T>)
+    pub fn begin(&mut self, op: u64, call: AnyCall<T>)
         requires { vec_len self.old.rows < vec_capacity self.old.rows }
         ensures layout { self.new.layout ≡ self.old.layout }
         ensures field { self.new.field ≡ self.old.field }
@@ -171,7 +168,7 @@ impl<T: Drop, C: ObjectCodec<T> + Drop, E: EpochField<T>> Trace<T, C, E> {
         ensures capacity { vec_capacity self.old.rows ≤ vec_capacity self.new.rows }
         ensures spare { spare self.new.told ≡ spare self.old.told }
     {
-        push_within(&mut self.rows, Row::Begun(op, call));
+        push_within(&mut self.rows, AnyRow::Begun(op, call));
     }
 
     /// Adds the request of an operation, where one changed the store. The epoch is that of the version that it creates.
@@ -193,12 +190,12 @@ impl<T: Drop, C: ObjectCodec<T> + Drop, E: EpochField<T>> Trace<T, C, E> {
             insert_within(&mut self.erased, removed_id(&self.layout.names, &request));
             let id = created_id(&self.layout.names, &request);
             enter(&mut self.created, &mut self.epochs, id, epoch);
-            push_within(&mut self.rows, Row::Effect(op, request));
+            push_within(&mut self.rows, AnyRow::Effect(op, request));
         }
     }
 
     /// Adds an operation's answer.
-    pub fn answer(&mut self, op: u64, answer: Answer<T>)
+    pub fn answer(&mut self, op: u64, answer: AnyAnswer<T>)
         requires room { vec_len self.old.rows < vec_capacity self.old.rows }
         requires spare { told_count answer ≤ spare self.old.told }
         ensures layout { self.new.layout ≡ self.old.layout }
@@ -206,29 +203,37 @@ impl<T: Drop, C: ObjectCodec<T> + Drop, E: EpochField<T>> Trace<T, C, E> {
         ensures rows { self.new.rows.items ≡ self.old.rows.items ++ Answered op answer ∷ [] }
     {
         tell(&mut self.told, &mut self.greatest, &answer);
-        push_within(&mut self.rows, Row::Answered(op, answer));
+        push_within(&mut self.rows, AnyRow::Answered(op, answer));
     }
 }
 
 /// Makes room for the ids of an answer, or makes the answer the refusal 9.
-fn afford<T: Drop>(
-    told: &mut HashSet<u64>,
-    answers: Option<(Answer<T>, Answer<T>)>,
-) -> Option<(Answer<T>, Answer<T>)>
+fn afford<T: Drop>(told: &mut HashSet<u64>, ending: Option<Ending<T>>) -> Option<Ending<T>>
     requires room { 1 ≤ spare told.old }
-    requires twice { ForSome answers (λ pair. pair.1 ≡ pair.0) }
     ensures same { (n : ℕ) → contains nat_eq told.new n ≡ contains nat_eq told.old n }
-    ensures afforded { IsAfforded (first_of answers) (first_of result) }
-    ensures twice { ForSome result (λ pair. pair.1 ≡ pair.0) }
-    ensures spare { ForSome result (λ pair. told_count pair.0 ≤ spare told.new) }
+    ensures afforded { IsAfforded ending result }
+    ensures spare { ForSome result (λ e. ending_count e ≤ spare told.new) }
 {
-    let (answer, copy) = answers?;
+    match ending? {
+        Ending::Answers(answers) => Some(Ending::Answers(afford_ids(told, answers))),
+        Ending::Comes(outcome) => Some(Ending::Comes(outcome)),
+    }
+}
+
+/// Makes room for the ids of an answer of a call without a view, or makes the answer the refusal 9.
+fn afford_ids<T: Drop>(told: &mut HashSet<u64>, answers: Twice<T>) -> Twice<T>
+    requires room { 1 ≤ spare told.old }
+    ensures same { (n : ℕ) → contains nat_eq told.new n ≡ contains nat_eq told.old n }
+    ensures afforded { IsAfforded (Some (Ending.Answers answers)) (Some (Ending.Answers result)) }
+    ensures spare { plain_count result ≤ spare told.new }
+{
+    let (answer, copy) = answers.into_answers();
     match answer {
         Answer::Ids(ids) => match told.reserve(ids.as_slice().len()) {
-            Ok(()) => Some((Answer::Ids(ids), copy)),
-            Err(_) => Some((Answer::Refused(9), Answer::Refused(9))),
+            Ok(()) => Twice::new(Answer::Ids(ids), copy),
+            Err(_) => Twice::refused(9),
         },
-        answer => Some((answer, copy)),
+        answer => Twice::new(answer, copy),
     }
 }
 
@@ -248,18 +253,6 @@ fn enter(created: &mut HashSet<u64>, epochs: &mut Vec<u64>, id: Option<u64>, epo
     }
 }
 
-/// Inserts an id where there is room.
-fn insert_id(ids: &mut HashSet<u64>, id: u64)
-    requires { 1 ≤ spare ids.old }
-    ensures has { (n : ℕ) → contains nat_eq ids.new n ≡ (contains nat_eq ids.old n || nat_eq n id) }
-    ensures spare { spare ids.old ≤ spare ids.new + 1 }
-{
-    match ids.insert(id) {
-        Ok(_) => {}
-        Err(_) => unreachable!(),
-    }
-}
-
 /// Inserts an id, where there is one, where there is room.
 fn insert_within(ids: &mut HashSet<u64>, id: Option<u64>)
     requires { 1 ≤ spare ids.old }
@@ -271,10 +264,23 @@ fn insert_within(ids: &mut HashSet<u64>, id: Option<u64>)
 }
 
 /// Keeps the ids that an answer tells, where there is room.
-fn tell<T>(told: &mut HashSet<u64>, greatest: &mut u64, answer: &Answer<T>)
+fn tell<T>(told: &mut HashSet<u64>, greatest: &mut u64, answer: &AnyAnswer<T>)
     requires { told_count answer.now ≤ spare told.old }
     ensures told { (n : ℕ) → contains nat_eq told.new n ≡ (contains nat_eq told.old n || tells_id (nat_eq n) answer.now) }
     ensures greatest { (n : ℕ) → nat_lt n greatest.new ≡ (nat_lt n greatest.old || tells_id (nat_lt n) answer.now) }
+{
+    match answer {
+        AnyAnswer::Plain(answer) => tell_plain(told, greatest, answer),
+        AnyAnswer::View(_, id, _) => tell_one(told, greatest, *id),
+        AnyAnswer::Held(_, id, _, _) => tell_one(told, greatest, *id),
+    }
+}
+
+/// Keeps the ids that the answer of a call without a view tells, where there is room.
+fn tell_plain<T>(told: &mut HashSet<u64>, greatest: &mut u64, answer: &Answer<T>)
+    requires { plain_count answer.now ≤ spare told.old }
+    ensures told { (n : ℕ) → contains nat_eq told.new n ≡ (contains nat_eq told.old n || plain.tells_id (nat_eq n) answer.now) }
+    ensures greatest { (n : ℕ) → nat_lt n greatest.new ≡ (nat_lt n greatest.old || plain.tells_id (nat_lt n) answer.now) }
 {
     match answer {
         Answer::Wrote(id) => tell_one(told, greatest, *id),

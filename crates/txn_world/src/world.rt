@@ -1,24 +1,31 @@
 //! Clients over one store, one event at a time.
-ghost use Rattle.std.specs.Prelude.{◌≡◌, ◌≤◌, map, IfOk, OnErr, Some};
+ghost use Rattle.std.specs.Prelude.{◌≡◌, ◌≤◌, map, length, IfOk, OnErr, Some};
+ghost use Rattle.std.specs.Option.{option_copied};
 ghost use Rattle.txn_history.specs.History.{history, stored, boundary, AreErased};
-ghost use Rattle.txn_history.specs.OneHistory.{IsOneHistory};
 ghost use Rattle.txn_history.specs.Seen.{asks_of};
-ghost use Rattle.txn_history.specs.Allowed.{fault_of};
 ghost use Rattle.txn_history.specs.Added.{AddsRows};
-ghost use Rattle.txn_history.specs.GoesOn.{GoesOn};
+ghost use Rattle.txn_view_history.specs.OneHistory.{IsOneHistory};
+ghost use Rattle.txn_view_history.specs.Views.{ViewsFit};
+ghost use Rattle.txn_view_history.specs.Laws.{HasOneClaimer};
+ghost use Rattle.txn_view_history.specs.Seen.{view_of};
+ghost use Rattle.txn_view_history.specs.Allowed.{fault_of};
+ghost use Rattle.txn_view_history.specs.GoesOn.{GoesOn};
 ghost use Rattle.txn_machine.specs.Doing.{asks_as};
 ghost use Rattle.txn_types.specs.Clones.{IsExactClone};
-ghost use Rattle.txn_machine.specs.Machine.{HasContents, opening, seen_of, fault_met, Takes, RunsPast};
+ghost use Rattle.txn_machine.specs.Machine.{HasContents, fault_met};
+ghost use Rattle.txn_any_machine.specs.Machine.{opening, seen_calls, seen_views, seen_of, Takes, RunsPast};
 
 use crate::entries::entries_of;
 use crate::tables::Tables;
 use std::alloc::{AllocError, Global};
 use std::marker::Model;
 use txn_caches::ask::Ask;
-use txn_history::event::{Event, EventFault, Told};
-use txn_history::trace::Row;
+use txn_history::event::EventFault;
 use txn_types::codec::ObjectCodec;
 use txn_types::epoch::EpochField;
+use txn_view_history::event::{AnyEvent, AnyTold};
+use txn_view_history::trace::AnyRow;
+use txn_view_history::view::View;
 
 /// Clients over one store. Contracts see its codec, where its values keep their epochs, and the state that
 /// its events lead to.
@@ -28,7 +35,7 @@ pub struct World<T: Clone, C: ObjectCodec<T> + Drop, E: EpochField<T>> {
 }
 
 impl<T: Clone, C: ObjectCodec<T> + Drop, E: EpochField<T>> Model for World<T, C, E> {
-    ghost use Rattle.txn_machine.specs.Machine.{WorldState, IsReached};
+    ghost use Rattle.txn_any_machine.specs.Machine.{WorldState, IsReached};
 
     ghost Value = { WorldState T C E };
 
@@ -41,7 +48,7 @@ impl<T: Clone, C: ObjectCodec<T> + Drop, E: EpochField<T>> Model for World<T, C,
 
     ghost view = { λ world. shown_world world.tables };
 
-    ghost invariant = { λ world. IsReached (C.encoded world.tables.trace.layout.codec) (C.decoded world.tables.trace.layout.codec) (E.epoch_of world.tables.trace.field) (shown world.tables) };
+    ghost invariant = { λ world. IsReached (C.encoded world.tables.trace.layout.codec) (C.decoded world.tables.trace.layout.codec) (E.epoch_of world.tables.trace.field) (E.with_epoch world.tables.trace.field) (shown world.tables) };
 }
 
 impl<T: Clone, C: ObjectCodec<T> + Drop, E: EpochField<T>> World<T, C, E> {
@@ -67,31 +74,32 @@ impl<T: Clone, C: ObjectCodec<T> + Drop, E: EpochField<T>> World<T, C, E> {
 
     /// Takes one event, and tells what it led to. A refused event changes nothing. It is refused exactly where the rows
     /// and what stands beside them say so: with [`EventFault::UnknownNumber`] for what is not there or has ended,
-    /// [`EventFault::NotAsked`] for a look in place of a store call or a store call in place of a look,
-    /// [`EventFault::UnknownBase`], [`EventFault::BoundaryTooHigh`] or [`EventFault::EpochLowered`]; and with
-    /// [`EventFault::NoMemory`] only where a growth was refused.
-    pub fn take(&mut self, event: Event<T>) -> Result<Told<T>, EventFault>
+    /// and for a view that is not there, is another client's or is of the other kind; with [`EventFault::NotAsked`] for a look
+    /// in place of a store call or a store call in place of a look; a begin also with [`EventFault::ViewBusy`],
+    /// [`EventFault::UnknownBase`], [`EventFault::BoundaryTooHigh`] or [`EventFault::EpochLowered`], in this order; and with
+    /// [`EventFault::NoMemory`] only where a growth was refused. The base of an update is the version at which its view stands.
+    pub fn take(&mut self, event: AnyEvent<T>) -> Result<AnyTold<T>, EventFault>
         requires { IsExactClone T.is_clone }
         ensures refused { fault_met result ≡ fault_of (C.decoded self.old.codec) (E.epoch_of self.old.epochs) (seen_of self.old.state) self.old.state.trace event }
         ensures codec { self.new.codec ≡ self.old.codec }
         ensures epochs { self.new.epochs ≡ self.old.epochs }
         ensures err { OnErr result (self.new ≡ self.old) }
         // The step, as a function of the state, but for want of memory.
-        ensures ok { IfOk result (λ told. Takes (C.encoded self.old.codec) (C.decoded self.old.codec) (E.epoch_of self.old.epochs) self.old.state event told self.new.state) }
-        ensures rows { IfOk result (λ told. AddsRows (seen_of self.old.state) self.old.state.trace self.old.state.store.files event told self.new.state.trace self.new.state.store.files) }
-        // Which operations run, what is loose, and whose store call failed.
-        ensures goes_on { IfOk result (λ told. GoesOn (seen_of self.old.state) event told (seen_of self.new.state)) }
+        ensures ok { IfOk result (λ told. Takes (C.encoded self.old.codec) (C.decoded self.old.codec) (E.epoch_of self.old.epochs) (E.with_epoch self.old.epochs) self.old.state event told self.new.state) }
+        ensures rows { IfOk result (λ told. AddsRows (seen_calls self.old.state) self.old.state.trace self.old.state.store.files event told self.new.state.trace self.new.state.store.files) }
+        // Which operations run, what is loose, whose store call failed, and which views are made, move and end.
+        ensures goes_on { IfOk result (λ told. GoesOn (seen_of self.old.state) event told self.new.state.trace (seen_of self.new.state)) }
     {
         self.tables.take(event)
     }
 
     /// Takes these events in order, past those that are refused, and says how many were taken. An event
     /// that is refused for want of memory is passed over too.
-    pub fn run(&mut self, events: Vec<Event<T>>) -> u64
+    pub fn run(&mut self, events: Vec<AnyEvent<T>>) -> u64
         requires { IsExactClone T.is_clone }
         ensures codec { self.new.codec ≡ self.old.codec }
         ensures epochs { self.new.epochs ≡ self.old.epochs }
-        ensures run { RunsPast (C.encoded self.old.codec) (C.decoded self.old.codec) (E.epoch_of self.old.epochs) self.old.state events.items result self.new.state }
+        ensures run { RunsPast (C.encoded self.old.codec) (C.decoded self.old.codec) (E.epoch_of self.old.epochs) (E.with_epoch self.old.epochs) self.old.state events.items result self.new.state }
     {
         let mut count = 0;
         for event in events {
@@ -103,10 +111,12 @@ impl<T: Clone, C: ObjectCodec<T> + Drop, E: EpochField<T>> World<T, C, E> {
     }
 
     /// What happened, row by row. It takes no memory.
-    pub fn trace(&self) -> &[Row<T>]
+    pub fn trace(&self) -> &[AnyRow<T>]
         ensures rows { result.now ≡ self.now.state.trace }
         // Whatever events came, the versions are one history, and each answer fits it.
-        ensures one_history { IsOneHistory (C.decoded self.now.codec) (E.epoch_of self.now.epochs) self.now.state.failed result.now }
+        ensures one_history { IsOneHistory (C.decoded self.now.codec) (E.epoch_of self.now.epochs) (E.with_epoch self.now.epochs) self.now.state.failed result.now }
+        // No epoch is held by two claims.
+        ensures one_claimer { HasOneClaimer result.now }
         // The store has the contents of the empty store after the requests of the effects.
         ensures stored { HasContents self.now.state.store.files (stored result.now) }
     {
@@ -123,9 +133,28 @@ impl<T: Clone, C: ObjectCodec<T> + Drop, E: EpochField<T>> World<T, C, E> {
     /// What an operation asks for: a store call, or a look at its client's caches, and nothing where it is not there or has
     /// ended. It takes no memory.
     pub fn asks(&self, op: u64) -> Option<Ask<'_>>
-        ensures { asks_as result ≡ asks_of (seen_of self.now.state) op }
+        ensures { asks_as result ≡ asks_of (seen_calls self.now.state) op }
     {
         self.tables.asks(op)
+    }
+
+    /// How many views were made. They are numbered from 1, in the order of the answers that made them. It takes no memory.
+    pub fn views(&self) -> u64
+        ensures count { result ≡ length self.now.state.views }
+        // Each view that stands is a copy of the entry at its id, stands where it was last shown, or above as a fenced holder, and
+        // a holder's epoch is that of its claim.
+        ensures views_fit { ViewsFit (C.decoded self.now.codec) (E.epoch_of self.now.epochs) self.now.state.trace (seen_views self.now.state.views) }
+    {
+        self.tables.views.len()
+    }
+
+    /// A view as it stands: its client, the id and the value of its version, and the epoch of a holder. There is none where no
+    /// view of this number was made, or where it has ended: by its client's crash, or by a claim on it that was not held. It
+    /// takes no memory.
+    pub fn view(&self, number: u64) -> Option<&View<T>>
+        ensures { option_copied result ≡ view_of (seen_of self.now.state) number }
+    {
+        self.tables.view(number)
     }
 
     /// The history: the values of the versions, in the order of their first creation. It goes over the rows once. The only

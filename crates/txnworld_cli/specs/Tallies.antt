@@ -6,7 +6,7 @@ use Rattle.txn_lines.specs.declared.record.RecordCodec.{RecordCodec}
 use Rattle.txn_lines.specs.declared.record.RecordEpoch.{RecordEpoch}
 use Rattle.txn_threads.specs.declared.kept.Share.{Share}
 use Rattle.txn_lines.specs.Record.{record_text, record_read}
-use Rattle.txn_script.specs.Script.{record_epoch}
+use Rattle.txn_script.specs.Script.{record_epoch, record_with}
 use Rattle.txn_history.specs.History.{history}
 use Rattle.txn_threads.specs.Kept.{KeptState, Replays, CameOnce, Agree}
 use Rattle.txn_lines.specs.declared.stop.Stop.TheVariants as stops
@@ -28,7 +28,7 @@ pub record Tallies (workers : ℕ) (kept : KeptState Record RecordCodec RecordEp
   pub entries : tally.history ≡ length (history record_read kept.world.state.trace)
   pub agree : AgreeAs kept shares tally.agree
   -- taking the journal's events one after another leads to this world
-  pub replays : Replays record_text record_read record_epoch kept.journal kept.world.state
+  pub replays : Replays record_text record_read record_epoch record_with kept.journal kept.world.state
 
 abbrev pub IsTally : ℕ → Tally → Type 0
 IsTally workers tally = (kept : KeptState Record RecordCodec RecordEpoch) × (shares : List Share) × Tallies workers kept shares tally

@@ -12,7 +12,6 @@ use std::sync::{Mutex, Wait};
 use std::thread::Threads;
 use std::{fmt, io};
 use txn_history::event::Call;
-use txn_history::trace::Row;
 use txn_lines::record::{Record, RecordCodec, RecordEpoch};
 use txn_lines::stop::Stop;
 use txn_script::printer::Printer;
@@ -21,6 +20,8 @@ use txn_threads::gate::FreeGate;
 use txn_threads::kept::{Kept, Share};
 use txn_threads::work::{End, Job, Worked, Worker, work_all};
 use txn_types::layout::PAGE;
+use txn_view_history::event::AnyCall;
+use txn_view_history::trace::AnyRow;
 use txn_world::world::World;
 
 /// What a run of workers left.
@@ -111,7 +112,7 @@ fn jobs_of(alloc: Global, worker: u64) -> Result<Vec<Job<Record>>, AllocError>
         payload: worker * 100 + k,
     };
     Ok(vec![in alloc;
-        Job::Call(Call::Write(None, value(1))),
+        Job::Call(AnyCall::Plain(Call::Write(None, value(1)))),
         Job::WriteOnRead(value(2)),
         Job::WriteOnRead(value(3)),
         Job::WriteOnRead(value(4)),
@@ -156,21 +157,21 @@ fn shares_of(alloc: Global, worked: Vec<Worked>) -> Result<Vec<Share>, AllocErro
 }
 
 /// Whether a row says that a call began.
-fn says_begun(row: &Row<Record>) -> bool
+fn says_begun(row: &AnyRow<Record>) -> bool
     ensures { result ≡ says_begun row.now }
 {
-    matches!(row, Row::Begun(_, _))
+    matches!(row, AnyRow::Begun(_, _))
 }
 
 /// Whether a row says that a call was answered.
-fn says_answered(row: &Row<Record>) -> bool
+fn says_answered(row: &AnyRow<Record>) -> bool
     ensures { result ≡ says_answered row.now }
 {
-    matches!(row, Row::Answered(_, _))
+    matches!(row, AnyRow::Answered(_, _))
 }
 
 /// How many rows say that a call began.
-fn begun(rows: &[Row<Record>]) -> u64
+fn begun(rows: &[AnyRow<Record>]) -> u64
     ensures { result ≡ begun_count rows.now }
 {
     let mut count = 0;
@@ -183,7 +184,7 @@ fn begun(rows: &[Row<Record>]) -> u64
 }
 
 /// How many rows say that a call was answered.
-fn answered(rows: &[Row<Record>]) -> u64
+fn answered(rows: &[AnyRow<Record>]) -> u64
     ensures { result ≡ answered_count rows.now }
 {
     let mut count = 0;

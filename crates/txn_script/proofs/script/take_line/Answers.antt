@@ -1,7 +1,7 @@
 -- A page line makes another world, and prints nothing.
 use Rattle.std.proofs.Common.{[], sym, subst}
 use Rattle.std.proofs.lemmas.List.{append-nil}
-use Rattle.txn_machine.specs.Machine.{WorldState}
+use Rattle.txn_any_machine.specs.Machine.{WorldState}
 use Rattle.txn_lines.specs.declared.line.Line.{Line}
 use Rattle.txn_lines.specs.declared.record.Record.{Record}
 use Rattle.txn_lines.specs.declared.record.RecordCodec.{RecordCodec}

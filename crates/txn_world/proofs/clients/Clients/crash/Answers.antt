@@ -3,6 +3,7 @@ use Rattle.std.specs.List.Sorted.{IsStrictlySortedBy}
 use Rattle.std.specs.Ordering.{nat_cmp}
 use Rattle.txn_world.specs.Running.{left_of}
 use Rattle.txn_world.proofs.Running.{running_found, crash_running, crash_operations, crash_leaves, has_all}
+use Rattle.txn_world.proofs.Acting.{from_ended}
 use Rattle.txn_world.proofs.clients.Clients.crash.Goals as goal
 
 pub end_all-requires : goal.end_all-requires
@@ -19,6 +20,7 @@ invariant_of-self g c =
       wide = t.wide;
       each = c.clear.ensures.len ∙ t.each;
       all_running = crash_running t.running.items c.clear.new.running.items t.operations.items c.end_all.new.operations.items c.args.client c.deref-3.result.now t.all_running has c.end_all.ensures c.clear.ensures.left;
+      from_one = from_ended t.operations.items c.end_all.new.operations.items c.args.client t.from_one (crash_operations t.running.items t.operations.items c.end_all.new.operations.items c.args.client c.deref-3.result.now t.all_running has c.end_all.ensures);
     }
 
 pub returns-clause-operations : goal.returns-clause-operations

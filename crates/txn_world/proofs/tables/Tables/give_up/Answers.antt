@@ -7,5 +7,5 @@ use Rattle.txn_world.proofs.tables.Tables.give_up.Goals as goal
 
 pub returns-clause-ok : goal.returns-clause-ok
 returns-clause-ok g c =
-    gave_up (shown c.args.self.now) _ c.args.op c.in_ok-copy.copy c.requires.asks c.end.ensures.ended (c.in_ok-copy.ensures ∙ ap loose_of (c.asked.ensures ∙ ap (λ os. asked_by os c.args.op) c.deref.ensures.value)) c.end.ensures.count refl refl c.end.ensures.caches
+    gave_up (shown c.args.self.now) _ c.args.op c.usage-of.result c.in_ok-copy.copy c.requires.asks c.usage-of.ensures.same c.end.ensures.ended (c.in_ok-copy.ensures ∙ ap loose_of (c.asked.ensures ∙ ap (λ os. asked_by os c.args.op) c.deref.ensures.value)) c.end.ensures.count refl refl c.end.ensures.caches c.let_go.ensures.used
     (c.push_loose.ensures ∙ ap (λ ls. ls ++ as_loose c.args.op c.in_ok-copy.copy) c.in_ok-reserve.ensures.items) refl refl

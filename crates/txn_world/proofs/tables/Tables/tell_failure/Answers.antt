@@ -5,4 +5,5 @@ use Rattle.txn_world.proofs.tables.Tables.tell_failure.Goals as goal
 
 pub returns-clause-failed : goal.returns-clause-failed
 returns-clause-failed g c =
-    told_failed (shown c.args.self.now) _ c.args.op c.end.ensures.ended c.end.ensures.count (ap (λ l. l.page) c.answer.ensures.layout) refl c.end.ensures.caches refl c.push_within.ensures.items c.answer.ensures.rows
+    rw c.refuse.ensures.told
+    (told_failed (shown c.args.self.now) _ c.args.op c.usage-of.result c.usage-of.ensures.same c.end.ensures.ended c.end.ensures.count (ap (λ l. l.page) c.refuse.ensures.layout) refl c.end.ensures.caches c.refuse.ensures.views refl c.push_within.ensures.items c.refuse.ensures.rows)

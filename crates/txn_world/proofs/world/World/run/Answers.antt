@@ -19,7 +19,7 @@ loop-event-preserved-then-is_ok g c =
       few = one_longer c.loop-event.yielded c.in-Some.event c.loop-event.count c.loop-event.invariant.few;
       codec = c.take.ensures.codec ∙ c.loop-event.invariant.codec;
       epochs = c.take.ensures.epochs ∙ c.loop-event.invariant.epochs;
-      run = runs_past_more (g.C.ObjectCodec.encoded c.args.self.now.codec) (g.C.ObjectCodec.decoded c.args.self.now.codec) (g.E.EpochField.epoch_of c.args.self.now.epochs) c.args.self.now.state c.loop-event.yielded c.loop-event.count c.loop-event.self.state c.in-Some.event c.take.result c.take.new.self.state (c.loop-event.count + 1)
+      run = runs_past_more (g.C.ObjectCodec.encoded c.args.self.now.codec) (g.C.ObjectCodec.decoded c.args.self.now.codec) (g.E.EpochField.epoch_of c.args.self.now.epochs) (g.E.EpochField.with_epoch c.args.self.now.epochs) c.args.self.now.state c.loop-event.yielded c.loop-event.count c.loop-event.self.state c.in-Some.event c.take.result c.take.new.self.state (c.loop-event.count + 1)
           c.loop-event.invariant.run (rw (← c.loop-event.invariant.codec, ← c.loop-event.invariant.epochs) c.take.ensures.refused) (err_state c.take.result c.loop-event.self c.take.new.self c.take.ensures.err)
           (rw (← c.loop-event.invariant.codec, ← c.loop-event.invariant.epochs) c.take.ensures.ok) (rw (← c.is_ok.ensures.value, c.if-is_ok.true) refl);
     }
@@ -33,7 +33,7 @@ loop-event-preserved g c =
       few = let more = one_longer c.loop-event.yielded c.in-Some.event c.loop-event.count c.loop-event.invariant.few in omega (arith, more);
       codec = c.take.ensures.codec ∙ c.loop-event.invariant.codec;
       epochs = c.take.ensures.epochs ∙ c.loop-event.invariant.epochs;
-      run = runs_past_more (g.C.ObjectCodec.encoded c.args.self.now.codec) (g.C.ObjectCodec.decoded c.args.self.now.codec) (g.E.EpochField.epoch_of c.args.self.now.epochs) c.args.self.now.state c.loop-event.yielded c.loop-event.count c.loop-event.self.state c.in-Some.event c.take.result c.take.new.self.state c.loop-event.count
+      run = runs_past_more (g.C.ObjectCodec.encoded c.args.self.now.codec) (g.C.ObjectCodec.decoded c.args.self.now.codec) (g.E.EpochField.epoch_of c.args.self.now.epochs) (g.E.EpochField.with_epoch c.args.self.now.epochs) c.args.self.now.state c.loop-event.yielded c.loop-event.count c.loop-event.self.state c.in-Some.event c.take.result c.take.new.self.state c.loop-event.count
           c.loop-event.invariant.run (rw (← c.loop-event.invariant.codec, ← c.loop-event.invariant.epochs) c.take.ensures.refused) (err_state c.take.result c.loop-event.self c.take.new.self c.take.ensures.err)
           (rw (← c.loop-event.invariant.codec, ← c.loop-event.invariant.epochs) c.take.ensures.ok) (rw (← c.is_ok.ensures.value, c.if-is_ok.false) refl);
     }

@@ -1,0 +1,288 @@
+-- The rows that an event adds.
+use Rattle.std.proofs.Common.{◌≡◌, ◌≢◌, ℕ, ◌+◌, ◌-◌, List, [], ◌∷◌, ◌++◌, length, not, Bool, true, false, cond, is_some, Option, Some, None, Result, Ok, Err, inl, inr, refl, sym, ◌∙◌, ap, subst, arith}
+use Rattle.std.specs.FinMap.{get, get-empty}
+use Rattle.std.proofs.lemmas.List.{length-append, length-map, length-set}
+use Rattle.txn_store.specs.Paths.{Segments, path_cmp}
+use Rattle.txn_store.specs.Store.{State as StoreState, Placed, Removed, Puts, Deletes}
+use Rattle.txn_store.specs.Requests.{Serves}
+use Rattle.txn_store.specs.declared.store.PutMode.{PutMode}
+use Rattle.txn_store.specs.declared.store.StoreError.{StoreError}
+use Rattle.txn_store.specs.declared.store.StoreError.TheVariants as errors
+use Rattle.txn_store.specs.declared.request.Request.{Request}
+use Rattle.txn_store.specs.declared.request.Request.TheVariants as requests
+use Rattle.txn_store.specs.declared.request.Reply.{Reply}
+use Rattle.txn_store.specs.declared.request.Reply.TheVariants as replies
+use Rattle.txn_caches.specs.declared.caches.Caches.{Caches}
+use Rattle.txn_history.specs.declared.event.Answer.TheVariants as plain_answers
+use Rattle.txn_history.specs.declared.event.Failure.{Failure}
+use Rattle.txn_history.specs.declared.event.Failure.TheVariants as failures
+use Rattle.txn_history.specs.declared.event.EventOf.TheVariants as events
+use Rattle.txn_history.specs.declared.event.ToldOf.TheVariants as told
+use Rattle.txn_history.specs.declared.trace.RowOf.TheVariants.{Effect, Begun, Answered}
+use Rattle.txn_history.specs.Calls.{begun_count}
+use Rattle.txn_history.specs.Added.{is_empty, answer_row, Tells, IsEffectRow, AddsRows}
+use Rattle.txn_history.specs.Seen.{Store}
+use Rattle.txn_machine.specs.Machine.{effect_of}
+use Rattle.txn_machine.proofs.Stands.{AllGiven}
+use Rattle.txn_machine.proofs.Effects.{removed_missing}
+use Rattle.txn_machine.proofs.Faults.{get_kept, listed_kept, not_some, ruled_out}
+use Rattle.txn_view_history.specs.declared.event.AnyCall.{AnyCall}
+use Rattle.txn_view_history.specs.declared.event.AnyAnswer.{AnyAnswer}
+use Rattle.txn_view_history.specs.declared.event.AnyAnswer.TheVariants as answers
+use Rattle.txn_view_history.specs.Trace.{AnyRow, AnyEvent, AnyTold}
+use Rattle.txn_view_history.specs.Calls.{view_used}
+use Rattle.txn_any_machine.specs.declared.doing.AnyOperation.{AnyOperation}
+use Rattle.txn_any_machine.specs.Doing.{Next, ended, refused, caches_left}
+use Rattle.txn_any_machine.specs.Machine.{State, opening, seen_calls, told_of, answered, answer_next, answer_rows, effect_rows, doing_next, next_op, new_operation, acted, effected, loosened, failing, given_up, ended_by, crashed, begun_as, ReachesStore, FailsFirst, Fails, Lands, Looks, Served, Begins, Takes, IsReached}
+use Rattle.txn_any_machine.proofs.Busy.{seen_asks}
+use Rattle.txn_any_machine.proofs.Runs.{runs_keep}
+use Rattle.txn_any_machine.proofs.TokensGiven.{served_given}
+
+module _ (T : Type 0) where
+  -- what a request that was served adds
+
+  abbrev Adds : ℕ → StoreState → StoreState → Request → Reply → Type 0
+  Adds op old new request reply = IsEffectRow {C = AnyCall T} {A = AnyAnswer T} op request old.files new.files (effect_rows op (effect_of old.files request reply))
+
+  -- a token that is new is not a file's
+  fresh_token : (path : Segments) (bytes : List ℕ) (token : ℕ) (old new : StoreState) → AllGiven old → Placed path bytes token old new → get old.files path ≢ Some (record { bytes = bytes; token = token })
+  fresh_token path bytes token old new all placed e = placed.fresh (all path (record { bytes = bytes; token = token }) e)
+
+  put_row : (op : ℕ) (path : Segments) (bytes : List ℕ) (mode : PutMode) (old new : StoreState) (answer : Result ℕ StoreError) → AllGiven old → Puts path bytes mode old answer new → new.failures ≡ 0 → Adds op old new (requests.Put path bytes mode) (replies.Put answer)
+  put_row op path bytes mode old new (Ok token) all p honest = inr (refl, (token, p.placed.files, fresh_token path bytes token old new all p.placed))
+  put_row op path bytes mode old new (Err errors.AlreadyExists) all p honest = inl (refl, p.err.1.files)
+  put_row op path bytes mode old new (Err errors.NoMemory) all p honest = inl (refl, p.err.1.files)
+  put_row op path bytes mode old new (Err errors.TokensExhausted) all p honest = inl (refl, p.err.2.files)
+  put_row op path bytes mode old new (Err errors.Failed) all p honest = ruled_out old new honest p.err.0
+  put_row op path bytes mode old new (Err errors.NotFound) all p honest = inl (refl, p.err.1.files)
+  put_row op path bytes mode old new (Err errors.Precondition) all p honest = inl (refl, p.err.1.files)
+  put_row op path bytes mode old new (Err errors.NotModified) all p honest = inl (refl, p.err.1.files)
+
+  removed_row : (there : Bool) (op : ℕ) (path : Segments) (old new : StoreState) → is_some (get old.files path) ≡ there → Removed path old new → IsEffectRow {C = AnyCall T} {A = AnyAnswer T} op (requests.Delete path) old.files new.files (effect_rows op (cond there (Some (requests.Delete path)) None))
+  removed_row true op path old new e gone = inr (refl, (gone.files, e))
+  removed_row false op path old new e gone = inl (refl, gone.files ∙ removed_missing old.files path (not_some (get old.files path) e))
+
+  delete_row : (op : ℕ) (path : Segments) (old new : StoreState) (answer : Result (Unit {0}) StoreError) → Deletes path old answer new → new.failures ≡ 0 → Adds op old new (requests.Delete path) (replies.Delete answer)
+  delete_row op path old new (Ok done) d honest = removed_row (is_some (get old.files path)) op path old new refl d.removed
+  delete_row op path old new (Err errors.NoMemory) d honest = inl (refl, d.err.1.files)
+  delete_row op path old new (Err errors.Failed) d honest = ruled_out old new honest d.err.0
+  delete_row op path old new (Err errors.TokensExhausted) d honest = absurd d.err
+  delete_row op path old new (Err errors.NotFound) d honest = inl (refl, d.err.1.files)
+  delete_row op path old new (Err errors.AlreadyExists) d honest = inl (refl, d.err.1.files)
+  delete_row op path old new (Err errors.Precondition) d honest = inl (refl, d.err.1.files)
+  delete_row op path old new (Err errors.NotModified) d honest = inl (refl, d.err.1.files)
+
+  served_row : (op : ℕ) (old new : StoreState) (request : Request) (reply : Reply) → AllGiven old → Serves request old reply new → new.failures ≡ 0 → Adds op old new request reply
+  served_row op old new (requests.Put path bytes mode) (replies.Put answer) all s honest = put_row op path bytes mode old new answer all s honest
+  served_row op old new (requests.Get path known) (replies.Get answer) all s honest = inl (refl, (get_kept path known old new answer s honest).files)
+  served_row op old new (requests.List prefix after limit) (replies.List answer) all s honest = inl (refl, (listed_kept prefix after limit old new answer s honest).files)
+  served_row op old new (requests.Delete path) (replies.Delete answer) all s honest = delete_row op path old new answer s honest
+  served_row op old new (requests.Put path bytes mode) (replies.Get answer) all s honest = absurd s
+  served_row op old new (requests.Put path bytes mode) (replies.List answer) all s honest = absurd s
+  served_row op old new (requests.Put path bytes mode) (replies.Delete answer) all s honest = absurd s
+  served_row op old new (requests.Get path known) (replies.Put answer) all s honest = absurd s
+  served_row op old new (requests.Get path known) (replies.List answer) all s honest = absurd s
+  served_row op old new (requests.Get path known) (replies.Delete answer) all s honest = absurd s
+  served_row op old new (requests.List prefix after limit) (replies.Put answer) all s honest = absurd s
+  served_row op old new (requests.List prefix after limit) (replies.Get answer) all s honest = absurd s
+  served_row op old new (requests.List prefix after limit) (replies.Delete answer) all s honest = absurd s
+  served_row op old new (requests.Delete path) (replies.Put answer) all s honest = absurd s
+  served_row op old new (requests.Delete path) (replies.Get answer) all s honest = absurd s
+  served_row op old new (requests.Delete path) (replies.List answer) all s honest = absurd s
+
+  effect_empty : (op : ℕ) (effect : Option Request) → is_some effect ≡ not (is_empty (effect_rows {T = T} op effect))
+  effect_empty op None = refl
+  effect_empty op (Some request) = refl
+
+module _ {T : Type 0} where
+  -- the rows of answers
+
+  tells_answer : (otherwise : AnyTold T) (op : ℕ) (answer : Option (AnyAnswer T)) → Tells otherwise op (told_of otherwise op answer)
+  tells_answer otherwise op None = inl refl
+  tells_answer otherwise op (Some answer) = inr (answer, refl)
+
+  went_row : (op : ℕ) (answer : Option (AnyAnswer T)) → answer_rows op answer ≡ answer_row (told_of (told.Went op) op answer)
+  went_row op None = refl
+  went_row op (Some answer) = refl
+
+  began_row : (op : ℕ) (answer : Option (AnyAnswer T)) → answer_rows op answer ≡ answer_row (told_of (told.Began op) op answer)
+  began_row op None = refl
+  began_row op (Some answer) = refl
+
+  -- the rows of failures and landings
+
+  first_adds : (looses : Bool) (old : State T) (op : ℕ) (said : AnyTold T) (new : State T) → FailsFirst old op said looses new → (Tells (told.Went op) op said) × (new.trace ≡ old.trace ++ answer_row said) × (new.store.files ≡ old.store.files)
+  first_adds false old op said new v = (
+    inr (answers.Plain (plain_answers.Refused 2), v.tells),
+    ap (λ (s : State T). s.trace) v.state ∙ ap (λ (t : AnyTold T). old.trace ++ answer_row t) (sym v.tells),
+    ap (λ (s : State T). s.store.files) v.state,
+  )
+  first_adds true old op said new v = (
+    inr (answers.Plain (plain_answers.Refused 2), v.tells),
+    ap (λ (s : State T). s.trace) v.state ∙ ap (λ (t : AnyTold T). old.trace ++ answer_row t) (sym v.tells),
+    ap (λ (s : State T). s.store.files) v.state,
+  )
+
+  fail_adds : (failure : Failure) (old : State T) (op : ℕ) (said : AnyTold T) (new : State T) → Fails old op failure said new → AllGiven old.store → AddsRows (seen_calls old) old.trace old.store.files (events.Fail op failure) said new.trace new.store.files
+  fail_adds failures.Before old op said new v given = first_adds false old op said new v
+  fail_adds failures.Loose old op said new v given = first_adds true old op said new v
+  fail_adds failures.After old op said new v given =
+      let rows = effect_rows op (effect_of old.store.files v.request v.reply) in
+      record {
+        request = v.request;
+        asked = seen_asks old.operations op v.operation v.acts.found ∙ v.acts.asks;
+        rows = rows;
+        effect = subst (λ (s : State T). IsEffectRow {C = AnyCall T} {A = AnyAnswer T} op v.request old.store.files s.store.files rows) (sym v.state) (served_row T op old.store v.store v.request v.reply given v.reaches.serves v.reaches.honest);
+        told = inr (answers.Plain (plain_answers.Refused 2), v.tells);
+        added = ap (λ (s : State T). s.trace) v.state ∙ ap (λ (t : AnyTold T). (old.trace ++ rows) ++ answer_row t) (sym v.tells);
+      }
+
+  land_adds : (old : State T) (k : ℕ) (said : AnyTold T) (new : State T) → Lands old k said new → AllGiven old.store → AddsRows (seen_calls old) old.trace old.store.files (events.Land k) said new.trace new.store.files
+  land_adds old k said new v given =
+      let effect = effect_of old.store.files v.request v.reply in
+      let rows = effect_rows v.op effect in
+      record {
+        op = v.op;
+        request = v.request;
+        loose = v.found;
+        rows = rows;
+        effect = subst (λ (s : State T). IsEffectRow {C = AnyCall T} {A = AnyAnswer T} v.op v.request old.store.files s.store.files rows) (sym v.state) (served_row T v.op old.store v.store v.request v.reply given v.reaches.serves v.reaches.honest);
+        told = v.tells ∙ ap (told.Landed k) (effect_empty T v.op effect);
+        added = ap (λ (s : State T). s.trace) v.state;
+      }
+
+none_more : (operations rows more : ℕ) → operations ≡ rows → more ≡ 0 → operations ≡ rows + more
+none_more operations rows more e none = omega arith
+
+effects_begun : (T : Type 0) (op : ℕ) (effect : Option Request) → begun_count (effect_rows {T = T} op effect) ≡ 0
+effects_begun T op None = refl
+effects_begun T op (Some request) = refl
+
+module _ {T : Type 0} where
+  -- Each file's token was given, and each operation has its begin.
+  pub record Counted (s : State T) : Type 0 where
+    pub given : AllGiven s.store
+    pub count : length s.operations ≡ begun_count s.trace
+
+  begun_more : (rows more : List (AnyRow T)) → begun_count (rows ++ more) ≡ begun_count rows + begun_count more
+  begun_more [] more = omega arith
+  begun_more (Begun op call ∷ rows) more = (let rest = begun_more rows more in omega (arith, rest))
+  begun_more (Effect op request ∷ rows) more = begun_more rows more
+  begun_more (Answered op answer ∷ rows) more = begun_more rows more
+
+  answers_begun : (op : ℕ) (answer : Option (AnyAnswer T)) → begun_count (answer_rows op answer) ≡ 0
+  answers_begun op None = refl
+  answers_begun op (Some answer) = refl
+
+  acted_counted : (s : State T) (op : ℕ) (o : AnyOperation T) (next : Next T) (caches : Caches) → Counted s → Counted (acted s op o next caches)
+  acted_counted s op o next caches h =
+      let answer = answer_next s o next in
+      record {
+        given = h.given;
+        count = length-set s.operations (op - 1) (doing_next o next.0) ∙ (none_more (length s.operations) (begun_count s.trace) (begun_count (answer_rows op answer)) h.count (answers_begun op answer) ∙ sym (begun_more s.trace (answer_rows op answer)));
+      }
+
+  effected_counted : (s : State T) (op : ℕ) (request : Request) (reply : Reply) (store : StoreState) → ReachesStore s request reply store → Counted s → Counted (effected s op request reply store)
+  effected_counted s op request reply store r h =
+      let effect = effect_of s.store.files request reply in
+      record {
+        given = served_given s.store store request reply h.given r.serves r.honest;
+        count = none_more (length s.operations) (begun_count s.trace) (begun_count (effect_rows op effect)) h.count (effects_begun T op effect) ∙ sym (begun_more s.trace (effect_rows op effect));
+      }
+
+  begun_counted : (s : State T) (client : ℕ) (call : AnyCall T) (next : Next T) → Counted s → Counted (begun_as s client call next)
+  begun_counted s client call next h =
+      let answer = answered (length s.views) (view_used call) next.1 in
+      let one = Begun (next_op s) call ∷ [] in
+      let rows : begun_count (s.trace ++ one) ≡ begun_count s.trace + 1 = begun_more s.trace one in
+      let all : begun_count ((s.trace ++ one) ++ answer_rows (next_op s) answer) ≡ begun_count (s.trace ++ one) + begun_count (answer_rows (next_op s) answer) = begun_more (s.trace ++ one) (answer_rows (next_op s) answer) in
+      let none = answers_begun (next_op s) answer in
+      let more : length (s.operations ++ new_operation client call next.0 ∷ []) ≡ length s.operations + 1 = length-append s.operations (new_operation client call next.0 ∷ []) in
+      record { given = h.given; count = (let count = h.count in omega (arith, rows, all, none, more, count)) }
+
+  crashed_counted : (s : State T) (client : ℕ) → Counted s → Counted (crashed s client)
+  crashed_counted s client h = record { given = h.given; count = length-map s.operations (ended_by client) ∙ h.count }
+
+  given_up_counted : (s : State T) (op : ℕ) (o : AnyOperation T) → Counted s → Counted (given_up s op o)
+  given_up_counted s op o h = record { given = h.given; count = length-set s.operations (op - 1) (doing_next o ended) ∙ h.count }
+
+  kept : (s t : State T) → Counted s → t.store ≡ s.store → t.operations ≡ s.operations → t.trace ≡ s.trace → Counted t
+  kept s t h store operations trace = record { given = subst AllGiven (sym store) h.given; count = ap length operations ∙ (h.count ∙ sym (ap begun_count trace)) }
+
+  fails_counted : (failure : Failure) (old : State T) (op : ℕ) (said : AnyTold T) (new : State T) → Fails old op failure said new → Counted old → Counted new
+  fails_counted failures.Before old op said new v h = subst Counted (sym v.state) (acted_counted (failing old op) op v.operation (refused 2) v.caches (kept old (failing old op) h refl refl refl))
+  fails_counted failures.After old op said new v h =
+      let middle = effected old op v.request v.reply v.store in
+      subst Counted (sym v.state) (acted_counted (failing middle op) op v.operation (refused 2) v.caches (kept middle (failing middle op) (effected_counted old op v.request v.reply v.store v.reaches h) refl refl refl))
+  fails_counted failures.Loose old op said new v h =
+      let middle = failing (loosened old op (Store v.request)) op in
+      subst Counted (sym v.state) (acted_counted middle op v.operation (refused 2) v.caches (kept old middle h refl refl refl))
+
+module _ {T : Type 0} (encode : T → List ℕ) (decode : List ℕ → Option T) (get_epoch : T → ℕ) (set_epoch : T → ℕ → T) where
+  serve_adds : (old : State T) (op : ℕ) (said : AnyTold T) (new : State T) → Served encode decode get_epoch set_epoch old op said new → AllGiven old.store → AddsRows (seen_calls old) old.trace old.store.files (events.Serve op) said new.trace new.store.files
+  serve_adds old op said new v given =
+      let rows = effect_rows op (effect_of old.store.files v.request v.reply) in
+      let answer = answer_next old v.operation v.next in
+      record {
+        request = v.request;
+        asked = seen_asks old.operations op v.operation v.acts.found ∙ v.acts.asks;
+        rows = rows;
+        effect = subst (λ (s : State T). IsEffectRow {C = AnyCall T} {A = AnyAnswer T} op v.request old.store.files s.store.files rows) (sym v.state) (served_row T op old.store v.store v.request v.reply given v.reaches.serves v.reaches.honest);
+        told = subst (λ (t : AnyTold T). Tells (told.Went op) op t) (sym v.tells) (tells_answer (told.Went op) op answer);
+        added = ap (λ (s : State T). s.trace) v.state ∙ ap (λ more. (old.trace ++ rows) ++ more) (went_row op answer ∙ ap answer_row (sym v.tells));
+      }
+
+  look_adds : (old : State T) (op : ℕ) (said : AnyTold T) (new : State T) → Looks encode decode get_epoch set_epoch old op said new → AddsRows (seen_calls old) old.trace old.store.files (events.Look op) said new.trace new.store.files
+  look_adds old op said new v =
+      let answer = answer_next old v.operation v.next in (
+        subst (λ (t : AnyTold T). Tells (told.Went op) op t) (sym v.tells) (tells_answer (told.Went op) op answer),
+        ap (λ (s : State T). s.trace) v.state ∙ ap (λ more. old.trace ++ more) (went_row op answer ∙ ap answer_row (sym v.tells)),
+        ap (λ (s : State T). s.store.files) v.state,
+      )
+
+  begin_adds : (old : State T) (client : ℕ) (call : AnyCall T) (said : AnyTold T) (new : State T) → Begins encode decode get_epoch set_epoch old client call said new → length old.operations ≡ begun_count old.trace →
+      AddsRows (seen_calls old) old.trace old.store.files (events.Begin client call) said new.trace new.store.files
+  begin_adds old client call said new v count =
+      let same : next_op old ≡ begun_count old.trace + 1 = ap (λ n. n + 1) count in
+      let answer = answered (length old.views) (view_used call) v.next.1 in
+      subst (λ (n : ℕ). Tells (told.Began n) n said × (new.trace ≡ (old.trace ++ Begun n call ∷ []) ++ answer_row said) × (new.store.files ≡ old.store.files)) same (
+        subst (λ (t : AnyTold T). Tells (told.Began (next_op old)) (next_op old) t) (sym v.tells) (tells_answer (told.Began (next_op old)) (next_op old) answer),
+        ap (λ (s : State T). s.trace) v.state ∙ ap (λ rows. (old.trace ++ Begun (next_op old) call ∷ []) ++ rows) (began_row (next_op old) answer ∙ ap answer_row (sym v.tells)),
+        ap (λ (s : State T). s.store.files) v.state,
+      )
+
+  -- which rows an event adds, where each file's token was given, and each operation has its begin
+  pub added_rows_with : (old : State T) (event : AnyEvent T) (said : AnyTold T) (new : State T) → AllGiven old.store → length old.operations ≡ begun_count old.trace → Takes encode decode get_epoch set_epoch old event said new →
+      AddsRows (seen_calls old) old.trace old.store.files event said new.trace new.store.files
+  added_rows_with old (events.Begin client call) said new given count t = begin_adds old client call said new t.step count
+  added_rows_with old (events.Look op) said new given count t = look_adds old op said new t.step
+  added_rows_with old (events.Serve op) said new given count t = serve_adds old op said new t.step given
+  added_rows_with old (events.Fail op failure) said new given count t = fail_adds failure old op said new t.step given
+  added_rows_with old (events.GiveUp op) said new given count t = (t.step.tells, ap (λ (s : State T). s.trace) t.step.state, ap (λ (s : State T). s.store.files) t.step.state)
+  added_rows_with old (events.Land k) said new given count t = land_adds old k said new t.step given
+  added_rows_with old (events.Crash client) said new given count t = (t.step.tells, ap (λ (s : State T). s.trace) t.step.state, ap (λ (s : State T). s.store.files) t.step.state)
+
+  -- each operation has its begin among the rows, and each file's token was given
+
+  takes_counted : (old : State T) (event : AnyEvent T) (said : AnyTold T) (new : State T) → Counted old → Takes encode decode get_epoch set_epoch old event said new → Counted new
+  takes_counted old (events.Begin client call) said new h t = subst Counted (sym t.step.state) (begun_counted old client call t.step.next h)
+  takes_counted old (events.Look op) said new h t = (let v = t.step in subst Counted (sym v.state) (acted_counted old op v.operation v.next (caches_left v.operation.doing v.caches v.next.1) h))
+  takes_counted old (events.Serve op) said new h t = (
+      let v = t.step in
+      subst Counted (sym v.state) (acted_counted (effected old op v.request v.reply v.store) op v.operation v.next (caches_left v.operation.doing v.caches v.next.1) (effected_counted old op v.request v.reply v.store v.reaches h))
+      )
+  takes_counted old (events.Fail op failure) said new h t = fails_counted failure old op said new t.step h
+  takes_counted old (events.GiveUp op) said new h t = (
+      let v = t.step in
+      let middle = loosened old op v.ask in
+      subst Counted (sym v.state) (given_up_counted middle op v.operation (kept old middle h refl refl refl))
+      )
+  takes_counted old (events.Land k) said new h t = (let v = t.step in subst Counted (sym v.state) (effected_counted old v.op v.request v.reply v.store v.reaches h))
+  takes_counted old (events.Crash client) said new h t = subst Counted (sym t.step.state) (crashed_counted old client h)
+
+  pub reached_counts : (s : State T) → IsReached encode decode get_epoch set_epoch s → Counted s
+  reached_counts s r = runs_keep encode decode get_epoch set_epoch Counted takes_counted (opening s.clients s.page) r.0 s r.1 (record { given = λ path got e. absurd (let clash = sym (get-empty path_cmp path) ∙ e in cc); count = refl })
+
+  -- which rows an event adds
+  pub added_rows : (old : State T) (event : AnyEvent T) (said : AnyTold T) (new : State T) → IsReached encode decode get_epoch set_epoch old → Takes encode decode get_epoch set_epoch old event said new → AddsRows (seen_calls old) old.trace old.store.files event said new.trace new.store.files
+  added_rows old event said new r t = let c = reached_counts old r in added_rows_with old event said new c.given c.count t

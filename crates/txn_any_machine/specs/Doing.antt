@@ -1,0 +1,175 @@
+-- What an operation of any call does: how the call starts, what it asks for, what it makes of a look or a reply, what it
+-- leaves of its client's caches, and how it ends.
+use Rattle.std.specs.Prelude.{◌≡◌, ℕ, List, Bool, true, false, Option, Some, None, Result, Ok, Err}
+use Rattle.txn_store.specs.declared.request.Reply.{Reply}
+use Rattle.txn_caches.specs.declared.caches.Caches.{Caches}
+use Rattle.txn_caches.specs.declared.turned.Turned.{Turned}
+use Rattle.txn_caches.specs.declared.turned.Turned.TheVariants as turns
+use Rattle.txn_history.specs.declared.event.Answer.{Answer}
+use Rattle.txn_history.specs.declared.event.Answer.TheVariants as plain_answers
+use Rattle.txn_history.specs.Names.{world_names, world_boundary}
+use Rattle.txn_history.specs.Seen.{Ask}
+use Rattle.txn_machine.specs.declared.doing.Doing.TheVariants as doings
+use Rattle.txn_machine.specs.Doing as plain
+use Rattle.txn_machine.specs.Doing.{ask_of}
+use Rattle.txn_view_steps.specs.declared.outcome.Outcome.{Outcome}
+use Rattle.txn_view_steps.specs.declared.op.ViewOp.{ViewOp}
+use Rattle.txn_view_steps.specs.declared.op.ViewOp.TheVariants.{Init, Load, Refresh, Update, Claim, ClaimAt, HolderRefresh, HolderUpdate}
+use Rattle.txn_view_steps.specs.ViewOps as views
+use Rattle.txn_view_steps.specs.ViewOps.{view_asked, view_turned, view_left, IsViewReply, IsViewInRange, IsViewMade}
+use Rattle.txn_view_steps.specs.Inits.{init_started}
+use Rattle.txn_view_steps.specs.Loads.{load_started}
+use Rattle.txn_view_steps.specs.Refreshes.{refresh_started}
+use Rattle.txn_view_steps.specs.Updates.{update_started}
+use Rattle.txn_view_steps.specs.Claims.{claim_started, claim_at_started}
+use Rattle.txn_view_steps.specs.Holders.{holder_refresh_started, holder_update_started}
+use Rattle.txn_view_history.specs.declared.event.ViewCall.TheVariants as view_calls
+use Rattle.txn_view_history.specs.declared.event.AnyCall.{AnyCall}
+use Rattle.txn_view_history.specs.declared.event.AnyCall.TheVariants as any
+use Rattle.txn_view_history.specs.Views.{View}
+use Rattle.txn_any_machine.specs.declared.doing.AnyDoing.{AnyDoing}
+use Rattle.txn_any_machine.specs.declared.doing.AnyDoing.TheVariants as does
+use Rattle.txn_any_machine.specs.declared.doing.Ending.{Ending}
+use Rattle.txn_any_machine.specs.declared.doing.Ending.TheVariants as endings
+
+-- what an operation does next, and how it ends where it does
+abbrev pub Next : Type 0 → Type 0
+Next T = AnyDoing T × Option (Ending T)
+
+module _ {T : Type 0} where
+  -- an operation that was answered, or given up
+  abbrev pub ended : AnyDoing T
+  ended = does.Plain doings.Ended
+
+  -- it ends with the refusal of this number
+  abbrev pub refused : ℕ → Next T
+  refused number = (ended, Some (endings.Answers (plain_answers.Refused number)))
+
+  -- what it asks for: nothing where it has ended
+  abbrev pub asked : AnyDoing T → Option Ask
+  asked (does.Plain doing) = plain.asked doing
+  asked (does.View op) = Some (ask_of (view_asked op))
+
+  -- the reply is of the kind that it asks for, none for a look
+  abbrev pub IsReply : AnyDoing T → Option Reply → Type 0
+  IsReply (does.Plain doing) reply = plain.IsReply doing reply
+  IsReply (does.View op) reply = IsViewReply op reply
+
+  -- a read has found at most four successors
+  abbrev pub InRange : AnyDoing T → Type 0
+  InRange (does.Plain doing) = plain.InRange doing
+  InRange (does.View op) = IsViewInRange op
+
+  -- a call without a view ends with its answer
+  abbrev pub plain_next : plain.Next T → Next T
+  plain_next (doing, None) = (does.Plain doing, None)
+  plain_next (doing, Some answer) = (does.Plain doing, Some (endings.Answers answer))
+
+  -- a call on a view ends with what becomes of the view, or with a refusal
+  abbrev pub next_of : AnyDoing T → Turned (Result (Outcome T) ℕ) → Next T
+  next_of doing turns.Goes = (doing, None)
+  next_of doing (turns.Done (Ok outcome)) = (ended, Some (endings.Comes outcome))
+  next_of doing (turns.Done (Err number)) = refused number
+
+  abbrev pub view_next : ViewOp T × Turned (Result (Outcome T) ℕ) → Next T
+  view_next next = next_of (does.View next.0) next.1
+
+  -- a call on a view goes on, or is refused at once
+  abbrev pub first_next : {O : Type 0} → (O → ViewOp T) → Result O ℕ → Next T
+  first_next whole (Ok op) = (does.View (whole op), None)
+  first_next whole (Err number) = refused number
+
+  -- the answer of a call without a view
+  abbrev pub answer_in : Option (Ending T) → Option (Answer T)
+  answer_in None = None
+  answer_in (Some (endings.Answers answer)) = Some answer
+  answer_in (Some (endings.Comes outcome)) = None
+
+  -- whether a call on a view goes on: what it leaves of the caches depends on nothing else
+  abbrev pub goes_by : Option (Ending T) → Turned (Result (Outcome T) ℕ)
+  goes_by None = turns.Goes
+  goes_by (Some ending) = turns.Done (Err 9)
+
+  -- what it leaves of its client's caches, by how it ends
+  abbrev pub caches_left : AnyDoing T → Caches → Option (Ending T) → Caches
+  caches_left (does.Plain doing) caches ending = plain.caches_left doing caches (answer_in ending)
+  caches_left (does.View op) caches ending = view_left op caches (goes_by ending)
+
+  -- memory lacks in a claim's attempt only where its write was overtaken, or lacked it
+  abbrev pub MayLack : AnyDoing T → Caches → Option Reply → Bool → Type 0
+  MayLack (does.Plain doing) caches reply lacks = Unit {0}
+  MayLack (does.View op) caches reply lacks = views.MayLack op caches reply lacks
+
+  -- a claim that reads
+  abbrev pub IsClaimReading : AnyDoing T → Type 0
+  IsClaimReading (does.Plain doing) = ⊥
+  IsClaimReading (does.View op) = views.IsClaimReading op
+
+  -- the refusal of this number, where there is one
+  abbrev pub refusal_in : Option ℕ → Option (Ending T)
+  refusal_in None = None
+  refusal_in (Some number) = Some (endings.Answers (plain_answers.Refused number))
+
+  -- the call is a claim
+  abbrev pub is_claim_call : AnyCall T → Bool
+  is_claim_call (any.Plain call) = false
+  is_claim_call (any.View (view_calls.Init value)) = false
+  is_claim_call (any.View view_calls.Load) = false
+  is_claim_call (any.View (view_calls.Refresh view)) = false
+  is_claim_call (any.View (view_calls.Update view value)) = false
+  is_claim_call (any.View (view_calls.Claim view)) = true
+  is_claim_call (any.View (view_calls.ClaimAt view epoch)) = true
+  is_claim_call (any.View (view_calls.HolderRefresh view)) = false
+  is_claim_call (any.View (view_calls.HolderUpdate view value)) = false
+
+module _ {T : Type 0} (encode : T → List ℕ) (decode : List ℕ → Option T) where
+  -- the codec reads back what the call writes
+  abbrev pub ReadsBack : AnyCall T → Type 0
+  ReadsBack (any.Plain call) = plain.ReadsBack encode decode call
+  ReadsBack (any.View call) = Unit {0}
+
+module _ {T : Type 0} where
+  -- an id that the call reads is a number of 64 bits, as its type says
+  abbrev pub FitsWord : AnyCall T → Type 0
+  FitsWord (any.Plain call) = plain.FitsWord call
+  FitsWord (any.View call) = Unit {0}
+
+module _ {T : Type 0} (encode : T → List ℕ) (decode : List ℕ → Option T) (get_epoch : T → ℕ) where
+  -- what is to be written is read back, and that of a claim has the epoch that was set
+  abbrev pub IsMadeSo : AnyDoing T → Type 0
+  IsMadeSo (does.Plain doing) = Unit {0}
+  IsMadeSo (does.View op) = IsViewMade encode decode get_epoch op
+
+module _ {T : Type 0} where
+  -- with the epoch of a holder
+  abbrev pub with_local : Option ℕ → (ℕ → Next T) → Next T
+  with_local None next = refused 7
+  with_local (Some local) next = next local
+
+module _ {T : Type 0} (page : ℕ) (encode : T → List ℕ) (get_epoch : T → ℕ) (set_epoch : T → ℕ → T) where
+  -- how a call starts, by the view that it uses as it stands then
+  abbrev pub started : AnyCall T → Option (View T) → Next T
+  started (any.Plain call) view = plain_next (plain.started page encode call)
+  started (any.View (view_calls.Init value)) view = first_next Init (init_started world_names world_boundary encode value)
+  started (any.View view_calls.Load) view = (does.View (Load (load_started world_boundary)), None)
+  started (any.View (view_calls.Refresh number)) view = (does.View (Refresh (refresh_started world_boundary)), None)
+  started (any.View (view_calls.Update number value)) (Some view) = first_next Update (update_started world_names world_boundary encode view.id value)
+  started (any.View (view_calls.Claim number)) (Some view) = first_next Claim (claim_started world_names world_boundary encode get_epoch set_epoch view.id view.object)
+  started (any.View (view_calls.ClaimAt number epoch)) (Some view) = first_next ClaimAt (claim_at_started world_names world_boundary encode get_epoch set_epoch epoch view.id view.object)
+  started (any.View (view_calls.HolderRefresh number)) (Some view) = with_local view.epoch (λ local. (does.View (HolderRefresh (holder_refresh_started world_boundary local)), None))
+  started (any.View (view_calls.HolderUpdate number value)) (Some view) = with_local view.epoch (λ local. first_next HolderUpdate (holder_update_started world_names world_boundary encode get_epoch local view.id view.object value))
+  started (any.View call) None = refused 7
+
+module _ {T : Type 0} (page : ℕ) (encode : T → List ℕ) (decode : List ℕ → Option T) (get_epoch : T → ℕ) (set_epoch : T → ℕ → T) where
+  -- what it makes of a look or a reply, where a growth may have been refused
+  abbrev pub turned : Bool → AnyDoing T → Caches → Option Reply → Next T
+  turned refused (does.Plain doing) caches reply = plain_next (plain.turned page decode refused doing caches reply)
+  turned refused (does.View op) caches reply = view_next (view_turned world_names world_boundary page encode decode get_epoch set_epoch refused op caches reply)
+
+  -- It takes a look or a reply so, perhaps with a growth refused.
+  pub record Turns (old : AnyDoing T) (caches : Caches) (reply : Option Reply) (next : Next T) : Type 0 where
+    pub refused : Bool
+    pub turns : next ≡ turned refused old caches reply
+    pub may : MayLack old caches reply refused
+    -- what a claim writes after a read
+    pub made : IsClaimReading old → IsMadeSo encode decode get_epoch next.0

@@ -1,0 +1,354 @@
+//! The operations of a world's clients: those of calls without a view, and those of calls on views.
+ghost use Rattle.std.specs.Prelude.{◌≡◌, false, None, Some, IfOk, IfSome, IsSome, IsTrue};
+ghost use Rattle.txn_caches.specs.Steps.{by_number};
+ghost use Rattle.txn_types.specs.Clones.{IsExactClone};
+ghost use Rattle.txn_history.specs.Names.{world_names, world_boundary};
+ghost use Rattle.txn_view_steps.specs.Lacking.{lacks};
+ghost use Rattle.txn_view_history.specs.Calls.{view_used, is_holders};
+ghost use Rattle.std.specs.Option.{option_copied, option_map};
+ghost use Rattle.txn_machine.specs.Doing.{first_of};
+ghost use Rattle.txn_any_machine.specs.Doing.{started, first_next, refusal_in, is_claim_call, IsMadeSo, ReadsBack, FitsWord};
+
+use std::alloc::{AllocError, Global};
+use std::marker::Model;
+use std::mem;
+use txn_caches::ask::Ask;
+use txn_caches::caches::Caches;
+use txn_caches::turned::Turned;
+use txn_history::event::Answer;
+use txn_machine::doing::{Doing, start as start_plain};
+use txn_store::request::Reply;
+use txn_types::codec::ObjectCodec;
+use txn_types::epoch::EpochField;
+use txn_types::error::TransactionalObjectError;
+use txn_types::id::MonotonicId;
+use txn_types::layout::Layout;
+use txn_view_history::event::{AnyCall, ViewCall};
+use txn_view_history::view::View;
+use txn_view_steps::claim::ClaimOp;
+use txn_view_steps::claim_at::ClaimAtOp;
+use txn_view_steps::holder::{HolderRefreshOp, HolderUpdateOp};
+use txn_view_steps::init::InitOp;
+use txn_view_steps::load::LoadOp;
+use txn_view_steps::op::ViewOp;
+use txn_view_steps::outcome::{Outcome, ViewAnswer};
+use txn_view_steps::refresh::RefreshOp;
+use txn_view_steps::update::UpdateOp;
+
+/// What an operation does next. One that was answered, or given up, is a plain one that has ended.
+#[derive(Drop)]
+pub enum AnyDoing<T> {
+    /// That of a call without a view.
+    Plain(Doing<T>),
+    /// That of a call on views.
+    View(ViewOp<T>),
+}
+
+/// An operation of a client.
+#[derive(Drop)]
+pub struct AnyOperation<T> {
+    pub client: u64,
+    /// The view that it uses.
+    pub view: Option<u64>,
+    /// Whether it is a claim, which ends its view unless it is held.
+    pub claims: bool,
+    pub doing: AnyDoing<T>,
+}
+
+/// The same answer twice: once for the trace, and once to be told. A clause sees the answer.
+#[derive(Drop)]
+pub struct Twice<T> {
+    noted: Answer<T>,
+    told: Answer<T>,
+}
+
+impl<T> Model for Twice<T> {
+    ghost use Rattle.std.specs.Prelude.{◌≡◌};
+    ghost use Rattle.txn_history.specs.declared.event.Answer.{Answer};
+
+    ghost Value = { Answer T };
+
+    ghost view = { λ s. s.noted };
+
+    ghost invariant = { λ s. s.told ≡ s.noted };
+}
+
+impl<T> Twice<T> {
+    /// These two, which are the same.
+    pub fn new(noted: Answer<T>, told: Answer<T>) -> Twice<T>
+        requires { told ≡ noted }
+        ensures { result ≡ noted }
+    {
+        Twice { noted, told }
+    }
+
+    /// A refusal.
+    pub fn refused(number: u8) -> Twice<T>
+        ensures { result ≡ Answer.Refused number }
+    {
+        Twice {
+            noted: Answer::Refused(number),
+            told: Answer::Refused(number),
+        }
+    }
+
+    /// The answer, twice. It takes no memory.
+    pub fn into_answers(self) -> (Answer<T>, Answer<T>)
+        ensures { result ≡ (self, self) }
+    {
+        (self.noted, self.told)
+    }
+}
+
+/// How an operation ends.
+#[derive(Drop)]
+pub enum Ending<T> {
+    /// With the answer of a call without a view, or with a refusal.
+    Answers(Twice<T>),
+    /// With what becomes of the view that was made or used.
+    Comes(Outcome<T>),
+}
+
+/// An operation that has ended.
+fn ended<T>() -> AnyDoing<T>
+    ensures { result ≡ AnyDoing.Plain Doing.Ended }
+{
+    AnyDoing::Plain(Doing::Ended)
+}
+
+/// Whether a call is a claim.
+pub fn is_claim<T>(call: &AnyCall<T>) -> bool
+    ensures { result ≡ is_claim_call call.now }
+{
+    matches!(
+        call,
+        AnyCall::View(ViewCall::Claim(_)) | AnyCall::View(ViewCall::ClaimAt(..))
+    )
+}
+
+/// How a call on a view starts, by its state: the number of its refusal, where it is refused at once. The only error is
+/// want of memory.
+fn first<T: Drop>(
+    state: Result<ViewOp<T>, TransactionalObjectError>,
+) -> Result<(AnyDoing<T>, Option<u8>), AllocError>
+    ensures first { IfOk result (λ start. (start.0, refusal_in start.1) ≡ first_next (λ op. op) (by_number state)) }
+    ensures lacks { IfOk result (λ _. lacks (by_number state) ≡ false) }
+{
+    match state {
+        Ok(op) => Ok((AnyDoing::View(op), None)),
+        Err(TransactionalObjectError::NoMemory) => Err(AllocError),
+        Err(error) => Ok((ended(), Some(error.number()))),
+    }
+}
+
+/// How a call starts on the view that it uses, and the number of its refusal, where it is refused at once. The only error
+/// is want of memory.
+fn start_on<T: Clone, C: ObjectCodec<T>, E: EpochField<T>>(
+    alloc: Global,
+    layout: &Layout<C>,
+    epochs: &E,
+    call: &ViewCall<T>,
+    view: &View<T>,
+) -> Result<(AnyDoing<T>, Option<u8>), AllocError>
+    requires exact { IsExactClone T.is_clone }
+    requires names { layout.now.names ≡ world_names }
+    requires boundary { layout.now.boundary ≡ world_boundary }
+    requires uses { IsSome (view_used (AnyCall.View call.now)) }
+    ensures started { IfOk result (λ start. (start.0, refusal_in start.1) ≡ started layout.now.page (C.encoded layout.now.codec) (E.epoch_of epochs.now) (E.with_epoch epochs.now) (AnyCall.View call.now) (Some view.now)) }
+    ensures made { IfOk result (λ start. IsMadeSo (C.encoded layout.now.codec) (C.decoded layout.now.codec) (E.epoch_of epochs.now) start.0) }
+{
+    match call {
+        ViewCall::Refresh(_) => Ok((
+            AnyDoing::View(ViewOp::Refresh(RefreshOp::start(layout)?)),
+            None,
+        )),
+        ViewCall::Update(_, value) => {
+            first(UpdateOp::start(alloc, layout, MonotonicId::new(view.id), value).map(
+                ViewOp::Update,
+            ))
+        }
+        ViewCall::Claim(_) => {
+            first(ClaimOp::start(
+                alloc,
+                layout,
+                epochs,
+                MonotonicId::new(view.id),
+                &view.object,
+            )
+            .map(ViewOp::Claim))
+        }
+        ViewCall::ClaimAt(_, epoch) => first(ClaimAtOp::start(
+            alloc,
+            layout,
+            epochs,
+            *epoch,
+            MonotonicId::new(view.id),
+            &view.object,
+        )
+        .map(ViewOp::ClaimAt)),
+        ViewCall::HolderRefresh(_) | ViewCall::HolderUpdate(..) => match view.epoch {
+            Some(local) => start_holder(alloc, layout, epochs, call, view, local),
+            None => Ok((ended(), Some(7))),
+        },
+        ViewCall::Init(_) | ViewCall::Load => unreachable!(),
+    }
+}
+
+/// How a holder's call starts on its view.
+fn start_holder<T: Clone, C: ObjectCodec<T>, E: EpochField<T>>(
+    alloc: Global,
+    layout: &Layout<C>,
+    epochs: &E,
+    call: &ViewCall<T>,
+    view: &View<T>,
+    local: u64,
+) -> Result<(AnyDoing<T>, Option<u8>), AllocError>
+    requires exact { IsExactClone T.is_clone }
+    requires names { layout.now.names ≡ world_names }
+    requires boundary { layout.now.boundary ≡ world_boundary }
+    requires local { view.now.epoch ≡ Some local }
+    requires holders { IsTrue (is_holders (AnyCall.View call.now)) }
+    ensures started { IfOk result (λ start. (start.0, refusal_in start.1) ≡ started layout.now.page (C.encoded layout.now.codec) (E.epoch_of epochs.now) (E.with_epoch epochs.now) (AnyCall.View call.now) (Some view.now)) }
+    ensures made { IfOk result (λ start. IsMadeSo (C.encoded layout.now.codec) (C.decoded layout.now.codec) (E.epoch_of epochs.now) start.0) }
+{
+    match call {
+        ViewCall::HolderRefresh(_) => Ok((
+            AnyDoing::View(ViewOp::HolderRefresh(HolderRefreshOp::start(layout, local)?)),
+            None,
+        )),
+        ViewCall::HolderUpdate(_, value) => first(HolderUpdateOp::start(
+            alloc,
+            layout,
+            epochs,
+            local,
+            MonotonicId::new(view.id),
+            &view.object,
+            value,
+        )
+        .map(ViewOp::HolderUpdate)),
+        ViewCall::Init(_)
+        | ViewCall::Load
+        | ViewCall::Refresh(_)
+        | ViewCall::Update(..)
+        | ViewCall::Claim(_)
+        | ViewCall::ClaimAt(..) => unreachable!(),
+    }
+}
+
+/// How a call starts, by the view that it uses as it stands, and the number of its refusal, where it is refused at once. The
+/// bytes of a write are made here, before anything is asked of the store. The only error is want of memory.
+pub fn start<T: Clone, C: ObjectCodec<T>, E: EpochField<T>>(
+    alloc: Global,
+    layout: &Layout<C>,
+    epochs: &E,
+    call: &AnyCall<T>,
+    view: Option<&View<T>>,
+) -> Result<(AnyDoing<T>, Option<u8>), AllocError>
+    requires exact { IsExactClone T.is_clone }
+    requires names { layout.now.names ≡ world_names }
+    requires boundary { layout.now.boundary ≡ world_boundary }
+    ensures started { IfOk result (λ start. (start.0, refusal_in start.1) ≡ started layout.now.page (C.encoded layout.now.codec) (E.epoch_of epochs.now) (E.with_epoch epochs.now) call.now (option_copied view.entry)) }
+    ensures made { IfOk result (λ start. IsMadeSo (C.encoded layout.now.codec) (C.decoded layout.now.codec) (E.epoch_of epochs.now) start.0) }
+    ensures reads_back { IfOk result (λ _. ReadsBack (C.encoded layout.now.codec) (C.decoded layout.now.codec) call.now) }
+    ensures word { IfOk result (λ _. FitsWord call.now) }
+{
+    match call {
+        AnyCall::Plain(call) => {
+            let (doing, refusal) = start_plain(alloc, layout, call)?;
+            Ok((AnyDoing::Plain(doing), refusal))
+        }
+        AnyCall::View(ViewCall::Init(value)) => {
+            first(InitOp::start(alloc, layout, value).map(ViewOp::Init))
+        }
+        AnyCall::View(ViewCall::Load) => Ok((
+            AnyDoing::View(ViewOp::Load(LoadOp::start(layout)?)),
+            None,
+        )),
+        AnyCall::View(ViewCall::Refresh(_)) => Ok((
+            AnyDoing::View(ViewOp::Refresh(RefreshOp::start(layout)?)),
+            None,
+        )),
+        AnyCall::View(call) => match view {
+            Some(view) => start_on(alloc, layout, epochs, call, view),
+            None => Ok((ended(), Some(7))),
+        },
+    }
+}
+
+/// How a call without a view ends.
+fn plain_ending<T>(answers: Option<(Answer<T>, Answer<T>)>) -> Option<Ending<T>>
+    requires { IfSome answers (λ pair. pair.1 ≡ pair.0) }
+    ensures { result ≡ option_map Ending.Answers (first_of answers) }
+{
+    let (noted, told) = answers?;
+    Some(Ending::Answers(Twice::new(noted, told)))
+}
+
+impl<T: Drop> AnyDoing<T> {
+    ghost use Rattle.std.specs.Prelude.{◌≡◌};
+    ghost use Rattle.txn_caches.specs.Steps.{turned_by_number};
+    ghost use Rattle.txn_machine.specs.Doing.{asks_as};
+    ghost use Rattle.txn_any_machine.specs.Doing.{asked, next_of};
+
+    /// What it asks for: a store call, or a look at its client's caches, and nothing where it has ended. It takes no
+    /// memory.
+    pub fn ask(&self) -> Option<Ask<'_>>
+        ensures { asks_as result ≡ asked self.now }
+    {
+        match self {
+            AnyDoing::Plain(doing) => doing.ask(),
+            AnyDoing::View(op) => Some(op.ask()),
+        }
+    }
+
+    /// An answer ends a call on a view.
+    fn end_where(&mut self, turned: Turned<ViewAnswer<T>>) -> Option<Ending<T>>
+        ensures { (self.new, result) ≡ next_of self.old (turned_by_number turned) }
+    {
+        match turned {
+            Turned::Goes => None,
+            Turned::Done(answer) => {
+                // By a call: in place, the proof would follow each state that may be dropped here.
+                drop(mem::replace(self, ended()));
+                Some(match answer {
+                    Ok(outcome) => Ending::Comes(outcome),
+                    Err(error) => Ending::Answers(Twice::refused(error.number())),
+                })
+            }
+        }
+    }
+}
+
+impl<T: Clone> AnyDoing<T> {
+    ghost use Rattle.std.specs.Prelude.{◌≡◌};
+    ghost use Rattle.txn_types.specs.Clones.{IsExactClone};
+    ghost use Rattle.txn_history.specs.Names.{world_names, world_boundary};
+    ghost use Rattle.txn_any_machine.specs.Doing.{caches_left, InRange, IsReply, Turns};
+
+    /// Takes the store's reply to what it asks, or none for a look, and leaves its client's caches as its step says. An
+    /// answer ends the operation. Where a growth is refused the answer is the refusal 9.
+    pub fn take<C: ObjectCodec<T>, E: EpochField<T>>(
+        &mut self,
+        alloc: Global,
+        layout: &Layout<C>,
+        epochs: &E,
+        caches: &mut Caches,
+        reply: Option<Reply>,
+    ) -> Option<Ending<T>>
+        requires exact { IsExactClone T.is_clone }
+        requires names { layout.now.names ≡ world_names }
+        requires boundary { layout.now.boundary ≡ world_boundary }
+        requires asked { IsReply self.old reply }
+        requires range { InRange self.old }
+        ensures turned { Turns layout.now.page (C.encoded layout.now.codec) (C.decoded layout.now.codec) (E.epoch_of epochs.now) (E.with_epoch epochs.now) self.old caches.old reply (self.new, result) }
+        ensures caches { caches.new ≡ caches_left self.old caches.old result }
+    {
+        match self {
+            AnyDoing::Plain(doing) => plain_ending(doing.take(alloc, layout, caches, reply)),
+            AnyDoing::View(op) => {
+                let turned = op.take(alloc, layout, epochs, caches, reply);
+                self.end_where(turned)
+            }
+        }
+    }
+}

@@ -1,0 +1,28 @@
+//! The law that every trace of a world obeys, whatever the events of all calls: it is one history, and views and claims fit
+//! it. What follows of that is in `txn_view_history`.
+ghost use Rattle.std.specs.Prelude.{◌≡◌, ◌≤◌, List, Some, ℕ};
+ghost use Rattle.txn_history.specs.Lists.{numbered};
+ghost use Rattle.txn_view_history.specs.OneHistory.{IsOneHistory};
+ghost use Rattle.txn_view_history.specs.Laws.{HasOneClaimer};
+ghost use Rattle.txn_view_history.specs.Views.{ViewsFit, ViewGoesOn};
+ghost use Rattle.txn_view_history.specs.Trace.{AnyEvent, AnyTold};
+ghost use Rattle.txn_view_machine.specs.Layer.{Used};
+ghost use Rattle.txn_any_machine.specs.Machine.{State, opening, seen_views, Takes, Runs};
+
+use txn_types::codec::ObjectCodec;
+use txn_types::epoch::EpochField;
+
+/// Whatever events are taken, in whatever order, the trace is one history of all calls, each view fits it, and no two claims
+/// are held with one epoch, where a page of a listing has room for a file at least.
+pub fn one_history<T: Drop, C: ObjectCodec<T>, E: EpochField<T>>(_codec: &C, _epochs: &E)
+    ensures rows { (clients page : _) (taken : List (AnyEvent T × AnyTold T)) (state : State T) → 1 ≤ page → Runs (C.encoded _codec.now) (C.decoded _codec.now) (E.epoch_of _epochs.now) (E.with_epoch _epochs.now) (opening clients page) taken state → IsOneHistory (C.decoded _codec.now) (E.epoch_of _epochs.now) (E.with_epoch _epochs.now) state.failed state.trace }
+    ensures views { (clients page : _) (taken : List (AnyEvent T × AnyTold T)) (state : State T) → 1 ≤ page → Runs (C.encoded _codec.now) (C.decoded _codec.now) (E.epoch_of _epochs.now) (E.with_epoch _epochs.now) (opening clients page) taken state → ViewsFit (C.decoded _codec.now) (E.epoch_of _epochs.now) state.trace (seen_views state.views) }
+    ensures claims { (clients page : _) (taken : List (AnyEvent T × AnyTold T)) (state : State T) → 1 ≤ page → Runs (C.encoded _codec.now) (C.decoded _codec.now) (E.epoch_of _epochs.now) (E.with_epoch _epochs.now) (opening clients page) taken state → HasOneClaimer state.trace }
+{}
+
+/// From event to event of such a run each view that stays keeps its client, its id never falls, and a holder stays one of
+/// the same epoch.
+pub fn views_go_on<T: Drop, C: ObjectCodec<T>, E: EpochField<T>>(_codec: &C, _epochs: &E)
+    ensures { (clients page : _) (taken : List (AnyEvent T × AnyTold T)) (old : State T) (event : AnyEvent T) (said : AnyTold T) (new : State T) → 1 ≤ page → Runs (C.encoded _codec.now) (C.decoded _codec.now) (E.epoch_of _epochs.now) (E.with_epoch _epochs.now) (opening clients page) taken old →
+        Takes (C.encoded _codec.now) (C.decoded _codec.now) (E.epoch_of _epochs.now) (E.with_epoch _epochs.now) old event said new → (number : ℕ) (was is : Used T) → numbered old.views number ≡ Some (Some was) → numbered new.views number ≡ Some (Some is) → ViewGoesOn was.view is.view }
+{}

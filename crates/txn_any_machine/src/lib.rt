@@ -1,0 +1,6 @@
+//! What events do in a world of clients that make all calls: each call without a view as an operation of `txn_machine`,
+//! each call on a view as one of `txn_view_steps`; and the theorem on it.
+#![tactic(auto)]
+
+pub mod doing;
+pub mod laws;
