@@ -14,6 +14,7 @@ ITEM = re.compile(
     r"^[ \t]*(?:pub(?:\([^)]*\))?[ \t]+)?(?:(?:const|unsafe|final|default)[ \t]+)*(fn|impl|trait|mod)\b", re.M
 )
 NAME = re.compile(r"\s+(?:r#)?([A-Za-z_]\w*)")
+TYPE = re.compile(r"^(?:pub(?:\([^)]*\))?[ \t]+)?(?:struct|enum|union)\s+(\w+)", re.M)
 CLAUSE = re.compile(r"\b(?:requires|ensures|ghost)\b")
 
 
@@ -141,13 +142,23 @@ def owner_of_impl(head):
     return Owner(words[0], tuple(words[1:]), of_trait[0], tuple(of_trait[1:]))
 
 
-def places_in(text, module):
-    """The functions of a file of this module, in their order."""
+def homes_of(sources):
+    """The module of each type by name that one of these files by path declares at its left edge: a log names a method
+    of a type by that module, wherever the impl stands."""
+    modules = {}
+    for path, text in sources.items():
+        for name in TYPE.findall(code_of(text)):
+            modules.setdefault(name, set()).add(module_of(path))
+    return {name: next(iter(it)) for name, it in modules.items() if len(it) == 1}
+
+
+def places_in(text, module, homes):
+    """The functions of a file of this module, in their order, where types have these homes."""
     code = code_of(text)
-    return list(items(code, 0, len(code), module, None))
+    return list(items(code, 0, len(code), module, None, homes))
 
 
-def items(code, at, end, module, owner):
+def items(code, at, end, module, owner, homes):
     """The functions between two places of the code, which stand in this module and block."""
     while True:
         item = ITEM.search(code, at, end)
@@ -166,10 +177,11 @@ def items(code, at, end, module, owner):
             continue
         inside, at = opens.end(), after_block(code, opens.start())
         if kind == "mod":
-            yield from items(code, inside, at, f"{module}::{name[1]}".lstrip(":"), None)
+            yield from items(code, inside, at, f"{module}::{name[1]}".lstrip(":"), None, homes)
         else:
             block = Owner(name[1]) if kind == "trait" else owner_of_impl(code[item.end() : opens.start()])
-            yield from items(code, inside, at, module, block)
+            home = module if block.trait_name else homes.get(block.type_name, module)
+            yield from items(code, inside, at, home, block, homes)
 
 
 def module_of(path):

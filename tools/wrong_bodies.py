@@ -9,7 +9,7 @@ import os
 import re
 from dataclasses import dataclass, field
 
-from rattle_source import module_of, named_in_log, places_in
+from rattle_source import homes_of, module_of, named_in_log, places_in
 
 MOST_IN_A_CHECK = 32
 # (an own reason, as "expected answers", stands before these)
@@ -114,22 +114,23 @@ def applied(texts, pairs):
 def read_edit(name, text, texts):
     """The edit of this text, with the functions that it changes in the crate's texts."""
     edit = Edit(name, pairs_of(text))
+    homes = homes_of(sources_of(texts))
     for pair in edit.pairs:
         changed = applied(texts, [pair])
         if pair[0].startswith("src/"):
-            add_place(edit, pair, texts[pair[0]])
+            add_place(edit, pair, texts[pair[0]], homes)
         else:
             edit.is_of_bodies = False
         texts = changed
     return edit
 
 
-def add_place(edit, pair, text):
+def add_place(edit, pair, text, homes):
     """Adds to an edit the function and the module of a pair that changes this text of src/."""
     path, old, new = pair
     start = text.index(old)
     end = start + len(old)
-    inside = [it for it in places_in(text, module_of(path)) if it.start <= start and end <= it.end]
+    inside = [it for it in places_in(text, module_of(path), homes) if it.start <= start and end <= it.end]
     edit.functions.update(it.function for it in inside[-1:])
     edit.modules.add(module_of(path))
     # (an old text may begin with the line of the function, to stand once in its file)
@@ -137,10 +138,16 @@ def add_place(edit, pair, text):
     edit.is_of_bodies &= bool(inside) and inside[-1].body < changed
 
 
+def sources_of(texts):
+    """The files of src/ among a crate's texts by path."""
+    return {path: text for path, text in texts.items() if path.startswith("src/")}
+
+
 def functions_in(texts):
     """The functions of a crate's texts by path."""
-    sources = {path: text for path, text in texts.items() if path.startswith("src/")}
-    return {it.function for path, text in sources.items() for it in places_in(text, module_of(path))}
+    sources = sources_of(texts)
+    homes = homes_of(sources)
+    return {it.function for path, text in sources.items() for it in places_in(text, module_of(path), homes)}
 
 
 def batches(texts, edits, most=MOST_IN_A_CHECK):

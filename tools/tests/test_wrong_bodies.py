@@ -114,10 +114,17 @@ class Reading(unittest.TestCase):
         self.assertEqual([module_of(it) for it in paths], ["", "", "a", "a::b", "a"])
 
     def test_functions_of_a_file(self):
-        found = [it.function.label for it in places_in(PATHS, "path")]
+        found = [it.function.label for it in places_in(PATHS, "path", {})]
         wanted = ["path::is_dots", "path::Path::join", "path::Path::fmt", "path::PathDisplay::fmt",
                   "path::FaultFromAllocError::from", "path::FaultFromAllocFailed::from", "path::inner::deep"]
         self.assertEqual(found, wanted)
+
+    def test_methods_of_a_type_declared_in_another_file(self):
+        texts = {"src/table.rt": "pub struct Table {}\npub(crate) struct Row;\n", "src/row.rt": "struct Row;\n",
+                 "src/rows.rt": "impl Table {\nfn open() {}\n}\nimpl Row {\nfn of() {}\n}\n"
+                                "impl Drop for Table {\nfn drop() {}\n}\n"}
+        wanted = {"table::Table::open", "rows::Row::of", "rows::TableDrop::drop"}
+        self.assertEqual({it.label for it in functions_in(texts)}, wanted)
 
     def test_names_of_blocks(self):
         heads = {" Path ": "Path", "<T> Share<T> ": "Share", " From<Id> for u64 ": "U64FromId",

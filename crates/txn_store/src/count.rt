@@ -24,14 +24,10 @@ impl Unread {
         Unread {}
     }
 
-    fn copy(&self) -> Unread
-        ensures { result.value ≡ self.now.value }
-    {
-        Unread {}
-    }
-
-    fn next(&self) -> Unread
-        ensures { result.value ≡ self.now.value + 1 }
+    /// The number with `by` added.
+    fn raised(&self) -> Unread
+        ghost by: { ℕ }
+        ensures { result.value ≡ self.now.value + by }
     {
         Unread {}
     }
@@ -64,13 +60,13 @@ impl Count {
         ensures { result ≡ self.now }
     {
         Count {
-            unread: self.unread.copy(),
+            unread: self.unread.raised(),
         }
     }
 
     pub(crate) fn tick(&mut self)
         ensures { self.new ≡ self.old + 1 }
     {
-        self.unread = self.unread.next();
+        self.unread = self.unread.raised();
     }
 }

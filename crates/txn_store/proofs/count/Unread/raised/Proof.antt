@@ -1,4 +1,4 @@
--- `next` picks the number of the new count. Assumes `Logic`.
+-- `raised` picks the number of the new count. Assumes `Logic`.
 use Rattle.std.proofs.Common.{List, [], ◌∷◌, ◌++◌, ◌+◌, refl}
 use seplogic.Ra.Ura.{Ura}
 use mir.Syntax.{Fn}
@@ -27,10 +27,10 @@ use denote.Triple.Table.{entered}
 use denote.Triple.Walked.{says, Stays, stay_dropped, walk_of, ends_at, walk_Meets, Goes-dropped}
 use Rattle.txn_store.proofs.Walks.{none, none_made}
 use Rattle.txn_store.specs.contracts.count.Unread as Unread
-use Rattle.txn_store.specs.contracts.count.Unread.next as F
-use Rattle.txn_store.specs.contracts.count.Unread.next.Key.{name as #self}
-use Rattle.txn_store.proofs.count.Unread.next.Statement as stated
-use Rattle.txn_store.proofs.count.Unread.next.Code as code
+use Rattle.txn_store.specs.contracts.count.Unread.raised as F
+use Rattle.txn_store.specs.contracts.count.Unread.raised.Key.{name as #self}
+use Rattle.txn_store.proofs.count.Unread.raised.Statement as stated
+use Rattle.txn_store.proofs.count.Unread.raised.Code as code
 
 abbrev function : Fn
 function = code.function
@@ -59,7 +59,7 @@ module _ {M : Type 1} {𝓤 : Ura M} (𝓛 : Logic 𝓤) (at_mem : Memory → SP
         let a = z.0.3 in
         let vss = z.0.4 in
         let u : Val = vptr a.0.ref_ptr.0 a.0.ref_ptr.1 in
-        let count : (Unread.the_row).Denot = record { value = a.0.now.value + 1 } in
+        let count : (Unread.the_row).Denot = record { value = a.0.now.value + z.1 } in
         qed 𝓛 ((raw toks ⊛ ‵ (owns (types_at ended.signature.params z.0.0) a vss)) ∷ raw ((held z.0.0 a).requires z.1) ∷ []) ∵
         keep ! (0 ∷ []) $ split ! $ move ! (1 ∷ []) $ fsplit ! $ fsplit ! $ feq_l ! (λ is₀. drop ! $ drop ! $
         regoal ! (λ (us : List Val). prop (WpFn 𝓤 H C Λ function (us ++ []) Post)) is₀ refl $
@@ -75,9 +75,9 @@ module _ {M : Type 1} {𝓤 : Ura M} (𝓛 : Logic 𝓤) (at_mem : Memory → SP
       walk_Meets 𝓛 ended stayed (Goes-dropped 𝓛 1 (RefOf (0 ∷ []) tt (plain (λ _. Unread.the_row)) (λ _. tt)) yes (λ κs x f. refl), tt) held
       (WpFn 𝓤 H 𝓣.C 𝓣.Λ function) (WpFn-mono 𝓤 H 𝓛.laws 𝓣 function) (walks 𝓣.C 𝓣.Λ)
 
-pub next_spec : {M : Type 1} → stated.statement M
+pub raised_spec : {M : Type 1} → stated.statement M
 unfolding tables_of
-next_spec 𝓤 𝓛 𝓜 𝓡 wired =
+raised_spec 𝓤 𝓛 𝓜 𝓡 wired =
     let 𝓣 : Tables 𝓤 𝓛.H = tables_of 𝓤 𝓛.H 𝓜 (tables 𝓤 𝓛.H 𝓜 𝓡 𝓡.env) in
     entered 𝓤 𝓛.H (triple_of 𝓛 ended.signature (closing 𝓛 ended (held 𝓛 𝓜.mem 𝓡.returns))) 𝓣.C 𝓣.Λ #self function
     (code.unfolded 𝓤 𝓛.H 𝓜 𝓡 wired) (meets 𝓛 𝓜.mem 𝓡.returns 𝓣)
