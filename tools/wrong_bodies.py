@@ -2,7 +2,8 @@
 
 A check proves each function by itself, from the contracts of what it calls. So edits of different bodies do not
 disturb one another, and the log of one check says for each function whether its own body was refused, or whether it
-only waits for a function that it calls. Nothing here runs a check: see crate_copies.py."""
+only waits for a function that it calls. Where a shared check refuses a function that no edit changes, it decides
+nothing. Nothing here runs a check: see crate_copies.py."""
 from __future__ import annotations
 
 import os
@@ -203,6 +204,17 @@ def read_log(crate, text, changed=()):
     return log
 
 
+def refused_unchanged(log, edits, functions):
+    """The first function that the log refuses for its own body though none of these edits changes it, "" where there is
+    none: where edits change bodies alone, only the check itself can be wrong there."""
+    changed = {function.label for edit in edits for function in edit.functions}
+    for path in sorted(log.refused):
+        named = {it.label for it in named_in_log(path, functions)}
+        if named and not named & changed:
+            return path
+    return ""
+
+
 def refused_for_sure(log, functions):
     """The functions that the log names as refused where the name can stand for no other function."""
     named = [named_in_log(path, functions) for path in log.refused]
@@ -255,7 +267,8 @@ class Trial:
         if len(batch) == 1:
             return [self.alone(batch[0])], []
         log = self.log_of(batch)
-        refused = refused_for_sure(log, self.functions) if log.is_refusal else set()
+        is_sound = log.is_refusal and not refused_unchanged(log, batch, self.functions)
+        refused = refused_for_sure(log, self.functions) if is_sound else set()
         well = [it for it in batch if refused & {function.label for function in it.functions}]
         return [Outcome(it.name) for it in well], [it for it in batch if it not in well]
 

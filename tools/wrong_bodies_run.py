@@ -91,8 +91,8 @@ class Run:
         return sum(crate.name in all_below(it, self.uses) for it in self.crates)
 
     def rank(self, task):
-        """What runs first: the crates that most others wait for, then what needs no new copy of its crate, since each
-        copy is checked once more at the end, then the edits of the crate with the most left."""
+        """What runs first: the crates that most others wait for, then what needs no new copy of its crate, then the
+        edits of the crate with the most left."""
         kind, crate = task[0], task[1]
         if kind == "prepare":
             return 0, False, -self.above(crate)
@@ -170,29 +170,18 @@ class Run:
 
     def try_again(self, crate):
         """Tries once more together what a shared check could not decide, as an edit of a function that calls another
-        edited one, and then alone. Ends with a check without edits."""
+        edited one, and then alone. Ends where nothing is undecided."""
         edits, crate.undecided = crate.undecided, []
         if not edits:
-            self.waiting.append(("recheck", crate))
+            self.end(crate)
             return
         crate.rounds += 1
         for batch in batches(crate.copies.texts, edits, MOST_IN_A_CHECK if crate.rounds == 1 else 1):
             self.add(crate, batch)
 
-    def recheck(self, crate):
-        """Checks the crate without edits over what the checks of its edits kept, so that none was refused for that."""
-        why = ""
-        for copy in crate.copies.free:
-            status, said = crate.copies.check_in(copy, {})
-            if status:
-                why = f"NOT PROVED over what the checks of its edits kept, so no refusal counts:\n{said[-2000:]}"
+    def end(self, crate):
+        """Says how the edits of a crate went, and removes its copies."""
         crate.copies.remove_but_library(self.folders[crate.name])
-        return why
-
-    def recheck_ended(self, crate, why):
-        if why:
-            crate.give_up(why, crate.passed)
-            crate.passed = 0
         say(
             f"{crate.name}: {len(crate.edits)} edits in {crate.checks} checks, {crate.alone} tried alone, "
             f"{len(crate.failed)} failed, {crate.copies.seconds:.0f} s of processor time"

@@ -278,6 +278,11 @@ class Trials(unittest.TestCase):
         self.assertEqual([it.edit for it in outcomes], ["a"])
         self.assertEqual([it.name for it in alone], ["b"])
 
+    def test_a_check_that_refuses_an_unchanged_function_decides_nothing(self):
+        trial, _ = self.trial(lambda text: log_text("path::is_dots: not proved", "path::Path::join: not proved"))
+        outcomes, alone = trial.together([edit("a", DOTS), edit("b", ("        Fault::Second", "        Fault::Third"))])
+        self.assertEqual((outcomes, [it.name for it in alone]), ([], ["a", "b"]))
+
     def test_still_proved(self):
         trial, _ = self.trial(lambda text: log_text("path::is_dots: proved", verdict="proved"))
         self.assertIn("still proved", trial.alone(edit("a", DOTS)).reason)

@@ -82,8 +82,8 @@ class Runs(unittest.TestCase):
         status, last, said, calls = self.run_command()
         self.assertEqual((status, last), (0, "4 passed, 0 failed"))
         self.assertIn("high: 2 edits in 1 checks, 0 tried alone, 0 failed", said)
-        # each crate without edits, with its batch, and without edits over what that kept; and the library for high
-        self.assertEqual(sorted(calls), ["high check"] * 3 + ["low check"] * 2 + ["low lib"])
+        # each crate without edits, and with its batch; the first check of low builds the library for high
+        self.assertEqual(sorted(calls), ["high check"] * 2 + ["low check", "low lib"])
 
     def test_what_waits_for_another_edit_is_tried_together_again(self):
         waiting = "fn first() -> u8 {\n    CALLS_second_first()\n}\n\nfn third() -> u8 {\n    CALLS_second_third()\n}\n"

@@ -78,7 +78,7 @@ pub enum EventOf<C> {
     GiveUp(u64),
     /// A loose request reaches the store. It may do so again later.
     Land(u64),
-    /// The client gives up all its operations, and loses its caches.
+    /// The client gives up all its operations and loses its caches, and its views end where it has any.
     Crash(u64),
 }
 

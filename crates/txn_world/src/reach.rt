@@ -42,18 +42,30 @@ fn effect_of(reply: &Reply, copy: Option<Request>) -> Option<Request>
     if took(reply) { copy } else { None }
 }
 
+/// Who takes the reply of a request.
+#[derive(Clone, Copy, PartialEq, Eq)]
+pub(crate) enum Taker {
+    /// The operation that made it.
+    Operation,
+    /// Nobody: the operation is told that its call failed, or has ended.
+    Nobody,
+}
+
 /// A request of an operation reaches the store: the reply, and whether it changed the store, which has its row then. There
-/// is room for the row of an answer. The only error is want of memory, and then nothing reached the store.
+/// is room for the row of an answer. The only error is want of memory, and then nothing reached the store. The store's own
+/// want of memory is a reply that an operation takes, and an error where nobody does.
 pub(crate) fn reach<T: Drop, C: ObjectCodec<T> + Drop, E: EpochField<T>>(
     alloc: Global,
     store: &mut InMemory,
     trace: &mut Trace<T, C, E>,
     op: u64,
     request: &Request,
+    taker: Taker,
 ) -> Result<(Reply, bool), AllocError>
     ensures layout { trace.new.layout ≡ trace.old.layout }
     ensures field { trace.new.field ≡ trace.old.field }
     ensures serves { IfOk result (λ got. Serves request.now (searched_state store.old) got.0 (searched_state store.new)) }
+    ensures answered { taker ≡ Taker.Nobody → IfOk result (λ got. lacks_memory got.0 ≡ false) }
     ensures rows { IfOk result (λ got. trace.new.rows.items ≡ trace.old.rows.items ++ effect_rows op (effect_of (searched_state store.old).files request.now got.0)) }
     ensures changed { IfOk result (λ got. got.1 ≡ is_some (effect_of (searched_state store.old).files request.now got.0)) }
     ensures room { OnOk result (vec_len trace.new.rows < vec_capacity trace.new.rows) }
@@ -64,38 +76,12 @@ pub(crate) fn reach<T: Drop, C: ObjectCodec<T> + Drop, E: EpochField<T>>(
     let epoch = trace.epoch_made(alloc, request)?;
     let copy = copy_of(store, request)?;
     trace.reserve()?;
-    let reply = store.serve(alloc, request);
+    let reply = match taker {
+        Taker::Operation => store.serve(alloc, request),
+        Taker::Nobody => store.try_serve(alloc, request)?,
+    };
     let effect = effect_of(&reply, copy);
     let changed = effect.is_some();
     trace.effect(op, effect, epoch);
     Ok((reply, changed))
-}
-
-/// The same of a request whose reply nobody takes. The store's own want of memory is an error too.
-pub(crate) fn try_reach<T: Drop, C: ObjectCodec<T> + Drop, E: EpochField<T>>(
-    alloc: Global,
-    store: &mut InMemory,
-    trace: &mut Trace<T, C, E>,
-    op: u64,
-    request: &Request,
-) -> Result<(Reply, bool), AllocError>
-    ensures layout { trace.new.layout ≡ trace.old.layout }
-    ensures field { trace.new.field ≡ trace.old.field }
-    ensures serves { IfOk result (λ got. Serves request.now (searched_state store.old) got.0 (searched_state store.new)) }
-    ensures answered { IfOk result (λ got. lacks_memory got.0 ≡ false) }
-    ensures rows { IfOk result (λ got. trace.new.rows.items ≡ trace.old.rows.items ++ effect_rows op (effect_of (searched_state store.old).files request.now got.0)) }
-    ensures changed { IfOk result (λ got. got.1 ≡ is_some (effect_of (searched_state store.old).files request.now got.0)) }
-    ensures room { OnOk result (vec_len trace.new.rows < vec_capacity trace.new.rows) }
-    ensures spare { OnOk result (1 ≤ spare trace.new.told) }
-    ensures err { OnErr result (store.new ≡ store.old) }
-    ensures err_rows { OnErr result (trace.new.rows.items ≡ trace.old.rows.items) }
-{
-    let made = trace.epoch_made(alloc, request)?;
-    let copy = copy_of(store, request)?;
-    trace.reserve()?;
-    let reply = store.try_serve(alloc, request)?;
-    let effect = effect_of(&reply, copy);
-    let has_effect = effect.is_some();
-    trace.effect(op, effect, made);
-    Ok((reply, has_effect))
 }

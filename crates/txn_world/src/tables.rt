@@ -8,7 +8,7 @@ ghost use Rattle.txn_world.specs.Answering.{request_of};
 use crate::calls::view_used;
 use crate::clients::{Clients, Usage, asked, loose_copy, push_loose};
 use crate::ends::{refuse, tell, tell_begin};
-use crate::reach::{reach, try_reach};
+use crate::reach::{Taker, reach};
 use crate::sets::ascending;
 use crate::trace::Trace;
 use crate::views::Views;
@@ -215,7 +215,14 @@ impl<T: Clone, C: ObjectCodec<T> + Drop, E: EpochField<T>> Tables<T, C, E> {
         let Some(request) = request_of(asked(&clients.operations, op)) else {
             unreachable!();
         };
-        let (reply, _) = reach(alloc, &mut self.store, &mut self.trace, op, request)?;
+        let (reply, _) = reach(
+            alloc,
+            &mut self.store,
+            &mut self.trace,
+            op,
+            request,
+            Taker::Operation,
+        )?;
         let ending = self.clients.turn(
             alloc,
             &self.trace.layout,
@@ -300,7 +307,14 @@ impl<T: Clone, C: ObjectCodec<T> + Drop, E: EpochField<T>> Tables<T, C, E> {
         let Some(request) = request_of(asked(&clients.operations, op)) else {
             unreachable!();
         };
-        let (reply, _) = try_reach(alloc, &mut self.store, &mut self.trace, op, request)?;
+        let (reply, _) = reach(
+            alloc,
+            &mut self.store,
+            &mut self.trace,
+            op,
+            request,
+            Taker::Nobody,
+        )?;
         // By a call: in place, the proof would follow each reply that may be dropped here.
         drop(reply);
         Ok(self.tell_failure(op))
@@ -331,7 +345,14 @@ impl<T: Clone, C: ObjectCodec<T> + Drop, E: EpochField<T>> Tables<T, C, E> {
     {
         let alloc = self.alloc;
         let (op, request) = &self.loose[(number - 1) as usize];
-        let (reply, changed) = try_reach(alloc, &mut self.store, &mut self.trace, *op, request)?;
+        let (reply, changed) = reach(
+            alloc,
+            &mut self.store,
+            &mut self.trace,
+            *op,
+            request,
+            Taker::Nobody,
+        )?;
         drop(reply);
         Ok(AnyTold::Landed(number, changed))
     }
