@@ -1,17 +1,11 @@
 -- The rows that an event adds.
-use Rattle.std.proofs.Common.{◌≡◌, ◌≢◌, ℕ, ◌+◌, ◌-◌, List, [], ◌∷◌, ◌++◌, length, not, Bool, true, false, cond, is_some, Option, Some, None, Result, Ok, Err, inl, inr, refl, sym, ◌∙◌, ap, subst, arith}
-use Rattle.std.specs.FinMap.{get, get-empty}
+use Rattle.std.proofs.Common.{◌≡◌, ℕ, ◌+◌, ◌-◌, List, [], ◌∷◌, ◌++◌, length, Bool, true, false, Option, Some, None, inr, refl, sym, ◌∙◌, ap, subst, arith}
+use Rattle.std.specs.FinMap.{get-empty}
 use Rattle.std.proofs.lemmas.List.{length-append, length-map, length-set}
-use Rattle.txn_store.specs.Paths.{Segments, path_cmp}
-use Rattle.txn_store.specs.Store.{State as StoreState, Placed, Removed, Puts, Deletes}
-use Rattle.txn_store.specs.Requests.{Serves}
-use Rattle.txn_store.specs.declared.store.PutMode.{PutMode}
-use Rattle.txn_store.specs.declared.store.StoreError.{StoreError}
-use Rattle.txn_store.specs.declared.store.StoreError.TheVariants as errors
+use Rattle.txn_store.specs.Paths.{path_cmp}
+use Rattle.txn_store.specs.Store.{State as StoreState}
 use Rattle.txn_store.specs.declared.request.Request.{Request}
-use Rattle.txn_store.specs.declared.request.Request.TheVariants as requests
 use Rattle.txn_store.specs.declared.request.Reply.{Reply}
-use Rattle.txn_store.specs.declared.request.Reply.TheVariants as replies
 use Rattle.txn_caches.specs.declared.caches.Caches.{Caches}
 use Rattle.txn_history.specs.declared.event.Answer.TheVariants as plain_answers
 use Rattle.txn_history.specs.declared.event.Failure.{Failure}
@@ -20,12 +14,11 @@ use Rattle.txn_history.specs.declared.event.EventOf.TheVariants as events
 use Rattle.txn_history.specs.declared.event.ToldOf.TheVariants as told
 use Rattle.txn_history.specs.declared.trace.RowOf.TheVariants.{Effect, Begun, Answered}
 use Rattle.txn_history.specs.Calls.{begun_count}
-use Rattle.txn_history.specs.Added.{is_empty, answer_row, Tells, IsEffectRow, AddsRows}
+use Rattle.txn_history.specs.Added.{Tells, answer_row, answer_rows, effect_rows, IsEffectRow, AddsRows}
 use Rattle.txn_history.specs.Seen.{Store}
 use Rattle.txn_machine.specs.Machine.{effect_of}
 use Rattle.txn_machine.proofs.Stands.{AllGiven}
-use Rattle.txn_machine.proofs.Effects.{removed_missing}
-use Rattle.txn_machine.proofs.Faults.{get_kept, listed_kept, not_some, ruled_out}
+use Rattle.txn_machine.proofs.EffectRows.{served_row, effect_empty, tells_answer, went_row, began_row}
 use Rattle.txn_view_history.specs.declared.event.AnyCall.{AnyCall}
 use Rattle.txn_view_history.specs.declared.event.AnyAnswer.{AnyAnswer}
 use Rattle.txn_view_history.specs.declared.event.AnyAnswer.TheVariants as answers
@@ -33,82 +26,12 @@ use Rattle.txn_view_history.specs.Trace.{AnyRow, AnyEvent, AnyTold}
 use Rattle.txn_view_history.specs.Calls.{view_used}
 use Rattle.txn_any_machine.specs.declared.doing.AnyOperation.{AnyOperation}
 use Rattle.txn_any_machine.specs.Doing.{Next, ended, refused, caches_left}
-use Rattle.txn_any_machine.specs.Machine.{State, opening, seen_calls, told_of, answered, answer_next, answer_rows, effect_rows, doing_next, next_op, new_operation, acted, effected, loosened, failing, given_up, ended_by, crashed, begun_as, ReachesStore, FailsFirst, Fails, Lands, Looks, Served, Begins, Takes, IsReached}
+use Rattle.txn_any_machine.specs.Machine.{State, opening, seen_calls, answered, answer_next, doing_next, next_op, new_operation, acted, effected, loosened, failing, given_up, ended_by, crashed, begun_as, ReachesStore, FailsFirst, Fails, Lands, Looks, Served, Begins, Takes, IsReached}
 use Rattle.txn_any_machine.proofs.Busy.{seen_asks}
 use Rattle.txn_any_machine.proofs.Runs.{runs_keep}
 use Rattle.txn_any_machine.proofs.TokensGiven.{served_given}
 
-module _ (T : Type 0) where
-  -- what a request that was served adds
-
-  abbrev Adds : ℕ → StoreState → StoreState → Request → Reply → Type 0
-  Adds op old new request reply = IsEffectRow {C = AnyCall T} {A = AnyAnswer T} op request old.files new.files (effect_rows op (effect_of old.files request reply))
-
-  -- a token that is new is not a file's
-  fresh_token : (path : Segments) (bytes : List ℕ) (token : ℕ) (old new : StoreState) → AllGiven old → Placed path bytes token old new → get old.files path ≢ Some (record { bytes = bytes; token = token })
-  fresh_token path bytes token old new all placed e = placed.fresh (all path (record { bytes = bytes; token = token }) e)
-
-  put_row : (op : ℕ) (path : Segments) (bytes : List ℕ) (mode : PutMode) (old new : StoreState) (answer : Result ℕ StoreError) → AllGiven old → Puts path bytes mode old answer new → new.failures ≡ 0 → Adds op old new (requests.Put path bytes mode) (replies.Put answer)
-  put_row op path bytes mode old new (Ok token) all p honest = inr (refl, (token, p.placed.files, fresh_token path bytes token old new all p.placed))
-  put_row op path bytes mode old new (Err errors.AlreadyExists) all p honest = inl (refl, p.err.1.files)
-  put_row op path bytes mode old new (Err errors.NoMemory) all p honest = inl (refl, p.err.1.files)
-  put_row op path bytes mode old new (Err errors.TokensExhausted) all p honest = inl (refl, p.err.2.files)
-  put_row op path bytes mode old new (Err errors.Failed) all p honest = ruled_out old new honest p.err.0
-  put_row op path bytes mode old new (Err errors.NotFound) all p honest = inl (refl, p.err.1.files)
-  put_row op path bytes mode old new (Err errors.Precondition) all p honest = inl (refl, p.err.1.files)
-  put_row op path bytes mode old new (Err errors.NotModified) all p honest = inl (refl, p.err.1.files)
-
-  removed_row : (there : Bool) (op : ℕ) (path : Segments) (old new : StoreState) → is_some (get old.files path) ≡ there → Removed path old new → IsEffectRow {C = AnyCall T} {A = AnyAnswer T} op (requests.Delete path) old.files new.files (effect_rows op (cond there (Some (requests.Delete path)) None))
-  removed_row true op path old new e gone = inr (refl, (gone.files, e))
-  removed_row false op path old new e gone = inl (refl, gone.files ∙ removed_missing old.files path (not_some (get old.files path) e))
-
-  delete_row : (op : ℕ) (path : Segments) (old new : StoreState) (answer : Result (Unit {0}) StoreError) → Deletes path old answer new → new.failures ≡ 0 → Adds op old new (requests.Delete path) (replies.Delete answer)
-  delete_row op path old new (Ok done) d honest = removed_row (is_some (get old.files path)) op path old new refl d.removed
-  delete_row op path old new (Err errors.NoMemory) d honest = inl (refl, d.err.1.files)
-  delete_row op path old new (Err errors.Failed) d honest = ruled_out old new honest d.err.0
-  delete_row op path old new (Err errors.TokensExhausted) d honest = absurd d.err
-  delete_row op path old new (Err errors.NotFound) d honest = inl (refl, d.err.1.files)
-  delete_row op path old new (Err errors.AlreadyExists) d honest = inl (refl, d.err.1.files)
-  delete_row op path old new (Err errors.Precondition) d honest = inl (refl, d.err.1.files)
-  delete_row op path old new (Err errors.NotModified) d honest = inl (refl, d.err.1.files)
-
-  served_row : (op : ℕ) (old new : StoreState) (request : Request) (reply : Reply) → AllGiven old → Serves request old reply new → new.failures ≡ 0 → Adds op old new request reply
-  served_row op old new (requests.Put path bytes mode) (replies.Put answer) all s honest = put_row op path bytes mode old new answer all s honest
-  served_row op old new (requests.Get path known) (replies.Get answer) all s honest = inl (refl, (get_kept path known old new answer s honest).files)
-  served_row op old new (requests.List prefix after limit) (replies.List answer) all s honest = inl (refl, (listed_kept prefix after limit old new answer s honest).files)
-  served_row op old new (requests.Delete path) (replies.Delete answer) all s honest = delete_row op path old new answer s honest
-  served_row op old new (requests.Put path bytes mode) (replies.Get answer) all s honest = absurd s
-  served_row op old new (requests.Put path bytes mode) (replies.List answer) all s honest = absurd s
-  served_row op old new (requests.Put path bytes mode) (replies.Delete answer) all s honest = absurd s
-  served_row op old new (requests.Get path known) (replies.Put answer) all s honest = absurd s
-  served_row op old new (requests.Get path known) (replies.List answer) all s honest = absurd s
-  served_row op old new (requests.Get path known) (replies.Delete answer) all s honest = absurd s
-  served_row op old new (requests.List prefix after limit) (replies.Put answer) all s honest = absurd s
-  served_row op old new (requests.List prefix after limit) (replies.Get answer) all s honest = absurd s
-  served_row op old new (requests.List prefix after limit) (replies.Delete answer) all s honest = absurd s
-  served_row op old new (requests.Delete path) (replies.Put answer) all s honest = absurd s
-  served_row op old new (requests.Delete path) (replies.Get answer) all s honest = absurd s
-  served_row op old new (requests.Delete path) (replies.List answer) all s honest = absurd s
-
-  effect_empty : (op : ℕ) (effect : Option Request) → is_some effect ≡ not (is_empty (effect_rows {T = T} op effect))
-  effect_empty op None = refl
-  effect_empty op (Some request) = refl
-
 module _ {T : Type 0} where
-  -- the rows of answers
-
-  tells_answer : (otherwise : AnyTold T) (op : ℕ) (answer : Option (AnyAnswer T)) → Tells otherwise op (told_of otherwise op answer)
-  tells_answer otherwise op None = inl refl
-  tells_answer otherwise op (Some answer) = inr (answer, refl)
-
-  went_row : (op : ℕ) (answer : Option (AnyAnswer T)) → answer_rows op answer ≡ answer_row (told_of (told.Went op) op answer)
-  went_row op None = refl
-  went_row op (Some answer) = refl
-
-  began_row : (op : ℕ) (answer : Option (AnyAnswer T)) → answer_rows op answer ≡ answer_row (told_of (told.Began op) op answer)
-  began_row op None = refl
-  began_row op (Some answer) = refl
-
   -- the rows of failures and landings
 
   first_adds : (looses : Bool) (old : State T) (op : ℕ) (said : AnyTold T) (new : State T) → FailsFirst old op said looses new → (Tells (told.Went op) op said) × (new.trace ≡ old.trace ++ answer_row said) × (new.store.files ≡ old.store.files)
@@ -132,7 +55,7 @@ module _ {T : Type 0} where
         request = v.request;
         asked = seen_asks old.operations op v.operation v.acts.found ∙ v.acts.asks;
         rows = rows;
-        effect = subst (λ (s : State T). IsEffectRow {C = AnyCall T} {A = AnyAnswer T} op v.request old.store.files s.store.files rows) (sym v.state) (served_row T op old.store v.store v.request v.reply given v.reaches.serves v.reaches.honest);
+        effect = subst (λ (s : State T). IsEffectRow {C = AnyCall T} {A = AnyAnswer T} op v.request old.store.files s.store.files rows) (sym v.state) (served_row (AnyCall T) (AnyAnswer T) op old.store v.store v.request v.reply given v.reaches.serves v.reaches.honest);
         told = inr (answers.Plain (plain_answers.Refused 2), v.tells);
         added = ap (λ (s : State T). s.trace) v.state ∙ ap (λ (t : AnyTold T). (old.trace ++ rows) ++ answer_row t) (sym v.tells);
       }
@@ -146,15 +69,15 @@ module _ {T : Type 0} where
         request = v.request;
         loose = v.found;
         rows = rows;
-        effect = subst (λ (s : State T). IsEffectRow {C = AnyCall T} {A = AnyAnswer T} v.op v.request old.store.files s.store.files rows) (sym v.state) (served_row T v.op old.store v.store v.request v.reply given v.reaches.serves v.reaches.honest);
-        told = v.tells ∙ ap (told.Landed k) (effect_empty T v.op effect);
+        effect = subst (λ (s : State T). IsEffectRow {C = AnyCall T} {A = AnyAnswer T} v.op v.request old.store.files s.store.files rows) (sym v.state) (served_row (AnyCall T) (AnyAnswer T) v.op old.store v.store v.request v.reply given v.reaches.serves v.reaches.honest);
+        told = v.tells ∙ ap (told.Landed k) (effect_empty (AnyCall T) (AnyAnswer T) v.op effect);
         added = ap (λ (s : State T). s.trace) v.state;
       }
 
 none_more : (operations rows more : ℕ) → operations ≡ rows → more ≡ 0 → operations ≡ rows + more
 none_more operations rows more e none = omega arith
 
-effects_begun : (T : Type 0) (op : ℕ) (effect : Option Request) → begun_count (effect_rows {T = T} op effect) ≡ 0
+effects_begun : (T : Type 0) (op : ℕ) (effect : Option Request) → begun_count (effect_rows {C = AnyCall T} {A = AnyAnswer T} op effect) ≡ 0
 effects_begun T op None = refl
 effects_begun T op (Some request) = refl
 
@@ -170,7 +93,7 @@ module _ {T : Type 0} where
   begun_more (Effect op request ∷ rows) more = begun_more rows more
   begun_more (Answered op answer ∷ rows) more = begun_more rows more
 
-  answers_begun : (op : ℕ) (answer : Option (AnyAnswer T)) → begun_count (answer_rows op answer) ≡ 0
+  answers_begun : (op : ℕ) (answer : Option (AnyAnswer T)) → begun_count (answer_rows {C = AnyCall T} op answer) ≡ 0
   answers_begun op None = refl
   answers_begun op (Some answer) = refl
 
@@ -227,7 +150,7 @@ module _ {T : Type 0} (encode : T → List ℕ) (decode : List ℕ → Option T)
         request = v.request;
         asked = seen_asks old.operations op v.operation v.acts.found ∙ v.acts.asks;
         rows = rows;
-        effect = subst (λ (s : State T). IsEffectRow {C = AnyCall T} {A = AnyAnswer T} op v.request old.store.files s.store.files rows) (sym v.state) (served_row T op old.store v.store v.request v.reply given v.reaches.serves v.reaches.honest);
+        effect = subst (λ (s : State T). IsEffectRow {C = AnyCall T} {A = AnyAnswer T} op v.request old.store.files s.store.files rows) (sym v.state) (served_row (AnyCall T) (AnyAnswer T) op old.store v.store v.request v.reply given v.reaches.serves v.reaches.honest);
         told = subst (λ (t : AnyTold T). Tells (told.Went op) op t) (sym v.tells) (tells_answer (told.Went op) op answer);
         added = ap (λ (s : State T). s.trace) v.state ∙ ap (λ more. (old.trace ++ rows) ++ more) (went_row op answer ∙ ap answer_row (sym v.tells));
       }

@@ -19,8 +19,9 @@ use Rattle.txn_history.specs.Lists.{numbered}
 use Rattle.txn_history.specs.Allowed.{is_client, first_fault}
 use Rattle.txn_history.specs.History.{epoch_at}
 use Rattle.txn_history.specs.Calls as plain_calls
-use Rattle.txn_history.specs.Calls.{was_begun, begun_count, IsCall}
+use Rattle.txn_history.specs.Calls.{was_begun, begun_count}
 use Rattle.txn_history.specs.OneHistory as plain_history
+use Rattle.txn_history.specs.Added.{answer_rows}
 use Rattle.txn_machine.specs.Doing as plain
 use Rattle.txn_machine.specs.Machine as machine
 use Rattle.txn_machine.proofs.Lists.{numbered_there}
@@ -41,7 +42,6 @@ use Rattle.txn_view_machine.specs.Parts as parts
 use Rattle.txn_view_machine.specs.Parts.{plain_inner, HasEpoch, OrLacking}
 use Rattle.txn_view_machine.specs.Steps.{Allowed}
 use Rattle.txn_view_machine.proofs.Stands as layer_stands
-use Rattle.txn_view_machine.proofs.Stands.{OwnFenced}
 use Rattle.txn_view_machine.proofs.Opens.{begin_opens}
 use Rattle.txn_view_machine.proofs.Begins.{begin_stands}
 use Rattle.txn_view_machine.proofs.Shows.{no_epoch}
@@ -50,8 +50,8 @@ use Rattle.txn_view_machine.proofs.Tables as layer_tables
 use Rattle.txn_view_machine.proofs.Tables.{Leaves, set_here, set_other, used_leaves, op_of}
 use Rattle.txn_any_machine.specs.declared.doing.AnyOperation.{AnyOperation}
 use Rattle.txn_any_machine.specs.Doing as whole
-use Rattle.txn_any_machine.specs.Doing.{ended, is_claim_call}
-use Rattle.txn_any_machine.specs.Machine.{State, used_in, used_by, seen_view, seen_views, seen_of, views_taken, answered, answer_rows, next_op, new_operation, doing_next, begun_as, acted, view_now, Begins}
+use Rattle.txn_any_machine.specs.Doing.{ended}
+use Rattle.txn_any_machine.specs.Machine.{State, used_in, used_by, seen_view, seen_views, seen_of, views_taken, answered, next_op, new_operation, doing_next, begun_as, acted, view_now, Begins}
 use Rattle.txn_any_machine.proofs.Matched.{HasView, NextAs, Answered as IsAnswered}
 use Rattle.txn_any_machine.proofs.PlainTurns.{plain_start}
 use Rattle.txn_any_machine.proofs.Starts.{every_start}

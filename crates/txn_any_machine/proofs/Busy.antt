@@ -20,6 +20,7 @@ use Rattle.txn_history.specs.History.{is_id}
 use Rattle.txn_history.specs.Lists.{numbered}
 use Rattle.txn_history.specs.Names.{world_boundary}
 use Rattle.txn_history.specs.Seen.{Store, Look, asks_in, asks_of}
+use Rattle.txn_history.specs.Added.{answer_rows, effect_rows}
 use Rattle.txn_history.proofs.Rows.{is_id_some}
 use Rattle.txn_machine.proofs.Lists.{numbered_here, numbered_other, numbered_map, numbered_append, within}
 use Rattle.txn_machine.specs.declared.doing.Doing.TheVariants as doings
@@ -40,7 +41,7 @@ use Rattle.txn_any_machine.specs.declared.doing.AnyOperation.{AnyOperation}
 use Rattle.txn_any_machine.specs.declared.doing.Ending.{Ending}
 use Rattle.txn_any_machine.specs.declared.doing.Ending.TheVariants as endings
 use Rattle.txn_any_machine.specs.Doing.{Next, asked, ended, refused, is_claim_call, caches_left}
-use Rattle.txn_any_machine.specs.Machine.{State, opening, refusal_of, seen_operation, seen_operations, seen_view, seen_views, seen_of, used_in, used_by, with_used, let_go, made_by, change_of, views_after, views_taken, answered, doing_next, with_doing, answer_rows, effect_rows, acted, effected, loosened, failing, given_up, next_op, new_operation, begun_as, Fails, Looks, Served, Takes, IsReached}
+use Rattle.txn_any_machine.specs.Machine.{State, opening, refusal_of, seen_operation, seen_operations, seen_view, seen_views, seen_of, used_in, used_by, with_used, let_go, made_by, change_of, views_after, views_taken, answered, doing_next, with_doing, acted, effected, loosened, failing, given_up, next_op, new_operation, begun_as, Fails, Looks, Served, Takes, IsReached}
 use Rattle.txn_any_machine.proofs.Places.{numbered_kept, numbered_of_map, numbered_new, set_new, any_at, place_of_any}
 use Rattle.txn_any_machine.proofs.Fits.{Fits, turned_fits, started_fits}
 use Rattle.txn_any_machine.proofs.Busies.{IsRunning, Busies, HasNoBegin, Frees, TakesOne, busies_opening, busies_rows, busies_goes, busies_ends, busies_begins, busies_crashes}
@@ -162,7 +163,7 @@ module _ {T : Type 0} where
       one_begins zero o call e = cc
       one_begins (suc k) o call e = cc
 
-  effect_begins : (op : ℕ) (effect : Option Request) → HasNoBegin (effect_rows {T = T} op effect)
+  effect_begins : (op : ℕ) (effect : Option Request) → HasNoBegin {T = T} (effect_rows op effect)
   effect_begins op None = λ k o call e. absurd (cc)
   effect_begins op (Some request) = one_begins
     where

@@ -10,6 +10,7 @@ use Rattle.txn_history.specs.declared.event.ToldOf.TheVariants as told
 use Rattle.txn_history.specs.Lists.{numbered}
 use Rattle.txn_history.specs.Seen.{Ask, Store, Look, Operation as SeenOperation, asks_of}
 use Rattle.txn_history.specs.GoesOn.{left_loose, state_of, ends_operation, state_after, states_after, GoesOn}
+use Rattle.txn_history.specs.Added.{told_of}
 use Rattle.txn_machine.specs.Machine.{effect_of}
 use Rattle.txn_view_history.specs.declared.event.AnyCall.{AnyCall}
 use Rattle.txn_view_history.specs.declared.event.AnyAnswer.{AnyAnswer}
@@ -20,7 +21,7 @@ use Rattle.txn_any_machine.specs.declared.doing.AnyDoing.{AnyDoing}
 use Rattle.txn_any_machine.specs.declared.doing.AnyOperation.{AnyOperation}
 use Rattle.txn_any_machine.specs.declared.doing.Ending.{Ending}
 use Rattle.txn_any_machine.specs.Doing.{Next, asked, ended, refused, caches_left}
-use Rattle.txn_any_machine.specs.Machine.{State, seen_operation, seen_operations, seen_calls, seen_view, used_by, told_of, answered, answer_next, doing_next, with_doing, new_operation, acted, effected, loosened, failing, given_up, ended_by, crashed, next_op, begun_as, Fails, GivesUp, Lands, Crashes, Looks, Served, Begins, Takes}
+use Rattle.txn_any_machine.specs.Machine.{State, seen_operation, seen_operations, seen_calls, seen_view, used_by, answered, answer_next, doing_next, with_doing, new_operation, acted, effected, loosened, failing, given_up, ended_by, crashed, next_op, begun_as, Fails, GivesUp, Lands, Crashes, Looks, Served, Begins, Takes}
 use Rattle.txn_any_machine.proofs.Fits.{Fits, turned_fits, started_fits}
 use Rattle.txn_any_machine.proofs.Busy.{seen_asks}
 

@@ -14,6 +14,7 @@ use Rattle.txn_history.specs.Trace.{Row}
 use Rattle.txn_history.specs.Lists.{numbered}
 use Rattle.txn_history.specs.Seen.{Store}
 use Rattle.txn_history.specs.GoesOn.{left_loose}
+use Rattle.txn_history.specs.Added.{effect_rows}
 use Rattle.txn_history.proofs.Lists.{numbered_kept}
 use Rattle.txn_machine.specs.declared.doing.Doing.TheVariants as doings
 use Rattle.txn_machine.specs.Machine as machine
@@ -27,9 +28,9 @@ use Rattle.txn_view_history.specs.declared.event.AnyCall.TheVariants as any
 use Rattle.txn_view_history.specs.Trace.{AnyRow, AnyTold}
 use Rattle.txn_view_history.specs.Calls.{view_used}
 use Rattle.txn_view_machine.specs.Layer as layer
-use Rattle.txn_view_machine.specs.Layer.{Used, Inner, Starts, Writes, Reads, Acts, Layer, Change, Keeps, Closes, Next, Goes, Ends, look_up, local_of, set_at, turned}
+use Rattle.txn_view_machine.specs.Layer.{Inner, Starts, Writes, Reads, Acts, Change, Keeps, Next, Goes, Ends, look_up, local_of, set_at, turned}
 use Rattle.txn_view_machine.specs.Parts as parts
-use Rattle.txn_view_machine.specs.Parts.{Inside, is_claim, refusing, denied, HasEpoch, OrLacking}
+use Rattle.txn_view_machine.specs.Parts.{Inside, is_claim, refusing, HasEpoch}
 use Rattle.txn_view_machine.proofs.Stands as layer_stands
 use Rattle.txn_view_machine.proofs.Takes.{take_stands}
 use Rattle.txn_view_machine.proofs.Runs.{tell_stands, step_keeps}
@@ -37,7 +38,7 @@ use Rattle.txn_view_machine.proofs.Tables.{set_here}
 use Rattle.txn_any_machine.specs.declared.doing.AnyOperation.{AnyOperation}
 use Rattle.txn_any_machine.specs.declared.doing.Ending.TheVariants as endings
 use Rattle.txn_any_machine.specs.Doing.{refused, is_claim_call}
-use Rattle.txn_any_machine.specs.Machine.{State, acted, effected, failing, effect_rows, let_go, FailsFirst, FailsAfter, Fails}
+use Rattle.txn_any_machine.specs.Machine.{State, acted, effected, failing, let_go, FailsFirst, FailsAfter, Fails}
 use Rattle.txn_any_machine.proofs.Joined.{Past, as_laid, as_fine, IsAtWork, Held, LooseAt, Core, Joined, Mid}
 use Rattle.txn_any_machine.proofs.Rows.{core_failed, does_fine, does_row}
 use Rattle.txn_any_machine.proofs.Alike.{matched_same}
@@ -113,7 +114,7 @@ module _ {T : Type 0} (encode : T → List ℕ) (decode : List ℕ → Option T)
   kept = slice_set s.caches (operation.client - 1) caches
 
   abbrev fine' : machine.State T
-  fine' = record j.fine { store = store'; caches = kept; operations = machine.with_doing j.fine.operations n (as_fine operation.client held.doing) doings.Ended; loose = j.fine.loose ++ more; failed = j.fine.failed ++ n ∷ []; trace = (j.fine.trace ++ machine.effect_rows n effect) ++ Answered n (plain_answers.Refused 2) ∷ [] }
+  fine' = record j.fine { store = store'; caches = kept; operations = machine.with_doing j.fine.operations n (as_fine operation.client held.doing) doings.Ended; loose = j.fine.loose ++ more; failed = j.fine.failed ++ n ∷ []; trace = (j.fine.trace ++ effect_rows n effect) ++ Answered n (plain_answers.Refused 2) ∷ [] }
 
   abbrev failed' : List ℕ
   failed' = s.failed ++ op ∷ []
@@ -127,11 +128,11 @@ module _ {T : Type 0} (encode : T → List ℕ) (decode : List ℕ → Option T)
       let was = laid_on decode get_epoch set_epoch j.l op effect j.l.failed in
       let over = step_keeps decode get_epoch set_epoch was (record was { failed = was.failed ++ op ∷ [] }) (effect_over decode get_epoch set_epoch past s j op operation found held effect machine.told_failure store' kept (j.fine.loose ++ more) (j.fine.failed ++ n ∷ []) failed' stands)
       (inr (inr (inr (inr (inr (inr (inr (inr (record { op = op; new = refl }))))))))) in
-      let begun = begun_of (j.fine.trace ++ machine.effect_rows n effect) n (fine_call held.call held.inner) (does_fine get_epoch j.fine.trace (machine.effect_rows n effect) j.l.rows j.l.asked n op held.call held.inner held.does).called in
-      let core = core_failed (j.fine.trace ++ machine.effect_rows n effect) j.fine.failed (j.l.rows ++ effect_rows op effect) j.l.views j.l.failed j.owner (core_after decode get_epoch set_epoch past s j op operation found held effect machine.told_failure store' kept (j.fine.loose ++ more) (j.fine.failed ++ n ∷ []) failed') n op held.owned begun in
+      let begun = begun_of (j.fine.trace ++ effect_rows n effect) n (fine_call held.call held.inner) (does_fine get_epoch j.fine.trace (effect_rows n effect) j.l.rows j.l.asked n op held.call held.inner held.does).called in
+      let core = core_failed (j.fine.trace ++ effect_rows n effect) j.fine.failed (j.l.rows ++ effect_rows op effect) j.l.views j.l.failed j.owner (core_after decode get_epoch set_epoch past s j op operation found held effect machine.told_failure store' kept (j.fine.loose ++ more) (j.fine.failed ++ n ∷ []) failed') n op held.owned begun in
       reach_mid decode get_epoch set_epoch past s j op operation found held effect machine.told_failure store' kept (j.fine.loose ++ more) (j.fine.failed ++ n ∷ []) failed' stands
       (subst (λ (f : List ℕ). layer_stands.Stands decode get_epoch set_epoch (laid_on decode get_epoch set_epoch j.l op effect (f ++ op ∷ []))) j.tie.failed over)
-      (subst (λ (f : List ℕ). Core (j.fine.trace ++ machine.effect_rows n effect) (j.fine.failed ++ n ∷ []) (j.l.rows ++ effect_rows op effect) j.l.views (f ++ op ∷ []) j.owner) j.tie.failed core)
+      (subst (λ (f : List ℕ). Core (j.fine.trace ++ effect_rows n effect) (j.fine.failed ++ n ∷ []) (j.l.rows ++ effect_rows op effect) j.l.views (f ++ op ∷ []) j.owner) j.tie.failed core)
       (λ k m request e. numbered_kept j.fine.loose more k (m, request) e) client
       (record { clients = j.tie.clients; page = j.tie.page; store = refl; rows = ap (λ (rs : List (AnyRow T)). rs ++ effect_rows op effect) j.tie.rows; failed = refl; views = j.tie.views; count = j.tie.count; next = j.tie.next })
 
@@ -144,7 +145,7 @@ module _ {T : Type 0} (encode : T → List ℕ) (decode : List ℕ → Option T)
   fails_now stands = reach_now decode get_epoch set_epoch past s j op operation found held effect machine.told_failure store' kept (j.fine.loose ++ more) (j.fine.failed ++ n ∷ []) failed' stands _ _ _ _ _
 
   -- the machine as its step leaves it
-  stood_as : (store : StoreState) (loose : List (ℕ × Request)) (rows : List (Row T)) → store ≡ store' → loose ≡ j.fine.loose ++ more → rows ≡ j.fine.trace ++ machine.effect_rows n effect →
+  stood_as : (store : StoreState) (loose : List (ℕ × Request)) (rows : List (Row T)) → store ≡ store' → loose ≡ j.fine.loose ++ more → rows ≡ j.fine.trace ++ effect_rows n effect →
       machine_stands.Stands decode get_epoch (record j.fine { store = store; caches = slice_set j.fine.caches (operation.client - 1) caches; operations = machine.with_doing j.fine.operations n (as_fine operation.client held.doing) doings.Ended; loose = loose; failed = j.fine.failed ++ n ∷ []; trace = rows ++ Answered n (plain_answers.Refused 2) ∷ [] }) →
       machine_stands.Stands decode get_epoch fine'
   stood_as store loose rows is_store is_loose is_rows st =
@@ -232,8 +233,8 @@ module _ {T : Type 0} (encode : T → List ℕ) (decode : List ℕ → Option T)
       let effect = machine.effect_of s.store.files v.request v.reply in
       let fine = machine.acted (machine.failing (machine.effected j.fine n v.request v.reply v.store) n) n o machine.told_failure v.caches in
       let stood = machine_events.fail_keeps decode get_epoch failures.After j.fine n (told.Answered n (plain_answers.Refused 2)) fine (record { operation = o; request = v.request; caches = v.caches; acts = record { found = held.there; asks = sym same.asks ∙ a.asks; kept = kept }; reply = v.reply; store = v.store; reaches = record { serves = serves; honest = v.reaches.honest }; tells = refl; state = refl }) j.stands in
-      let rows = ap (λ (st : StoreState). j.fine.trace ++ machine.effect_rows n (machine.effect_of st.files v.request v.reply)) j.tie.store in
-      let stands = stood_as encode decode get_epoch set_epoch past s j op operation a.found held client v.caches effect v.store [] v.store j.fine.loose (j.fine.trace ++ machine.effect_rows n (machine.effect_of j.fine.store.files v.request v.reply)) refl (sym (append-nil j.fine.loose)) rows stood in
+      let rows = ap (λ (st : StoreState). j.fine.trace ++ effect_rows n (machine.effect_of st.files v.request v.reply)) j.tie.store in
+      let stands = stood_as encode decode get_epoch set_epoch past s j op operation a.found held client v.caches effect v.store [] v.store j.fine.loose (j.fine.trace ++ effect_rows n (machine.effect_of j.fine.store.files v.request v.reply)) refl (sym (append-nil j.fine.loose)) rows stood in
       let joined = fails_joins encode decode get_epoch set_epoch past s j op operation a.found held client v.caches effect v.store [] [] (λ i o request e. none_left i o request e) stands in
       subst (λ (x : State T). Joined decode get_epoch set_epoch past x) (sym v.state)
       (subst (λ (ls : List (ℕ × Request)). Joined decode get_epoch set_epoch past (record (acted (failing (effected s op v.request v.reply v.store) op) op operation (refused 2) v.caches) { loose = ls })) (append-nil s.loose) joined)

@@ -12,6 +12,7 @@ use Rattle.txn_history.specs.Trace.{Row}
 use Rattle.txn_history.specs.Lists.{numbered}
 use Rattle.txn_history.specs.GoesOn.{left_loose}
 use Rattle.txn_history.specs.OneHistory as plain_history
+use Rattle.txn_history.specs.Added.{effect_rows}
 use Rattle.txn_history.proofs.Lists.{numbered_kept}
 use Rattle.txn_machine.specs.declared.doing.Doing.TheVariants as doings
 use Rattle.txn_machine.specs.Machine as machine
@@ -25,7 +26,7 @@ use Rattle.txn_view_history.specs.declared.event.ViewCall.TheVariants as view_ca
 use Rattle.txn_view_history.specs.Trace.{AnyRow, AnyTold}
 use Rattle.txn_view_history.specs.Calls.{view_used}
 use Rattle.txn_view_machine.specs.Layer as layer
-use Rattle.txn_view_machine.specs.Layer.{Used, Inner, Starts, Writes, Reads, Acts, Layer, Change, Keeps as Frees, Closes, changed, look_up, local_of, set_at, set_used, views_changed, with_row}
+use Rattle.txn_view_machine.specs.Layer.{Used, Inner, Starts, Writes, Reads, Acts, Change, Keeps as Frees, Closes, changed, look_up, local_of, set_at, set_used, views_changed}
 use Rattle.txn_view_machine.specs.Parts.{is_claim}
 use Rattle.txn_view_machine.specs.Steps.{Steps}
 use Rattle.txn_view_machine.proofs.Stands.{Uses}
@@ -35,7 +36,7 @@ use Rattle.txn_view_machine.proofs.Tables.{Leaves, set_here, set_other, used_lea
 use Rattle.txn_any_machine.specs.declared.doing.AnyOperation.{AnyOperation}
 use Rattle.txn_any_machine.specs.Doing.{ended, is_claim_call}
 use Rattle.txn_any_machine.specs.Machine as world
-use Rattle.txn_any_machine.specs.Machine.{State, used_by, with_used, let_go, doing_next, given_up, loosened, effected, effect_rows, GivesUp, Lands}
+use Rattle.txn_any_machine.specs.Machine.{State, used_by, let_go, doing_next, GivesUp, Lands}
 use Rattle.txn_any_machine.proofs.Matched.{fine_call}
 use Rattle.txn_any_machine.proofs.Joined.{Past, as_laid, as_fine, ViewTold, Does, At, LooseAt, Joined}
 use Rattle.txn_any_machine.proofs.Rows.{core_views, does_fine, does_row}
@@ -172,18 +173,18 @@ module _ {T : Type 0} (encode : T → List ℕ) (decode : List ℕ → Option T)
       let serves : Serves v.request j.fine.store v.reply v.store = subst (λ (st : StoreState). Serves v.request st v.reply v.store) (sym j.tie.store) v.reaches.serves in
       let effect = machine.effect_of s.store.files v.request v.reply in
       let fine = machine.effected j.fine n v.request v.reply v.store in
-      let fine' = record j.fine { store = v.store; trace = j.fine.trace ++ machine.effect_rows n effect } in
+      let fine' = record j.fine { store = v.store; trace = j.fine.trace ++ effect_rows n effect } in
       let stood = land_keeps decode get_epoch j.fine loose.place (told.Landed loose.place (is_some (machine.effect_of j.fine.store.files v.request v.reply))) fine (record { op = n; request = v.request; found = loose.there; reply = v.reply; store = v.store; reaches = record { serves = serves; honest = v.reaches.honest }; tells = refl; state = refl }) j.stands in
-      let stands : machine_stands.Stands decode get_epoch fine' = subst (λ (st : StoreState). machine_stands.Stands decode get_epoch (record j.fine { store = v.store; trace = j.fine.trace ++ machine.effect_rows n (machine.effect_of st.files v.request v.reply) })) j.tie.store stood in
+      let stands : machine_stands.Stands decode get_epoch fine' = subst (λ (st : StoreState). machine_stands.Stands decode get_epoch (record j.fine { store = v.store; trace = j.fine.trace ++ effect_rows n (machine.effect_of st.files v.request v.reply) })) j.tie.store stood in
       let good = stands.know.history.good in
       let begun = begun_of j.fine.trace n (fine_call loose.call loose.inner) loose.does.called in
       let over = over_effect decode get_epoch set_epoch j.l op effect
       (λ request e.
       effect_step decode get_epoch set_epoch j.owner j.fine.trace j.l j.core.tied.top n op loose.owned loose.call loose.inner loose.does (λ c called. one_fine decode get_epoch j.fine.failed j.fine.trace j.stands.know.history.good n c (fine_call loose.call loose.inner) called loose.does.called)
       (due_gone op loose.inner (j.l.ops op) loose.gone) request
-      (last_effect decode get_epoch j.fine.failed j.fine.trace n request (subst (λ (x : Option Request). plain_history.IsOneHistory decode get_epoch j.fine.failed (j.fine.trace ++ machine.effect_rows n x)) e good))) j.over in
-      let grows : (m i : ℕ) (c : AnyCall T) (inner : Inner T) → Does get_epoch j.fine.trace j.l.rows j.l.asked m i c inner → Does get_epoch (j.fine.trace ++ machine.effect_rows n effect) (j.l.rows ++ effect_rows op effect) j.l.asked m i c inner =
-      λ m i c inner d. does_row get_epoch (j.fine.trace ++ machine.effect_rows n effect) j.l.rows (effect_rows op effect) j.l.asked m i c inner (does_fine get_epoch j.fine.trace (machine.effect_rows n effect) j.l.rows j.l.asked m i c inner d) in
+      (last_effect decode get_epoch j.fine.failed j.fine.trace n request (subst (λ (x : Option Request). plain_history.IsOneHistory decode get_epoch j.fine.failed (j.fine.trace ++ effect_rows n x)) e good))) j.over in
+      let grows : (m i : ℕ) (c : AnyCall T) (inner : Inner T) → Does get_epoch j.fine.trace j.l.rows j.l.asked m i c inner → Does get_epoch (j.fine.trace ++ effect_rows n effect) (j.l.rows ++ effect_rows op effect) j.l.asked m i c inner =
+      λ m i c inner d. does_row get_epoch (j.fine.trace ++ effect_rows n effect) j.l.rows (effect_rows op effect) j.l.asked m i c inner (does_fine get_epoch j.fine.trace (effect_rows n effect) j.l.rows j.l.asked m i c inner d) in
       subst (λ (x : State T). Joined decode get_epoch set_epoch past x) (sym v.state)
       (record {
         fine = fine';

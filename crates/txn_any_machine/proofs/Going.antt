@@ -9,11 +9,11 @@ use Rattle.txn_history.specs.declared.event.Answer.TheVariants as answers
 use Rattle.txn_history.specs.declared.trace.RowOf.TheVariants.{Answered}
 use Rattle.txn_history.specs.Trace.{Row}
 use Rattle.txn_history.specs.Calls as plain_calls
-use Rattle.txn_history.specs.Calls.{begins, was_begun, IsCall}
+use Rattle.txn_history.specs.Calls.{IsCall}
 use Rattle.txn_history.specs.OneHistory as plain_history
-use Rattle.txn_history.specs.OneHistory.{Entered, Answers}
+use Rattle.txn_history.specs.OneHistory.{Answers}
+use Rattle.txn_history.specs.Added.{answer_rows}
 use Rattle.txn_history.proofs.Lists.{get_last, get_kept, any_last}
-use Rattle.txn_machine.specs.Machine as machine
 use Rattle.txn_view_history.specs.declared.event.AnyCall.{AnyCall}
 use Rattle.txn_view_history.specs.declared.event.AnyCall.TheVariants as any
 use Rattle.txn_view_history.specs.declared.event.AnyAnswer.TheVariants as any_answers
@@ -75,17 +75,17 @@ module _ {T : Type 0} where
   answer_told rows n answer test e = any_last (plain_calls.tells test) rows (Answered n answer) e
 
   module _ (decode : List ℕ → Option T) (get_epoch : T → ℕ) (fine : List (Row T)) (n : ℕ) where
-    pub core_answer : (fine_failed : List ℕ) (rows : List (AnyRow T)) (views : ℕ → Option (Used T)) (failed : List ℕ) (owner : ℕ → ℕ) (answer : Option (Answer T)) → Core fine fine_failed rows views failed owner → Core (fine ++ machine.answer_rows n answer) fine_failed rows views failed owner
+    pub core_answer : (fine_failed : List ℕ) (rows : List (AnyRow T)) (views : ℕ → Option (Used T)) (failed : List ℕ) (owner : ℕ → ℕ) (answer : Option (Answer T)) → Core fine fine_failed rows views failed owner → Core (fine ++ answer_rows n answer) fine_failed rows views failed owner
     core_answer fine_failed rows views failed owner None h = subst (λ (f : List (Row T)). Core f fine_failed rows views failed owner) (sym (append-nil fine)) h
     core_answer fine_failed rows views failed owner (Some answer) h = core_fine fine fine_failed rows views failed owner h (Answered n answer) refl (λ i e. let clash : false ≡ true = e in cc)
 
-    pub past_answer : (owner : ℕ → ℕ) (op i : ℕ) (answer : Option (Answer T)) → PastAt decode owner fine op i → PastAt decode owner (fine ++ machine.answer_rows n answer) op i
+    pub past_answer : (owner : ℕ → ℕ) (op i : ℕ) (answer : Option (Answer T)) → PastAt decode owner fine op i → PastAt decode owner (fine ++ answer_rows n answer) op i
     past_answer owner op i None h = subst (λ (f : List (Row T)). PastAt decode owner f op i) (sym (append-nil fine)) h
     past_answer owner op i (Some answer) h = past_fine decode owner fine (Answered n answer) op i refl h
 
     -- the answer owes what it should
     pub owes_for : (failed : List ℕ) (l : Layer T) (owner : ℕ → ℕ) (op : ℕ) → Core fine failed l.rows l.views l.failed owner → owner n ≡ op → (call : AnyCall T) (inner : Inner T) → Does get_epoch fine l.rows l.asked n op call inner → PastAt decode owner fine op n →
-        (answer : Option (Answer T)) → plain_history.IsOneHistory decode get_epoch failed (fine ++ machine.answer_rows n answer) → OwesFor decode get_epoch (fine ++ machine.answer_rows n answer) l.rows l.failed op call inner answer
+        (answer : Option (Answer T)) → plain_history.IsOneHistory decode get_epoch failed (fine ++ answer_rows n answer) → OwesFor decode get_epoch (fine ++ answer_rows n answer) l.rows l.failed op call inner answer
     owes_for failed l owner op core own call inner d past None good = tt
     owes_for failed l owner op core own call inner d past (Some answer) good = (
       owes_of decode get_epoch failed fine l owner core.tied n op own (λ e. subst (λ (o : ℕ). list_any (nat_eq o) l.failed ≡ true) own (core.noted n e).1) call inner d past (history_front decode get_epoch failed fine (Answered n answer ∷ []) good) answer (last_answer decode get_epoch failed fine n answer good),

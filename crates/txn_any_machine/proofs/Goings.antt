@@ -14,6 +14,7 @@ use Rattle.txn_history.specs.Lists.{numbered}
 use Rattle.txn_history.specs.Calls.{begins, was_begun, IsCall}
 use Rattle.txn_history.specs.OneHistory as plain_history
 use Rattle.txn_history.specs.OneHistory.{Entered}
+use Rattle.txn_history.specs.Added.{told_of, answer_rows}
 use Rattle.txn_history.proofs.Lists.{get_last, numbered_kept, numbered_last}
 use Rattle.txn_machine.specs.Doing as plain
 use Rattle.txn_machine.specs.Machine as machine
@@ -91,7 +92,7 @@ module _ {T : Type 0} (encode : T → List ℕ) (decode : List ℕ → Option T)
   begun_call = (op_of decode get_epoch set_epoch h.l h.over op (as_laid operation.client call was) h.runs).called
 
   stands' : machine_stands.Stands decode get_epoch fine'
-  stands' = opened_keeps encode decode get_epoch h.fine operation.client fcall (machine.told_of (told.Began n) n start.1) fine' h.client.0 h.client.1 opens (record { reads_back = back; word = word; next = start; starts = starts; tells = refl; state = refl }) h.stands
+  stands' = opened_keeps encode decode get_epoch h.fine operation.client fcall (told_of (told.Began n) n start.1) fine' h.client.0 h.client.1 opens (record { reads_back = back; word = word; next = start; starts = starts; tells = refl; state = refl }) h.stands
 
   core_begun : Core begun h.fine.failed h.l.rows h.l.views h.l.failed owner'
   core_begun =
@@ -115,7 +116,7 @@ module _ {T : Type 0} (encode : T → List ℕ) (decode : List ℕ → Option T)
   not_next m o c i d e = both_ways (was_begun h.fine.trace n) unused.begun (subst (λ (j : ℕ). was_begun h.fine.trace j ≡ true) e (begun_of h.fine.trace m (fine_call c i) d.called))
 
   fine_grown : (m o : ℕ) (c : AnyCall T) (i : Inner T) → Does get_epoch h.fine.trace h.l.rows h.l.asked m o c i → Does get_epoch fine'.trace h.l.rows (noted op inner h.l.asked) m o c i
-  fine_grown m o c i d = does_noted get_epoch fine'.trace h.l.rows h.l.asked m o c i op inner (does_fine get_epoch begun (machine.answer_rows n start.1) h.l.rows h.l.asked m o c i (does_fine get_epoch h.fine.trace (Begun n fcall ∷ []) h.l.rows h.l.asked m o c i d))
+  fine_grown m o c i d = does_noted get_epoch fine'.trace h.l.rows h.l.asked m o c i op inner (does_fine get_epoch begun (answer_rows n start.1) h.l.rows h.l.asked m o c i (does_fine get_epoch h.fine.trace (Begun n fcall ∷ []) h.l.rows h.l.asked m o c i d))
 
   others' : (o : ℕ) → o ≢ op → At decode get_epoch fine'.operations fine'.trace h.l.rows owner' now' (set_at h.l.ops op (Some (as_laid operation.client call inner))) h.l.views (noted op inner h.l.asked) o (numbered s.operations o)
   others' o ne =
@@ -169,7 +170,7 @@ module _ {T : Type 0} (encode : T → List ℕ) (decode : List ℕ → Option T)
         };
         there = subst (λ (j : ℕ). numbered fine'.operations j ≡ Some (as_fine operation.client start.0)) (sym nows) (place (numbered_last h.fine.operations (as_fine operation.client start.0)));
         owned = ap owner' nows ∙ owns;
-        does = subst (λ (j : ℕ). Does get_epoch fine'.trace h.l.rows (noted op inner h.l.asked) j op call inner) (sym nows) (does_fine get_epoch begun (machine.answer_rows n start.1) h.l.rows (noted op inner h.l.asked) n op call inner does_begun);
+        does = subst (λ (j : ℕ). Does get_epoch fine'.trace h.l.rows (noted op inner h.l.asked) j op call inner) (sym nows) (does_fine get_epoch begun (answer_rows n start.1) h.l.rows (noted op inner h.l.asked) n op call inner does_begun);
         past = subst (λ (j : ℕ). PastAt decode owner' fine'.trace op j) (sym nows) (past_answer decode get_epoch begun n owner' op n start.1 past_begun);
         owes = owes_for decode get_epoch begun n h.fine.failed l' owner' op core_begun owns call inner does_begun past_begun start.1 stands'.know.history.good;
       }

@@ -10,6 +10,7 @@ use Rattle.txn_history.specs.Lists.{numbered}
 use Rattle.txn_history.specs.History.{boundary}
 use Rattle.txn_history.specs.Calls.{was_begun}
 use Rattle.txn_history.specs.OneHistory as plain_history
+use Rattle.txn_history.specs.Added.{answer_rows, effect_rows}
 use Rattle.txn_history.proofs.Legal.{are_moves}
 use Rattle.txn_history.proofs.Fronts.{never_falls}
 use Rattle.txn_history.proofs.Lists.{get_last}
@@ -24,7 +25,7 @@ use Rattle.txn_view_machine.specs.Steps.{Steps}
 use Rattle.txn_view_machine.proofs.Stands as layer_stands
 use Rattle.txn_view_machine.proofs.Runs.{step_keeps}
 use Rattle.txn_any_machine.specs.declared.doing.AnyOperation.{AnyOperation}
-use Rattle.txn_any_machine.specs.Machine.{State, effect_rows}
+use Rattle.txn_any_machine.specs.Machine.{State}
 use Rattle.txn_any_machine.proofs.Matched.{fine_call}
 use Rattle.txn_any_machine.proofs.Joined.{Past, as_laid, as_fine, Does, PastAt, Held, At, Core, Tie, Joined, Mid}
 use Rattle.txn_any_machine.proofs.Rows.{core_effect, past_effect, does_fine, does_row}
@@ -52,12 +53,12 @@ module _ {T : Type 0} (decode : List ℕ → Option T) (get_epoch : T → ℕ) w
   -- rows of an effect, where there is one
 
   pub core_effects : (fine : List (Row T)) (fine_failed : List ℕ) (rows : List (AnyRow T)) (views : ℕ → Option (Used T)) (failed : List ℕ) (owner : ℕ → ℕ) (n op : ℕ) → owner n ≡ op → was_begun fine n ≡ true → (effect : Option Request) → Core fine fine_failed rows views failed owner →
-      Core (fine ++ machine.effect_rows n effect) fine_failed (rows ++ effect_rows op effect) views failed owner
+      Core (fine ++ effect_rows n effect) fine_failed (rows ++ effect_rows op effect) views failed owner
   core_effects fine fine_failed rows views failed owner n op own begun None h =
       subst (λ (f : List (Row T)). Core f fine_failed (rows ++ []) views failed owner) (sym (append-nil fine)) (subst (λ (r : List (AnyRow T)). Core fine fine_failed r views failed owner) (sym (append-nil rows)) h)
   core_effects fine fine_failed rows views failed owner n op own begun (Some request) h = core_effect fine fine_failed rows views failed owner h n op request own begun
 
-  pub past_effects : (failed : List ℕ) (owner : ℕ → ℕ) (fine : List (Row T)) (i op n : ℕ) (effect : Option Request) → plain_history.IsOneHistory decode get_epoch failed (fine ++ machine.effect_rows i effect) → (owner i ≡ op → i ≡ n) → PastAt decode owner fine op n → PastAt decode owner (fine ++ machine.effect_rows i effect) op n
+  pub past_effects : (failed : List ℕ) (owner : ℕ → ℕ) (fine : List (Row T)) (i op n : ℕ) (effect : Option Request) → plain_history.IsOneHistory decode get_epoch failed (fine ++ effect_rows i effect) → (owner i ≡ op → i ≡ n) → PastAt decode owner fine op n → PastAt decode owner (fine ++ effect_rows i effect) op n
   past_effects failed owner fine i op n None good one h = subst (λ (f : List (Row T)). PastAt decode owner f op n) (sym (append-nil fine)) h
   past_effects failed owner fine i op n (Some request) good one h = past_effect decode owner fine i request op n (fine_up failed fine (Effect i request) good) one h
 
@@ -86,7 +87,7 @@ module _ {T : Type 0} (decode : List ℕ → Option T) (get_epoch : T → ℕ) (
     n = j.now op
 
     abbrev fine_effect : List (Row T)
-    fine_effect = j.fine.trace ++ machine.effect_rows n effect
+    fine_effect = j.fine.trace ++ effect_rows n effect
 
     abbrev pub fine_after : machine.State T
     fine_after =
@@ -98,7 +99,7 @@ module _ {T : Type 0} (decode : List ℕ → Option T) (get_epoch : T → ℕ) (
           operations = machine.with_doing j.fine.operations n (as_fine operation.client held.doing) after.0;
           loose = loose';
           failed = fine_failed';
-          trace = fine_effect ++ machine.answer_rows n after.1;
+          trace = fine_effect ++ answer_rows n after.1;
         }
 
     abbrev pub l_after : Layer T
@@ -116,8 +117,8 @@ module _ {T : Type 0} (decode : List ℕ → Option T) (get_epoch : T → ℕ) (
       where
         by : (request : Request) → effect ≡ Some request → Steps decode get_epoch set_epoch j.l (with_row j.l (Effect op request))
         by request e =
-            let good = history_front decode get_epoch fine_failed' fine_effect (machine.answer_rows n after.1) stands.know.history.good in
-            let legal = last_effect decode get_epoch fine_failed' j.fine.trace n request (subst (λ (x : Option Request). plain_history.IsOneHistory decode get_epoch fine_failed' (j.fine.trace ++ machine.effect_rows n x)) e good) in
+            let good = history_front decode get_epoch fine_failed' fine_effect (answer_rows n after.1) stands.know.history.good in
+            let legal = last_effect decode get_epoch fine_failed' j.fine.trace n request (subst (λ (x : Option Request). plain_history.IsOneHistory decode get_epoch fine_failed' (j.fine.trace ++ effect_rows n x)) e good) in
             effect_step decode get_epoch set_epoch j.owner j.fine.trace j.l j.core.tied.top n op held.owned held.call held.inner held.does (λ c called. one_fine decode get_epoch j.fine.failed j.fine.trace j.stands.know.history.good n c (fine_call held.call held.inner) called held.does.called)
             (due_of j.l op operation.client held.call held.inner held.runs) request legal
 
@@ -127,18 +128,18 @@ module _ {T : Type 0} (decode : List ℕ → Option T) (get_epoch : T → ℕ) (
     module _ (stands' : machine_stands.Stands decode get_epoch fine_after) (over' : layer_stands.Stands decode get_epoch set_epoch l_after) (core' : Core fine_effect fine_failed' (j.l.rows ++ effect_rows op effect) j.l.views failed' j.owner)
         (loose_kept : (k m : ℕ) (request : Request) → numbered j.fine.loose k ≡ Some (m, request) → numbered loose' k ≡ Some (m, request)) (client : (0 < operation.client) × (operation.client ≤ j.fine.clients)) where
       good_effect : plain_history.IsOneHistory decode get_epoch fine_failed' fine_effect
-      good_effect = history_front decode get_epoch fine_failed' fine_effect (machine.answer_rows n after.1) stands'.know.history.good
+      good_effect = history_front decode get_epoch fine_failed' fine_effect (answer_rows n after.1) stands'.know.history.good
 
       some_n : 0 < n
       some_n = (within j.fine.operations n (as_fine operation.client held.doing) held.there).0
 
       does_after : (m o : ℕ) (c : AnyCall T) (i : Inner T) → Does get_epoch j.fine.trace j.l.rows j.l.asked m o c i → Does get_epoch fine_after.trace l_after.rows j.l.asked m o c i
       does_after m o c i d =
-          does_fine get_epoch fine_effect (machine.answer_rows n after.1) l_after.rows j.l.asked m o c i
-          (does_row get_epoch fine_effect j.l.rows (effect_rows op effect) j.l.asked m o c i (does_fine get_epoch j.fine.trace (machine.effect_rows n effect) j.l.rows j.l.asked m o c i d))
+          does_fine get_epoch fine_effect (answer_rows n after.1) l_after.rows j.l.asked m o c i
+          (does_row get_epoch fine_effect j.l.rows (effect_rows op effect) j.l.asked m o c i (does_fine get_epoch j.fine.trace (effect_rows n effect) j.l.rows j.l.asked m o c i d))
 
       does_effect : Does get_epoch fine_effect l_after.rows j.l.asked n op held.call held.inner
-      does_effect = does_row get_epoch fine_effect j.l.rows (effect_rows op effect) j.l.asked n op held.call held.inner (does_fine get_epoch j.fine.trace (machine.effect_rows n effect) j.l.rows j.l.asked n op held.call held.inner held.does)
+      does_effect = does_row get_epoch fine_effect j.l.rows (effect_rows op effect) j.l.asked n op held.call held.inner (does_fine get_epoch j.fine.trace (effect_rows n effect) j.l.rows j.l.asked n op held.call held.inner held.does)
 
       past_at : (o m : ℕ) → (j.owner n ≡ o → n ≡ m) → PastAt decode j.owner j.fine.trace o m → PastAt decode j.owner fine_after.trace o m
       past_at o m one p = past_answer decode get_epoch fine_effect n j.owner o m after.1 (past_effects decode get_epoch fine_failed' j.owner j.fine.trace n o m effect good_effect one p)

@@ -9,6 +9,7 @@ use Rattle.txn_history.specs.declared.event.ToldOf.TheVariants as told
 use Rattle.txn_history.specs.Trace.{Row}
 use Rattle.txn_history.specs.Lists.{numbered}
 use Rattle.txn_history.specs.Seen.{Ask, Store, Look}
+use Rattle.txn_history.specs.Added.{told_of, answer_rows, effect_rows}
 use Rattle.txn_machine.specs.Doing as plain
 use Rattle.txn_machine.specs.Machine as machine
 use Rattle.txn_machine.proofs.Lists.{within}
@@ -21,7 +22,7 @@ use Rattle.txn_view_machine.specs.Layer.{Used, look_up, local_of}
 use Rattle.txn_view_machine.proofs.Stands as layer_stands
 use Rattle.txn_any_machine.specs.declared.doing.AnyOperation.{AnyOperation}
 use Rattle.txn_any_machine.specs.Doing.{Next, asked}
-use Rattle.txn_any_machine.specs.Machine.{State, acted, effected, effect_rows, Looks, Served}
+use Rattle.txn_any_machine.specs.Machine.{State, acted, effected, Looks, Served}
 use Rattle.txn_any_machine.proofs.Matched.{Answered as IsAnswered}
 use Rattle.txn_any_machine.proofs.Turning.{every_turn}
 use Rattle.txn_any_machine.proofs.Joined.{Past, as_fine, Held, At, Core, Tie, Joined}
@@ -55,14 +56,14 @@ module _ {T : Type 0} (encode : T → List ℕ) (decode : List ℕ → Option T)
 
     -- its fine operation has gone on, and it goes on with that
     pub acts_joins : (effect : Option Request) (after : plain.Next T) (store' : StoreState) (left : Caches) (next : Next T) →
-        machine_stands.Stands decode get_epoch (record j.fine { store = store'; caches = slice_set s.caches (operation.client - 1) left; operations = machine.with_doing j.fine.operations (j.now op) (as_fine operation.client held.doing) after.0; trace = (j.fine.trace ++ machine.effect_rows (j.now op) effect) ++ machine.answer_rows (j.now op) after.1 }) →
+        machine_stands.Stands decode get_epoch (record j.fine { store = store'; caches = slice_set s.caches (operation.client - 1) left; operations = machine.with_doing j.fine.operations (j.now op) (as_fine operation.client held.doing) after.0; trace = (j.fine.trace ++ effect_rows (j.now op) effect) ++ answer_rows (j.now op) after.1 }) →
         IsAnswered s.page encode decode get_epoch set_epoch held.call local held.inner after.0 after.1 next → Joined decode get_epoch set_epoch past (acted (record s { store = store'; trace = s.trace ++ effect_rows op effect }) op operation next left)
     acts_joins effect after store' left next stands answered =
         let failed = j.tie.failed in
         let kept = slice_set s.caches (operation.client - 1) left in
         let over = subst (λ (f : List ℕ). layer_stands.Stands decode get_epoch set_epoch (laid_on decode get_epoch set_epoch j.l op effect f)) failed (effect_over decode get_epoch set_epoch past s j op operation found held effect after store' kept j.fine.loose j.fine.failed s.failed stands) in
-        let core = subst (λ (f : List ℕ). Core (j.fine.trace ++ machine.effect_rows (j.now op) effect) j.fine.failed (j.l.rows ++ effect_rows op effect) j.l.views f j.owner) failed (core_after decode get_epoch set_epoch past s j op operation found held effect after store' kept j.fine.loose j.fine.failed s.failed) in
-        let tie : Tie (record s { store = store'; trace = s.trace ++ effect_rows op effect }) (record j.fine { store = store'; caches = kept; operations = machine.with_doing j.fine.operations (j.now op) (as_fine operation.client held.doing) after.0; trace = (j.fine.trace ++ machine.effect_rows (j.now op) effect) ++ machine.answer_rows (j.now op) after.1 }) (laid_on decode get_epoch set_epoch j.l op effect s.failed) = record {
+        let core = subst (λ (f : List ℕ). Core (j.fine.trace ++ effect_rows (j.now op) effect) j.fine.failed (j.l.rows ++ effect_rows op effect) j.l.views f j.owner) failed (core_after decode get_epoch set_epoch past s j op operation found held effect after store' kept j.fine.loose j.fine.failed s.failed) in
+        let tie : Tie (record s { store = store'; trace = s.trace ++ effect_rows op effect }) (record j.fine { store = store'; caches = kept; operations = machine.with_doing j.fine.operations (j.now op) (as_fine operation.client held.doing) after.0; trace = (j.fine.trace ++ effect_rows (j.now op) effect) ++ answer_rows (j.now op) after.1 }) (laid_on decode get_epoch set_epoch j.l op effect s.failed) = record {
           clients = j.tie.clients;
           page = j.tie.page;
           store = refl;
@@ -95,12 +96,12 @@ module _ {T : Type 0} (encode : T → List ℕ) (decode : List ℕ → Option T)
       let left = plain.caches_left held.doing v.caches t.after.1 in
       let fine = machine.acted j.fine n o t.after left in
       let kept : numbered j.fine.caches operation.client ≡ Some v.caches = ap (λ (cs : List Caches). numbered cs operation.client) j.caches ∙ a.kept in
-      let stands = look_keeps decode get_epoch j.fine n (machine.told_of (told.Went n) n t.after.1) fine
+      let stands = look_keeps decode get_epoch j.fine n (told_of (told.Went n) n t.after.1) fine
       (record { operation = o; caches = v.caches; acts = record { found = held.there; asks = asks; kept = kept }; refused = t.refused; next = t.after; turns = t.turns ∙ ap (λ (p : ℕ). plain.turned p decode t.refused held.doing v.caches None) (sym j.tie.page); tells = refl; state = refl }) j.stands in
       let stood =
-      subst (λ (st : StoreState). machine_stands.Stands decode get_epoch (record fine { store = st; caches = slice_set s.caches (operation.client - 1) left; trace = (j.fine.trace ++ []) ++ machine.answer_rows n t.after.1 })) j.tie.store
-      (subst (λ (cs : List Caches). machine_stands.Stands decode get_epoch (record fine { caches = slice_set cs (operation.client - 1) left; trace = (j.fine.trace ++ []) ++ machine.answer_rows n t.after.1 })) j.caches
-      (subst (λ (tr : List (Row T)). machine_stands.Stands decode get_epoch (record fine { trace = tr ++ machine.answer_rows n t.after.1 })) (sym (append-nil j.fine.trace)) stands))
+      subst (λ (st : StoreState). machine_stands.Stands decode get_epoch (record fine { store = st; caches = slice_set s.caches (operation.client - 1) left; trace = (j.fine.trace ++ []) ++ answer_rows n t.after.1 })) j.tie.store
+      (subst (λ (cs : List Caches). machine_stands.Stands decode get_epoch (record fine { caches = slice_set cs (operation.client - 1) left; trace = (j.fine.trace ++ []) ++ answer_rows n t.after.1 })) j.caches
+      (subst (λ (tr : List (Row T)). machine_stands.Stands decode get_epoch (record fine { trace = tr ++ answer_rows n t.after.1 })) (sym (append-nil j.fine.trace)) stands))
       in
       let joined = acts_joins op operation a.found held client None t.after s.store left v.next stood t.answered in
       subst (λ (x : State T). Joined decode get_epoch set_epoch past x) (sym v.state)
@@ -124,10 +125,10 @@ module _ {T : Type 0} (encode : T → List ℕ) (decode : List ℕ → Option T)
       let left = plain.caches_left held.doing v.caches t.after.1 in
       let fine = machine.acted (machine.effected j.fine n v.request v.reply v.store) n o t.after left in
       let kept : numbered j.fine.caches operation.client ≡ Some v.caches = ap (λ (cs : List Caches). numbered cs operation.client) j.caches ∙ a.kept in
-      let stands = serve_keeps decode get_epoch j.fine n (machine.told_of (told.Went n) n t.after.1) fine
+      let stands = serve_keeps decode get_epoch j.fine n (told_of (told.Went n) n t.after.1) fine
       (record { operation = o; request = v.request; caches = v.caches; acts = record { found = held.there; asks = asks; kept = kept }; reply = v.reply; store = v.store; reaches = record { serves = serves; honest = v.reaches.honest }; refused = t.refused; next = t.after; turns = t.turns ∙ ap (λ (p : ℕ). plain.turned p decode t.refused held.doing v.caches (Some v.reply)) (sym j.tie.page); tells = refl; state = refl }) j.stands in
       let stood =
-      subst (λ (st : StoreState). machine_stands.Stands decode get_epoch (record fine { caches = slice_set s.caches (operation.client - 1) left; trace = (j.fine.trace ++ machine.effect_rows n (machine.effect_of st.files v.request v.reply)) ++ machine.answer_rows n t.after.1 })) j.tie.store
+      subst (λ (st : StoreState). machine_stands.Stands decode get_epoch (record fine { caches = slice_set s.caches (operation.client - 1) left; trace = (j.fine.trace ++ effect_rows n (machine.effect_of st.files v.request v.reply)) ++ answer_rows n t.after.1 })) j.tie.store
       (subst (λ (cs : List Caches). machine_stands.Stands decode get_epoch (record fine { caches = slice_set cs (operation.client - 1) left })) j.caches stands)
       in
       let joined = acts_joins op operation a.found held client (machine.effect_of s.store.files v.request v.reply) t.after v.store left v.next stood t.answered in

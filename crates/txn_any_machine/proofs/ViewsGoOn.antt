@@ -14,6 +14,7 @@ use Rattle.txn_history.specs.declared.event.ToldOf.TheVariants as told
 use Rattle.txn_history.specs.History.{is_id}
 use Rattle.txn_history.specs.Lists.{numbered}
 use Rattle.txn_history.specs.Seen.{Operation as SeenOperation, Store, Look}
+use Rattle.txn_history.specs.Added.{told_of}
 use Rattle.txn_machine.specs.Machine.{effect_of}
 use Rattle.txn_machine.proofs.Lists.{numbered_here, numbered_other, numbered_map, within}
 use Rattle.txn_view_steps.specs.declared.outcome.Outcome.TheVariants as outcomes
@@ -31,7 +32,7 @@ use Rattle.txn_any_machine.specs.declared.doing.AnyOperation.{AnyOperation}
 use Rattle.txn_any_machine.specs.declared.doing.Ending.{Ending}
 use Rattle.txn_any_machine.specs.declared.doing.Ending.TheVariants as endings
 use Rattle.txn_any_machine.specs.Doing.{Next, ended, refused, is_claim_call, caches_left}
-use Rattle.txn_any_machine.specs.Machine.{State, seen_operation, seen_view, seen_views, seen_of, used_in, used_by, with_used, let_go, answer_of, change_of, made_by, views_after, views_taken, answered, told_of, doing_next, answer_next, acted, effected, loosened, failing, given_up, crashed, next_op, new_operation, begun_as, Fails, Takes, IsReached}
+use Rattle.txn_any_machine.specs.Machine.{State, seen_operation, seen_view, seen_views, seen_of, used_in, used_by, with_used, let_go, answer_of, change_of, made_by, views_after, views_taken, answered, doing_next, answer_next, acted, effected, loosened, failing, given_up, crashed, next_op, new_operation, begun_as, Fails, Takes, IsReached}
 use Rattle.txn_any_machine.proofs.Places.{numbered_kept, numbered_new, numbered_of_map}
 use Rattle.txn_any_machine.proofs.Busies.{IsRunning, uses_or_not}
 use Rattle.txn_any_machine.proofs.Busy.{Busied, IsFree, takes_free, effected_busied, view_there, takes_busied, reached_busied, free_begin}

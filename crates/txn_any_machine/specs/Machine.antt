@@ -1,5 +1,5 @@
 -- The world's step, over the store's contract, for all calls.
-use Rattle.std.specs.Prelude.{◌≡◌, ◌≤◌, ℕ, List, [], ◌∷◌, ◌++◌, ◌+◌, ◌-◌, ◌==◌, Bool, true, false, if◌then◌else◌, Option, Some, None, Result, Ok, Err, length, slice_set, is_some, is_ok, map, replicate}
+use Rattle.std.specs.Prelude.{◌≡◌, ◌≤◌, ℕ, List, [], ◌∷◌, ◌++◌, ◌+◌, ◌-◌, ◌==◌, Bool, true, false, if◌then◌else◌, Option, Some, None, Result, Ok, Err, length, slice_set, is_some, map, replicate}
 use Rattle.std.specs.Option.{option_map}
 use Rattle.txn_store.specs.Store.{State as StoreState}
 use Rattle.txn_store.specs.declared.request.Request.{Request}
@@ -12,11 +12,12 @@ use Rattle.txn_history.specs.declared.event.Failure.TheVariants as failures
 use Rattle.txn_history.specs.declared.event.ToldOf.TheVariants as told
 use Rattle.txn_history.specs.declared.event.EventOf.TheVariants as events
 use Rattle.txn_history.specs.declared.event.EventFault.{EventFault}
-use Rattle.txn_history.specs.declared.trace.RowOf.TheVariants.{Effect, Begun, Answered}
+use Rattle.txn_history.specs.declared.trace.RowOf.TheVariants.{Begun}
 use Rattle.txn_history.specs.Lists.{numbered}
 use Rattle.txn_history.specs.Seen.{Ask, Store, Look, Operation as SeenOperation, Seen}
 use Rattle.txn_history.specs.GoesOn.{left_loose, all_left_loose}
-use Rattle.txn_machine.specs.Machine.{empty_store, no_caches, effect_of, fault_met}
+use Rattle.txn_history.specs.Added.{told_of, answer_rows, effect_rows}
+use Rattle.txn_machine.specs.Machine.{empty_store, no_caches, effect_of, fault_met, taken_count}
 use Rattle.txn_store.specs.MemoryServes.{lacks_memory}
 use Rattle.txn_store.specs.Requests.{Serves}
 use Rattle.txn_view_steps.specs.declared.outcome.Outcome.TheVariants as outcomes
@@ -149,19 +150,6 @@ module _ {T : Type 0} where
   -- the operations, where one of them does this next
   abbrev pub with_doing : List (AnyOperation T) → ℕ → AnyOperation T → AnyDoing T → List (AnyOperation T)
   with_doing operations op operation doing = slice_set operations (op - 1) (doing_next operation doing)
-
-  abbrev pub answer_rows : ℕ → Option (AnyAnswer T) → List (AnyRow T)
-  answer_rows op None = []
-  answer_rows op (Some answer) = Answered op answer ∷ []
-
-  abbrev pub effect_rows : ℕ → Option Request → List (AnyRow T)
-  effect_rows op None = []
-  effect_rows op (Some request) = Effect op request ∷ []
-
-  -- what is told: the answer where there is one
-  abbrev pub told_of : AnyTold T → ℕ → Option (AnyAnswer T) → AnyTold T
-  told_of otherwise op None = otherwise
-  told_of otherwise op (Some answer) = told.Answered op answer
 
   -- the answer of an operation that does this next, where it has one
   abbrev pub answer_next : State T → AnyOperation T → Next T → Option (AnyAnswer T)
@@ -359,6 +347,13 @@ module _ {T : Type 0} (encode : T → List ℕ) (decode : List ℕ → Option T)
   Outcomes old [] new = new ≡ old
   Outcomes old (met ∷ rest) new = (middle : State T) × Meets old met.0 met.1 middle × Outcomes middle rest new
 
+  -- These events in order, past those that are refused; so many were taken.
+  pub record RunsPast (old : State T) (events : List (AnyEvent T)) (count : ℕ) (new : State T) : Type 0 where
+    pub met : List (AnyEvent T × Result (AnyTold T) EventFault)
+    pub all : map (λ m. m.0) met ≡ events
+    pub run : Outcomes old met new
+    pub taken : count ≡ taken_count met
+
   -- a run: events in order, each with what it told
   abbrev pub Runs : State T → List (AnyEvent T × AnyTold T) → State T → Type 0
   Runs old [] new = new ≡ old
@@ -367,17 +362,3 @@ module _ {T : Type 0} (encode : T → List ℕ) (decode : List ℕ → Option T)
   -- some events lead here from a world in which nothing has happened, where a page has room for a file at least
   abbrev pub IsReached : State T → Type 0
   IsReached s = (taken : List (AnyEvent T × AnyTold T)) × Runs (opening s.clients s.page) taken s × (1 ≤ s.page)
-
-module _ {T : Type 0} where
-  -- how many of them were taken
-  abbrev pub taken_count : List (AnyEvent T × Result (AnyTold T) EventFault) → ℕ
-  taken_count [] = 0
-  taken_count (met ∷ rest) = if is_ok met.1 then 1 + taken_count rest else taken_count rest
-
-module _ {T : Type 0} (encode : T → List ℕ) (decode : List ℕ → Option T) (get_epoch : T → ℕ) (set_epoch : T → ℕ → T) where
-  -- These events in order, past those that are refused; so many were taken.
-  pub record RunsPast (old : State T) (events : List (AnyEvent T)) (count : ℕ) (new : State T) : Type 0 where
-    pub met : List (AnyEvent T × Result (AnyTold T) EventFault)
-    pub all : map (λ m. m.0) met ≡ events
-    pub run : Outcomes encode decode get_epoch set_epoch old met new
-    pub taken : count ≡ taken_count met

@@ -1,5 +1,5 @@
 -- What an event adds: its rows, and which requests it makes loose.
-use Rattle.std.specs.Prelude.{◌≡◌, ◌≢◌, ℕ, List, [], ◌∷◌, ◌++◌, ◌⊎◌, ◌+◌, not, Bool, true, false, Some, is_some}
+use Rattle.std.specs.Prelude.{◌≡◌, ◌≢◌, ℕ, List, [], ◌∷◌, ◌++◌, ◌⊎◌, ◌+◌, not, Bool, true, false, Option, Some, None, is_some}
 use Rattle.std.specs.FinMap.{get, insert, remove}
 use Rattle.txn_store.specs.Store.{Files}
 use Rattle.txn_store.specs.declared.request.Request.{Request}
@@ -33,11 +33,26 @@ module _ {A : Type 0} where
   abbrev pub Tells : ToldOf A → ℕ → ToldOf A → Type 0
   Tells otherwise op t = (t ≡ otherwise) ⊎ ((answer : A) × (t ≡ told.Answered op answer))
 
+  -- what is told: the answer where there is one
+  abbrev pub told_of : ToldOf A → ℕ → Option A → ToldOf A
+  told_of otherwise op None = otherwise
+  told_of otherwise op (Some answer) = told.Answered op answer
+
 module _ {C A : Type 0} where
   -- the row of an answer that was told
   abbrev pub answer_row : ToldOf A → List (RowOf C A)
   answer_row (told.Answered op answer) = Answered op answer ∷ []
   answer_row _ = []
+
+  -- the row of an operation's answer, where it has one
+  abbrev pub answer_rows : ℕ → Option A → List (RowOf C A)
+  answer_rows op None = []
+  answer_rows op (Some answer) = Answered op answer ∷ []
+
+  -- the row of a request's effect, where it had one
+  abbrev pub effect_rows : ℕ → Option Request → List (RowOf C A)
+  effect_rows op None = []
+  effect_rows op (Some request) = Effect op request ∷ []
 
   -- the row of a request, exactly where it changed the files of the store
   abbrev pub IsEffectRow : ℕ → Request → Files → Files → List (RowOf C A) → Type 0

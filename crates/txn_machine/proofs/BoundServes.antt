@@ -44,11 +44,12 @@ use Rattle.txn_history.specs.History.{newest, boundary, is_stored}
 use Rattle.txn_history.specs.Calls.{was_begun, IsCall, AtRow}
 use Rattle.txn_history.specs.OneHistory.{AnswerFits}
 use Rattle.txn_history.specs.Seen.{Store, Look}
+use Rattle.txn_history.specs.Added.{effect_rows}
 use Rattle.txn_history.proofs.Rows.{newest_grows}
 use Rattle.txn_machine.specs.declared.doing.Doing.{Doing}
 use Rattle.txn_machine.specs.declared.doing.Doing.TheVariants.{Delete, Check, Advance}
 use Rattle.txn_machine.specs.Doing.{Next, ask_of, asked, turned, caches_left, delete_next, check_next, advance_next}
-use Rattle.txn_machine.specs.Machine.{effect_of, effect_rows}
+use Rattle.txn_machine.specs.Machine.{effect_of}
 use Rattle.txn_machine.proofs.Stands.{remove_version, IsQuiet, Frame, Room, PutStands, RaiseStands, WasAbove, WasGone, RemovalStands, DeleteStepStands, CachesStand, KnowStands, Asks, Runs, DoingStands, TurnStands}
 use Rattle.txn_machine.proofs.Turns.{stays, CheckTells, RaiseTells, LooksTo, no_id, ends_with, ended, goes_on, fails_with, lacking, may_lack}
 use Rattle.txn_machine.proofs.Windows.{above_fits, without_fits}

@@ -21,12 +21,13 @@ use Rattle.txn_history.specs.Lists.{numbered}
 use Rattle.txn_history.specs.Seen.{Ask, Store, Look}
 use Rattle.txn_history.specs.GoesOn.{may_be_loose}
 use Rattle.txn_history.specs.Calls.{was_begun, begun_count}
+use Rattle.txn_history.specs.Added.{effect_rows}
 use Rattle.txn_history.proofs.Lists.{any_last}
 use Rattle.txn_machine.specs.declared.doing.Doing.{Doing}
 use Rattle.txn_machine.specs.declared.doing.Doing.TheVariants.{Write, WriteUnchecked, Read, ReadUnchecked, ReadSeen, ListIds, Delete, Check, Advance, Ended}
 use Rattle.txn_machine.specs.declared.doing.Operation.{Operation}
 use Rattle.txn_machine.specs.Doing.{Next, asked, caches_left}
-use Rattle.txn_machine.specs.Machine.{State, effect_of, effect_rows, with_doing, acted, effected, failing, given_up, told_failure, Acts, Reaches, FailsFirst, FailsAfter, Fails, GivesUp, Lands, Looks, Served}
+use Rattle.txn_machine.specs.Machine.{State, effect_of, with_doing, acted, effected, failing, given_up, told_failure, Acts, Reaches, FailsFirst, FailsAfter, Fails, GivesUp, Lands, Looks, Served}
 use Rattle.txn_machine.proofs.Lists.{within, numbered_here}
 use Rattle.txn_history.proofs.More.{begun_count-more}
 use Rattle.txn_machine.proofs.Stands.{AreOthers, CachesStand, Runs, RunStands, OpStands, TurnStands, Asks, StandsBut, Stands}

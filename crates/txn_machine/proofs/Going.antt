@@ -26,11 +26,12 @@ use Rattle.txn_history.specs.Lists.{numbered}
 use Rattle.txn_history.specs.Names.{world_names, world_boundary}
 use Rattle.txn_history.specs.Seen.{Ask, Store, Look, Operation as SeenOperation, asks_in, asks_of}
 use Rattle.txn_history.specs.GoesOn.{left_loose, state_of, ends_operation, state_after, states_after, GoesOn}
+use Rattle.txn_history.specs.Added.{told_of}
 use Rattle.txn_machine.specs.declared.doing.Doing.{Doing}
 use Rattle.txn_machine.specs.declared.doing.Doing.TheVariants.{Write, WriteUnchecked, Read, ReadUnchecked, ReadSeen, ListIds, Delete, Check, Advance, Ended}
 use Rattle.txn_machine.specs.declared.doing.Operation.{Operation}
 use Rattle.txn_machine.specs.Doing.{Next, started, turned, caches_left, asked, next_of, or_no_memory, write_answer, read_answer, value_answer, ids_answer, done_answer}
-use Rattle.txn_machine.specs.Machine.{State, seen_operation, seen_operations, seen_of, with_doing, effect_of, effected, told_of, acted, loosened, failing, given_up, told_failure, ended_by, crashed, next_op, begun_as, Acts, Fails, GivesUp, Lands, Crashes, Looks, Served, Begins, Takes}
+use Rattle.txn_machine.specs.Machine.{State, seen_operation, seen_operations, seen_of, with_doing, effect_of, effected, acted, loosened, failing, given_up, told_failure, ended_by, crashed, next_op, begun_as, Acts, Fails, GivesUp, Lands, Crashes, Looks, Served, Begins, Takes}
 
 -- an operation that is not ended runs on where it ran, and one that is ended runs no more
 runs_on : (runs ends : Bool) → ends ≡ false → runs ≡ (runs && not ends)

@@ -29,6 +29,7 @@ pub mod Begins
 pub mod Events
 pub mod Crashes
 pub mod World
+pub mod EffectRows
 pub mod Going
 pub mod Runs
 pub mod Replies

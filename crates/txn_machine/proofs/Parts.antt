@@ -42,7 +42,8 @@ use Rattle.txn_history.specs.Trace.{Row}
 use Rattle.txn_history.specs.Names.{world_boundary}
 use Rattle.txn_history.specs.History.{boundary, boundary_said}
 use Rattle.txn_history.specs.OneHistory.{NoTokens}
-use Rattle.txn_machine.specs.Machine.{took, effect_of, effect_rows}
+use Rattle.txn_history.specs.Added.{effect_rows}
+use Rattle.txn_machine.specs.Machine.{took, effect_of}
 use Rattle.txn_machine.proofs.Stands.{get_boundary, raise, IsQuiet, KnownFits, Fit, Open, UnchangedStands, TokenStands, GettingStands, ReadingStands, StepStands, CheckStands, Room, KnownBelow, RaiseStands, CachesStand, KnowStands}
 use Rattle.txn_machine.proofs.Turns.{RisesTo, stays, KnownStands, ReadingTells, CheckTells, RaiseTells, PartLooks}
 use Rattle.txn_machine.proofs.Faults.{ruled_out, get_other, get_missing, SameFile, get_same, raise_other}

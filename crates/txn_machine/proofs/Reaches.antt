@@ -25,7 +25,8 @@ use Rattle.txn_history.specs.Names.{world_names, world_boundary}
 use Rattle.txn_history.specs.History.{Version, versions_of, newest, boundary, boundary_said, epoch_at}
 use Rattle.txn_history.specs.Calls.{IsCall}
 use Rattle.txn_history.specs.OneHistory.{base_on, WritesOn, Appends, Recreates, Raises, Erases}
-use Rattle.txn_machine.specs.Machine.{effect_of, effect_rows}
+use Rattle.txn_history.specs.Added.{effect_rows}
+use Rattle.txn_machine.specs.Machine.{effect_of}
 use Rattle.txn_machine.proofs.Stands.{KnowStands, Frame, IsWriteOf, Creates, Room, KnownBelow, Asks, IsQuiet, create, raise, remove_version, is_there}
 use Rattle.txn_machine.proofs.Effects.{there_bytes, bytes_within, removed_missing, recreated, kept_know, kept_frame, create_frame, raise_frame, remove_frame, append_more, recreate_more, raise_more, remove_more}
 use Rattle.txn_machine.proofs.Faults.{put_kept, delete_kept, get_kept, listed_kept, create_none, update_none, not_some}

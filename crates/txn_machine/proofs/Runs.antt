@@ -1,17 +1,6 @@
 -- What holds of each state that a world reaches, as its public calls say it: its history, the kinds of replies, and the rows that an event adds.
-use Rattle.std.proofs.Common.{◌≡◌, ◌≢◌, ℕ, ◌+◌, ◌≤◌, List, [], ◌∷◌, ◌++◌, length, not, Bool, true, false, cond, is_some, Option, Some, None, Result, Ok, Err, inl, inr, refl, sym, ◌∙◌, ap, subst}
-use Rattle.std.specs.FinMap.{get}
+use Rattle.std.proofs.Common.{◌≡◌, ℕ, ◌+◌, ◌≤◌, List, [], ◌∷◌, ◌++◌, length, Bool, true, false, Option, Some, inr, refl, sym, ◌∙◌, ap, subst}
 use Rattle.std.proofs.lemmas.List.{append-nil}
-use Rattle.txn_store.specs.Paths.{Segments}
-use Rattle.txn_store.specs.Store.{State as StoreState, Placed, Removed, Puts, Deletes}
-use Rattle.txn_store.specs.Requests.{Serves}
-use Rattle.txn_store.specs.declared.store.PutMode.{PutMode}
-use Rattle.txn_store.specs.declared.store.StoreError.{StoreError}
-use Rattle.txn_store.specs.declared.store.StoreError.TheVariants as errors
-use Rattle.txn_store.specs.declared.request.Request.{Request}
-use Rattle.txn_store.specs.declared.request.Request.TheVariants as requests
-use Rattle.txn_store.specs.declared.request.Reply.{Reply}
-use Rattle.txn_store.specs.declared.request.Reply.TheVariants as replies
 use Rattle.txn_caches.specs.declared.caches.Caches.{Caches}
 use Rattle.txn_history.specs.declared.event.Call.{Call}
 use Rattle.txn_history.specs.declared.event.Answer.{Answer}
@@ -27,86 +16,14 @@ use Rattle.txn_history.specs.Lists.{numbered}
 use Rattle.txn_history.specs.History.{stored}
 use Rattle.txn_history.specs.Calls.{begun_count}
 use Rattle.txn_history.specs.OneHistory.{IsOneHistory}
-use Rattle.txn_history.specs.Added.{is_empty, answer_row, Tells, IsEffectRow, AddsRows}
+use Rattle.txn_history.specs.Added.{Tells, answer_row, effect_rows, IsEffectRow, AddsRows}
 use Rattle.txn_machine.specs.declared.doing.Operation.{Operation}
-use Rattle.txn_machine.specs.Machine.{State, HasContents, opening, seen_of, told_of, answer_rows, effect_of, effect_rows, next_op, FailsFirst, Fails, Lands, Looks, Served, Begins, Takes, Runs, IsReached}
-use Rattle.txn_machine.proofs.Stands.{AllGiven, Stands}
-use Rattle.txn_machine.proofs.Effects.{removed_missing}
-use Rattle.txn_machine.proofs.Faults.{get_kept, listed_kept, not_some, ruled_out}
+use Rattle.txn_machine.specs.Machine.{State, HasContents, opening, seen_of, effect_of, next_op, FailsFirst, Fails, Lands, Looks, Served, Begins, Takes, Runs, IsReached}
+use Rattle.txn_machine.proofs.Stands.{Stands}
+use Rattle.txn_machine.proofs.EffectRows.{served_row, effect_empty, tells_answer, went_row, began_row}
 use Rattle.txn_machine.proofs.Going.{seen_at}
 use Rattle.txn_machine.proofs.States.{at_place}
 use Rattle.txn_machine.proofs.World.{reached_stands}
-
-module _ (T : Type 0) where
-  -- what a request that was served adds
-
-  abbrev RowOf : ℕ → StoreState → StoreState → Request → Reply → Type 0
-  RowOf op old new request reply = IsEffectRow {C = Call T} {A = Answer T} op request old.files new.files (effect_rows op (effect_of old.files request reply))
-
-  -- a token that is new is not a file's
-  fresh_token : (path : Segments) (bytes : List ℕ) (token : ℕ) (old new : StoreState) → AllGiven old → Placed path bytes token old new → get old.files path ≢ Some (record { bytes = bytes; token = token })
-  fresh_token path bytes token old new all placed e = placed.fresh (all path (record { bytes = bytes; token = token }) e)
-
-  put_row : (op : ℕ) (path : Segments) (bytes : List ℕ) (mode : PutMode) (old new : StoreState) (answer : Result ℕ StoreError) → AllGiven old → Puts path bytes mode old answer new → new.failures ≡ 0 → RowOf op old new (requests.Put path bytes mode) (replies.Put answer)
-  put_row op path bytes mode old new (Ok token) all p honest = inr (refl, (token, p.placed.files, fresh_token path bytes token old new all p.placed))
-  put_row op path bytes mode old new (Err errors.AlreadyExists) all p honest = inl (refl, p.err.1.files)
-  put_row op path bytes mode old new (Err errors.NoMemory) all p honest = inl (refl, p.err.1.files)
-  put_row op path bytes mode old new (Err errors.TokensExhausted) all p honest = inl (refl, p.err.2.files)
-  put_row op path bytes mode old new (Err errors.Failed) all p honest = ruled_out old new honest p.err.0
-  put_row op path bytes mode old new (Err errors.NotFound) all p honest = inl (refl, p.err.1.files)
-  put_row op path bytes mode old new (Err errors.Precondition) all p honest = inl (refl, p.err.1.files)
-  put_row op path bytes mode old new (Err errors.NotModified) all p honest = inl (refl, p.err.1.files)
-
-  removed_row : (there : Bool) (op : ℕ) (path : Segments) (old new : StoreState) → is_some (get old.files path) ≡ there → Removed path old new → IsEffectRow {C = Call T} {A = Answer T} op (requests.Delete path) old.files new.files (effect_rows op (cond there (Some (requests.Delete path)) None))
-  removed_row true op path old new e gone = inr (refl, (gone.files, e))
-  removed_row false op path old new e gone = inl (refl, gone.files ∙ removed_missing old.files path (not_some (get old.files path) e))
-
-  delete_row : (op : ℕ) (path : Segments) (old new : StoreState) (answer : Result (Unit {0}) StoreError) → Deletes path old answer new → new.failures ≡ 0 → RowOf op old new (requests.Delete path) (replies.Delete answer)
-  delete_row op path old new (Ok done) d honest = removed_row (is_some (get old.files path)) op path old new refl d.removed
-  delete_row op path old new (Err errors.NoMemory) d honest = inl (refl, d.err.1.files)
-  delete_row op path old new (Err errors.Failed) d honest = ruled_out old new honest d.err.0
-  delete_row op path old new (Err errors.TokensExhausted) d honest = absurd d.err
-  delete_row op path old new (Err errors.NotFound) d honest = inl (refl, d.err.1.files)
-  delete_row op path old new (Err errors.AlreadyExists) d honest = inl (refl, d.err.1.files)
-  delete_row op path old new (Err errors.Precondition) d honest = inl (refl, d.err.1.files)
-  delete_row op path old new (Err errors.NotModified) d honest = inl (refl, d.err.1.files)
-
-  served_row : (op : ℕ) (old new : StoreState) (request : Request) (reply : Reply) → AllGiven old → Serves request old reply new → new.failures ≡ 0 → RowOf op old new request reply
-  served_row op old new (requests.Put path bytes mode) (replies.Put answer) all s honest = put_row op path bytes mode old new answer all s honest
-  served_row op old new (requests.Get path known) (replies.Get answer) all s honest = inl (refl, (get_kept path known old new answer s honest).files)
-  served_row op old new (requests.List prefix after limit) (replies.List answer) all s honest = inl (refl, (listed_kept prefix after limit old new answer s honest).files)
-  served_row op old new (requests.Delete path) (replies.Delete answer) all s honest = delete_row op path old new answer s honest
-  served_row op old new (requests.Put path bytes mode) (replies.Get answer) all s honest = absurd s
-  served_row op old new (requests.Put path bytes mode) (replies.List answer) all s honest = absurd s
-  served_row op old new (requests.Put path bytes mode) (replies.Delete answer) all s honest = absurd s
-  served_row op old new (requests.Get path known) (replies.Put answer) all s honest = absurd s
-  served_row op old new (requests.Get path known) (replies.List answer) all s honest = absurd s
-  served_row op old new (requests.Get path known) (replies.Delete answer) all s honest = absurd s
-  served_row op old new (requests.List prefix after limit) (replies.Put answer) all s honest = absurd s
-  served_row op old new (requests.List prefix after limit) (replies.Get answer) all s honest = absurd s
-  served_row op old new (requests.List prefix after limit) (replies.Delete answer) all s honest = absurd s
-  served_row op old new (requests.Delete path) (replies.Put answer) all s honest = absurd s
-  served_row op old new (requests.Delete path) (replies.Get answer) all s honest = absurd s
-  served_row op old new (requests.Delete path) (replies.List answer) all s honest = absurd s
-
-  effect_empty : (op : ℕ) (effect : Option Request) → is_some effect ≡ not (is_empty (effect_rows {T = T} op effect))
-  effect_empty op None = refl
-  effect_empty op (Some request) = refl
-
-module _ {T : Type 0} where
-  -- the rows of answers
-
-  tells_answer : (otherwise : Told T) (op : ℕ) (answer : Option (Answer T)) → Tells otherwise op (told_of otherwise op answer)
-  tells_answer otherwise op None = inl refl
-  tells_answer otherwise op (Some answer) = inr (answer, refl)
-
-  went_row : (op : ℕ) (answer : Option (Answer T)) → answer_rows op answer ≡ answer_row (told_of (told.Went op) op answer)
-  went_row op None = refl
-  went_row op (Some answer) = refl
-
-  began_row : (op : ℕ) (answer : Option (Answer T)) → answer_rows op answer ≡ answer_row (told_of (told.Began op) op answer)
-  began_row op None = refl
-  began_row op (Some answer) = refl
 
 module _ {T : Type 0} (encode : T → List ℕ) (decode : List ℕ → Option T) (get_epoch : T → ℕ) where
   -- one more step of a run
@@ -166,7 +83,7 @@ module _ {T : Type 0} (encode : T → List ℕ) (decode : List ℕ → Option T)
         request = v.request;
         asked = seen_at old op v.operation v.acts.found ∙ v.acts.asks;
         rows = rows;
-        effect = subst (λ (s : State T). IsEffectRow {C = Call T} {A = Answer T} op v.request old.store.files s.store.files rows) (sym v.state) (served_row T op old.store v.store v.request v.reply st.know.files.given v.reaches.serves v.reaches.honest);
+        effect = subst (λ (s : State T). IsEffectRow {C = Call T} {A = Answer T} op v.request old.store.files s.store.files rows) (sym v.state) (served_row (Call T) (Answer T) op old.store v.store v.request v.reply st.know.files.given v.reaches.serves v.reaches.honest);
         told = subst (λ (t : Told T). Tells (told.Went op) op t) (sym v.tells) (tells_answer (told.Went op) op v.next.1);
         added = ap (λ (s : State T). s.trace) v.state ∙ ap (λ more. (old.trace ++ rows) ++ more) (went_row op v.next.1 ∙ ap answer_row (sym v.tells));
       }
@@ -199,7 +116,7 @@ module _ {T : Type 0} (encode : T → List ℕ) (decode : List ℕ → Option T)
         request = v.request;
         asked = seen_at old op v.operation v.acts.found ∙ v.acts.asks;
         rows = rows;
-        effect = subst (λ (s : State T). IsEffectRow {C = Call T} {A = Answer T} op v.request old.store.files s.store.files rows) (sym v.state) (served_row T op old.store v.store v.request v.reply st.know.files.given v.reaches.serves v.reaches.honest);
+        effect = subst (λ (s : State T). IsEffectRow {C = Call T} {A = Answer T} op v.request old.store.files s.store.files rows) (sym v.state) (served_row (Call T) (Answer T) op old.store v.store v.request v.reply st.know.files.given v.reaches.serves v.reaches.honest);
         told = inr (answers.Refused 2, v.tells);
         added = ap (λ (s : State T). s.trace) v.state ∙ ap (λ (t : Told T). (old.trace ++ rows) ++ answer_row t) (sym v.tells);
       }
@@ -213,8 +130,8 @@ module _ {T : Type 0} (encode : T → List ℕ) (decode : List ℕ → Option T)
         request = v.request;
         loose = v.found;
         rows = rows;
-        effect = subst (λ (s : State T). IsEffectRow {C = Call T} {A = Answer T} v.op v.request old.store.files s.store.files rows) (sym v.state) (served_row T v.op old.store v.store v.request v.reply st.know.files.given v.reaches.serves v.reaches.honest);
-        told = v.tells ∙ ap (told.Landed k) (effect_empty T v.op effect);
+        effect = subst (λ (s : State T). IsEffectRow {C = Call T} {A = Answer T} v.op v.request old.store.files s.store.files rows) (sym v.state) (served_row (Call T) (Answer T) v.op old.store v.store v.request v.reply st.know.files.given v.reaches.serves v.reaches.honest);
+        told = v.tells ∙ ap (told.Landed k) (effect_empty (Call T) (Answer T) v.op effect);
         added = ap (λ (s : State T). s.trace) v.state;
       }
 

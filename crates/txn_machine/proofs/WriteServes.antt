@@ -24,9 +24,10 @@ use Rattle.txn_history.specs.Names.{world_names}
 use Rattle.txn_history.specs.History.{Version, created, has_id, versions_of, newest, boundary}
 use Rattle.txn_history.specs.Calls.{ends as ends_row, was_begun, was_answered}
 use Rattle.txn_history.specs.OneHistory.{Appends, Recreates, Created, Entered, Overtaken, NoTokens, WriteRefused, AnswerFits}
+use Rattle.txn_history.specs.Added.{effect_rows}
 use Rattle.txn_history.proofs.Lists.{get_more, get_last, any_false}
 use Rattle.txn_history.proofs.Apart.{created_is}
-use Rattle.txn_machine.specs.Machine.{effect_of, effect_rows}
+use Rattle.txn_machine.specs.Machine.{effect_of}
 use Rattle.txn_machine.proofs.Stands.{IsKnown, Open, KnowStands, IsWriteOf, Creates, PuttingStands, CreatedStands, Only, Asks, Runs, has_effect, bytes_at, create, is_there}
 use Rattle.txn_machine.proofs.Turns.{UncheckedTells}
 use Rattle.txn_history.proofs.More.{call_kept, begun_kept}

@@ -11,7 +11,6 @@ use Rattle.txn_store.specs.declared.request.Reply.{Reply}
 use Rattle.txn_store.specs.declared.request.Reply.TheVariants as replies
 use Rattle.txn_caches.specs.declared.caches.Caches.{Caches}
 use Rattle.txn_history.specs.declared.event.Call.{Call}
-use Rattle.txn_history.specs.declared.event.Answer.{Answer}
 use Rattle.txn_history.specs.declared.event.Answer.TheVariants as answers
 use Rattle.txn_history.specs.declared.event.Failure.{Failure}
 use Rattle.txn_history.specs.declared.event.Failure.TheVariants as failures
@@ -22,12 +21,13 @@ use Rattle.txn_history.specs.declared.event.EventOf.TheVariants as events
 use Rattle.txn_history.specs.declared.event.EventFault.{EventFault}
 use Rattle.txn_history.specs.declared.event.EventFault.TheVariants as faults
 use Rattle.txn_history.specs.Trace.{Row}
-use Rattle.txn_history.specs.declared.trace.RowOf.TheVariants.{Effect, Begun, Answered}
+use Rattle.txn_history.specs.declared.trace.RowOf.TheVariants.{Begun}
 use Rattle.txn_history.specs.Lists.{numbered}
 use Rattle.txn_history.specs.History.{Contents}
 use Rattle.txn_history.specs.Seen.{Ask, Store, Look, Operation as SeenOperation, Seen}
 use Rattle.txn_history.specs.GoesOn.{left_loose, all_left_loose}
 use Rattle.txn_history.specs.Allowed.{fault_of}
+use Rattle.txn_history.specs.Added.{told_of, answer_rows, effect_rows}
 use Rattle.txn_machine.specs.declared.doing.Doing.{Doing}
 use Rattle.txn_machine.specs.declared.doing.Doing.TheVariants.{Ended}
 use Rattle.txn_machine.specs.declared.doing.Operation.{Operation}
@@ -108,19 +108,6 @@ module _ {T : Type 0} where
   abbrev pub with_doing : List (Operation T) → ℕ → Operation T → Doing T → List (Operation T)
   with_doing operations op operation doing = slice_set operations (op - 1) (record { client = operation.client; doing = doing })
 
-  abbrev pub answer_rows : ℕ → Option (Answer T) → List (Row T)
-  answer_rows op None = []
-  answer_rows op (Some answer) = Answered op answer ∷ []
-
-  abbrev pub effect_rows : ℕ → Option Request → List (Row T)
-  effect_rows op None = []
-  effect_rows op (Some request) = Effect op request ∷ []
-
-  -- what is told: the answer where there is one
-  abbrev pub told_of : Told T → ℕ → Option (Answer T) → Told T
-  told_of otherwise op None = otherwise
-  told_of otherwise op (Some answer) = told.Answered op answer
-
   -- An operation takes its turn: what it does next, its answer where it has one, and what it leaves of its client's caches. Every look, serve, failure and give-up changes the operations, the caches and the answers so.
   abbrev pub acted : State T → ℕ → Operation T → Next T → Caches → State T
   acted s op operation next caches = record s {
@@ -181,12 +168,12 @@ fault_met (Err faults.EpochLowered) = Some faults.EpochLowered
 fault_met (Err faults.ViewBusy) = Some faults.ViewBusy
 fault_met (Err faults.NoMemory) = None
 
-module _ {T : Type 0} where
-  -- how many of them were taken
-  abbrev pub taken_count : List (Event T × Result (Told T) EventFault) → ℕ
-  taken_count [] = 0
-  taken_count (met ∷ rest) = if is_ok met.1 then 1 + taken_count rest else taken_count rest
+-- of events, each with its outcome, how many were taken
+abbrev pub taken_count : {E A : Type 0} → List (E × Result A EventFault) → ℕ
+taken_count [] = 0
+taken_count (met ∷ rest) = if is_ok met.1 then 1 + taken_count rest else taken_count rest
 
+module _ {T : Type 0} where
   -- an operation that is there and asks for this, and what its client keeps
   pub record Acts (s : State T) (op : ℕ) (operation : Operation T) (ask : Ask) (caches : Caches) : Type 0 where
     pub found : numbered s.operations op ≡ Some operation

@@ -5,8 +5,8 @@ use Rattle.txn_history.specs.declared.event.EventFault.{EventFault}
 use Rattle.txn_history.specs.Added.{AddsRows}
 use Rattle.txn_view_history.specs.Trace.{AnyEvent, AnyTold}
 use Rattle.txn_view_history.specs.GoesOn.{GoesOn}
-use Rattle.txn_machine.specs.Machine.{fault_met}
-use Rattle.txn_any_machine.specs.Machine.{State, WorldState, seen_calls, seen_of, refusal_of, Takes, Meets, Outcomes, taken_count, RunsPast, IsReached}
+use Rattle.txn_machine.specs.Machine.{fault_met, taken_count}
+use Rattle.txn_any_machine.specs.Machine.{State, WorldState, seen_calls, seen_of, refusal_of, Takes, Meets, Outcomes, RunsPast, IsReached}
 use Rattle.txn_any_machine.proofs.Runs.{taken_reached}
 use Rattle.txn_any_machine.proofs.AddedRows.{added_rows}
 use Rattle.txn_any_machine.proofs.Busy.{reached_busy}

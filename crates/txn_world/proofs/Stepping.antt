@@ -31,6 +31,7 @@ use Rattle.txn_history.specs.Lists.{numbered}
 use Rattle.txn_history.specs.Names.{world_names, world_boundary}
 use Rattle.txn_history.specs.Seen.{Ask, Store, Look, asks_in}
 use Rattle.txn_history.specs.GoesOn.{as_loose, left_loose}
+use Rattle.txn_history.specs.Added.{told_of, answer_rows, effect_rows}
 use Rattle.txn_view_history.specs.declared.event.AnyCall.{AnyCall}
 use Rattle.txn_view_history.specs.declared.event.AnyAnswer.{AnyAnswer}
 use Rattle.txn_view_history.specs.declared.event.AnyAnswer.TheVariants as any
@@ -50,7 +51,7 @@ use Rattle.txn_any_machine.specs.declared.doing.AnyOperation.{AnyOperation}
 use Rattle.txn_any_machine.specs.declared.doing.Ending.{Ending}
 use Rattle.txn_any_machine.specs.declared.doing.Ending.TheVariants as endings
 use Rattle.txn_any_machine.specs.Doing.{Next, asked, ended, refused, plain_next, view_next, turned, started, caches_left, answer_in, is_claim_call, IsClaimReading, IsMadeSo, ReadsBack, FitsWord, MayLack}
-use Rattle.txn_any_machine.specs.Machine.{State, seen_operation, seen_operations, seen_view, seen_of, used_in, used_by, with_doing, answer_rows, effect_rows, told_of, answered, acted, effected, loosened, failing, given_up, let_go, views_changed, views_after, views_taken, next_op, begun_as, view_now, FailsFirst, FailsAfter, GivesUp, Lands, Looks, Served, Begins}
+use Rattle.txn_any_machine.specs.Machine.{State, seen_operation, seen_operations, seen_view, seen_of, used_in, used_by, with_doing, answered, acted, effected, loosened, failing, given_up, let_go, views_changed, views_after, views_taken, next_op, begun_as, view_now, FailsFirst, FailsAfter, GivesUp, Lands, Looks, Served, Begins}
 use Rattle.txn_world.specs.declared.clients.Usage.{Usage}
 use Rattle.txn_world.specs.Owning.{is_used}
 use Rattle.txn_world.specs.Beside.{told_count, ending_count, AreIds, IsAfforded}

@@ -4,8 +4,9 @@ ghost use Rattle.std.specs.HashSet.{spare};
 ghost use Rattle.std.specs.Option.{ForSome};
 ghost use Rattle.txn_history.specs.declared.event.ToldOf.TheVariants as tolds;
 ghost use Rattle.txn_history.specs.declared.trace.RowOf.TheVariants.{Answered};
+ghost use Rattle.txn_history.specs.Added.{told_of, answer_rows};
 ghost use Rattle.txn_any_machine.specs.Doing.{refusal_in};
-ghost use Rattle.txn_any_machine.specs.Machine.{told_of, answer_rows, answered, let_go, views_changed, views_after};
+ghost use Rattle.txn_any_machine.specs.Machine.{answered, let_go, views_changed, views_after};
 ghost use Rattle.txn_world.specs.Beside.{ending_count};
 ghost use Rattle.txn_world.specs.Owning.{room_of, IsFromOne};
 

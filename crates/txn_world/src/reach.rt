@@ -4,8 +4,8 @@ ghost use Rattle.std.specs.HashSet.{spare};
 ghost use Rattle.txn_store.specs.Memory.{searched_state};
 ghost use Rattle.txn_store.specs.MemoryServes.{lacks_memory};
 ghost use Rattle.txn_store.specs.Requests.{Serves};
+ghost use Rattle.txn_history.specs.Added.{effect_rows};
 ghost use Rattle.txn_machine.specs.Machine.{effect_of, took, may_change};
-ghost use Rattle.txn_any_machine.specs.Machine.{effect_rows};
 
 use crate::trace::Trace;
 use std::alloc::{AllocError, Global};

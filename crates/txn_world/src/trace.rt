@@ -59,8 +59,8 @@ impl<T: Drop, C: ObjectCodec<T> + Drop, E: EpochField<T>> Trace<T, C, E> {
     ghost use Rattle.txn_history.specs.Names.{world_names, world_boundary};
     ghost use Rattle.txn_history.specs.History.{created, epoch_at};
     ghost use Rattle.txn_history.specs.declared.trace.RowOf.TheVariants.{Begun, Answered};
+    ghost use Rattle.txn_history.specs.Added.{effect_rows};
     ghost use Rattle.txn_view_history.specs.Calls.{was_told, is_below_told};
-    ghost use Rattle.txn_any_machine.specs.Machine.{effect_rows};
     ghost use Rattle.txn_world.specs.Beside.{epoch_made, told_count, ending_count, IsAfforded};
 
     pub fn new(alloc: Global, layout: Layout<C>, field: E) -> Trace<T, C, E>

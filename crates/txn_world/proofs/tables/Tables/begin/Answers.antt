@@ -1,8 +1,9 @@
 use Rattle.std.proofs.Common.{◌∙◌, ◌≡◌, ◌+◌, ◌++◌, ◌∷◌, [], ap, refl, length, List, arith}
 use Rattle.txn_history.specs.declared.trace.RowOf.TheVariants.{Begun}
+use Rattle.txn_history.specs.Added.{answer_rows}
 use Rattle.txn_view_history.specs.Trace.{AnyRow}
 use Rattle.txn_any_machine.specs.Doing.{started, refusal_in}
-use Rattle.txn_any_machine.specs.Machine.{seen_view, used_by, next_op, answer_rows, answered}
+use Rattle.txn_any_machine.specs.Machine.{seen_view, used_by, next_op, answered}
 use Rattle.txn_world.specs.Shown.{shown}
 use Rattle.txn_world.proofs.Stepping.{begun}
 use Rattle.txn_world.proofs.tables.Tables.begin.Goals as goal

@@ -1,8 +1,9 @@
 use Rattle.std.proofs.Common.{◌∙◌, ap, refl, ◌++◌, length, List, Option, arith}
 use Rattle.txn_store.specs.Memory.{searched_state}
 use Rattle.txn_history.specs.declared.event.ToldOf.TheVariants as told
+use Rattle.txn_history.specs.Added.{told_of, answer_rows}
 use Rattle.txn_view_machine.specs.Layer.{Used}
-use Rattle.txn_any_machine.specs.Machine.{answer_rows, answered, told_of, views_after}
+use Rattle.txn_any_machine.specs.Machine.{answered, views_after}
 use Rattle.txn_world.specs.Running.{asked_by}
 use Rattle.txn_world.specs.Answering.{request_of}
 use Rattle.txn_world.specs.Shown.{shown}
