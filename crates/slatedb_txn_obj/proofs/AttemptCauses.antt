@@ -2,12 +2,13 @@
 use Rattle.std.proofs.Common.{sym, subst, inl, inr, ℕ, ◌≤◌, List, Option, Some, None}
 use Rattle.txn_store.specs.Store.{State}
 use Rattle.txn_types.specs.Callbacks.{error_of_callback}
+use Rattle.txn_types.specs.Epochs.{HasNoEpoch}
 use Rattle.txn_types.specs.declared.callback.CallbackFault.{CallbackFault}
 use Rattle.txn_types.specs.declared.callback.CallbackFault.TheVariants.{Refused}
 use Rattle.txn_types.specs.declared.callback.CallbackFault.TheVariants as callback
 use Rattle.txn_types.specs.declared.error.TransactionalObjectError.{TransactionalObjectError}
 use Rattle.txn_types.specs.declared.error.TransactionalObjectError.TheVariants.{ObjectStoreError, ObjectVersionExists, Fenced, InvalidObjectState, CallbackError, NoMemory, IdExhausted, TurnsExhausted}
-use Rattle.slatedb_txn_obj.specs.Claims.{HasNoEpoch, HasCauseOfAttempt}
+use Rattle.slatedb_txn_obj.specs.Claims.{HasCauseOfAttempt}
 use Rattle.slatedb_txn_obj.specs.Views.{IsTestFailure, IsEmpty, IsShutting, HasCauseOfUpdate, HasCauseOfRefresh, HasCauseOfApply}
 use Rattle.slatedb_txn_obj.proofs.Causes.{HasCause-later}
 

@@ -5,7 +5,8 @@ use Rattle.std.proofs.lemmas.List.Elements.{All-append, All-cons, All-nil}
 use Rattle.txn_store.specs.Store.{State}
 use Rattle.txn_types.specs.declared.error.TransactionalObjectError.{TransactionalObjectError}
 use Rattle.txn_types.specs.declared.error.TransactionalObjectError.TheVariants.{ObjectStoreError, ObjectUpdateTimeout, ObjectVersionExists, Fenced, InvalidObjectState, CallbackError, NoMemory, IdExhausted}
-use Rattle.slatedb_txn_obj.specs.Claims.{ReadsOne, ReadsInTime, ReadsLate, HasNoEpoch, HasCauseOfAttempt, HasCauseOfClaim}
+use Rattle.txn_types.specs.Epochs.{HasNoEpoch}
+use Rattle.slatedb_txn_obj.specs.Claims.{ReadsOne, ReadsInTime, ReadsLate, HasCauseOfAttempt, HasCauseOfClaim}
 use Rattle.slatedb_txn_obj.proofs.Causes.{HasCause-later}
 
 -- one reading more, in time

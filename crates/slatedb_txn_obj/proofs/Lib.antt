@@ -1,6 +1,5 @@
 pub mod Causes
 pub mod Wholes
-pub mod PageCounts
 pub mod Apart
 pub mod Views
 pub mod Attempts

@@ -1,7 +1,8 @@
--- Epochs, and the claims of holders.
-use Rattle.std.specs.Prelude.{◌≡◌, ◌⊎◌, ℕ, ◌+◌, ◌-◌, ◌*◌, ◌^◌, ◌<◌, ◌≤◌, List, [], ◌∷◌, ◌++◌, All, length, Option, Some, None, Result, IfOk, IfErr, IsErrOf}
+-- The claims of holders.
+use Rattle.std.specs.Prelude.{◌≡◌, ◌⊎◌, ℕ, ◌+◌, ◌-◌, ◌*◌, ◌^◌, ◌<◌, ◌≤◌, List, [], ◌∷◌, ◌++◌, All, length, Option, Result, IfOk, IfErr, IsErrOf}
 use Rattle.txn_types.specs.declared.error.TransactionalObjectError.{TransactionalObjectError}
 use Rattle.txn_types.specs.declared.error.TransactionalObjectError.TheVariants.{Fenced, InvalidObjectState, ObjectVersionExists, ObjectUpdateTimeout, CallbackError, IdExhausted, TurnsExhausted}
+use Rattle.txn_types.specs.Epochs.{NextEpoch, HasNoEpoch}
 use Rattle.txn_store.specs.Store.{State}
 use Rattle.txn_drivers.specs.Calls.{HasCause, SpendsTurns}
 use Rattle.txn_drivers.specs.LatestReads.{IsLatest}
@@ -12,23 +13,6 @@ use Rattle.slatedb_txn_obj.specs.declared.simple.SimpleTransactionalObject.{Simp
 -- the clock was read once, and the reading is such
 abbrev pub ReadsOne : (ℕ → Type 0) → List ℕ → List ℕ → Type 0
 ReadsOne is old new = (r : ℕ) × (new ≡ old ++ r ∷ []) × is r
-
--- a greater epoch shuts a holder out, and a smaller one must not be there
-abbrev pub IsEpochError : ℕ → ℕ → TransactionalObjectError → Type 0
-IsEpochError local stored Fenced = local < stored
-IsEpochError local stored InvalidObjectState = stored < local
-IsEpochError local stored error = ⊥
-
--- The epoch that a claim sets where this one stands: one more, or the one asked for where that is greater.
-abbrev pub NextEpoch : Option ℕ → ℕ → ℕ → Type 0
-NextEpoch None stored epoch = epoch ≡ stored + 1
-NextEpoch (Some asked) stored epoch = (epoch ≡ asked) × (stored < asked)
-
--- why there is none: the stored epoch is the greatest, or the one asked for is not greater
-abbrev pub HasNoEpoch : Option ℕ → ℕ → TransactionalObjectError → Type 0
-HasNoEpoch None stored IdExhausted = stored + 1 ≡ 2 ^ 64
-HasNoEpoch (Some asked) stored Fenced = asked ≤ stored
-HasNoEpoch asked stored error = ⊥
 
 -- a holder's value has another epoch than its own
 abbrev pub IsUnlike : ℕ → ℕ → TransactionalObjectError → Type 0

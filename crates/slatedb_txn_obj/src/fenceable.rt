@@ -2,8 +2,9 @@
 ghost use Rattle.std.specs.Prelude.{ℕ, List, length, true, false, nat_eq, None, Some, ◌≡◌, ◌⊎◌, ◌+◌, ◌-◌, ◌*◌, ◌^◌, ◌<◌, ◌≤◌, [], ◌∷◌, ◌++◌, All, OnOk, OnErr, IfOk, IfErr, IsErr, IsErrOf};
 ghost use Rattle.txn_types.specs.Callbacks.{IsCallback};
 ghost use Rattle.txn_types.specs.Clones.{IsExactClone};
+ghost use Rattle.txn_types.specs.Epochs.{IsEpochError, NextEpoch};
 ghost use Rattle.txn_drivers.specs.Calls.{Spends, SpendsTurns};
-ghost use Rattle.slatedb_txn_obj.specs.Claims.{IsEpochError, IsUnlike, NextEpoch, HasNoEpoch, ReadsOne, HasCauseOfAttempt, MayClaim, ClaimEnds};
+ghost use Rattle.slatedb_txn_obj.specs.Claims.{IsUnlike, ReadsOne, HasCauseOfAttempt, MayClaim, ClaimEnds};
 ghost use Rattle.slatedb_txn_obj.specs.Protocol.{Overtaken, MayAppend, UnheldAt};
 ghost use Rattle.slatedb_txn_obj.specs.Views.{IsVersion, Updated, IsTestFailure, HasCauseOfUpdate};
 
@@ -14,7 +15,7 @@ use crate::simple::SimpleTransactionalObject;
 use txn_drivers::turns::Turns;
 use txn_store::store::ObjectStore;
 use txn_types::dirty::DirtyObject;
-use txn_types::epoch::EpochField;
+use txn_types::epoch::{EpochField, next_epoch, test_epoch};
 use txn_types::error::TransactionalObjectError;
 use txn_types::id::MonotonicId;
 use txn_types::invariant::Invariant;
@@ -104,27 +105,7 @@ impl<T: Clone, I: Invariant<T> + Drop, X: EpochField<T>> FenceableTransactionalO
         ensures other { IfErr result (IsEpochError self.now.local_epoch (X.epoch_of self.now.epochs self.now.delegate.object)) }
     {
         let stored_epoch = self.epochs.get_epoch(self.delegate.object());
-        if self.local_epoch < stored_epoch {
-            return Err(TransactionalObjectError::Fenced);
-        }
-        if self.local_epoch > stored_epoch {
-            return Err(TransactionalObjectError::InvalidObjectState);
-        }
-        Ok(())
-    }
-}
-
-/// The epoch that a claim sets where this one is stored: one more, or the one asked for.
-fn next_epoch(asked: Option<u64>, stored: u64) -> Result<u64, TransactionalObjectError>
-    ensures next { IfOk result (NextEpoch asked stored) }
-    ensures none { IfErr result (HasNoEpoch asked stored) }
-{
-    match asked {
-        None => stored
-            .checked_add(1)
-            .ok_or(TransactionalObjectError::IdExhausted),
-        Some(epoch) if epoch <= stored => Err(TransactionalObjectError::Fenced),
-        Some(epoch) => Ok(epoch),
+        test_epoch(self.local_epoch, stored_epoch)
     }
 }
 
@@ -209,7 +190,8 @@ fn claim<
 impl<T: Clone, I: Invariant<T> + Drop, X: EpochField<T>> TransactionalObject<T, MonotonicId>
     for FenceableTransactionalObject<T, I, X> {
     ghost use Rattle.std.specs.Prelude.{◌≡◌, ◌⊎◌, All};
-    ghost use Rattle.slatedb_txn_obj.specs.Claims.{IsEpochError, IsUnlike};
+    ghost use Rattle.txn_types.specs.Epochs.{IsEpochError};
+    ghost use Rattle.slatedb_txn_obj.specs.Claims.{IsUnlike};
     ghost use Rattle.slatedb_txn_obj.specs.Views.{IsTestFailure};
 
     ghost at = { λ v. v.delegate.id };

@@ -2,6 +2,7 @@
 use Rattle.std.proofs.Common.{◌≡◌, ℕ, ◌==◌, List, Bool, true, false, if◌then◌else◌, Option, Some, None, Result, Ok, Err, refl, sym, ◌∙◌, ap, subst, inl, inr}
 use Rattle.txn_store.specs.declared.request.Reply.{Reply}
 use Rattle.txn_types.specs.Errors.{error_number}
+use Rattle.txn_types.specs.Epochs.{claimed_epoch}
 use Rattle.txn_types.specs.declared.error.TransactionalObjectError.{TransactionalObjectError}
 use Rattle.txn_caches.specs.declared.caches.Caches.{Caches}
 use Rattle.txn_caches.specs.declared.turned.Turned.{Turned}
@@ -24,7 +25,6 @@ use Rattle.txn_view_steps.specs.declared.op.ViewOp.TheVariants.{Claim, ClaimAt}
 use Rattle.txn_view_steps.specs.declared.outcome.Outcome.{Outcome}
 use Rattle.txn_view_steps.specs.declared.outcome.Outcome.TheVariants as outcomes
 use Rattle.txn_view_steps.specs.Attempts.{claiming_turned, claiming_left, attempt_turned, refreshed_turned, followed, entered_with, attempted_again, IsMade}
-use Rattle.txn_view_steps.specs.Epochs.{claimed_epoch}
 use Rattle.txn_view_steps.specs.Readings.{said}
 use Rattle.txn_view_steps.specs.Shortages.{IsShort, LacksAsWrite}
 use Rattle.txn_view_steps.specs.ViewOps.{view_turned, view_left, held}

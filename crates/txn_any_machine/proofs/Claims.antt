@@ -3,6 +3,7 @@ use Rattle.std.proofs.Common.{◌≡◌, ℕ, ◌==◌, List, Bool, true, false,
 use Rattle.txn_store.specs.Paths.{Segments}
 use Rattle.txn_store.specs.declared.request.Reply.{Reply}
 use Rattle.txn_types.specs.declared.error.TransactionalObjectError.{TransactionalObjectError}
+use Rattle.txn_types.specs.Epochs.{epoch_tested}
 use Rattle.txn_caches.specs.declared.caches.Caches.{Caches}
 use Rattle.txn_caches.specs.declared.turned.Turned.{Turned}
 use Rattle.txn_caches.specs.declared.turned.Turned.TheVariants as turns
@@ -28,7 +29,6 @@ use Rattle.txn_view_steps.specs.declared.outcome.Outcome.TheVariants as outcomes
 use Rattle.txn_view_steps.specs.Attempts.{attempt_turned, attempted_again, claiming_turned, followed, refreshed_turned}
 use Rattle.txn_view_steps.specs.Claims.{claim_started, claim_at_started}
 use Rattle.txn_view_steps.specs.Entries.{entry_turned, written_turned}
-use Rattle.txn_view_steps.specs.Epochs.{epoch_tested}
 use Rattle.txn_view_steps.specs.Holders.{as_holder_refresh, holder_viewed, holder_refreshed, holder_update_started}
 use Rattle.txn_view_steps.specs.Inits.{init_started}
 use Rattle.txn_view_steps.specs.Loads.{as_load, loaded}

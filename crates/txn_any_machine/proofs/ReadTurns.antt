@@ -2,6 +2,7 @@
 use Rattle.std.proofs.Common.{◌≡◌, ℕ, List, Bool, true, false, Option, Some, None, Result, Ok, Err, refl, sym, ◌∙◌, ap, subst, inl}
 use Rattle.txn_store.specs.declared.request.Reply.{Reply}
 use Rattle.txn_types.specs.declared.error.TransactionalObjectError.{TransactionalObjectError}
+use Rattle.txn_types.specs.Epochs.{epoch_tested}
 use Rattle.txn_caches.specs.declared.caches.Caches.{Caches}
 use Rattle.txn_caches.specs.declared.turned.Turned.{Turned}
 use Rattle.txn_caches.specs.declared.turned.Turned.TheVariants as turns
@@ -18,7 +19,6 @@ use Rattle.txn_view_steps.specs.declared.op.ViewOp.{ViewOp}
 use Rattle.txn_view_steps.specs.declared.op.ViewOp.TheVariants.{Load, Refresh, HolderRefresh}
 use Rattle.txn_view_steps.specs.declared.outcome.Outcome.{Outcome}
 use Rattle.txn_view_steps.specs.declared.outcome.Outcome.TheVariants as outcomes
-use Rattle.txn_view_steps.specs.Epochs.{epoch_tested}
 use Rattle.txn_view_steps.specs.Holders.{as_holder_refresh, holder_viewed, holder_refreshed}
 use Rattle.txn_view_steps.specs.Loads.{as_load, loaded}
 use Rattle.txn_view_steps.specs.Refreshes.{as_refresh, refreshed}

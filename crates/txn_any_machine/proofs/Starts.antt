@@ -1,5 +1,6 @@
 -- Every begin of a call on a view starts as the layer says.
 use Rattle.std.proofs.Common.{◌≡◌, ℕ, ◌==◌, List, Bool, true, false, if◌then◌else◌, Option, Some, None, is_some, Result, Ok, Err, refl, sym, ◌∙◌, subst}
+use Rattle.txn_types.specs.Epochs.{claimed_epoch}
 use Rattle.txn_steps.specs.Reads.{read_started}
 use Rattle.txn_steps.specs.Writes.{write_started}
 use Rattle.txn_history.specs.Names.{world_names, world_boundary}
@@ -12,7 +13,6 @@ use Rattle.txn_view_steps.specs.declared.holder.HolderUpdateOp.{HolderUpdateOp}
 use Rattle.txn_view_steps.specs.declared.update.UpdateOp.{UpdateOp}
 use Rattle.txn_view_steps.specs.Attempts.{attempted, followed}
 use Rattle.txn_view_steps.specs.Claims.{as_claim, as_claim_at}
-use Rattle.txn_view_steps.specs.Epochs.{claimed_epoch}
 use Rattle.txn_view_steps.specs.Holders.{holder_writes, own_epochs}
 use Rattle.txn_view_steps.specs.Lacking.{started_as}
 use Rattle.txn_view_history.specs.declared.event.ViewCall.{ViewCall}

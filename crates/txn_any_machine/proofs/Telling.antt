@@ -3,9 +3,9 @@
 use Rattle.std.proofs.Common.{◌≡◌, ℕ, ◌==◌, ◌&&◌, ◌⊎◌, Bool, false, Option, Some, None, Result, Ok, Err, inl, inr, refl, sym, subst}
 use Rattle.std.proofs.lemmas.Bool.{cases_Bool}
 use Rattle.txn_types.specs.declared.error.TransactionalObjectError.{TransactionalObjectError}
+use Rattle.txn_types.specs.Epochs.{claimed_epoch, epoch_tested}
 use Rattle.txn_history.specs.Calls as plain_calls
 use Rattle.txn_history.specs.OneHistory.{greatest}
-use Rattle.txn_view_steps.specs.Epochs.{claimed_epoch, epoch_tested}
 use Rattle.txn_view_steps.specs.Holders.{own_epochs}
 use Rattle.txn_view_history.specs.declared.event.ViewCall.{ViewCall}
 use Rattle.txn_view_history.specs.declared.event.ViewCall.TheVariants as view_calls

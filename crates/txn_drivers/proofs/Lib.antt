@@ -6,6 +6,7 @@ pub mod LatestTurns
 pub mod LatestWindows
 pub mod Listings
 pub mod Pages
+pub mod PageCounts
 pub mod VersionLemmas
 pub mod Windows
 pub mod BoundarySteps

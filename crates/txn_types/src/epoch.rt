@@ -1,5 +1,8 @@
-//! Epochs of values.
-ghost use Rattle.std.specs.Prelude.{◌≡◌, ℕ};
+//! Epochs: where values keep them, the next one of a claim, and the test of a holder's.
+ghost use Rattle.std.specs.Prelude.{◌≡◌, ◌<◌, ℕ, IfOk, IfErr, OnOk};
+ghost use Rattle.txn_types.specs.Epochs.{claimed_epoch, epoch_tested, IsEpochError, NextEpoch, HasNoEpoch};
+
+use crate::error::TransactionalObjectError;
 
 /// Where the values of a type keep their epoch, the number that shuts out clients of smaller ones.
 ///
@@ -20,4 +23,37 @@ pub trait EpochField<T>: Copy {
         ensures set { value.new ≡ with_epoch self.now value.old epoch }
         // What was set is read.
         ensures reads_back { epoch_of self.now (with_epoch self.now value.old epoch) ≡ epoch };
+}
+
+/// The epoch that a claim sets where this one is stored: one more, which is `IdExhausted` where there is none, or the one
+/// that is asked for, which is `Fenced` where it isn't greater. It takes no memory.
+pub fn next_epoch(asked: Option<u64>, stored: u64) -> Result<u64, TransactionalObjectError>
+    ensures claimed { result ≡ claimed_epoch asked stored }
+    ensures rises { IfOk result (λ epoch. stored < epoch) }
+    ensures next { IfOk result (NextEpoch asked stored) }
+    ensures none { IfErr result (HasNoEpoch asked stored) }
+{
+    match asked {
+        None => stored
+            .checked_add(1)
+            .ok_or(TransactionalObjectError::IdExhausted),
+        Some(epoch) if epoch <= stored => Err(TransactionalObjectError::Fenced),
+        Some(epoch) => Ok(epoch),
+    }
+}
+
+/// Whether a stored epoch is the holder's own: a greater one is `Fenced`, and a smaller one `InvalidObjectState`. It takes
+/// no memory.
+pub fn test_epoch(local: u64, stored: u64) -> Result<(), TransactionalObjectError>
+    ensures tested { result ≡ epoch_tested local stored }
+    ensures own { OnOk result (stored ≡ local) }
+    ensures other { IfErr result (IsEpochError local stored) }
+{
+    if local < stored {
+        return Err(TransactionalObjectError::Fenced);
+    }
+    if local > stored {
+        return Err(TransactionalObjectError::InvalidObjectState);
+    }
+    Ok(())
 }

@@ -5,7 +5,8 @@
 //! - `MonotonicId`: the id of a version. The first is 1, and each later one is the one before plus 1.
 //! - `CallbackFault`: how an invariant or a mutator refuses.
 //! - `DirtyObject<T, Id>`: a local candidate `{ id, value }`, with the id of the version that it is made from.
-//! - `EpochField<T>`: where a value keeps its epoch. What is set, it reads.
+//! - `EpochField<T>`: where a value keeps its epoch. What is set, it reads. `next_epoch` is that of a claim, and
+//!   `test_epoch` tests a holder's.
 //! - `IdentifiedObjectMetadata<Id>`: a listed file with the id of its version.
 //! - `Invariant<T>`: what has to hold between a new value and the current one; `NoInvariant` always holds.
 //! - `ObjectCodec<T>`: how values are written as bytes and read back. What it writes, it reads as the same value.

@@ -5,6 +5,7 @@ use Rattle.txn_store.specs.VersionName.{Names, version_path}
 use Rattle.txn_store.specs.Store.{State}
 use Rattle.txn_types.specs.Errors.{error_number}
 use Rattle.txn_types.specs.Numbers.{number_of}
+use Rattle.txn_types.specs.Epochs.{claimed_epoch}
 use Rattle.txn_types.specs.declared.error.TransactionalObjectError.{TransactionalObjectError}
 use Rattle.txn_types.specs.declared.error.TransactionalObjectError.TheVariants as kinds
 use Rattle.txn_caches.specs.declared.caches.Cached.{Cached}
@@ -29,12 +30,12 @@ use Rattle.txn_drivers.specs.PageCount.{pages_below}
 use Rattle.txn_drivers.specs.WriteRuns.{WriteLeaves}
 use Rattle.txn_drivers.proofs.DrivenRead.{read_driven}
 use Rattle.txn_drivers.proofs.DrivenWrite.{checked_write_driven}
+use Rattle.txn_drivers.proofs.PageCounts.{pages_written}
 use Rattle.txn_drivers.proofs.Windows.{greatest_fits}
 use Rattle.txn_view_steps.specs.declared.claiming.Claiming.{Claiming}
 use Rattle.txn_view_steps.specs.declared.claiming.Claiming.TheVariants.{Writes, Reads, Ended}
 use Rattle.txn_view_steps.specs.declared.outcome.Outcome.{Outcome}
 use Rattle.txn_view_steps.specs.Attempts.{attempted, attempted_again, IsMade}
-use Rattle.txn_view_steps.specs.Epochs.{claimed_epoch}
 use Rattle.txn_view_drivers.specs.Claimed.{IsAt, NotClaimed, HasCauseOfClaim, ClaimStood, ClaimRan}
 use Rattle.txn_view_drivers.specs.ClaimLaws.{Begun, NotBegun, begun, not_begun}
 use Rattle.txn_view_drivers.specs.ClaimLayers.{HeldAs, AttemptLed, EndsRead, ReadLed, ClaimLed, claim_led}
@@ -42,7 +43,6 @@ use Rattle.txn_view_drivers.specs.ClaimSteps.{AttemptStepped}
 use Rattle.txn_view_drivers.specs.Entering.{IsApart, HasCauseOfEntry, EntryStood, EntryAnswers}
 use Rattle.txn_view_drivers.specs.Layers.{part_of}
 use Rattle.txn_view_drivers.proofs.EntryRuns.{cause_since, write_answers, write_spends}
-use Rattle.txn_view_drivers.proofs.PageCounts.{pages_written}
 use Rattle.txn_view_drivers.specs.Seen.{entry_seen, seen_as}
 
 -- what a checked write leaves of the window ascends

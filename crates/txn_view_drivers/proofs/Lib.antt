@@ -2,6 +2,5 @@ pub mod EntryRuns
 pub mod ViewRuns
 pub mod Driven
 pub mod ClaimTakes
-pub mod PageCounts
 pub mod ClaimRuns
 pub mod DrivenClaims

@@ -6,6 +6,7 @@ use Rattle.txn_store.specs.Store.{State}
 use Rattle.txn_store.specs.declared.request.Request.{Request}
 use Rattle.txn_store.specs.declared.request.Reply.{Reply}
 use Rattle.txn_types.specs.Numbers.{number_of}
+use Rattle.txn_types.specs.Epochs.{epoch_tested}
 use Rattle.txn_types.specs.declared.error.TransactionalObjectError.{TransactionalObjectError}
 use Rattle.txn_types.specs.declared.error.TransactionalObjectError.TheVariants as kinds
 use Rattle.txn_caches.specs.declared.caches.Caches.{Caches}
@@ -23,7 +24,6 @@ use Rattle.txn_drivers.proofs.DrivenWrite.{checked_write_driven}
 use Rattle.txn_view_steps.specs.declared.entry.EntryOp.{EntryOp}
 use Rattle.txn_view_steps.specs.declared.entry.EntryOp.TheVariants as entries
 use Rattle.txn_view_steps.specs.declared.outcome.Outcome.{Outcome}
-use Rattle.txn_view_steps.specs.Epochs.{epoch_tested}
 use Rattle.txn_view_steps.specs.Holders.{holder_viewed}
 use Rattle.txn_view_steps.specs.Readings.{said}
 use Rattle.txn_view_drivers.specs.declared.call.ViewCall.{ViewCall}

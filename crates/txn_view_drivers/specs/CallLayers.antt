@@ -6,6 +6,7 @@ use Rattle.txn_store.specs.VersionName.{Names}
 use Rattle.txn_store.specs.declared.request.Request.{Request}
 use Rattle.txn_store.specs.declared.request.Reply.{Reply}
 use Rattle.txn_types.specs.Errors.{error_number}
+use Rattle.txn_types.specs.Epochs.{epoch_tested}
 use Rattle.txn_types.specs.declared.error.TransactionalObjectError.{TransactionalObjectError}
 use Rattle.txn_types.specs.declared.error.TransactionalObjectError.TheVariants as kinds
 use Rattle.txn_types.specs.declared.error.TransactionalObjectError.TheVariants.{LatestRecordMissing, InvalidObjectState}
@@ -31,7 +32,6 @@ use Rattle.txn_view_steps.specs.declared.outcome.Outcome.TheVariants.{Viewed}
 use Rattle.txn_view_steps.specs.declared.refresh.RefreshOp.{RefreshOp}
 use Rattle.txn_view_steps.specs.declared.update.UpdateOp.{UpdateOp}
 use Rattle.txn_view_steps.specs.Entries.{written_turned}
-use Rattle.txn_view_steps.specs.Epochs.{epoch_tested}
 use Rattle.txn_view_steps.specs.Holders.{as_holder_refresh, holder_viewed, holder_refreshed, holder_refresh_ended, holder_refresh_asked, holder_update_asked, holder_update_turned, holder_update_caches}
 use Rattle.txn_view_steps.specs.Inits.{init_asked, init_turned, init_caches}
 use Rattle.txn_view_steps.specs.Loads.{as_load, loaded, load_ended, load_asked, load_turned}

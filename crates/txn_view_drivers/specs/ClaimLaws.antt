@@ -5,6 +5,7 @@ use Rattle.std.proofs.lemmas.Bool.{eqb-true}
 use Rattle.txn_store.specs.Paths.{Segments}
 use Rattle.txn_store.specs.VersionName.{Names}
 use Rattle.txn_types.specs.Errors.{error_number}
+use Rattle.txn_types.specs.Epochs.{claimed_epoch}
 use Rattle.txn_types.specs.declared.error.TransactionalObjectError.{TransactionalObjectError}
 use Rattle.txn_caches.specs.declared.turned.Turned.TheVariants.{Goes}
 use Rattle.txn_steps.specs.declared.read.ReadOp.{ReadOp}
@@ -19,7 +20,6 @@ use Rattle.txn_view_steps.specs.declared.claim_at.ClaimAtOp.{ClaimAtOp}
 use Rattle.txn_view_steps.specs.declared.claiming.Claiming.{Claiming}
 use Rattle.txn_view_steps.specs.declared.claiming.Claiming.TheVariants.{Writes, Reads, Ended}
 use Rattle.txn_view_steps.specs.Attempts.{attempted, attempted_again, entered_with}
-use Rattle.txn_view_steps.specs.Epochs.{claimed_epoch}
 use Rattle.txn_view_drivers.specs.declared.with_epochs.WithEpochs.{WithEpochs}
 use Rattle.txn_view_drivers.specs.ClaimLayers.{AttemptLed, ReadLed, ClaimLed, claim_led}
 use Rattle.txn_view_drivers.specs.ClaimSteps.{CanClaim, AttemptStepped, ClaimSteps, ClaimAtSteps}

@@ -5,6 +5,7 @@ use Rattle.txn_store.specs.VersionName.{Names}
 use Rattle.txn_store.specs.Store.{State}
 use Rattle.txn_types.specs.declared.error.TransactionalObjectError.{TransactionalObjectError}
 use Rattle.txn_types.specs.declared.error.TransactionalObjectError.TheVariants.{Fenced, IdExhausted}
+use Rattle.txn_types.specs.Epochs.{claimed_epoch}
 use Rattle.txn_caches.specs.declared.caches.Caches.{Caches}
 use Rattle.txn_drivers.specs.Calls.{HasCause}
 use Rattle.txn_drivers.specs.DriveRuns.{Scene}
@@ -13,7 +14,6 @@ use Rattle.txn_drivers.specs.LatestReads.{IsLatest}
 use Rattle.txn_drivers.specs.PageCount.{pages_below}
 use Rattle.txn_view_steps.specs.declared.outcome.Outcome.{Outcome}
 use Rattle.txn_view_steps.specs.declared.outcome.Outcome.TheVariants.{Viewed, Held, Shut}
-use Rattle.txn_view_steps.specs.Epochs.{claimed_epoch}
 use Rattle.txn_view_drivers.specs.Entering.{IsApart}
 
 -- a view of this id and this value is at a version of the history

@@ -2,9 +2,9 @@
 use Rattle.std.specs.Prelude.{ℕ, Option, Some, None, Result, Ok, Err}
 use Rattle.txn_types.specs.declared.error.TransactionalObjectError.{TransactionalObjectError}
 use Rattle.txn_types.specs.declared.error.TransactionalObjectError.TheVariants.{LatestRecordMissing, InvalidObjectState}
+use Rattle.txn_types.specs.Epochs.{epoch_tested}
 use Rattle.txn_view_steps.specs.declared.outcome.Outcome.{Outcome}
 use Rattle.txn_view_steps.specs.declared.outcome.Outcome.TheVariants.{Viewed}
-use Rattle.txn_view_steps.specs.Epochs.{epoch_tested}
 use Rattle.txn_view_steps.specs.Holders.{holder_viewed}
 
 -- what a call makes of an answer, by what it makes of one that is no error: an error is its own

@@ -5,6 +5,7 @@ use Rattle.txn_store.specs.VersionName.{Names}
 use Rattle.txn_store.specs.Store.{State}
 use Rattle.txn_types.specs.declared.error.TransactionalObjectError.{TransactionalObjectError}
 use Rattle.txn_types.specs.declared.error.TransactionalObjectError.TheVariants.{LatestRecordMissing, InvalidObjectState}
+use Rattle.txn_types.specs.Epochs.{epoch_tested}
 use Rattle.txn_caches.specs.declared.caches.Caches.{Caches}
 use Rattle.txn_steps.specs.declared.read.ReadOp.{ReadOp}
 use Rattle.txn_steps.specs.Reads.{read_started}
@@ -15,7 +16,6 @@ use Rattle.txn_drivers.specs.LatestReads.{IsLatest}
 use Rattle.txn_drivers.specs.PageCount.{pages_below}
 use Rattle.txn_view_steps.specs.declared.outcome.Outcome.{Outcome}
 use Rattle.txn_view_steps.specs.declared.outcome.Outcome.TheVariants.{Viewed, Held, Shut}
-use Rattle.txn_view_steps.specs.Epochs.{epoch_tested}
 use Rattle.txn_view_drivers.specs.Layers.{part_of}
 use Rattle.txn_view_drivers.specs.Seen.{load_seen, refresh_seen, holder_seen, seen_as}
 

@@ -3,11 +3,11 @@
 use Rattle.std.specs.Prelude.{◌≡◌, ℕ, ◌+◌, ◌==◌, ◌⊎◌, ◌&&◌, if◌then◌else◌, List, Bool, true, false, Option, Some, None, Result, Ok, Err}
 use Rattle.txn_types.specs.Errors.{error_number}
 use Rattle.txn_types.specs.Numbers.{number_of}
+use Rattle.txn_types.specs.Epochs.{claimed_epoch, epoch_tested}
 use Rattle.txn_types.specs.declared.error.TransactionalObjectError.{TransactionalObjectError}
 use Rattle.txn_history.specs.declared.event.Call.{Call}
 use Rattle.txn_history.specs.declared.event.Call.TheVariants as calls
 use Rattle.txn_history.specs.OneHistory.{base_on, greatest, Entered, WasNewest, WasEmpty, WriteRefused, Fails}
-use Rattle.txn_view_steps.specs.Epochs.{claimed_epoch, epoch_tested}
 use Rattle.txn_view_steps.specs.Holders.{own_epochs}
 use Rattle.txn_view_history.specs.declared.event.ViewCall.TheVariants as view_calls
 use Rattle.txn_view_history.specs.declared.event.AnyCall.{AnyCall}

@@ -4,6 +4,7 @@ use Rattle.txn_store.specs.Paths.{Segments}
 use Rattle.txn_store.specs.VersionName.{Names}
 use Rattle.txn_store.specs.declared.request.Reply.{Reply}
 use Rattle.txn_types.specs.Numbers.{number_of}
+use Rattle.txn_types.specs.Epochs.{claimed_epoch}
 use Rattle.txn_types.specs.declared.error.TransactionalObjectError.{TransactionalObjectError}
 use Rattle.txn_caches.specs.declared.caches.Caches.{Caches}
 use Rattle.txn_caches.specs.declared.turned.Turned.{Turned}
@@ -28,7 +29,6 @@ use Rattle.txn_view_steps.specs.declared.refresh.RefreshOp.{RefreshOp}
 use Rattle.txn_view_steps.specs.Attempts.{attempt_turned, entered_with, attempted_again, refreshed_turned, followed, claiming_turned, IsClaimingInRange}
 use Rattle.txn_view_steps.specs.CallsLeft.{entry_left}
 use Rattle.txn_view_steps.specs.Entries.{entry_started, entry_turned, written_turned, IsEntryReply}
-use Rattle.txn_view_steps.specs.Epochs.{claimed_epoch}
 use Rattle.txn_view_steps.specs.Holders.{as_holder_refresh, holder_refreshed, holder_refresh_turned, IsHolderRefreshInRange}
 use Rattle.txn_view_steps.specs.Loads.{as_load, loaded, load_turned, IsLoadInRange}
 use Rattle.txn_view_steps.specs.Readings.{seen}

@@ -5,6 +5,7 @@ use Rattle.txn_store.specs.VersionName.{Names}
 use Rattle.txn_store.specs.declared.request.Request.{Request}
 use Rattle.txn_store.specs.declared.request.Reply.{Reply}
 use Rattle.txn_types.specs.Errors.{error_number}
+use Rattle.txn_types.specs.Epochs.{claimed_epoch}
 use Rattle.txn_types.specs.declared.error.TransactionalObjectError.{TransactionalObjectError}
 use Rattle.txn_caches.specs.declared.caches.Caches.{Caches}
 use Rattle.txn_caches.specs.declared.turned.Turned.{Turned}
@@ -18,7 +19,6 @@ use Rattle.txn_view_steps.specs.declared.outcome.Outcome.{Outcome}
 use Rattle.txn_view_steps.specs.declared.outcome.Outcome.TheVariants.{Held}
 use Rattle.txn_view_steps.specs.declared.claiming.Claiming.{Claiming}
 use Rattle.txn_view_steps.specs.declared.claiming.Claiming.TheVariants.{Writes, Reads, Ended}
-use Rattle.txn_view_steps.specs.Epochs.{claimed_epoch}
 use Rattle.txn_view_steps.specs.Readings.{said}
 
 module _ {T : Type 0} where

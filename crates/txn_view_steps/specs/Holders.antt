@@ -5,6 +5,7 @@ use Rattle.txn_store.specs.VersionName.{Names}
 use Rattle.txn_store.specs.declared.request.Request.{Request}
 use Rattle.txn_store.specs.declared.request.Reply.{Reply}
 use Rattle.txn_types.specs.Errors.{error_number}
+use Rattle.txn_types.specs.Epochs.{epoch_tested}
 use Rattle.txn_types.specs.declared.error.TransactionalObjectError.{TransactionalObjectError}
 use Rattle.txn_caches.specs.declared.caches.Caches.{Caches}
 use Rattle.txn_caches.specs.declared.turned.Turned.{Turned}
@@ -19,7 +20,6 @@ use Rattle.txn_view_steps.specs.declared.entry.EntryOp.TheVariants.{Writes}
 use Rattle.txn_view_steps.specs.declared.holder.HolderRefreshOp.{HolderRefreshOp}
 use Rattle.txn_view_steps.specs.declared.holder.HolderUpdateOp.{HolderUpdateOp}
 use Rattle.txn_view_steps.specs.Entries.{entry_asked, entry_turned, entry_caches, IsEntryReply}
-use Rattle.txn_view_steps.specs.Epochs.{epoch_tested}
 use Rattle.txn_view_steps.specs.Readings.{seen}
 
 module _ {T : Type 0} where

@@ -5,7 +5,6 @@ pub mod Readings
 pub mod Loads
 pub mod Refreshes
 pub mod Updates
-pub mod Epochs
 pub mod Attempts
 pub mod Claims
 pub mod Holders

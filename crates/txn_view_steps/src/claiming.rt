@@ -9,7 +9,6 @@ ghost use Rattle.txn_view_steps.specs.Attempts.{entered, attempted, attempted_ag
 ghost use Rattle.txn_view_steps.specs.Shortages.{IsShort, LacksAsWrite};
 
 use crate::copies::Copies;
-use crate::epochs::next_epoch;
 use crate::outcome::{Outcome, ViewAnswer};
 use crate::reading::read_on;
 use std::alloc::Global;
@@ -22,7 +21,7 @@ use txn_steps::read::ReadOp;
 use txn_steps::write::{WriteAnswer, WriteOp};
 use txn_store::request::Reply;
 use txn_types::codec::ObjectCodec;
-use txn_types::epoch::EpochField;
+use txn_types::epoch::{EpochField, next_epoch};
 use txn_types::error::TransactionalObjectError;
 use txn_types::id::MonotonicId;
 use txn_types::layout::Layout;

@@ -10,7 +10,6 @@ ghost use Rattle.txn_view_steps.specs.Holders.{own_epochs, holder_refresh_starte
 
 use crate::copies::Copies;
 use crate::entry::EntryOp;
-use crate::epochs::test_epoch;
 use crate::outcome::{Outcome, ViewAnswer};
 use crate::reading::read_on;
 use std::alloc::{AllocError, Global};
@@ -20,7 +19,7 @@ use txn_caches::turned::Turned;
 use txn_steps::read::ReadOp;
 use txn_store::request::Reply;
 use txn_types::codec::ObjectCodec;
-use txn_types::epoch::EpochField;
+use txn_types::epoch::{EpochField, test_epoch};
 use txn_types::error::TransactionalObjectError;
 use txn_types::id::MonotonicId;
 use txn_types::layout::Layout;

@@ -22,7 +22,6 @@ pub mod claiming;
 pub mod copies;
 pub mod counts;
 pub mod entry;
-pub mod epochs;
 pub mod holder;
 pub mod init;
 pub mod load;

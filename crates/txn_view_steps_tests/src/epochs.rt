@@ -1,7 +1,7 @@
 //! The next epoch of a claim, and the test of a holder's.
 use std::test::Fail;
+use txn_types::epoch::{next_epoch, test_epoch};
 use txn_types::error::TransactionalObjectError;
-use txn_view_steps::epochs::{next_epoch, test_epoch};
 
 /// What is answered, an error as its number.
 fn said<A>(answer: Result<A, TransactionalObjectError>) -> Result<A, u8> {

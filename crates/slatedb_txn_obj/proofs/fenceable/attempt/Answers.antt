@@ -1,7 +1,8 @@
 -- Why an attempt failed.
 use Rattle.std.proofs.Common.{refl, subst, ap, ◌∙◌, inl, inr, ◌++◌, ◌∷◌, [], ℕ, ◌-◌, ◌≤◌}
 use Rattle.std.proofs.lemmas.Result.{err_from_is_err_and}
-use Rattle.slatedb_txn_obj.specs.Claims.{NextEpoch, ReadsOne}
+use Rattle.txn_types.specs.Epochs.{NextEpoch}
+use Rattle.slatedb_txn_obj.specs.Claims.{ReadsOne}
 use Rattle.slatedb_txn_obj.specs.Protocol.{UnheldAt}
 use Rattle.slatedb_txn_obj.specs.Views.{IsTestFailure}
 use Rattle.slatedb_txn_obj.proofs.AttemptCauses.{attempt-blocked, attempt-update}

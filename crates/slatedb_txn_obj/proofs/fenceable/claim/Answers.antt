@@ -2,7 +2,8 @@
 use Rattle.std.proofs.Common.{rules, arith, true≢false, sym, subst, ap, ◌∙◌, Err, inl, inr, ℕ, ◌+◌, ◌-◌, ◌^◌, ◌≤◌, List, [], ◌∷◌, ◌++◌, length}
 use Rattle.std.proofs.lemmas.List.{length_push}
 use Rattle.txn_types.specs.declared.error.TransactionalObjectError.{TransactionalObjectError}
-use Rattle.slatedb_txn_obj.specs.Claims.{NextEpoch, ReadsOne, ReadsInTime, ReadsLate, IsBlocked, HasCauseOfClaim}
+use Rattle.txn_types.specs.Epochs.{NextEpoch}
+use Rattle.slatedb_txn_obj.specs.Claims.{ReadsOne, ReadsInTime, ReadsLate, IsBlocked, HasCauseOfClaim}
 use Rattle.slatedb_txn_obj.specs.Protocol.{UnheldAt}
 use Rattle.slatedb_txn_obj.specs.Views.{IsVersion, IsTestFailure}
 use Rattle.slatedb_txn_obj.proofs.Attempts.{spends-update, spends-refresh, first-spent, latest-not_overtaken}

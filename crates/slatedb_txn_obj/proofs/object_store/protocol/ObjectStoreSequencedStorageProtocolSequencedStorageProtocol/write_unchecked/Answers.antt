@@ -1,6 +1,6 @@
 -- A write leaves the file of the boundary.
+use Rattle.txn_drivers.proofs.PageCounts.{pages_written}
 use Rattle.slatedb_txn_obj.proofs.Wholes.{whole-answered, whole-conflict, whole-refused}
-use Rattle.slatedb_txn_obj.proofs.PageCounts.{pages_written}
 use Rattle.slatedb_txn_obj.proofs.object_store.protocol.ObjectStoreSequencedStorageProtocolSequencedStorageProtocol.write_unchecked.Goals as goal
 
 pub returns-clause-entered : goal.returns-clause-entered
