@@ -14,5 +14,5 @@ pub returns-clause-ok : goal.returns-clause-ok
 returns-clause-ok g c =
     let old = shown c.args.self.now in
     let asks = request_asked _ c.in-Some.request.now (c.in-Some.ensures ∙ ap request_of (c.asked.ensures ∙ ap (λ os. asked_by os c.args.op) c.deref.ensures.value)) in
-    failed_after old _ _ c.args.op c.in-Some.request.now c.in_ok-reply.reply c.tell_failure.result asks c.in_ok-reply.ensures.serves refl c.in_ok-reply.ensures.answered
-    (same_state _ (effected old c.args.op c.in-Some.request.now c.in_ok-reply.reply (searched_state c.try_reach.new.store)) refl (ap (λ l. l.page) c.in_ok-reply.ensures.layout) refl refl refl refl refl c.in_ok-reserve.ensures.items c.in_ok-reply.ensures.rows) c.tell_failure.ensures.failed
+    failed_after old _ _ c.args.op c.in-Some.request.now c.in_ok-reply.reply c.tell_failure.result asks c.in_ok-reply.ensures.serves refl (c.in_ok-reply.ensures.answered refl)
+    (same_state _ (effected old c.args.op c.in-Some.request.now c.in_ok-reply.reply (searched_state c.reach.new.store)) refl (ap (λ l. l.page) c.in_ok-reply.ensures.layout) refl refl refl refl refl c.in_ok-reserve.ensures.items c.in_ok-reply.ensures.rows) c.tell_failure.ensures.failed
