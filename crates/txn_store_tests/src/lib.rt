@@ -3,6 +3,8 @@
 #![tactic(auto)]
 
 #[cfg(test)]
+mod epochs;
+#[cfg(test)]
 mod errors;
 #[cfg(test)]
 mod many;

@@ -9,8 +9,6 @@ mod claims;
 #[cfg(test)]
 mod driven;
 #[cfg(test)]
-mod epochs;
-#[cfg(test)]
 mod events;
 #[cfg(test)]
 mod fits;
