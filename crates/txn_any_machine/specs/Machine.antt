@@ -14,7 +14,7 @@ use Rattle.txn_history.specs.declared.event.EventOf.TheVariants as events
 use Rattle.txn_history.specs.declared.event.EventFault.{EventFault}
 use Rattle.txn_history.specs.declared.trace.RowOf.TheVariants.{Begun}
 use Rattle.txn_history.specs.Lists.{numbered}
-use Rattle.txn_history.specs.Seen.{Ask, Store, Look, Operation as SeenOperation, Seen}
+use Rattle.txn_history.specs.Seen.{Ask, Store, Look, Operation as SeenOperation, Seen, asks_of}
 use Rattle.txn_history.specs.GoesOn.{left_loose, all_left_loose}
 use Rattle.txn_history.specs.Added.{told_of, answer_rows, effect_rows}
 use Rattle.txn_machine.specs.Machine.{empty_store, no_caches, effect_of, fault_met, taken_count}
@@ -74,6 +74,16 @@ module _ {T : Type 0} where
 
   abbrev pub seen_calls : State T → Seen
   seen_calls s = record { clients = s.clients; operations = seen_operations s.operations; loose = s.loose; failed = s.failed }
+
+  -- what an operation that asks for this is given: a look at its client's caches, and else a store call
+  abbrev pub asked_event : ℕ → Option Ask → AnyEvent T
+  asked_event op None = events.Serve op
+  asked_event op (Some (Store request)) = events.Serve op
+  asked_event op (Some Look) = events.Look op
+
+  -- The event that gives an operation what it asks for. Where it asks for nothing it is a serve, which is refused.
+  abbrev pub next_event : State T → ℕ → AnyEvent T
+  next_event s op = asked_event op (asks_of (seen_calls s) op)
 
   abbrev pub seen_view : Option (Used T) → Option (View T)
   seen_view used = option_map (λ u. u.view) used

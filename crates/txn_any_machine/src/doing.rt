@@ -47,11 +47,13 @@ pub enum AnyDoing<T> {
 /// An operation of a client.
 #[derive(Drop)]
 pub struct AnyOperation<T> {
+    /// The client whose operation it is, counted from 1.
     pub client: u64,
     /// The view that it uses.
     pub view: Option<u64>,
     /// Whether it is a claim, which ends its view unless it is held.
     pub claims: bool,
+    /// What it does next.
     pub doing: AnyDoing<T>,
 }
 
@@ -236,7 +238,9 @@ fn start_holder<T: Clone, C: ObjectCodec<T>, E: EpochField<T>>(
 }
 
 /// How a call starts, by the view that it uses as it stands, and the number of its refusal, where it is refused at once. The
-/// bytes of a write are made here, before anything is asked of the store. The only error is want of memory.
+/// bytes of a write are made here, before anything is asked of the store. A call on a view is refused with 7 where none is
+/// given, but for a refresh, and a holder's update where the view is no holder's: a world tests both before. The only error is
+/// want of memory.
 pub fn start<T: Clone, C: ObjectCodec<T>, E: EpochField<T>>(
     alloc: Global,
     layout: &Layout<C>,

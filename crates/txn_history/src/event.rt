@@ -143,7 +143,8 @@ pub type Told<T> = ToldOf<Answer<T>>;
 /// Why an event is refused. A refused event changes nothing.
 #[derive(Clone, Copy, Debug, PartialEq, Eq)]
 pub enum EventFault {
-    /// A client, an operation or a loose request that is not there, or an operation that has ended.
+    /// A client, an operation, a loose request or a view that is not there; an operation or a view that has ended; a view
+    /// that is another client's, or is a holder's where the call is not, or is no holder's where the call is.
     UnknownNumber,
     /// The operation asks for something else.
     NotAsked,

@@ -157,7 +157,9 @@ impl fmt::Display for ErasedLine {
 /// The line of a view that has not ended.
 #[derive(Clone, Copy, Debug)]
 pub struct ViewLine<'a> {
+    /// The view's number, counted from 1.
     pub number: u64,
+    /// The view as it stands.
     pub view: &'a View<Record>,
 }
 

@@ -48,12 +48,6 @@ pub record State (T : Type 0) : Type 0 where
   pub failed : List ℕ
   pub trace : List (Row T)
 
--- a world: its codec, where its values keep their epochs, and its state
-pub record WorldState (T C E : Type 0) : Type 0 where
-  pub codec : C
-  pub epochs : E
-  pub state : State T
-
 -- the empty store, which gives the tokens 1, 2, 3 and so on
 abbrev pub empty_store : StoreState
 empty_store = record { files = empty; given = []; left = 2 ^ 64 - 1; calls = 0; failures = 0 }

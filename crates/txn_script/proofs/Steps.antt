@@ -4,12 +4,12 @@ use Rattle.std.proofs.lemmas.List.{append-nil, append_assoc}
 use Rattle.txn_view_history.specs.declared.event.AnyAnswer.{AnyAnswer}
 use Rattle.txn_view_history.specs.Trace.{AnyEvent, AnyTold}
 use Rattle.txn_history.specs.declared.event.ToldOf.TheVariants as told
-use Rattle.txn_any_machine.specs.Machine.{State, Takes}
+use Rattle.txn_any_machine.specs.Machine.{State, next_event, Takes}
 use Rattle.txn_lines.specs.declared.record.Record.{Record}
 use Rattle.txn_lines.specs.Record.{record_text, record_read}
 use Rattle.txn_lines.specs.Printed.{answer_text}
 use Rattle.txn_script.specs.Printed.{with_feed}
-use Rattle.txn_script.specs.Script.{Steps, RunsOperation, asked_event, goes_on, told_text, record_epoch, record_with}
+use Rattle.txn_script.specs.Script.{Steps, RunsOperation, goes_on, told_text, record_epoch, record_with}
 
 -- what is told with no answer is not printed
 going_nothing : (t : AnyTold Record) → true ≡ goes_on t → told_text t ≡ []
@@ -28,14 +28,14 @@ on_nothing old new event text (inr step) = let e = step.3 in absurd (cc)
 abbrev pub RunsOn : State Record → ℕ → ℕ → State Record → Type 0
 RunsOn start op n now = (more : List ℕ) (new : State Record) → RunsOperation n now op more new → RunsOperation 100 start op more new
 
-pub run_more : (start : State Record) (op n i : ℕ) (now next : State Record) (first : List ℕ) → n ≡ 100 - i → i < 100 → RunsOn start op n now → Steps now (asked_event now op) true first next → RunsOn start op (100 - (i + 1)) next
+pub run_more : (start : State Record) (op n i : ℕ) (now next : State Record) (first : List ℕ) → n ≡ 100 - i → i < 100 → RunsOn start op n now → Steps now (next_event now op) true first next → RunsOn start op (100 - (i + 1)) next
 unfolding RunsOperation
 run_more start op n i now next first e lt on step more new h =
     let turns : n ≡ suc (100 - (i + 1)) = omega (arith, e, lt) in
     let on' : RunsOn start op (suc (100 - (i + 1))) now = subst (λ m. RunsOn start op m now) turns on in
-    on' more new (inr (first, next, more, step, h, ap (λ xs. xs ++ more) (sym (on_nothing now next (asked_event now op) first step))))
+    on' more new (inr (first, next, more, step, h, ap (λ xs. xs ++ more) (sym (on_nothing now next (next_event now op) first step))))
 
-pub run_last : (start : State Record) (op n i : ℕ) (now next : State Record) (text : List ℕ) → n ≡ 100 - i → i < 100 → RunsOn start op n now → Steps now (asked_event now op) false text next → RunsOperation 100 start op text next
+pub run_last : (start : State Record) (op n i : ℕ) (now next : State Record) (text : List ℕ) → n ≡ 100 - i → i < 100 → RunsOn start op n now → Steps now (next_event now op) false text next → RunsOperation 100 start op text next
 unfolding RunsOperation
 run_last start op n i now next text e lt on step =
     let turns : n ≡ suc (100 - (i + 1)) = omega (arith, e, lt) in

@@ -1,14 +1,12 @@
 -- What a script prints, as a relation of its bytes over the world's steps.
 use Rattle.std.specs.Prelude.{◌≡◌, ℕ, zero, suc, List, [], ◌∷◌, ◌++◌, ◌+◌, ◌≤◌, ◌⊎◌, Bool, true, false, map, Option, Some, None, IfSome, length}
 use Rattle.std.specs.Io.KnownBytes.{Appends}
-use Rattle.txn_history.specs.declared.event.EventOf.TheVariants as events
 use Rattle.txn_history.specs.declared.event.EventFault.{EventFault}
 use Rattle.txn_history.specs.declared.event.ToldOf.TheVariants as told
 use Rattle.txn_history.specs.History.{history, boundary, AreErased}
-use Rattle.txn_history.specs.Seen.{Ask, Store, Look, asks_of}
 use Rattle.txn_view_history.specs.Trace.{AnyEvent, AnyTold}
 use Rattle.txn_view_history.specs.Allowed.{fault_of}
-use Rattle.txn_any_machine.specs.Machine.{State, opening, seen_of, seen_calls, seen_views, Takes}
+use Rattle.txn_any_machine.specs.Machine.{State, opening, seen_of, seen_views, next_event, Takes}
 use Rattle.txn_lines.specs.declared.record.Record.{Record}
 use Rattle.txn_lines.specs.declared.line.Line.{Line}
 use Rattle.txn_lines.specs.declared.line.Line.TheVariants as lines
@@ -52,22 +50,12 @@ Steps old event going text new =
     ((t : AnyTold Record) × Takes record_text record_read record_epoch record_with old event t new × (going ≡ goes_on t) × (text ≡ told_text t))
     ⊎ ((fault : EventFault) × (fault_of record_read record_epoch (seen_of old) old.trace event ≡ Some fault) × (new ≡ old) × (going ≡ false) × (text ≡ with_feed (fault_text fault)))
 
--- the event that gives an operation what it asks for: a serve or a look; where it asks for nothing a serve, which is refused
-abbrev pub event_for : ℕ → Option Ask → AnyEvent Record
-event_for op None = events.Serve op
-event_for op (Some (Store request)) = events.Serve op
-event_for op (Some Look) = events.Look op
-
--- the same at this state
-abbrev pub asked_event : State Record → ℕ → AnyEvent Record
-asked_event s op = event_for op (asks_of (seen_calls s) op)
-
 -- An operation gets what it asks for while it goes on, at most n times. It is no abbreviation, so that `RunsOperation 100` stays as it is.
 unfoldable pub RunsOperation : ℕ → State Record → ℕ → List ℕ → State Record → Type 0
 RunsOperation zero old op text new = (text ≡ []) × (new ≡ old)
 RunsOperation (suc n) old op text new =
-    Steps old (asked_event old op) false text new
-    ⊎ ((first : List ℕ) × (middle : State Record) × (rest : List ℕ) × Steps old (asked_event old op) true first middle × RunsOperation n middle op rest new × (text ≡ first ++ rest))
+    Steps old (next_event old op) false text new
+    ⊎ ((first : List ℕ) × (middle : State Record) × (rest : List ℕ) × Steps old (next_event old op) true first middle × RunsOperation n middle op rest new × (text ≡ first ++ rest))
 
 -- How far a script is: its world, and directly after the line `clients N` that N.
 pub record Stage : Type 0 where

@@ -3,7 +3,7 @@
 ghost use Rattle.std.specs.Prelude.{◌≡◌, ℕ, ◌≤◌, ◌++◌, ◌∷◌, [], List, Some, None, IfOk, IfErr, IfSome, IfNone, OnOk};
 ghost use Rattle.std.specs.Io.KnownBytes.{Appends};
 ghost use Rattle.txn_script.specs.Printed.{with_feed, entries_text, view_line, views_text};
-ghost use Rattle.txn_script.specs.Script.{IsClients, Steps, asked_event, RunsOperation, PageSteps, EventSteps, MayStand, EndsWith, IsPrinted, IsPrintedBefore, StopsAfter};
+ghost use Rattle.txn_script.specs.Script.{IsClients, Steps, RunsOperation, PageSteps, EventSteps, MayStand, EndsWith, IsPrinted, IsPrintedBefore, StopsAfter};
 ghost use Rattle.txn_lines.specs.Reading.{reader_of, number_of, OnBadLine};
 ghost use Rattle.txn_script.specs.Reading.{Opens, OpensBad};
 ghost use Rattle.txn_script.specs.Printing.{held, Gathers, IsUnchanged, StopsLine, StopsWithin, StopsInEnd};
@@ -14,7 +14,6 @@ use crate::printer::Printer;
 use std::alloc::Global;
 use std::io::{BufRead, BufReader, Read, Write};
 use std::mem;
-use txn_caches::ask::Ask;
 use txn_history::event::EventFault;
 use txn_lines::line::Line;
 use txn_lines::lines::Lines;
@@ -68,18 +67,6 @@ fn take_event(
     }
 }
 
-/// The event that gives an operation what it asks for. Where it asks for nothing it is a serve, which
-/// is refused.
-fn asked_event(world: &World<Record, RecordCodec, RecordEpoch>, op: u64) -> AnyEvent<Record>
-    ensures { result ≡ asked_event world.now.state op }
-{
-    match world.asks(op) {
-        Some(Ask::Look) => AnyEvent::Look(op),
-        Some(Ask::Store(_)) => AnyEvent::Serve(op),
-        None => AnyEvent::Serve(op),
-    }
-}
-
 /// Gives an operation what it asks for until it is answered.
 fn run_operation(
     world: &mut World<Record, RecordCodec, RecordEpoch>,
@@ -93,7 +80,7 @@ fn run_operation(
         (λ stop. (stop ≡ Stop.NoMemory) × IsUnchanged printer.old printer.new) }
 {
     for _turn in 0..MOST_TURNS {
-        let event = asked_event(world, op);
+        let event = world.next_event(op);
         if !take_event(world, event, printer)? {
             return Ok(());
         }

@@ -1,13 +1,11 @@
 -- A world beside the journal of what its workers did, and the shares that its workers hold.
 use Rattle.std.specs.Prelude.{◌≡◌, ◌⊎◌, ◌+◌, ◌-◌, ◌^◌, ◌≤◌, ◌++◌, ◌∷◌, [], ℕ, List, Option, Some, None, Result, Ok, Err, All, count_by, length, map, nat_eq, if◌then◌else◌, slice_get, slice_index}
 use Rattle.txn_view_history.specs.Trace.{AnyEvent, AnyTold}
-use Rattle.txn_history.specs.declared.event.EventOf.TheVariants as events
 use Rattle.txn_history.specs.declared.event.EventFault.{EventFault}
 use Rattle.txn_history.specs.declared.event.EventFault.TheVariants as faults
 use Rattle.txn_threads.specs.declared.kept.JournalRow.{JournalRow}
 use Rattle.txn_threads.specs.declared.kept.Share.{Share}
-use Rattle.txn_history.specs.Seen.{Ask, Look, Store, asks_of}
-use Rattle.txn_any_machine.specs.Machine.{State, WorldState, opening, refusal_of, seen_calls, Takes, Runs}
+use Rattle.txn_any_machine.specs.Machine.{State, WorldState, opening, refusal_of, Takes, Runs}
 use Rattle.txn_threads.specs.Lists.{AreEach}
 
 -- a world, how many workers it has, and what they did
@@ -28,16 +26,6 @@ module _ {T : Type 0} where
   -- what the last row of a journal tells
   abbrev pub IsLastTold : List (JournalRow T) → AnyTold T → Type 0
   IsLastTold journal told = (rows : List (JournalRow T)) × (row : JournalRow T) × (journal ≡ rows ++ row ∷ []) × (row.told ≡ told)
-
-  -- what an operation that asks for this is given: a look at its client's caches, and else a store call
-  abbrev pub asked_event : Option Ask → ℕ → AnyEvent T
-  asked_event None op = events.Serve op
-  asked_event (Some (Store request)) op = events.Serve op
-  asked_event (Some Look) op = events.Look op
-
-  -- the event that an operation of this world asks for
-  abbrev pub next_event : {C E : Type 0} → WorldState T C E → ℕ → AnyEvent T
-  next_event world op = asked_event (asks_of (seen_calls world.state) op) op
 
 -- An event that is due this fault, where it is due one, is refused with it, or for want of memory.
 abbrev pub IsRefusedAs : {A : Type 0} → Option EventFault → Result A EventFault → Type 0

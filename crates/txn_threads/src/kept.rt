@@ -5,7 +5,7 @@ ghost use Rattle.txn_history.specs.Seen.{asks_of};
 ghost use Rattle.txn_machine.specs.Doing.{asks_as};
 ghost use Rattle.txn_any_machine.specs.Machine.{opening, seen_calls};
 ghost use Rattle.txn_threads.specs.Lists.{AreEach};
-ghost use Rattle.txn_threads.specs.Kept.{asked_event, one_more, AreCounts, AreFirst, AreZeros};
+ghost use Rattle.txn_threads.specs.Kept.{one_more, AreCounts, AreFirst, AreZeros};
 
 use std::alloc::{AllocError, Global};
 use std::marker::Model;
@@ -92,17 +92,6 @@ fn first_shares(alloc: Global, workers: u64) -> Result<Vec<Share>, AllocError>
     Ok(shares)
 }
 
-/// What an operation that asks for this is given: a look where it asks for a look, and else a serve.
-fn asked_event<T>(ask: Option<Ask<'_>>, op: u64) -> AnyEvent<T>
-    ensures { result ≡ asked_event (asks_as ask.entry) op }
-{
-    match ask {
-        Some(Ask::Look) => AnyEvent::Look(op),
-        Some(Ask::Store(_)) => AnyEvent::Serve(op),
-        None => AnyEvent::Serve(op),
-    }
-}
-
 /// Counts a row of this worker. Where the worker has no count, the row counts for nobody.
 fn count_row(counts: &mut [u64], worker: u64)
     requires { All (λ count. count < 2 ^ 64 - 1) counts.old }
@@ -133,8 +122,8 @@ impl<T: Clone, C: ObjectCodec<T> + Drop, E: EpochField<T>> Kept<T, C, E> {
     ghost use Rattle.txn_history.specs.Seen.{asks_of};
     ghost use Rattle.txn_view_history.specs.Trace.{AnyTold};
     ghost use Rattle.txn_machine.specs.Doing.{asks_as};
-    ghost use Rattle.txn_any_machine.specs.Machine.{opening, seen_calls};
-    ghost use Rattle.txn_threads.specs.Kept.{IsRefusedAs, due_fault, next_event, one_more, AreFirst, AddsJournalRow, IsLastTold, Replays, AreCounts};
+    ghost use Rattle.txn_any_machine.specs.Machine.{opening, seen_calls, next_event};
+    ghost use Rattle.txn_threads.specs.Kept.{IsRefusedAs, due_fault, one_more, AreFirst, AddsJournalRow, IsLastTold, Replays, AreCounts};
     ghost use Rattle.txn_threads.specs.KeptLends.{ends_taken};
 
     /// Keeps a world in which nothing has happened, for workers 1 to `workers`, of which there are as
@@ -222,11 +211,11 @@ impl<T: Clone, C: ObjectCodec<T> + Drop, E: EpochField<T>> Kept<T, C, E> {
         op: u64,
     ) -> Result<&'a AnyTold<T>, EventFault>
         requires { IsExactClone T.is_clone }
-        ensures refused { IsRefusedAs (due_fault (C.encoded self.old.world.codec) (C.decoded self.old.world.codec) (E.epoch_of self.old.world.epochs) (E.with_epoch self.old.world.epochs) self.old.world (next_event self.old.world op)) result }
+        ensures refused { IsRefusedAs (due_fault (C.encoded self.old.world.codec) (C.decoded self.old.world.codec) (E.epoch_of self.old.world.epochs) (E.with_epoch self.old.world.epochs) self.old.world (next_event self.old.world.state op)) result }
         ensures share { MatchResult result (λ _. share.new ≡ one_more share.old) (λ _. share.new ≡ share.old) }
-        ensures* after { sem 𝓛 (ends_taken T.row C.row E.row T.Clone C.ObjectCodec E.EpochField self.entry share.old.worker (next_event self.old.world op) result) }
+        ensures* after { sem 𝓛 (ends_taken T.row C.row E.row T.Clone C.ObjectCodec E.EpochField self.entry share.old.worker (next_event self.old.world.state op) result) }
     {
-        let event = asked_event(self.asks(op), op);
+        let event = self.world.next_event(op);
         self.take(share, event)
     }
 

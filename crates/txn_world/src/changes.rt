@@ -85,6 +85,28 @@ fn refusals<T>(number: u8) -> Answers<T>
     )
 }
 
+/// The view of this number at this version, twice.
+fn views<T>(number: u64, id: u64, noted: T, told: T) -> Answers<T>
+    ensures noted { result.0 ≡ AnyAnswer.View number id noted }
+    ensures told { result.1 ≡ AnyAnswer.View number id told }
+{
+    (
+        AnyAnswer::View(number, id, noted),
+        AnyAnswer::View(number, id, told),
+    )
+}
+
+/// The holder of this number at this version, twice.
+fn holders<T>(number: u64, id: u64, noted: T, told: T, epoch: u64) -> Answers<T>
+    ensures noted { result.0 ≡ AnyAnswer.Held number id noted epoch }
+    ensures told { result.1 ≡ AnyAnswer.Held number id told epoch }
+{
+    (
+        AnyAnswer::Held(number, id, noted, epoch),
+        AnyAnswer::Held(number, id, told, epoch),
+    )
+}
+
 /// What comes of a view of this number, and the answer.
 fn comes_of<T: Drop>(
     used: Option<Used<T>>,
@@ -99,18 +121,12 @@ fn comes_of<T: Drop>(
     match outcome {
         Outcome::Viewed(id, copies) => {
             let (object, noted, told) = copies.into_values();
-            let answers = (
-                AnyAnswer::View(number, id.id(), noted),
-                AnyAnswer::View(number, id.id(), told),
-            );
+            let answers = views(number, id.id(), noted, told);
             (moved(used, id.id(), object), answers)
         }
         Outcome::Held(id, copies, epoch) => {
             let (object, noted, told) = copies.into_values();
-            let answers = (
-                AnyAnswer::Held(number, id.id(), noted, epoch),
-                AnyAnswer::Held(number, id.id(), told, epoch),
-            );
+            let answers = holders(number, id.id(), noted, told, epoch);
             (held(used, id.id(), object, epoch), answers)
         }
         Outcome::Shut(id, object, error) => {
@@ -167,18 +183,12 @@ fn made_of<T: Drop>(client: u64, number: u64, outcome: Outcome<T>) -> (Option<Us
     match outcome {
         Outcome::Viewed(id, copies) => {
             let (object, noted, told) = copies.into_values();
-            let answers = (
-                AnyAnswer::View(number, id.id(), noted),
-                AnyAnswer::View(number, id.id(), told),
-            );
+            let answers = views(number, id.id(), noted, told);
             (Some(made(client, id.id(), object)), answers)
         }
         Outcome::Held(id, copies, epoch) => {
             let (_, noted, told) = copies.into_values();
-            let answers = (
-                AnyAnswer::Held(number, id.id(), noted, epoch),
-                AnyAnswer::Held(number, id.id(), told, epoch),
-            );
+            let answers = holders(number, id.id(), noted, told, epoch);
             (None, answers)
         }
         Outcome::Shut(_, _, error) => (None, refusals(error.number())),

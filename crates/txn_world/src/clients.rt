@@ -94,20 +94,13 @@ fn left_of<T: Drop>(
     Ok(left)
 }
 
-/// An operation that has ended.
-fn ended<T>() -> AnyDoing<T>
-    ensures { result ≡ AnyDoing.Plain Doing.Ended }
-{
-    AnyDoing::Plain(Doing::Ended)
-}
-
 /// Ends an operation that is there.
 fn end_one<T: Drop>(operations: &mut Vec<AnyOperation<T>>, op: u64)
     requires { IsSome (numbered operations.old.items op) }
     ensures { (n : ℕ) → numbered operations.new.items n ≡ ended_where (nat_eq n op) (numbered operations.old.items n) }
 {
-    let operation = &mut operations[(op - 1) as usize];
-    drop(mem::replace(&mut operation.doing, ended()));
+    let ended = AnyDoing::Plain(Doing::Ended);
+    drop(mem::replace(&mut operations[(op - 1) as usize].doing, ended));
 }
 
 /// Ends these operations, which are there.
@@ -333,7 +326,7 @@ impl<T: Clone> Clients<T> {
     {
         let operation = &mut self.operations[(op - 1) as usize];
         let client = operation.client;
-        drop(mem::replace(&mut operation.doing, ended()));
+        drop(mem::replace(&mut operation.doing, AnyDoing::Plain(Doing::Ended)));
         delist(&mut self.running, client, op, true);
     }
 

@@ -51,8 +51,8 @@ pub(crate) enum Taker {
     Nobody,
 }
 
-/// A request of an operation reaches the store: the reply, and whether it changed the store, which has its row then. There
-/// is room for the row of an answer. The only error is want of memory, and then nothing reached the store. The store's own
+/// A request of an operation reaches the store: the reply, and whether it changed the store, which has its row then. After
+/// it there is room for the row of an answer. The only error is want of memory, and then nothing reached the store. The store's own
 /// want of memory is a reply that an operation takes, and an error where nobody does.
 pub(crate) fn reach<T: Drop, C: ObjectCodec<T> + Drop, E: EpochField<T>>(
     alloc: Global,

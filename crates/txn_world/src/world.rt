@@ -13,7 +13,7 @@ ghost use Rattle.txn_view_history.specs.GoesOn.{GoesOn};
 ghost use Rattle.txn_machine.specs.Doing.{asks_as};
 ghost use Rattle.txn_types.specs.Clones.{IsExactClone};
 ghost use Rattle.txn_machine.specs.Machine.{HasContents, fault_met};
-ghost use Rattle.txn_any_machine.specs.Machine.{opening, seen_calls, seen_views, seen_of, Takes, RunsPast};
+ghost use Rattle.txn_any_machine.specs.Machine.{opening, seen_calls, seen_views, seen_of, next_event, Takes, RunsPast};
 
 use crate::entries::entries_of;
 use crate::tables::Tables;
@@ -138,6 +138,18 @@ impl<T: Clone, C: ObjectCodec<T> + Drop, E: EpochField<T>> World<T, C, E> {
         self.tables.asks(op)
     }
 
+    /// The event that gives an operation what it asks for: a look where it asks for a look, and else a serve. Where it asks
+    /// for nothing, as one that has ended, the serve is refused. It takes no memory.
+    pub fn next_event(&self, op: u64) -> AnyEvent<T>
+        ensures { result ≡ next_event self.now.state op }
+    {
+        match self.asks(op) {
+            Some(Ask::Look) => AnyEvent::Look(op),
+            Some(Ask::Store(_)) => AnyEvent::Serve(op),
+            None => AnyEvent::Serve(op),
+        }
+    }
+
     /// How many views were made. They are numbered from 1, in the order of the answers that made them. It takes no memory.
     pub fn views(&self) -> u64
         ensures count { result ≡ length self.now.state.views }
@@ -166,8 +178,8 @@ impl<T: Clone, C: ObjectCodec<T> + Drop, E: EpochField<T>> World<T, C, E> {
             alloc,
             &self.tables.trace.layout,
             &self.tables.trace.field,
-            self.tables.failed(),
-            self.tables.rows(),
+            self.failed(),
+            self.trace(),
         )
     }
 
