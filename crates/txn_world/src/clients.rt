@@ -99,8 +99,8 @@ fn end_one<T: Drop>(operations: &mut Vec<AnyOperation<T>>, op: u64)
     requires { IsSome (numbered operations.old.items op) }
     ensures { (n : ℕ) → numbered operations.new.items n ≡ ended_where (nat_eq n op) (numbered operations.old.items n) }
 {
-    let ended = AnyDoing::Plain(Doing::Ended);
-    drop(mem::replace(&mut operations[(op - 1) as usize].doing, ended));
+    let operation = &mut operations[(op - 1) as usize];
+    drop(mem::replace(&mut operation.doing, AnyDoing::Plain(Doing::Ended)));
 }
 
 /// Ends these operations, which are there.

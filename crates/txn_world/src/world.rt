@@ -174,12 +174,13 @@ impl<T: Clone, C: ObjectCodec<T> + Drop, E: EpochField<T>> World<T, C, E> {
     pub fn entries(&self, alloc: Global) -> Result<Vec<T>, AllocError>
         ensures { IfOk result (λ entries. map Some entries.items ≡ history (C.decoded self.now.codec) self.now.state.trace) }
     {
+        let tables = &self.tables;
         entries_of(
             alloc,
-            &self.tables.trace.layout,
-            &self.tables.trace.field,
-            self.failed(),
-            self.trace(),
+            &tables.trace.layout,
+            &tables.trace.field,
+            tables.failed(),
+            tables.rows(),
         )
     }
 

@@ -28,7 +28,7 @@ invariant_of-self g c =
     record {
       wide = t.wide;
       each = c.delist.ensures.len ∙ t.each;
-      all_running = running_with t.running.items c.delist.new.running.items t.operations.items c.args.op o c.replace.new.dest true t.all_running found.0 found.1 (ap (λ doing. is_some (asked doing)) (c.replace.ensures.after ∙ c.ended.ensures)) c.delist.ensures.left;
+      all_running = running_with t.running.items c.delist.new.running.items t.operations.items c.args.op o c.replace.new.dest true t.all_running found.0 found.1 (ap (λ doing. is_some (asked doing)) c.replace.ensures.after) c.delist.ensures.left;
       from_one = from_with t.operations.items c.args.op o c.replace.new.dest t.from_one found.0;
     }
 
@@ -39,4 +39,4 @@ returns-clause-ended g c =
     let found = runs_found t.operations.items c.args.op o c.requires c.index_mut-operation.ensures.value in
     let there = client_there t.running.items t.operations.items c.args.op o t.all_running found.0 found.1 in
     let keeps = numbered_there t.caches.items o.client there.0 (omega (arith, there.1, t.running.ok.0, t.caches.ok.0, t.each, t.wide)) in
-    ends_so t.operations.items t.caches.items c.args.op o keeps.0 c.replace.new.dest found.0 keeps.1 (c.replace.ensures.after ∙ c.ended.ensures)
+    ends_so t.operations.items t.caches.items c.args.op o keeps.0 c.replace.new.dest found.0 keeps.1 c.replace.ensures.after
