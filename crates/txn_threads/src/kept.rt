@@ -215,7 +215,7 @@ impl<T: Clone, C: ObjectCodec<T> + Drop, E: EpochField<T>> Kept<T, C, E> {
         ensures share { MatchResult result (λ _. share.new ≡ one_more share.old) (λ _. share.new ≡ share.old) }
         ensures* after { sem 𝓛 (ends_taken T.row C.row E.row T.Clone C.ObjectCodec E.EpochField self.entry share.old.worker (next_event self.old.world.state op) result) }
     {
-        let event = self.world.next_event(op);
+        let event = self.next_event(op);
         self.take(share, event)
     }
 
@@ -225,6 +225,12 @@ impl<T: Clone, C: ObjectCodec<T> + Drop, E: EpochField<T>> Kept<T, C, E> {
         ensures { asks_as result ≡ asks_of (seen_calls self.now.world.state) op }
     {
         self.world.asks(op)
+    }
+
+    fn next_event(&self, op: u64) -> AnyEvent<T>
+        ensures { result ≡ next_event self.now.world.state op }
+    {
+        self.world.next_event(op)
     }
 
     /// The world.
