@@ -227,6 +227,7 @@ impl<T: Clone, C: ObjectCodec<T> + Drop, E: EpochField<T>> Kept<T, C, E> {
         self.world.asks(op)
     }
 
+    /// The event that gives an operation what it asks for.
     fn next_event(&self, op: u64) -> AnyEvent<T>
         ensures { result ≡ next_event self.now.world.state op }
     {
