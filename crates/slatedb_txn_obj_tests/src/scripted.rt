@@ -21,7 +21,10 @@ pub struct TestBoundary {
 
 impl TestBoundary {
     /// This boundary, and no check yet.
-    pub fn new(boundary: u64) -> TestBoundary {
+    pub fn new(boundary: u64) -> TestBoundary
+        ensures kept { result.boundary ≡ boundary }
+        ensures unused { result.checks ≡ 0 }
+    {
         TestBoundary {
             boundary,
             checks: 0,
@@ -110,7 +113,12 @@ impl ScriptedReadLatestStore {
         alloc: Global,
         reads: &'static [(u64, u64)],
         boundary: u64,
-    ) -> ScriptedReadLatestStore {
+    ) -> ScriptedReadLatestStore
+        ensures script { result.reads ≡ reads.entry }
+        ensures first { result.calls ≡ 0 }
+        ensures kept { result.boundary.boundary ≡ boundary }
+        ensures unused { result.boundary.checks ≡ 0 }
+    {
         ScriptedReadLatestStore {
             alloc,
             reads,

@@ -299,7 +299,7 @@ module _ {T : Type 0} (encode : T → List ℕ) (decode : List ℕ → Option T)
         goes = λ number le. after_goes (past.views number) (j.l.views number) (l'.views number) (j.goes number le) (opened_goes j.l.views op (view_used call) number);
         grown = j.grown;
         caches = j.caches ∙ sym (set_id s.caches client kept.0 kept.1);
-        core = core_views j.fine.trace j.fine.failed l'.rows j.l.views j.l.failed j.owner (core_row j.fine.trace j.fine.failed j.l.rows j.l.views j.l.failed j.owner j.core (Begun op call) refl (λ test e. let clash : false ≡ true = e in cc)) l'.views (taken_told j.fine.trace op j.l.views (view_used call) j.core.seen);
+        core = core_views j.fine.trace j.fine.failed l'.rows j.l.views j.l.failed j.owner (core_row j.fine.trace j.fine.failed j.l.rows j.l.views j.l.failed j.owner j.core (Begun op call) refl (λ test e. absurd (both_ways false refl e))) l'.views (taken_told j.fine.trace op j.l.views (view_used call) j.core.seen);
         found = numbered_new s.operations x op refl;
         runs = set_here j.l.ops op (Some (starting client call));
         view = refl;
@@ -346,16 +346,16 @@ module _ {T : Type 0} where
   plain_epoch decode get_epoch fine rows same base value e = subst (λ (n : ℕ). nat_le n (get_epoch value) ≡ true) (same (number_of base)) e
 
   -- what a call without a view opens in the layer, it opens in the machine
-  plain_opens : (decode : List ℕ → Option T) (get_epoch : T → ℕ) (fine : List (Row T)) (rows : List (AnyRow T)) → ToldBy fine rows → ((n : ℕ) → epoch_at decode get_epoch rows n ≡ epoch_at decode get_epoch fine n) → (op n : ℕ) → n ≡ begun_count fine + 1 → (call : Call T) → history.Opens decode get_epoch rows op (any.Plain call) → plain_history.Opens decode get_epoch fine n call
-  plain_opens decode get_epoch fine rows told same op n next (calls.Write base value) o = record { next = next; known = plain_known fine rows told base o.known; low = refl; keeps = plain_epoch decode get_epoch fine rows same base value o.keeps }
-  plain_opens decode get_epoch fine rows told same op n next (calls.WriteUnchecked base value) o = record { next = next; known = plain_known fine rows told base o.known; low = refl; keeps = plain_epoch decode get_epoch fine rows same base value o.keeps }
-  plain_opens decode get_epoch fine rows told same op n next calls.Read o = record { next = next; known = refl; low = refl; keeps = refl }
-  plain_opens decode get_epoch fine rows told same op n next (calls.ReadUnchecked id) o = record { next = next; known = refl; low = refl; keeps = refl }
-  plain_opens decode get_epoch fine rows told same op n next (calls.ReadSeen id) o = record { next = next; known = refl; low = refl; keeps = refl }
-  plain_opens decode get_epoch fine rows told same op n next (calls.ListIds from to) o = record { next = next; known = refl; low = refl; keeps = refl }
-  plain_opens decode get_epoch fine rows told same op n next (calls.Delete id) o = record { next = next; known = refl; low = refl; keeps = refl }
-  plain_opens decode get_epoch fine rows told same op n next (calls.Check id) o = record { next = next; known = refl; low = refl; keeps = refl }
-  plain_opens decode get_epoch fine rows told same op n next (calls.Advance to) o = record { next = next; known = refl; low = plain_low fine rows told (calls.Advance to) o.low; keeps = refl }
+  plain_opens : (decode : List ℕ → Option T) (get_epoch : T → ℕ) (fine : List (Row T)) (rows : List (AnyRow T)) → ToldBy fine rows → ((n : ℕ) → epoch_at decode get_epoch rows n ≡ epoch_at decode get_epoch fine n) → (number n : ℕ) → n ≡ begun_count fine + 1 → (call : Call T) → history.Opens decode get_epoch rows number (any.Plain call) → plain_history.Opens decode get_epoch fine n call
+  plain_opens decode get_epoch fine rows told same number n next (calls.Write base value) o = record { next = next; known = plain_known fine rows told base o.known; low = refl; keeps = plain_epoch decode get_epoch fine rows same base value o.keeps }
+  plain_opens decode get_epoch fine rows told same number n next (calls.WriteUnchecked base value) o = record { next = next; known = plain_known fine rows told base o.known; low = refl; keeps = plain_epoch decode get_epoch fine rows same base value o.keeps }
+  plain_opens decode get_epoch fine rows told same number n next calls.Read o = record { next = next; known = refl; low = refl; keeps = refl }
+  plain_opens decode get_epoch fine rows told same number n next (calls.ReadUnchecked id) o = record { next = next; known = refl; low = refl; keeps = refl }
+  plain_opens decode get_epoch fine rows told same number n next (calls.ReadSeen id) o = record { next = next; known = refl; low = refl; keeps = refl }
+  plain_opens decode get_epoch fine rows told same number n next (calls.ListIds from to) o = record { next = next; known = refl; low = refl; keeps = refl }
+  plain_opens decode get_epoch fine rows told same number n next (calls.Delete id) o = record { next = next; known = refl; low = refl; keeps = refl }
+  plain_opens decode get_epoch fine rows told same number n next (calls.Check id) o = record { next = next; known = refl; low = refl; keeps = refl }
+  plain_opens decode get_epoch fine rows told same number n next (calls.Advance to) o = record { next = next; known = refl; low = plain_low fine rows told (calls.Advance to) o.low; keeps = refl }
 
   abbrev goes_as : Inner T → Next T
   goes_as inner = Goes inner

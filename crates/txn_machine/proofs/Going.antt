@@ -1,6 +1,7 @@
 -- What stands beside the rows goes on as each event that is taken says.
-use Rattle.std.proofs.Common.{◌≡◌, ◌≢◌, ℕ, zero, suc, ◌+◌, ◌-◌, ◌≤◌, List, [], ◌∷◌, ◌++◌, length, map, set, slice_get, Bool, true, false, not, ◌==◌, ◌&&◌, is_some, cond, Option, Some, None, inl, inr, refl, sym, ◌∙◌, ap, subst, arith}
-use Rattle.std.proofs.lemmas.Bool.{cases_Bool, both_ways, eqb-true, eq-eqb, ne_eqb}
+use Rattle.std.proofs.Common.{◌≡◌, ◌≢◌, ℕ, zero, suc, ◌+◌, List, [], ◌∷◌, ◌++◌, length, map, set, slice_get, Bool, true, false, not, ◌==◌, is_some, cond, Option, Some, None, refl, sym, ◌∙◌, ap, subst, arith}
+use Rattle.std.proofs.lemmas.Bool.{eq-eqb, ne_eqb}
+use Rattle.std.proofs.lemmas.List.{length-map, map-append, map-set}
 use Rattle.std.proofs.lemmas.Option.{same_Some}
 use Rattle.txn_store.specs.declared.request.Reply.{Reply}
 use Rattle.txn_types.specs.Numbers.{number_of}
@@ -24,23 +25,15 @@ use Rattle.txn_history.specs.Trace.{Event}
 use Rattle.txn_history.specs.declared.event.EventOf.TheVariants as events
 use Rattle.txn_history.specs.Lists.{numbered}
 use Rattle.txn_history.specs.Names.{world_names, world_boundary}
-use Rattle.txn_history.specs.Seen.{Ask, Store, Look, Operation as SeenOperation, asks_in, asks_of}
-use Rattle.txn_history.specs.GoesOn.{left_loose, state_of, ends_operation, state_after, states_after, GoesOn}
+use Rattle.txn_history.specs.Seen.{Ask, Store, Look, asks_in, asks_of}
+use Rattle.txn_history.specs.GoesOn.{left_loose, state_of, states_after, GoesOn}
 use Rattle.txn_history.specs.Added.{told_of}
 use Rattle.txn_machine.specs.declared.doing.Doing.{Doing}
 use Rattle.txn_machine.specs.declared.doing.Doing.TheVariants.{Write, WriteUnchecked, Read, ReadUnchecked, ReadSeen, ListIds, Delete, Check, Advance, Ended}
 use Rattle.txn_machine.specs.declared.doing.Operation.{Operation}
 use Rattle.txn_machine.specs.Doing.{Next, started, turned, caches_left, asked, next_of, or_no_memory, write_answer, read_answer, value_answer, ids_answer, done_answer}
 use Rattle.txn_machine.specs.Machine.{State, seen_operation, seen_operations, seen_of, with_doing, effect_of, effected, acted, loosened, failing, given_up, told_failure, ended_by, crashed, next_op, begun_as, Acts, Fails, GivesUp, Lands, Crashes, Looks, Served, Begins, Takes}
-
--- an operation that is not ended runs on where it ran, and one that is ended runs no more
-runs_on : (runs ends : Bool) → ends ≡ false → runs ≡ (runs && not ends)
-runs_on true ends e = ap not (sym e)
-runs_on false ends e = refl
-
-no_more : (runs ends : Bool) → ends ≡ true → (runs && not ends) ≡ false
-no_more true ends e = ap not e
-no_more false ends e = refl
+use Rattle.txn_machine.proofs.Ends.{EndsOne, answer_ends, give_up_ends, told_ends, states_stay, states_set, states_begun, states_crashed}
 
 module _ {T : Type 0} where
   -- what is seen of an operation
@@ -107,84 +100,29 @@ module _ {T : Type 0} where
   started_fits page encode (calls.Check id) = refl
   started_fits page encode (calls.Advance to) = refl
 
-  -- What is told ends no operation but the one of this number, and that one where it says so.
-  record EndsOne (t : Told T) (op : ℕ) (ended : Bool) : Type 0 where
-    pub others : (client n : ℕ) → n ≢ op → ends_operation t client n ≡ false
-    pub own : (client : ℕ) → ends_operation t client op ≡ ended
-
-  answer_ends : (op : ℕ) (answer : Answer T) → EndsOne (told.Answered op answer) op true
-  answer_ends op answer = record { others = λ client n ne. ne_eqb op n (λ e. ne (sym e)); own = λ client. eq-eqb op op refl }
-
-  give_up_ends : (op : ℕ) → EndsOne (told.GaveUp op) op true
-  give_up_ends op = record { others = λ client n ne. ne_eqb op n (λ e. ne (sym e)); own = λ client. eq-eqb op op refl }
-
-  told_ends : (otherwise : Told T) (op : ℕ) (answer : Option (Answer T)) → ((client n : ℕ) → ends_operation otherwise client n ≡ false) → EndsOne (told_of otherwise op answer) op (is_some answer)
-  told_ends otherwise op None none = record { others = λ client n ne. none client n; own = λ client. none client op }
-  told_ends otherwise op (Some answer) none = answer_ends op answer
-
-  -- operations that nothing ends stay as they were
-  state_stays : (t : Told T) (n : ℕ) (o : SeenOperation) → ends_operation t o.client n ≡ false → state_of o ≡ state_after t n o
-  state_stays t n o e = ap (λ (b : Bool). (o.client, b)) (runs_on (is_some o.asks) (ends_operation t o.client n) e)
-
-  states_stay : (t : Told T) (from : ℕ) (os : List SeenOperation) → ((client n : ℕ) → from ≤ n → ends_operation t client n ≡ false) → map state_of os ≡ states_after t from os None
-  states_stay t from [] none = refl
-  states_stay t from (o ∷ os) none = ap (λ s. s ∷ map state_of os) (state_stays t from o (none o.client from (omega arith))) ∙ ap (λ ss. state_after t from o ∷ ss) (states_stay t (from + 1) os (λ client n le. none client n (omega (arith, le))))
-
-  -- the operation that what is told may end
-  own_state : (t : Told T) (op : ℕ) (ended : Bool) (o : Operation T) (ask : Ask) (doing : Doing T) → EndsOne t op ended → asked o.doing ≡ Some ask → is_some (asked doing) ≡ not ended → state_of (seen_operation (record { client = o.client; doing = doing })) ≡ state_after t op (seen_operation o)
-  own_state t op ended o ask doing one asks fits =
-      let ran : is_some (asked o.doing) ≡ true = ap is_some asks in
-      let now : (is_some (asked o.doing) && not (ends_operation t o.client op)) ≡ not ended = ap (λ b. b && not (ends_operation t o.client op)) ran ∙ ap not (one.own o.client) in
-      ap (λ (b : Bool). (o.client, b)) (fits ∙ sym now)
-
   -- one of the operations does something else
-  states_set : (t : Told T) (from k op : ℕ) (ended : Bool) (os : List (Operation T)) (o : Operation T) (ask : Ask) (doing : Doing T) → slice_get os k ≡ Some o → op ≡ from + k → EndsOne t op ended → asked o.doing ≡ Some ask → is_some (asked doing) ≡ not ended →
-      map state_of (seen_operations (set os k (record { client = o.client; doing = doing }))) ≡ states_after t from (seen_operations os) None
-  states_set t from k op ended [] o ask doing e at one asks fits = cc
-  states_set t from zero op ended (x ∷ os) o ask doing e at one asks fits =
-      let own : state_of (seen_operation (record { client = o.client; doing = doing })) ≡ state_after t op (seen_operation o) = own_state t op ended o ask doing one asks fits in
-      let here : state_after t op (seen_operation o) ≡ state_after t from (seen_operation x) = (let same : op ≡ from = omega (arith, at) in ap (λ n. state_after t n (seen_operation o)) same ∙ ap (λ (y : Operation T). state_after t from (seen_operation y)) (sym (same_Some x o e))) in
-      ap (λ s. s ∷ map state_of (seen_operations os)) (own ∙ here)
-      ∙ ap (λ ss. state_after t from (seen_operation x) ∷ ss) (states_stay t (from + 1) (seen_operations os) (λ client n le. one.others client n (λ same. omega (arith, at, le, same))))
-  states_set t from (suc k) op ended (x ∷ os) o ask doing e at one asks fits =
-      ap (λ s. s ∷ map state_of (seen_operations (set os k (record { client = o.client; doing = doing })))) (state_stays t from (seen_operation x) (one.others x.client from (λ same. omega (arith, at, same))))
-      ∙ ap (λ ss. state_after t from (seen_operation x) ∷ ss) (states_set t (from + 1) k op ended os o ask doing e (omega (arith, at)) one asks fits)
-
-  acted_states : (t : Told T) (op : ℕ) (ended : Bool) (os : List (Operation T)) (o : Operation T) (ask : Ask) (doing : Doing T) → numbered os op ≡ Some o → EndsOne t op ended → asked o.doing ≡ Some ask → is_some (asked doing) ≡ not ended →
+  acted_states : (t : Told T) (op : ℕ) (ends : Bool) (os : List (Operation T)) (o : Operation T) (ask : Ask) (doing : Doing T) → numbered os op ≡ Some o → EndsOne t op ends → asked o.doing ≡ Some ask → is_some (asked doing) ≡ not ends →
       map state_of (seen_operations (with_doing os op o doing)) ≡ states_after t 1 (seen_operations os) None
-  acted_states t zero ended os o ask doing e one asks fits = cc
-  acted_states t (suc k) ended os o ask doing e one asks fits =
-      let same : suc k - 1 ≡ k = omega arith in
-      ap (λ n. map state_of (seen_operations (set os n (record { client = o.client; doing = doing })))) same ∙ states_set t 1 k (suc k) ended os o ask doing e (omega arith) one asks fits
+  acted_states t zero ends os o ask doing e one asks fits = cc
+  acted_states t (suc k) ends os o ask doing e one asks fits =
+      let next : Operation T = record { client = o.client; doing = doing } in
+      ap (λ n. map state_of (seen_operations (set os n next))) (omega arith) ∙ ap (map state_of) (map-set seen_operation os k next)
+      ∙ states_set t 1 k (suc k) ends (seen_operations os) (seen_operation o) (seen_operation next) (got_at os k o e) (omega arith) one refl (ap is_some asks) fits
 
   -- a new operation, which goes on or has ended
-  states_begun : (t : Told T) (from op client : ℕ) (ended : Bool) (os : List (Operation T)) (doing : Doing T) → op ≡ from + length os → EndsOne t op ended → is_some (asked doing) ≡ not ended →
-      map state_of (seen_operations (os ++ record { client = client; doing = doing } ∷ [])) ≡ states_after t from (seen_operations os) (Some client)
-  states_begun t from op client ended [] doing at one fits =
-      let same : op ≡ from = omega (arith, at) in
-      ap (λ (b : Bool). (client, b) ∷ []) (fits ∙ ap not (sym (one.own client) ∙ ap (λ n. ends_operation t client n) same))
-  states_begun t from op client ended (x ∷ os) doing at one fits =
-      ap (λ s. s ∷ map state_of (seen_operations (os ++ record { client = client; doing = doing } ∷ []))) (state_stays t from (seen_operation x) (one.others x.client from (λ same. omega (arith, at, same))))
-      ∙ ap (λ ss. state_after t from (seen_operation x) ∷ ss) (states_begun t (from + 1) op client ended os doing (omega (arith, at)) one fits)
+  new_states : (t : Told T) (client : ℕ) (ends : Bool) (os : List (Operation T)) (doing : Doing T) → EndsOne t (length os + 1) ends → is_some (asked doing) ≡ not ends →
+      map state_of (seen_operations (os ++ record { client = client; doing = doing } ∷ [])) ≡ states_after t 1 (seen_operations os) (Some client)
+  new_states t client ends os doing one fits =
+      let new : Operation T = record { client = client; doing = doing } in
+      ap (map state_of) (map-append seen_operation os (new ∷ []))
+      ∙ states_begun t 1 (length os + 1) ends (seen_operations os) (seen_operation new) (omega (arith, length-map os seen_operation)) one fits
 
   -- the operations of a client end
-  crashed_state : (client n : ℕ) (o : Operation T) → state_of (seen_operation (ended_by client o)) ≡ state_after {A = Answer T} (told.Crashed client) n (seen_operation o)
-  crashed_state client n o =
-      elim (cases_Bool (o.client == client)) [
-        | inl e ↦ (
-            let ends : (client == o.client) ≡ true = eq-eqb client o.client (sym (eqb-true o.client client e)) in
-            rw e (ap (λ (b : Bool). (o.client, b)) (sym (no_more (is_some (asked o.doing)) (client == o.client) ends)))
-            )
-        | inr e ↦ (
-            let stays : (client == o.client) ≡ false = ne_eqb client o.client (λ same. both_ways _ e (eq-eqb o.client client (sym same))) in
-            rw e (ap (λ (b : Bool). (o.client, b)) (runs_on (is_some (asked o.doing)) (client == o.client) stays))
-            )
-      ]
+  ended_state : (client : ℕ) (o : Operation T) → o.client ≡ client → state_of (seen_operation (ended_by client o)) ≡ (o.client, false)
+  ended_state client o e = rw (eq-eqb o.client client e) refl
 
-  states_crashed : (client from : ℕ) (os : List (Operation T)) → map state_of (seen_operations (map (ended_by client) os)) ≡ states_after {A = Answer T} (told.Crashed client) from (seen_operations os) None
-  states_crashed client from [] = refl
-  states_crashed client from (x ∷ os) =
-      ap (λ s. s ∷ map state_of (seen_operations (map (ended_by client) os))) (crashed_state client from x) ∙ ap (λ ss. state_after {A = Answer T} (told.Crashed client) from (seen_operation x) ∷ ss) (states_crashed client (from + 1) os)
+  stays_so : (client : ℕ) (o : Operation T) → o.client ≢ client → ended_by client o ≡ o
+  stays_so client o ne = rw (ne_eqb o.client client ne) refl
 
   -- each event
 
@@ -200,7 +138,7 @@ module _ {T : Type 0} where
       told_so old (events.Begin client call) said t new (begun_as old client call v.next) v.tells v.state
       (record {
         clients = refl;
-        operations = states_begun t 1 n client (is_some v.next.1) old.operations v.next.0 (omega arith) (told_ends (told.Began n) n v.next.1 (λ c m. refl)) fits;
+        operations = new_states t client (is_some v.next.1) old.operations v.next.0 (told_ends (told.Began n) n v.next.1 (λ c m. refl)) fits;
         loose = refl;
         failed = refl;
       })
@@ -271,7 +209,7 @@ module _ {T : Type 0} where
   crash_goes : (old : State T) (client : ℕ) (said : Told T) (new : State T) → Crashes old client said new → GoesOn {C = Call T} (seen_of old) (events.Crash client) said (seen_of new)
   crash_goes old client said new v =
       told_so old (events.Crash client) said (told.Crashed client) new (crashed old client) v.tells v.state
-      (record { clients = refl; operations = states_crashed client 1 old.operations; loose = refl; failed = refl })
+      (record { clients = refl; operations = states_crashed (Answer T) seen_operation (ended_by client) client (ended_state client) (stays_so client) 1 old.operations; loose = refl; failed = refl })
 
 module _ {T : Type 0} (encode : T → List ℕ) (decode : List ℕ → Option T) (get_epoch : T → ℕ) where
   -- what stands beside the rows goes on with each event that is taken, whatever the state before it

@@ -30,6 +30,7 @@ pub mod Events
 pub mod Crashes
 pub mod World
 pub mod EffectRows
+pub mod Ends
 pub mod Going
 pub mod Runs
 pub mod Replies
