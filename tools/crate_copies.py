@@ -1,11 +1,13 @@
 """Copies of a repository's crates in a temporary folder, and the checks that run in them.
 
-Each crate has copies of its own, with the libraries below it, since `rt` lets only one run at a time work in a
-crate or in a library that it uses. A copy takes what earlier checks of the checkout kept, and leaves the checkout as
-it is."""
+The first copy of a crate, in which `rt` proves it without edits, has the libraries below it beside it, since `rt` lets
+only one run at a time work in a crate or in a library that it uses. It takes what earlier checks of the checkout kept,
+and leaves the checkout as it is. The checks of edited texts run `rattle` itself, which is told where those libraries
+lie, and to prove the edited functions and what they call alone."""
 from __future__ import annotations
 
 import fcntl
+import functools
 import os
 import re
 import shutil
@@ -13,16 +15,24 @@ import subprocess
 import threading
 
 PARTS = ("src", "specs", "proofs")
+# What `rattle` says where a name fits no function, or several.
+UNKNOWN = re.compile(r"^rattle: error: (?:`[^`]+` has no function|several functions are named) `([^`]+)`", re.M)
 
 
-def crates_listed(root):
-    """The crates of crates.txt, each with the crates of the repository that it uses, those below first."""
+def libraries_listed(root):
+    """The crates of crates.txt, each with the libraries that it uses: crates of the repository, and of the kit."""
     uses = {}
     with open(f"{root}/crates.txt", encoding="utf-8") as lines:
         for line in lines:
             head, _, libraries = line.partition("#")[0].partition(":")
             if head.split():
                 uses[head.split()[0]] = re.findall(r"[\w-]+", libraries)
+    return uses
+
+
+def crates_listed(root):
+    """The crates of crates.txt, each with the crates of the repository that it uses, those below first."""
+    uses = libraries_listed(root)
     uses = {name: [it for it in libraries if it in uses] for name, libraries in uses.items()}
     return {name: uses[name] for name in sorted(uses, key=lambda it: (len(all_below(it, uses)), it))}
 
@@ -57,11 +67,21 @@ def linked(file, to):
         shutil.copy2(file, to)
 
 
+def rlib_in(folder):
+    """The library of the crate in this folder, where `rt lib` and `rt ci` leave it."""
+    return f"{folder}/out/rlib/{os.path.basename(folder)}.rlib"
+
+
 class Commands:
     """Runs commands and counts the processor time of each with all that it started."""
 
     def __init__(self):
         self.running, self.lock = set(), threading.Lock()
+
+    @functools.cached_property
+    def kit(self):
+        """The folder of the kit: that of the page which `rt doc` names."""
+        return os.path.dirname(self.run(["rt", "doc"], os.getcwd())[1].strip())
 
     def run(self, words, folder):
         """Returns a command's status, its output, and its seconds of processor time."""
@@ -108,12 +128,16 @@ class Copies:
             self.copy_parts(libraries[name], f"{top}/crates/{name}", [*PARTS, "out/rlib"], linked)
         return f"{top}/crates/{self.name}"
 
-    def remove_but_library(self, prepared):
-        """Removes the copies but what the crates above still need: the library of the first."""
+    def remove_free(self):
+        """Removes the copies in which edits were tried."""
         for copy in self.free:
             shutil.rmtree(os.path.dirname(os.path.dirname(copy)))
         self.free = []
-        shutil.rmtree(f"{prepared}/out/incremental", ignore_errors=True)
+
+    @staticmethod
+    def remove_kept_work(first):
+        """Removes what the first copy kept of its check: the crates above need its library alone."""
+        shutil.rmtree(f"{first}/out/incremental", ignore_errors=True)
 
     def write_list_of_crates(self, path):
         """Writes a crates.txt with the lines of this crate and of those below it."""
@@ -133,16 +157,52 @@ class Copies:
         finally:
             os.close(held)
 
-    def run(self, copy, *words):
-        """Runs `rt` in a copy, and returns its status and output."""
-        status, said, seconds = self.commands.run(["rt", *words, "--jobs", "1"], copy)
+    def run(self, copy, words):
+        """Runs a command in a copy, and returns its status and output."""
+        status, said, seconds = self.commands.run(words, copy)
         with self.lock:
             self.seconds += seconds
         return status, said
 
-    def check_in(self, copy, changed):
-        """The log of a check of a copy with these texts in place of the crate's own."""
+    def run_rt(self, copy, verb):
+        return self.run(copy, ["rt", verb, "--jobs", "1"])
+
+    def new_of_parts(self, source, kept=("out/incremental",)):
+        """Makes a copy of the crate's folder `source` for `rattle`, which needs no library beside it."""
+        with self.lock:
+            self.made += 1
+            copy = f"{self.room}/{self.name}-{self.made}/crates/{self.name}"
+        self.copy_parts(source, copy, [*PARTS, *kept])
+        return copy
+
+    def words_of_check(self, copy, libraries):
+        """The command that checks a copy over these folders of the crates below it, and keeps its work there."""
+        kit, at = self.commands.kit, {name: rlib_in(libraries[name]) for name in self.below}
+        listed = libraries_listed(self.root)[self.name]
+        root = "src/main.rt" if os.path.isfile(f"{copy}/src/main.rt") else "src/lib.rt"
+        words = ["rattle", "check", "--crate-name", self.name, root]
+        for name in ["std", *(it for it in listed if it not in at)]:
+            words += ["--extern", f"{name}={kit}/rlibs/{name}.rlib"]
+        words += ["-L", f"dependency={kit}/rlibs"]
+        for name in (it for it in listed if it in at):
+            words += ["--extern", f"{name}={at[name]}"]
+        for path in at.values():
+            words += ["-L", f"dependency={os.path.dirname(path)}"]
+        words += ["--antt-project", f"{kit}/rattle/logic/antt-project.json", "--logic-built", f"{kit}/logic_built"]
+        return [*words, "--jobs", "1", "--incremental", "out/incremental"]
+
+    def check_in(self, copy, libraries, changed, only):
+        """The log of a check of a copy with these texts in place of the crate's own. `only` has for each function to
+        prove the names to try for it, one after the other where `rattle` knows no such function; with none left, or
+        with no function, the whole crate is checked."""
         for path, text in {**self.texts, **changed}.items():
             with open(f"{copy}/{path}", "w", encoding="utf-8") as file:
                 file.write(text)
-        return self.run(copy, "check")
+        words, only = self.words_of_check(copy, libraries), [list(names) for names in only]
+        while True:
+            asked = sorted({names[0] for names in only}) if all(only) else []
+            said = self.run(copy, [*words, *(word for it in asked for word in ("--only", it))])[1]
+            unknown = UNKNOWN.search(said)
+            if not unknown or unknown[1] not in asked:
+                return said
+            only = [names[1:] if names[0] == unknown[1] else names for names in only]

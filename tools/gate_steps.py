@@ -140,7 +140,7 @@ def main():
     unit_tests = [sys.executable, "-m", "unittest", "discover", "-s", "tools/tests"]
     steps = [step("tests of the tools", unit_tests, root, count_of_unittest)]
     steps += ci_steps(root)
-    steps.append(step("wrong bodies", [f"{root}/tools/wrong-bodies"], root))
+    steps.append(step("wrong bodies", [f"{root}/tools/wrong-bodies", "--after-ci"], root))
     steps += case_steps(root)
     say("")
     for line in table(steps):

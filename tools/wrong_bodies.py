@@ -17,6 +17,8 @@ MOST_IN_A_CHECK = 32
 WAITING = re.compile(r"no proof: it (?:calls|passes|waits for|drops|uses) ")
 FUNCTION_LINE = re.compile(r"^fn (\w+)::(\S+): (.*)$", re.M)
 VERDICT_LINE = re.compile(r"^logic=(\S+)", re.M)
+# (the last line where not the whole crate was asked for)
+PART_LINE = re.compile(r"^only=(\d+) proved=(\d+)$", re.M)
 ERROR_LINE = re.compile(r"^(?:\./)?(\S+?):\d+:\d+: error: (?:`[^`]*`: )?(.*)$", re.M)
 GOAL_LINE = re.compile(r": error: `[^`]*`: ")
 UNREADABLE = re.compile(
@@ -187,7 +189,8 @@ def unread_line(text, changed):
 
 def read_log(crate, text, changed=()):
     """Reads the log of a check of this crate in which the files `changed` were edited."""
-    verdict = (VERDICT_LINE.findall(text) or [""])[-1]
+    parts = ["proved" if asked == proved else "not-proved" for asked, proved in PART_LINE.findall(text)]
+    verdict = (VERDICT_LINE.findall(text) or parts or [""])[-1]
     first_lines = " | ".join(text.strip().split("\n")[:6])
     log = Log(verdict, set(), set(), set(), set(), unread_line(text, changed), first_lines)
     for name, path, said in FUNCTION_LINE.findall(text):
@@ -248,8 +251,18 @@ def why_not_refused(edit, log):
     return "NOT REFUSED: the crate is still proved with this edit"
 
 
+def names_to_check(edits):
+    """For each function that an edit changes the names by which a check can be asked for it alone, the least first: its
+    own, its type, its module. Of an edit of no function, its modules. None stands for the whole crate."""
+    functions = sorted({it for edit in edits for it in edit.functions}, key=lambda it: it.label)
+    names = [[it.label, f"{it.module}::{it.owner.type_name}" if it.owner else "", it.module] for it in functions]
+    names += [[module] for edit in edits if not edit.functions for module in sorted(edit.modules)]
+    return [[it for it in some if it.strip(":")] for some in names]
+
+
 class Trial:
-    """Tries edits of one crate. `check` takes the crate's changed texts by path and gives the log of their check."""
+    """Tries edits of one crate. `check` takes the crate's changed texts by path and the names of what to check, and
+    gives the log of their check."""
 
     def __init__(self, crate, texts, check):
         self.crate, self.texts, self.check = crate, texts, check
@@ -260,7 +273,7 @@ class Trial:
         for edit in edits:
             texts = applied(texts, edit.pairs)
         changed = {path: text for path, text in texts.items() if text != self.texts[path]}
-        return read_log(self.crate, self.check(changed), changed)
+        return read_log(self.crate, self.check(changed, names_to_check(edits)), changed)
 
     def together(self, batch):
         """Tries a batch in one check. Returns the outcomes of the edits that it decides, and the other edits."""

@@ -2,14 +2,19 @@
 from __future__ import annotations
 
 import argparse
+import functools
 import os
 import sys
 import tempfile
 import traceback
 from concurrent.futures import FIRST_COMPLETED, ThreadPoolExecutor, wait
 
-from crate_copies import Commands, Copies, all_below, crates_listed
+from crate_copies import Commands, Copies, all_below, crates_listed, rlib_in
 from wrong_bodies import MOST_IN_A_CHECK, BadEdit, Outcome, Trial, batches, read_edit
+
+
+# The folder of a crate with those that the test command reads, but does not try.
+MORE = "wrong-bodies/more"
 
 
 def say(text):
@@ -24,7 +29,7 @@ def edit_files(crate, folders):
             path = f"{crate}/{folder}/{name}"
             if name.endswith(".edit") and os.path.isfile(path):
                 files.append(path)
-            elif not name.endswith(".md"):
+            elif not name.endswith(".md") and f"{folder}/{name}" != MORE:
                 strange.append(path)
     return files, strange
 
@@ -32,10 +37,12 @@ def edit_files(crate, folders):
 class CrateRun:
     """The edits of one crate and what became of them."""
 
-    def __init__(self, copies, folders, only):
+    def __init__(self, copies, folders, only, is_tried):
         self.copies, self.name = copies, copies.name
         self.edits, self.failed = [], []
         self.passed = self.checks = self.alone = self.left = self.rounds = 0
+        # How many copies were made to try edits in, and how many of them no check runs in.
+        self.copied = self.idle = 0
         self.undecided = []
         self.is_proved = False
         crate = f"{copies.root}/crates/{self.name}"
@@ -44,11 +51,12 @@ class CrateRun:
             self.failed.append(Outcome(os.path.relpath(path, crate), "BAD EDIT: it is no .edit file"))
         for path in files:
             name = os.path.relpath(path, crate)
-            if only not in os.path.basename(path):
+            if only not in name:
                 continue
             try:
                 with open(path, encoding="utf-8") as file:
-                    self.edits.append(read_edit(name, file.read(), copies.texts))
+                    edit = read_edit(name, file.read(), copies.texts)
+                self.edits += [edit] * is_tried(name)
             except (BadEdit, UnicodeDecodeError) as error:
                 self.failed.append(Outcome(name, f"BAD EDIT: {error}"))
         self.batches = batches(copies.texts, self.edits)
@@ -73,6 +81,11 @@ class CrateRun:
                 say(f"{self.name}/{outcome.edit}: refused, tried alone")
         self.alone += outcome.was_alone
 
+    def take_copy(self):
+        """Counts that a check takes an idle copy, or a new one."""
+        self.copied += not self.idle
+        self.idle -= bool(self.idle)
+
     def give_up(self, why, edits):
         """Counts this many edits, or the crate where it has none, as failed."""
         say(f"{self.name}: {why}")
@@ -82,8 +95,9 @@ class CrateRun:
 class Run:
     """Prepares the crates, those below first, and tries the batches of all in a pool."""
 
-    def __init__(self, crates, uses, jobs, commands):
+    def __init__(self, crates, uses, jobs, commands, is_after_ci):
         self.crates, self.uses, self.jobs, self.commands = crates, uses, jobs, commands
+        self.is_after_ci = is_after_ci
         self.folders, self.running, self.waiting = {}, {}, []
 
     def above(self, crate):
@@ -91,19 +105,28 @@ class Run:
         return sum(crate.name in all_below(it, self.uses) for it in self.crates)
 
     def rank(self, task):
-        """What runs first: the crates that most others wait for, then what needs no new copy of its crate, then the
-        edits of the crate with the most left."""
+        """What runs first: the crates that most others wait for, then what needs no new copy of its crate, then what
+        needs the first, then the edits of the crate with the most left."""
         kind, crate = task[0], task[1]
         if kind == "prepare":
-            return 0, False, -self.above(crate)
-        return 1, not crate.copies.free, -crate.left
+            return 0, False, 0, -self.above(crate)
+        return 1, not crate.idle, crate.copied, -crate.left
 
     def is_ready(self, task):
-        return task[0] != "prepare" or all(it in self.folders for it in task[1].copies.below)
+        """Whether a task need not wait: for the libraries of its crate, or for a copy of its crate where a new one, which
+        begins from nothing, would have one batch alone."""
+        kind, crate = task[0], task[1]
+        if kind == "prepare":
+            return all(it in self.folders for it in crate.copies.below)
+        is_cheap = not self.is_after_ci or crate.idle or not crate.copied
+        return is_cheap or sum(it[1] is crate for it in self.waiting) > 1
 
     def all(self):
         """Runs each task as soon as it can and a worker is free."""
-        self.waiting = [("prepare", it) for it in self.crates.values()]
+        if self.is_after_ci:
+            self.take_libraries()
+        else:
+            self.waiting = [("prepare", it) for it in self.crates.values()]
         with ThreadPoolExecutor(self.jobs) as pool:
             try:
                 while self.waiting or self.running:
@@ -115,13 +138,28 @@ class Run:
     def start_and_end_tasks(self, pool):
         """Starts what has a free worker, and takes what a task that ended gave. The methods of a task NAME are NAME,
         which a worker runs, and NAME_ended."""
-        ready = sorted(filter(self.is_ready, self.waiting), key=self.rank)
-        for task in ready[: self.jobs - len(self.running)]:
+        while len(self.running) < self.jobs:
+            task = min(filter(self.is_ready, self.waiting), key=self.rank, default=None)
+            if not task:
+                break
             self.waiting.remove(task)
+            if task[0] == "attempt":
+                task[1].take_copy()
             self.running[pool.submit(getattr(self, task[0]), *task[1:])] = task
         for future in wait(self.running, return_when=FIRST_COMPLETED).done:
             task = self.running.pop(future)
             getattr(self, f"{task[0]}_ended")(*task[1:], future.result())
+
+    def take_libraries(self):
+        """Begins with the edits of each crate over the libraries that `rt ci` left in the checkout."""
+        self.folders = {name: f"{it.copies.root}/crates/{name}" for name, it in self.crates.items()}
+        for crate in (it for it in self.crates.values() if it.edits):
+            lacking = [it for it in crate.copies.below if not os.path.exists(rlib_in(self.folders[it]))]
+            if lacking:
+                crate.give_up(f"NOT TRIED: rt ci left no library {lacking[0]}", len(crate.edits))
+                continue
+            for batch in crate.batches:
+                self.add(crate, batch)
 
     def prepare(self, crate):
         """Checks a crate without edits, in building it where crates stand above. Returns its copy and why it failed."""
@@ -130,7 +168,7 @@ class Run:
         if lacking:
             return "", f"NOT TRIED: its library {lacking[0]} is not proved"
         copy = copies.new(f"{copies.root}/crates/{crate.name}", self.folders, ("out/incremental", "out/rlib"))
-        status, said = copies.run(copy, "lib" if self.above(crate) else "check")
+        status, said = copies.run_rt(copy, "lib" if self.above(crate) else "check")
         return copy, "" if not status else f"NOT PROVED without an edit:\n{said[-2000:]}"
 
     def prepare_ended(self, crate, result):
@@ -147,12 +185,14 @@ class Run:
         self.waiting.append(("attempt", crate, batch))
 
     def attempt(self, crate, batch):
-        """Tries a batch in a free copy of the crate, or in a new one over what the first check kept."""
+        """Tries a batch in a free copy of the crate, or in a new one over what the first check kept, if there was one."""
         copies = crate.copies
         with copies.lock:
             copy = copies.free.pop() if copies.free else None
-        copy = copy or copies.new(self.folders[crate.name], self.folders)
-        trial = Trial(crate.name, copies.texts, lambda changed: copies.check_in(copy, changed)[1])
+        kept = () if self.is_after_ci else ("out/incremental",)
+        copy = copy or copies.new_of_parts(self.folders[crate.name], kept)
+        check = functools.partial(copies.check_in, copy, self.folders)
+        trial = Trial(crate.name, copies.texts, check)
         outcomes, rest = trial.together(batch)
         with copies.lock:
             copies.free.append(copy)
@@ -160,6 +200,7 @@ class Run:
 
     def attempt_ended(self, crate, batch, result):
         outcomes, rest = result
+        crate.idle += 1
         crate.left -= 1
         crate.checks += 1
         for outcome in outcomes:
@@ -181,7 +222,9 @@ class Run:
 
     def end(self, crate):
         """Says how the edits of a crate went, and removes its copies."""
-        crate.copies.remove_but_library(self.folders[crate.name])
+        crate.copies.remove_free()
+        if not self.is_after_ci:
+            crate.copies.remove_kept_work(self.folders[crate.name])
         say(
             f"{crate.name}: {len(crate.edits)} edits in {crate.checks} checks, {crate.alone} tried alone, "
             f"{len(crate.failed)} failed, {crate.copies.seconds:.0f} s of processor time"
@@ -193,7 +236,11 @@ def arguments_of(words, usage):
     parser = argparse.ArgumentParser(prog="tools/wrong-bodies", description=usage, formatter_class=form)
     parser.add_argument("crates", nargs="*", metavar="CRATE", help="only these crates")
     parser.add_argument("--list", action="store_true", help="list what each check tries, and check nothing")
-    parser.add_argument("--only", default="", metavar="NAME", help="only edits whose file name contains NAME")
+    parser.add_argument("--only", default="", metavar="NAME", help="only edits whose path in the crate contains NAME")
+    more = f"try the edits of {MORE} too, which are else read alone"
+    parser.add_argument("--more", action="store_true", help=more)
+    after = "take the libraries that rt ci has just left in this checkout, and check no crate without edits"
+    parser.add_argument("--after-ci", action="store_true", help=after)
     parser.add_argument("--must-fail", action="store_true", help="the edits of must-fail/ too, which rt ci tries")
     processors = len(os.sched_getaffinity(0))
     parser.add_argument("--jobs", type=int, default=processors, metavar="N", help="how many checks run side by side")
@@ -216,14 +263,15 @@ def main(words, usage="", root=os.path.dirname(os.path.dirname(os.path.realpath(
         say(f"crates.txt names no crate {', '.join(unlisted)}")
         say(f"0 passed, {len(unlisted)} failed")
         return 1
-    folders = ["wrong-bodies"] + ["must-fail"] * given.must_fail
+    folders = ["wrong-bodies", MORE] + ["must-fail"] * given.must_fail
     commands = Commands()
     with tempfile.TemporaryDirectory(prefix="wrong-bodies-") as room:
         runs = {}
         for name in uses:
             is_wanted = not given.crates or name in given.crates
             copies = Copies(root, room, name, uses, commands)
-            runs[name] = CrateRun(copies, folders if is_wanted else [], given.only)
+            is_tried = lambda edit: given.more or not edit.startswith(f"{MORE}/")  # noqa: E731
+            runs[name] = CrateRun(copies, folders if is_wanted else [], given.only, is_tried)
         for crate in runs.values():
             for outcome in crate.failed:
                 say(f"{crate.name}/{outcome.edit}: {outcome.reason}")
@@ -231,7 +279,7 @@ def main(words, usage="", root=os.path.dirname(os.path.dirname(os.path.realpath(
                 say(line)
         try:
             if not given.list:
-                Run(with_libraries(runs, uses), uses, max(1, given.jobs), commands).all()
+                Run(with_libraries(runs, uses), uses, max(1, given.jobs), commands, given.after_ci).all()
         except BaseException:
             traceback.print_exc()
             say("0 passed, 1 failed")

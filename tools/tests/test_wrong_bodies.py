@@ -251,10 +251,11 @@ class FakeCheck:
     """A check whose log says of each function the line that `says` gives by what stands in the changed texts."""
 
     def __init__(self, says):
-        self.says, self.runs = says, []
+        self.says, self.runs, self.asked = says, [], []
 
-    def __call__(self, changed):
+    def __call__(self, changed, only):
         self.runs.append(changed)
+        self.asked.append(only)
         return self.says("\n".join(changed.values()))
 
 
@@ -270,6 +271,7 @@ class Trials(unittest.TestCase):
         self.assertEqual([(it.edit, it.reason, it.was_alone) for it in outcomes], [("a", "", False), ("b", "", False)])
         self.assertEqual((alone, len(check.runs)), ([], 1))
         self.assertIn('text != "."', check.runs[0]["src/path.rt"])
+        self.assertEqual(check.asked, [[["path::Path::join", "path::Path", "path"], ["path::is_dots", "path"]]])
 
     def test_what_only_waits_is_tried_alone(self):
         waits = "path::Path::join: no proof: it calls `made::path::is_dots`, which is not proved"

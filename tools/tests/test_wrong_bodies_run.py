@@ -1,4 +1,4 @@
-"""Tests of the command tools/wrong-bodies on a small repository, with a shell script in place of `rt`."""
+"""Tests of the command tools/wrong-bodies on a small repository, with a shell script in place of `rt` and `rattle`."""
 import contextlib
 import io
 import os
@@ -14,22 +14,35 @@ from crate_copies import all_below, crates_listed  # noqa: E402
 import wrong_bodies_run  # noqa: E402
 
 # It refuses first where src/ has WRONG_first, and so the others, but lets those wait that CALL_second where it refuses
-# second. It refuses a text with UNREAD before all.
-RT = """\
+# second. It refuses a text with UNREAD before all, and knows no function by a name that --only gives where it has NAMELESS.
+# As `rt` it makes a library, and as `rattle` it wants the one that it is told of.
+CHECK = """\
 #!/bin/sh
+[ "$1" = doc ] && echo "$KIT/START-HERE.md" && exit 0
 name=$(basename "$PWD")
-echo "$name $1" >> "$CALLS"
+echo "$name $(basename "$0") $1" >> "$CALLS"
 grep -q UNREAD src/lib.rt && echo "src/lib.rt:1:1: error: expected a word" && exit 1
+if [ "$(basename "$0")" = rattle ]; then
+  case "$*" in *"--extern std=$KIT/rlibs/std.rlib"*) ;; *) exit 2 ;; esac
+  for it in "$@"; do case "$it" in low=*) [ -e "${it#low=}" ] || exit 2 ;; esac; done
+  case "$name $*" in high*--extern\\ low=*|low*) ;; *) exit 2 ;; esac
+  grep -q NAMELESS src/lib.rt && case "$*" in *"--only first"*)
+    echo "rattle: error: \\`$name\\` has no function \\`first\\`: help: write the name" && exit 2 ;;
+  esac
+else
+  [ "$name" = low ] || [ -e ../low/out/rlib/low.rlib ] || exit 2
+fi
 status=0
 for it in first second third; do
+  case "$*" in *--only*) case "$*" in *"--only $it"*) ;; *) continue ;; esac ;; esac
   said=proved
   grep -q "WRONG_$it" src/lib.rt && said="not proved" && status=1
   grep -q "CALLS_second_$it" src/lib.rt && grep -q WRONG_second src/lib.rt && said="no proof: it calls second"
   echo "fn $name::$it: $said"
 done
+case "$*" in *--only*) echo "only=1 proved=$((1 - status))" && exit $status ;; esac
 [ $status = 0 ] && echo "logic=proved" || echo "logic=not-proved"
-[ "$1" = lib ] && mkdir -p "out/rlib" && touch "out/rlib/$name"
-[ "$name" = low ] || [ -e ../low/out/rlib/low ] || exit 2
+[ "$1" = lib ] && mkdir -p "out/rlib" && touch "out/rlib/$name.rlib"
 exit $status
 """
 SOURCE = "fn first() -> u8 {\n    1\n}\n\nfn second() -> u8 {\n    2\n}\n"
@@ -40,7 +53,8 @@ class Runs(unittest.TestCase):
         room = tempfile.TemporaryDirectory()
         self.addCleanup(room.cleanup)
         self.room = room.name
-        self.file("bin/rt", RT, 0o755)
+        for name in ("rt", "rattle"):
+            self.file(f"bin/{name}", CHECK, 0o755)
         self.file("repository/crates.txt", "# The crates.\nhigh: low bytes\nlow:\n")
         for crate in ("low", "high"):
             self.file(f"repository/crates/{crate}/src/lib.rt", SOURCE)
@@ -61,12 +75,12 @@ class Runs(unittest.TestCase):
         return sorted(f"{at}/{it}" for at, _, names in os.walk(f"{self.room}/repository") for it in names)
 
     def run_command(self, *words):
-        """The status, the last line, the other lines and the calls of `rt`."""
+        """The status, the last line, the other lines and the calls of the script."""
         said, before = io.StringIO(), self.files()
         calls = f"{self.room}/calls"
         open(calls, "w").close()
         path = f"{self.room}/bin{os.pathsep}{os.environ['PATH']}"
-        with mock.patch.dict(os.environ, PATH=path, CALLS=calls), contextlib.redirect_stdout(said):
+        with mock.patch.dict(os.environ, PATH=path, CALLS=calls, KIT="/kit"), contextlib.redirect_stdout(said):
             status = wrong_bodies_run.main(["--jobs", "2", *words], root=f"{self.room}/repository")
         self.assertEqual(self.files(), before)
         lines = said.getvalue().splitlines()
@@ -83,7 +97,20 @@ class Runs(unittest.TestCase):
         self.assertEqual((status, last), (0, "4 passed, 0 failed"))
         self.assertIn("high: 2 edits in 1 checks, 0 tried alone, 0 failed", said)
         # each crate without edits, and with its batch; the first check of low builds the library for high
-        self.assertEqual(sorted(calls), ["high check"] * 2 + ["low check", "low lib"])
+        self.assertEqual(sorted(calls), ["high rattle check", "high rt check", "low rattle check", "low rt lib"])
+
+    def test_after_ci_nothing_is_checked_without_edits(self):
+        self.assertEqual(self.run_command("--after-ci")[:2], (1, "2 passed, 2 failed"))
+        self.file("repository/crates/low/out/rlib/low.rlib", "")
+        status, last, said, calls = self.run_command("--after-ci")
+        self.assertEqual((status, last), (0, "4 passed, 0 failed"))
+        self.assertEqual(sorted(calls), ["high rattle check", "low rattle check"])
+
+    def test_a_function_is_asked_for_by_its_module_where_no_name_fits(self):
+        self.edit("low", "first", "    1", "    WRONG_first NAMELESS")
+        status, last, said, calls = self.run_command("low")
+        self.assertEqual((status, last), (0, "2 passed, 0 failed"))
+        self.assertEqual(calls.count("low rattle check"), 2)
 
     def test_what_waits_for_another_edit_is_tried_together_again(self):
         waiting = "fn first() -> u8 {\n    CALLS_second_first()\n}\n\nfn third() -> u8 {\n    CALLS_second_third()\n}\n"
@@ -104,7 +131,7 @@ class Runs(unittest.TestCase):
     def test_one_crate_and_one_name(self):
         status, last, said, calls = self.run_command("high", "--only", "sec")
         self.assertEqual((status, last), (0, "1 passed, 0 failed"))
-        self.assertEqual((calls.count("low lib"), calls.count("low check")), (1, 0))
+        self.assertEqual((calls.count("low rt lib"), calls.count("low rattle check")), (1, 0))
         self.assertEqual(self.run_command("--only", "none")[:2], (1, "0 passed, 1 failed"))
         self.assertEqual(self.run_command("other")[:2], (1, "0 passed, 1 failed"))
 
@@ -132,6 +159,15 @@ class Runs(unittest.TestCase):
         self.assertEqual((status, last), (1, "0 passed, 4 failed"))
         self.assertIn("low: NOT PROVED without an edit", said)
         self.assertIn("high: NOT TRIED: its library low is not proved", said)
+
+    def test_more_edits_are_read_and_tried_where_asked_for(self):
+        self.edit("low", "more/first", "    1", "    WRONG_first + 1")
+        self.assertEqual(self.run_command("low")[:2], (0, "2 passed, 0 failed"))
+        self.assertEqual(self.run_command("low", "--more")[:2], (0, "3 passed, 0 failed"))
+        self.edit("low", "more/absent", "    3", "    4")
+        status, last, said, _ = self.run_command("low")
+        self.assertEqual((status, last), (1, "2 passed, 1 failed"))
+        self.assertIn("low/wrong-bodies/more/absent.edit: BAD EDIT", said)
 
     def test_must_fail_edits_too(self):
         os.rename(f"{self.room}/repository/crates/low/wrong-bodies", f"{self.room}/repository/crates/low/must-fail")
