@@ -14,7 +14,10 @@ from rattle_source import homes_of, module_of, named_in_log, places_in
 
 MOST_IN_A_CHECK = 32
 # (an own reason, as "expected answers", stands before these)
-WAITING = re.compile(r"no proof: it (?:calls|passes|waits for|drops|uses) ")
+WAITING = re.compile(
+    r"no proof: (?:it (?:calls|passes|waits for|drops|uses) "
+    r"|the borrow checker's part in its proof is not made yet: a call of `[^`]+`, which has no proof)"
+)
 FUNCTION_LINE = re.compile(r"^fn (\w+)::(\S+): (.*)$", re.M)
 VERDICT_LINE = re.compile(r"^logic=(\S+)", re.M)
 # (the last line where not the whole crate was asked for)

@@ -4,6 +4,7 @@ from __future__ import annotations
 import argparse
 import functools
 import os
+import signal
 import sys
 import tempfile
 import traceback
@@ -263,6 +264,8 @@ def main(words, usage="", root=os.path.dirname(os.path.dirname(os.path.realpath(
         say(f"crates.txt names no crate {', '.join(unlisted)}")
         say(f"0 passed, {len(unlisted)} failed")
         return 1
+    # (what ends this command ends its checks too)
+    signal.signal(signal.SIGTERM, lambda *_: sys.exit(128 + signal.SIGTERM))
     folders = ["wrong-bodies", MORE] + ["must-fail"] * given.must_fail
     commands = Commands()
     with tempfile.TemporaryDirectory(prefix="wrong-bodies-") as room:
@@ -280,7 +283,7 @@ def main(words, usage="", root=os.path.dirname(os.path.dirname(os.path.realpath(
         try:
             if not given.list:
                 Run(with_libraries(runs, uses), uses, max(1, given.jobs), commands, given.after_ci).all()
-        except BaseException:
+        except Exception:
             traceback.print_exc()
             say("0 passed, 1 failed")
             return 1

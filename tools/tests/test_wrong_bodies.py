@@ -209,12 +209,19 @@ class Logs(unittest.TestCase):
             "d: no proof: it calls `made::b`, which is not proved; it passes the block `made::B`, which is not proved",
             "e: no proof: it passes the block `made::B`, which is not proved", "f: could not tell",
             "g: not proved; it calls `made::b`, which is not proved",
-            "h: no proof: a cycle of calls"))
+            "h: no proof: a cycle of calls",
+            "i: no proof: the borrow checker's part in its proof is not made yet: a call of `made::b`, which has no proof: "
+            "help: prove it first",
+            "j: no proof: expected `j_spec` in ./proofs/j/Proof.antt; the borrow checker does not cover this function yet"))
         self.assertEqual(log.proved, {"a"})
-        self.assertEqual(log.refused, {"b", "c", "g", "h"})
-        self.assertEqual(log.waiting, {"d", "e"})
+        self.assertEqual(log.refused, {"b", "c", "g", "h", "j"})
+        self.assertEqual(log.waiting, {"d", "e", "i"})
         self.assertEqual(log.undecided, {"f"})
         self.assertTrue(log.is_refusal)
+
+    def test_a_check_of_a_part(self):
+        self.assertTrue(read_log("made", "fn made::a: not proved\nonly=2 proved=1\n").is_refusal)
+        self.assertEqual(read_log("made", "fn made::a: proved\nonly=1 proved=1\n").verdict, "proved")
 
     def test_other_crates_and_no_verdict(self):
         log = read_log("made", "fn other::a: not proved\n")
