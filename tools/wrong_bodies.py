@@ -256,11 +256,11 @@ def why_not_refused(edit, log):
 
 def names_to_check(edits):
     """For each function that an edit changes the names by which a check can be asked for it alone, the least first: its
-    own, its type, its module. Of an edit of no function, its modules. None stands for the whole crate."""
+    own, and its module. Of an edit of no function, its modules. None stands for the whole crate."""
     functions = sorted({it for edit in edits for it in edit.functions}, key=lambda it: it.label)
-    names = [[it.label, f"{it.module}::{it.owner.type_name}" if it.owner else "", it.module] for it in functions]
+    names = [[it.label, it.module] for it in functions]
     names += [[module] for edit in edits if not edit.functions for module in sorted(edit.modules)]
-    return [[it for it in some if it.strip(":")] for some in names]
+    return [[it for it in some if it] for some in names]
 
 
 class Trial:
@@ -271,26 +271,34 @@ class Trial:
         self.crate, self.texts, self.check = crate, texts, check
         self.functions = functions_in(texts)
 
-    def log_of(self, edits):
+    def log_of(self, edits, names):
+        """The log of a check of these edits together, of what the names name."""
         texts = self.texts
         for edit in edits:
             texts = applied(texts, edit.pairs)
         changed = {path: text for path, text in texts.items() if text != self.texts[path]}
-        return read_log(self.crate, self.check(changed, names_to_check(edits)), changed)
+        return read_log(self.crate, self.check(changed, names), changed)
 
     def together(self, batch):
         """Tries a batch in one check. Returns the outcomes of the edits that it decides, and the other edits."""
         if len(batch) == 1:
             return [self.alone(batch[0])], []
-        log = self.log_of(batch)
+        log = self.log_of(batch, names_to_check(batch))
         is_sound = log.is_refusal and not refused_unchanged(log, batch, self.functions)
         refused = refused_for_sure(log, self.functions) if is_sound else set()
         well = [it for it in batch if refused & {function.label for function in it.functions}]
         return [Outcome(it.name) for it in well], [it for it in batch if it not in well]
 
+    def is_named(self, edit, log):
+        """Whether the log says anything of a function that the edit changes."""
+        paths = log.proved | log.refused | log.undecided | log.waiting
+        return any(edit.functions & named_in_log(path, self.functions) for path in paths)
+
     def alone(self, edit):
-        """Tries one edit in a check of its own."""
-        log = self.log_of([edit])
+        """Tries one edit in a check of its own, and of the whole crate where a check of less says nothing of it."""
+        log = self.log_of([edit], names_to_check([edit]))
+        if not log.unread and edit.functions and not self.is_named(edit, log):
+            log = self.log_of([edit], [])
         if log.is_refusal and is_refused_alone(edit, log, self.functions):
             return Outcome(edit.name, was_alone=True)
         return Outcome(edit.name, why_not_refused(edit, log), was_alone=True)

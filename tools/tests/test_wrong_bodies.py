@@ -278,7 +278,7 @@ class Trials(unittest.TestCase):
         self.assertEqual([(it.edit, it.reason, it.was_alone) for it in outcomes], [("a", "", False), ("b", "", False)])
         self.assertEqual((alone, len(check.runs)), ([], 1))
         self.assertIn('text != "."', check.runs[0]["src/path.rt"])
-        self.assertEqual(check.asked, [[["path::Path::join", "path::Path", "path"], ["path::is_dots", "path"]]])
+        self.assertEqual(check.asked, [[["path::Path::join", "path"], ["path::is_dots", "path"]]])
 
     def test_what_only_waits_is_tried_alone(self):
         waits = "path::Path::join: no proof: it calls `made::path::is_dots`, which is not proved"
@@ -303,6 +303,12 @@ class Trials(unittest.TestCase):
     def test_alone_but_only_waiting(self):
         trial, _ = self.trial(lambda text: log_text("path::is_dots: no proof: it calls `made::x`, which is not proved"))
         self.assertIn("only wait", trial.alone(edit("a", DOTS)).reason)
+
+    def test_what_a_check_of_less_does_not_name_is_checked_whole(self):
+        logs = [log_text("path::other: proved"), log_text("path::is_dots: not proved")]
+        trial, check = self.trial(lambda text: logs.pop(0))
+        self.assertEqual(trial.alone(edit("a", DOTS)).reason, "")
+        self.assertEqual(check.asked, [[["path::is_dots", "path"]], []])
 
     def test_undecided_or_broken_off(self):
         trial, _ = self.trial(lambda text: log_text("path::is_dots: could not tell", verdict="unsure"))
