@@ -2,7 +2,7 @@
 use crate::played::Call::{Advance, AdvanceIn, Check, Erase, Knows, Put, Says};
 use crate::played::Client::{A, B};
 use crate::played::Said::{Did, Fails, Is};
-use crate::played::{Row, a_world, other, other_in};
+use crate::played::{Played, Row, a_world, other, other_in};
 use slatedb_txn_obj::boundary::BoundaryObject;
 use slatedb_txn_obj::object_store::boundary::ObjectStoreBoundaryObject;
 use std::alloc::Global;
@@ -144,7 +144,7 @@ fn an_advance_spends_a_turn_for_each_put(rt: HostRuntime) -> Result<(), Fail> {
     Ok(())
 }
 
-/// Texts that say a boundary, and what it is.
+/// Texts that say a boundary, and what it is, and texts that say none.
 const TEXTS: &[(&str, &[Row])] = &[
     (
         "white space and a plus",
@@ -163,37 +163,48 @@ const TEXTS: &[(&str, &[Row])] = &[
             (A, Advance(18446744073709551615), Did, 0, 0, 0),
         ],
     ),
+    (
+        "no number",
+        &[
+            (A, Put(b"seven"), Is(true), 1, 0, 0),
+            (A, Check(1), Fails(7), 0, 1, 0),
+            (A, Advance(1), Fails(7), 0, 1, 0),
+            (A, Knows(None), Is(true), 0, 0, 0),
+        ],
+    ),
+    (
+        "nothing",
+        &[
+            (A, Put(b""), Is(true), 1, 0, 0),
+            (A, Check(1), Fails(7), 0, 1, 0),
+            (A, Advance(1), Fails(7), 0, 1, 0),
+        ],
+    ),
+    (
+        "one above the greatest",
+        &[
+            (A, Put(b"18446744073709551616"), Is(true), 1, 0, 0),
+            (A, Check(1), Fails(7), 0, 1, 0),
+            (A, Advance(1), Fails(7), 0, 1, 0),
+            (A, Says(b"18446744073709551616", 1), Is(true), 0, 1, 0),
+        ],
+    ),
 ];
 
-/// Texts that say none.
-const NO_TEXTS: &[&[Row]] = &[
-    &[
-        (A, Put(b"seven"), Is(true), 1, 0, 0),
-        (A, Check(1), Fails(7), 0, 1, 0),
-        (A, Advance(1), Fails(7), 0, 1, 0),
-        (A, Knows(None), Is(true), 0, 0, 0),
-    ],
-    &[
-        (A, Put(b""), Is(true), 1, 0, 0),
-        (A, Check(1), Fails(7), 0, 1, 0),
-        (A, Advance(1), Fails(7), 0, 1, 0),
-    ],
-    &[
-        (A, Put(b"18446744073709551616"), Is(true), 1, 0, 0),
-        (A, Check(1), Fails(7), 0, 1, 0),
-        (A, Advance(1), Fails(7), 0, 1, 0),
-        (A, Says(b"18446744073709551616", 1), Is(true), 0, 1, 0),
-    ],
-];
+/// The first of the texts with a row that goes otherwise, with that row, counted from 0, and how it goes, where there is
+/// one.
+fn other_text(alloc: Global) -> Result<Option<(&'static str, usize, Played)>, Fail> {
+    for (name, rows) in TEXTS {
+        if let Some((at, played)) = other(alloc, rows)? {
+            return Ok(Some((*name, at, played)));
+        }
+    }
+    Ok(None)
+}
 
 #[test]
 fn a_file_says_a_number_or_none(rt: HostRuntime) -> Result<(), Fail> {
-    for (name, rows) in TEXTS {
-        assert_eq!(rt; other(rt.alloc(), rows)?, None, "{name}");
-    }
-    for (at, rows) in NO_TEXTS.iter().enumerate() {
-        assert_eq!(rt; other(rt.alloc(), rows)?, None, "text {at}");
-    }
+    assert_eq!(rt; other_text(rt.alloc())?, None);
     Ok(())
 }
 
@@ -228,12 +239,20 @@ const FAILING: &[(u64, When, &[Row])] = &[
     ),
 ];
 
+/// The first of the failures with a row that goes otherwise, both counted from 0, and how it goes, where there is one.
+fn other_failure(alloc: Global) -> Result<Option<(usize, usize, Played)>, Fail> {
+    for (scenario, (nth, when, rows)) in FAILING.iter().enumerate() {
+        let mut world = a_world(alloc, 1, *nth, *when)?;
+        if let Some((at, played)) = other_in(&mut world, rows) {
+            return Ok(Some((scenario, at, played)));
+        }
+    }
+    Ok(None)
+}
+
 #[test]
 fn a_failing_store_ends_a_call(rt: HostRuntime) -> Result<(), Fail> {
-    for (at, (nth, when, rows)) in FAILING.iter().enumerate() {
-        let mut world = a_world(rt.alloc(), 1, *nth, *when)?;
-        assert_eq!(rt; other_in(&mut world, rows), None, "scenario {at}");
-    }
+    assert_eq!(rt; other_failure(rt.alloc())?, None);
     Ok(())
 }
 

@@ -101,17 +101,26 @@ pub(crate) fn a_protocol(alloc: Global, page: u64) -> Result<Protocol, Fail>
     Ok(protocol.with_page(page))
 }
 
+/// Two protocols, with so many files a page.
+fn two_protocols(alloc: Global, page: u64) -> Result<(Protocol, Protocol), Fail>
+    requires { 1 ≤ page }
+{
+    let a = a_protocol(alloc, page)?;
+    Ok((a, a_protocol(alloc, page)?))
+}
+
 /// Two protocols over an empty store whose nth call fails, with so many files a page.
 fn a_setting(alloc: Global, page: u64, nth: u64, when: When) -> Result<Setting, Fail>
     requires { 1 ≤ page }
 {
-    let dir = Path::from_text(alloc, "root/test")?;
+    let names = VersionNames::new(alloc, Path::from_text(alloc, "root/test")?, "val")?;
+    let (a, b) = two_protocols(alloc, page)?;
     Ok(Setting {
         alloc,
         store: FailingStore::new(InMemory::new(alloc), nth, when),
-        names: VersionNames::new(alloc, dir, "val")?,
-        a: a_protocol(alloc, page)?,
-        b: a_protocol(alloc, page)?,
+        names,
+        a,
+        b,
     })
 }
 

@@ -1,42 +1,46 @@
 //! Uses of the protocols from outside.
 use crate::calls::Op::{Advance, Delete, List, Read, Write};
 use crate::calls::Told::{Did, Fails, Found, Ids, Wrote};
-use crate::calls::{Op, Told, a_protocol, did, found, perform, wrote};
+use crate::calls::{Op, Protocol, Told, a_protocol, did, found, perform, wrote};
 use bytes::Bytes;
-use slatedb_txn_obj::object_store::protocol::ObjectStoreSequencedStorageProtocol;
 use slatedb_txn_obj::protocol::TransactionalStorageProtocol;
+use std::alloc::{AllocError, Global};
 use std::ops::Bound::Unbounded;
 use std::test::Fail;
 use txn_drivers::turns::Turns;
 use txn_store::in_memory::InMemory;
 use txn_store::path::Path;
-use txn_store::store::{ObjectStore, PutMode};
+use txn_store::store::{ObjectStore, PutMode, Token};
 use txn_types::error::TransactionalObjectError;
 use txn_types::id::MonotonicId;
-use txn_types::test_utils::NumberCodec;
 use uses_of_protocol::list_store::ListStore;
 use uses_of_protocol::one_client::{Call, Reply, perform_all};
 use uses_of_protocol::register::{Register, Revision};
 use uses_of_protocol::through::append;
 
+/// The ids of two values that are appended, and what is newest then.
+type Appended<Id> = (Id, Id, Option<(Id, u64)>);
+
+fn append_two<Id: Drop, S: ObjectStore, P: TransactionalStorageProtocol<u64, Id, S>>(
+    protocol: &mut P,
+    store: &mut S,
+    turns: u64,
+) -> Result<Appended<Id>, Fail> {
+    let mut turns = Turns::new(turns);
+    let first = append(protocol, store, &mut turns, &10)?;
+    let second = append(protocol, store, &mut turns, &20)?;
+    Ok((first, second, protocol.try_read_latest(store, &mut turns)?))
+}
+
+fn append_two_to_files(alloc: Global) -> Result<Appended<MonotonicId>, Fail> {
+    let mut protocol = a_protocol(alloc, 1)?;
+    append_two(&mut protocol, &mut InMemory::new(alloc), 20)
+}
+
 #[test]
 fn values_are_appended_to_files(rt: HostRuntime) -> Result<(), Fail> {
-    let mut store = InMemory::new(rt.alloc());
-    let root = Path::from_text(rt.alloc(), "/root")?;
-    let mut protocol = ObjectStoreSequencedStorageProtocol::new(
-        rt.alloc(),
-        &root,
-        "test",
-        "val",
-        NumberCodec,
-    )?.with_page(1);
-    let mut turns = Turns::new(20);
-    let first = append(&mut protocol, &mut store, &mut turns, &10)?;
-    let second = append(&mut protocol, &mut store, &mut turns, &20)?;
-    assert_eq!(rt; first, MonotonicId::new(1));
-    assert_eq!(rt; second, MonotonicId::new(2));
-    let latest = protocol.try_read_latest(&mut store, &mut turns)?;
-    assert_eq!(rt; latest, Some((MonotonicId::new(2), 20)));
+    let (first, second) = (MonotonicId::new(1), MonotonicId::new(2));
+    assert_eq!(rt; append_two_to_files(rt.alloc())?, (first, second, Some((second, 20))));
     Ok(())
 }
 
@@ -44,14 +48,9 @@ fn values_are_appended_to_files(rt: HostRuntime) -> Result<(), Fail> {
 fn values_are_appended_to_a_register(rt: HostRuntime) -> Result<(), Fail> {
     let mut store = InMemory::new(rt.alloc());
     let mut register = Register::new(rt.alloc());
-    let mut turns = Turns::new(0);
-    let first = append(&mut register, &mut store, &mut turns, &10)?;
-    let second = append(&mut register, &mut store, &mut turns, &20)?;
-    assert_eq!(rt; first, Revision(1));
-    assert_eq!(rt; second, Revision(2));
-    let latest = register.try_read_latest(&mut store, &mut turns)?;
-    assert_eq!(rt; latest, Some((Revision(2), 20)));
-    let stale = register.write(&mut store, Some(first), &30);
+    let appended = append_two(&mut register, &mut store, 0)?;
+    assert_eq!(rt; appended, (Revision(1), Revision(2), Some((Revision(2), 20))));
+    let stale = register.write(&mut store, Some(Revision(1)), &30);
     assert!(rt; matches!(&stale, Err(TransactionalObjectError::ObjectVersionExists)));
     Ok(())
 }
@@ -70,33 +69,77 @@ const OVER_A_LIST: &[(Op, Told)] = &[
     (List(Unbounded, Unbounded), Ids(23)),
 ];
 
-#[test]
-fn a_protocol_runs_over_a_list_of_files(rt: HostRuntime) -> Result<(), Fail> {
-    let mut store = ListStore::new(rt.alloc());
-    let mut protocol = a_protocol(rt.alloc(), 1)?;
+/// The first of these calls that says something else, counted from 0, with what it says, where there is one.
+fn first_other(protocol: &mut Protocol, store: &mut ListStore) -> Option<(usize, Told)> {
     let mut turns = Turns::new(20);
     for (at, (op, told)) in OVER_A_LIST.iter().enumerate() {
-        let said = perform(&mut protocol, &mut store, *op, &mut turns);
-        assert_eq!(rt; (at, said), (at, *told));
+        let said = perform(protocol, store, *op, &mut turns);
+        if said != *told {
+            return Some((at, said));
+        }
     }
+    None
+}
+
+fn other_over_a_list(alloc: Global) -> Result<Option<(usize, Told)>, Fail> {
+    let mut protocol = a_protocol(alloc, 1)?;
+    Ok(first_other(&mut protocol, &mut ListStore::new(alloc)))
+}
+
+#[test]
+fn a_protocol_runs_over_a_list_of_files(rt: HostRuntime) -> Result<(), Fail> {
+    assert_eq!(rt; other_over_a_list(rt.alloc())?, None);
     Ok(())
+}
+
+/// Puts the files `b` and `a` of a folder, and gives the token of the second.
+fn put_two(store: &mut ListStore, dir: &Path) -> Result<Token, Fail> {
+    store.put(&dir.join("b")?, &Bytes::from_static(b"first"), &PutMode::Create)?;
+    Ok(store.put(&dir.join("a")?, &Bytes::from_static(b"second"), &PutMode::Create)?)
+}
+
+/// Whether a page of one file has the one of this token, of six bytes, and says that there are more.
+fn is_first(
+    alloc: Global,
+    store: &mut ListStore,
+    dir: &Path,
+    token: Token,
+) -> Result<bool, Fail> {
+    let page = store.list(alloc, dir, None, 1)?;
+    let told = page.metas.as_slice().first();
+    Ok(page.more && matches!(told, Some(meta) if meta.token == token && meta.size == 6))
+}
+
+fn is_read_as(store: &mut ListStore, file: &Path, text: &[u8]) -> Result<bool, Fail> {
+    Ok(store.get(file, None)?.bytes.as_slice() == text)
+}
+
+fn is_gone_once_deleted(store: &mut ListStore, file: &Path) -> Result<bool, Fail> {
+    store.delete(file)?;
+    Ok(store.get(file, None).is_err())
+}
+
+/// Whether the first of two files is listed, is read, and is gone once it is deleted.
+fn does_as_a_store(
+    alloc: Global,
+    store: &mut ListStore,
+    dir: &Path,
+) -> Result<(bool, bool, bool), Fail> {
+    let token = put_two(store, dir)?;
+    let file = dir.join("a")?;
+    let is_listed = is_first(alloc, store, dir, token)?;
+    let is_read = is_read_as(store, &file, b"second")?;
+    Ok((is_listed, is_read, is_gone_once_deleted(store, &file)?))
+}
+
+fn a_list_does_as_a_store(alloc: Global) -> Result<(bool, bool, bool), Fail> {
+    let dir = Path::from_text(alloc, "dir")?;
+    does_as_a_store(alloc, &mut ListStore::new(alloc), &dir)
 }
 
 #[test]
 fn a_list_of_files_is_a_store(rt: HostRuntime) -> Result<(), Fail> {
-    let mut store = ListStore::new(rt.alloc());
-    let dir = Path::from_text(rt.alloc(), "dir")?;
-    let a = dir.join("a")?;
-    let b = dir.join("b")?;
-    store.put(&b, &Bytes::from_static(b"first"), &PutMode::Create)?;
-    let token = store.put(&a, &Bytes::from_static(b"second"), &PutMode::Create)?;
-    let page = store.list(rt.alloc(), &dir, None, 1)?;
-    let told = page.metas.as_slice().first();
-    assert!(rt; page.more && matches!(told, Some(meta) if meta.token == token && meta.size == 6));
-    let got = store.get(&a, None)?;
-    assert!(rt; got.bytes.as_slice() == b"second".as_slice());
-    store.delete(&a)?;
-    assert!(rt; store.get(&a, None).is_err());
+    assert_eq!(rt; a_list_does_as_a_store(rt.alloc())?, (true, true, true));
     Ok(())
 }
 
@@ -119,11 +162,8 @@ fn told_by(reply: Reply<u64>) -> Told {
     }
 }
 
-#[test]
-fn calls_are_made_one_after_another(rt: HostRuntime) -> Result<(), Fail> {
-    let mut store = InMemory::new(rt.alloc());
-    let mut protocol = a_protocol(rt.alloc(), 1)?;
-    let mut turns = Turns::new(20);
+/// The replies of calls of one protocol, one after another.
+fn replies_of(alloc: Global, protocol: &mut Protocol) -> Result<Vec<Reply<u64>>, AllocError> {
     let first = MonotonicId::new(1);
     let calls = [
         Call::Write(None, 10),
@@ -134,10 +174,30 @@ fn calls_are_made_one_after_another(rt: HostRuntime) -> Result<(), Fail> {
         Call::Check(first),
         Call::Read,
     ];
-    let replies = perform_all(rt.alloc(), &mut protocol, &mut store, &mut turns, &calls)?;
-    for (reply, told) in replies.into_iter().zip(ALL_TOLD) {
+    let mut store = InMemory::new(alloc);
+    perform_all(alloc, protocol, &mut store, &mut Turns::new(20), &calls)
+}
+
+/// How many replies there are, and the first that says something else, counted from 0, with what it says, where there is
+/// one.
+fn first_other_reply(replies: Vec<Reply<u64>>) -> (usize, Option<(usize, Told)>) {
+    let count = replies.len();
+    for (at, (reply, told)) in replies.into_iter().zip(ALL_TOLD).enumerate() {
         let said = told_by(reply);
-        assert_eq!(rt; said, told);
+        if said != told {
+            return (count, Some((at, said)));
+        }
     }
+    (count, None)
+}
+
+fn other_reply(alloc: Global) -> Result<(usize, Option<(usize, Told)>), Fail> {
+    let mut protocol = a_protocol(alloc, 1)?;
+    Ok(first_other_reply(replies_of(alloc, &mut protocol)?))
+}
+
+#[test]
+fn calls_are_made_one_after_another(rt: HostRuntime) -> Result<(), Fail> {
+    assert_eq!(rt; other_reply(rt.alloc())?, (ALL_TOLD.len(), None));
     Ok(())
 }

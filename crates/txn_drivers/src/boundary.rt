@@ -1,5 +1,5 @@
 //! A check of an id against the boundary, and an advance of the boundary.
-ghost use Rattle.std.specs.Prelude.{ℕ, ◌≡◌, ◌+◌, Some, true};
+ghost use Rattle.std.specs.Prelude.{ℕ, ◌≡◌, ◌+◌, Some, true, false};
 ghost use Rattle.std.specs.Bool.{OnTrue, OnFalse};
 ghost use Rattle.std.specs.Fmt.{decimal};
 ghost use Rattle.txn_store.specs.Paths.{Segments};
@@ -106,6 +106,31 @@ fn advance_step<S: ObjectStore>(
     op.take(alloc, path, cached, reply)
 }
 
+/// Runs an advance that has not begun, to a target above the cached boundary, to its end.
+fn run_advance<S: ObjectStore>(
+    alloc: Global,
+    path: &Path,
+    cached: &mut Option<CachedBoundary>,
+    store: &mut S,
+    target: MonotonicId,
+    turns: &mut Turns,
+    op: &mut BoundaryAdvance,
+) -> Result<(), TransactionalObjectError>
+    requires unreached { refused_by target cached.old ≡ false }
+    requires looks { op.old ≡ BoundaryAdvance.Looks target }
+    ensures { Advanced path.now target (S.state store.old) (S.state store.new) turns.old turns.new cached.old cached.new result }
+{
+    'steps: loop {
+        if !pay(op, turns) {
+            return Err(TransactionalObjectError::TurnsExhausted);
+        }
+        match advance_step(alloc, path, target, cached, store, op) {
+            Turned::Goes => {}
+            Turned::Done(answer) => return answer,
+        }
+    }
+}
+
 /// Raises the boundary that the file of this path says, 0 where it is missing, to the target. A cached boundary at or above
 /// the target is the answer, with no call of the store and no turn. Each put spends a turn, replaces the file only where
 /// that is as it is cached, and creates it only where it is missing; a put that came too late leads to a read of the file and
@@ -128,13 +153,5 @@ pub fn advance_boundary<S: ObjectStore>(
         return Ok(());
     }
     let mut op = BoundaryAdvance::start(target);
-    'steps: loop {
-        if !pay(&op, turns) {
-            return Err(TransactionalObjectError::TurnsExhausted);
-        }
-        match advance_step(alloc, path, target, cached, store, &mut op) {
-            Turned::Goes => {}
-            Turned::Done(answer) => return answer,
-        }
-    }
+    run_advance(alloc, path, cached, store, target, turns, &mut op)
 }

@@ -63,6 +63,33 @@ fn first_held(latest: &Window)
     }
 }
 
+/// Runs a read that has not begun, to its end.
+fn run<T: Drop, C: ObjectCodec<T>, S: ObjectStore>(
+    alloc: Global,
+    layout: &Layout<C>,
+    latest: &mut Window,
+    store: &mut S,
+    turns: &mut Turns,
+    op: &mut LatestOp<T>,
+) -> ReadAnswer<T>
+    requires page { 1 ≤ layout.now.page }
+    requires ascends { Ascends latest.old }
+    requires small { IfSome (greatest_held latest.old) (λ version. version.id < 2 ^ 64) }
+    requires looks { op.old ≡ LatestOp.Looks }
+    ensures { Ended layout.now.names layout.now.page (C.decoded layout.now.codec) (S.state store.old) (S.state store.new) turns.old turns.new latest.old latest.new result }
+{
+    let mut listed = false;
+    'steps: loop {
+        if !pay(is_listing(op), &mut listed, turns) {
+            return Err(TransactionalObjectError::TurnsExhausted);
+        }
+        match step(alloc, layout, latest, store, op) {
+            Turned::Goes => {}
+            Turned::Done(answer) => return answer,
+        }
+    }
+}
+
 /// Reads the newest version, as the operation of `txn_steps` does: it looks for the greatest held version and asks for
 /// its successors, at most four, and else lists the versions, page by page. The version that it answers is held from then
 /// on.
@@ -83,15 +110,5 @@ pub fn read_latest<T: Drop, C: ObjectCodec<T>, S: ObjectStore>(
     ensures { Ended layout.now.names layout.now.page (C.decoded layout.now.codec) (S.state store.old) (S.state store.new) turns.old turns.new latest.old latest.new result }
 {
     first_held(latest);
-    let mut op = LatestOp::start();
-    let mut listed = false;
-    'steps: loop {
-        if !pay(is_listing(&op), &mut listed, turns) {
-            return Err(TransactionalObjectError::TurnsExhausted);
-        }
-        match step(alloc, layout, latest, store, &mut op) {
-            Turned::Goes => {}
-            Turned::Done(answer) => return answer,
-        }
-    }
+    run(alloc, layout, latest, store, turns, &mut LatestOp::start())
 }

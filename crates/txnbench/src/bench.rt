@@ -50,16 +50,36 @@ fn now(clock: &impl Clock) -> Result<Instant, Fault> {
     }
 }
 
-/// The time that the calls of a round take. The time of what they stand on is not counted.
+/// The time that so many calls take.
+fn time_of_calls(
+    clock: &impl Clock,
+    setting: &mut Setting,
+    workload: Workload,
+    calls: u64,
+) -> Result<Duration, Fault> {
+    let start = now(clock)?;
+    setting.perform(workload, calls)?;
+    Ok(now(clock)?.duration_since(start))
+}
+
+/// The time that so many calls take, in a new store. The time of what they stand on is not counted.
+fn time_in_a_store(
+    clock: &impl Clock,
+    alloc: Global,
+    workload: Workload,
+    calls: u64,
+) -> Result<Duration, Fault> {
+    let mut setting = Setting::new(alloc, workload.versions())?;
+    time_of_calls(clock, &mut setting, workload, calls)
+}
+
+/// The time that the calls of a round take.
 fn time_of_round(clock: &impl Clock, alloc: Global, workload: Workload) -> Result<Duration, Fault> {
     let stores = workload.stores();
     let calls = workload.calls() / stores;
     let mut time = Duration::ZERO;
     for _ in 0..stores {
-        let mut setting = Setting::new(alloc, workload.versions())?;
-        let start = now(clock)?;
-        setting.perform(workload, calls)?;
-        time = time.saturating_add(now(clock)?.duration_since(start));
+        time = time.saturating_add(time_in_a_store(clock, alloc, workload, calls)?);
     }
     Ok(time)
 }

@@ -1,6 +1,5 @@
-use Rattle.std.proofs.Common.{sym, ◌∙◌}
 use Rattle.txn_drivers.proofs.AdvanceLoop.{advance_goes, advance_less, advance_ended}
-use Rattle.txn_drivers.proofs.boundary.advance_boundary.Goals as goal
+use Rattle.txn_drivers.proofs.boundary.run_advance.Goals as goal
 
 pub steps-preserved : goal.steps-preserved
 steps-preserved g c = advance_goes _ _ _ _ _ _ _ _ _ _ _ _ c.steps.invariant c.pay.new.turns c.if-not-pay.ensures.paid (rw c.in-Goes.is at c.advance_step.ensures)
@@ -9,4 +8,4 @@ pub steps-smaller : goal.steps-smaller
 steps-smaller g c = advance_less _ _ _ _ _ _ _ _ _ _ _ _ c.steps.invariant c.pay.new.turns c.if-not-pay.ensures.paid (rw c.in-Goes.is at c.advance_step.ensures)
 
 pub returns-in-Done : goal.returns-in-Done
-returns-in-Done g c = advance_ended _ _ _ _ _ _ _ _ _ _ _ _ c.steps.invariant (sym c.is_reached.ensures ∙ c.if-is_reached.false) c.pay.new.turns c.if-not-pay.ensures.paid c.in-Done.answer (rw c.in-Done.is at c.advance_step.ensures)
+returns-in-Done g c = advance_ended _ _ _ _ _ _ _ _ _ _ _ _ c.steps.invariant c.requires.unreached c.pay.new.turns c.if-not-pay.ensures.paid c.in-Done.answer (rw c.in-Done.is at c.advance_step.ensures)
