@@ -12,7 +12,7 @@ from dataclasses import dataclass, field
 
 from rattle_source import homes_of, module_of, named_in_log, places_in
 
-MOST_IN_A_CHECK = 32
+MOST_IN_A_CHECK = 64
 # (an own reason, as "expected answers", stands before these)
 WAITING = re.compile(
     r"no proof: (?:it (?:calls|passes|waits for|drops|uses) "

@@ -107,20 +107,19 @@ class Run:
 
     def rank(self, task):
         """What runs first: the crates that most others wait for, then what needs no new copy of its crate, then what
-        needs the first, then the edits of the crate with the most left."""
+        needs the first, then the edits of the crate with the most."""
         kind, crate = task[0], task[1]
         if kind == "prepare":
             return 0, False, 0, -self.above(crate)
-        return 1, not crate.idle, crate.copied, -crate.left
+        return 1, not crate.idle, crate.copied, -len(crate.edits)
 
     def is_ready(self, task):
-        """Whether a task need not wait: for the libraries of its crate, or for a copy of its crate where a new one, which
-        begins from nothing, would have one batch alone."""
+        """Whether a task need not wait: for the libraries of its crate, or, over what rt ci left, for the one copy of its
+        crate, since a second would prove all once more that the edited functions call."""
         kind, crate = task[0], task[1]
         if kind == "prepare":
             return all(it in self.folders for it in crate.copies.below)
-        is_cheap = not self.is_after_ci or crate.idle or not crate.copied
-        return is_cheap or sum(it[1] is crate for it in self.waiting) > 1
+        return not self.is_after_ci or crate.idle or not crate.copied
 
     def all(self):
         """Runs each task as soon as it can and a worker is free."""

@@ -10,7 +10,7 @@ from unittest import mock
 sys.dont_write_bytecode = True
 sys.path.insert(0, os.path.dirname(os.path.dirname(os.path.realpath(__file__))))
 
-from crate_copies import all_below, crates_listed  # noqa: E402
+from crate_copies import Copies, all_below, crates_listed  # noqa: E402
 import wrong_bodies_run  # noqa: E402
 
 # It refuses first where src/ has WRONG_first, and so the others, but lets those wait that CALL_second where it refuses
@@ -105,6 +105,15 @@ class Runs(unittest.TestCase):
         status, last, said, calls = self.run_command("--after-ci")
         self.assertEqual((status, last), (0, "4 passed, 0 failed"))
         self.assertEqual(sorted(calls), ["high rattle check", "low rattle check"])
+
+    def test_after_ci_a_crate_has_one_copy(self):
+        self.file("repository/crates/low/out/rlib/low.rlib", "")
+        for name in ("again", "once_more"):
+            self.edit("low", name, "    1", f"    WRONG_first {name}")
+        new = Copies.new_of_parts
+        with mock.patch.object(Copies, "new_of_parts", autospec=True, side_effect=new) as made:
+            self.assertEqual(self.run_command("low", "--after-ci")[:2], (0, "4 passed, 0 failed"))
+        self.assertEqual(made.call_count, 1)
 
     def test_a_function_is_asked_for_by_its_module_where_no_name_fits(self):
         self.edit("low", "first", "    1", "    WRONG_first NAMELESS")
