@@ -40,7 +40,10 @@ fn append_two_to_files(alloc: Global) -> Result<Appended<MonotonicId>, Fail> {
 #[test]
 fn values_are_appended_to_files(rt: HostRuntime) -> Result<(), Fail> {
     let (first, second) = (MonotonicId::new(1), MonotonicId::new(2));
-    assert_eq!(rt; append_two_to_files(rt.alloc())?, (first, second, Some((second, 20))));
+    assert_eq!(rt;
+        append_two_to_files(rt.alloc())?,
+        (first, second, Some((second, 20)))
+    );
     Ok(())
 }
 
@@ -49,7 +52,10 @@ fn values_are_appended_to_a_register(rt: HostRuntime) -> Result<(), Fail> {
     let mut store = InMemory::new(rt.alloc());
     let mut register = Register::new(rt.alloc());
     let appended = append_two(&mut register, &mut store, 0)?;
-    assert_eq!(rt; appended, (Revision(1), Revision(2), Some((Revision(2), 20))));
+    assert_eq!(rt;
+        appended,
+        (Revision(1), Revision(2), Some((Revision(2), 20)))
+    );
     let stale = register.write(&mut store, Some(Revision(1)), &30);
     assert!(rt; matches!(&stale, Err(TransactionalObjectError::ObjectVersionExists)));
     Ok(())
@@ -94,17 +100,20 @@ fn a_protocol_runs_over_a_list_of_files(rt: HostRuntime) -> Result<(), Fail> {
 
 /// Puts the files `b` and `a` of a folder, and gives the token of the second.
 fn put_two(store: &mut ListStore, dir: &Path) -> Result<Token, Fail> {
-    store.put(&dir.join("b")?, &Bytes::from_static(b"first"), &PutMode::Create)?;
-    Ok(store.put(&dir.join("a")?, &Bytes::from_static(b"second"), &PutMode::Create)?)
+    store.put(
+        &dir.join("b")?,
+        &Bytes::from_static(b"first"),
+        &PutMode::Create,
+    )?;
+    Ok(store.put(
+        &dir.join("a")?,
+        &Bytes::from_static(b"second"),
+        &PutMode::Create,
+    )?)
 }
 
 /// Whether a page of one file has the one of this token, of six bytes, and says that there are more.
-fn is_first(
-    alloc: Global,
-    store: &mut ListStore,
-    dir: &Path,
-    token: Token,
-) -> Result<bool, Fail> {
+fn is_first(alloc: Global, store: &mut ListStore, dir: &Path, token: Token) -> Result<bool, Fail> {
     let page = store.list(alloc, dir, None, 1)?;
     let told = page.metas.as_slice().first();
     Ok(page.more && matches!(told, Some(meta) if meta.token == token && meta.size == 6))
