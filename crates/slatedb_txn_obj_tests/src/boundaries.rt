@@ -239,11 +239,22 @@ const FAILING: &[(u64, When, &[Row])] = &[
     ),
 ];
 
+/// The first row that goes otherwise over a store whose nth call fails, counted from 0, and how it goes, where there is
+/// one.
+fn other_with_a_failure(
+    alloc: Global,
+    nth: u64,
+    when: When,
+    rows: &[Row],
+) -> Result<Option<(usize, Played)>, Fail> {
+    let mut world = a_world(alloc, 1, nth, when)?;
+    Ok(other_in(&mut world, rows))
+}
+
 /// The first of the failures with a row that goes otherwise, both counted from 0, and how it goes, where there is one.
 fn other_failure(alloc: Global) -> Result<Option<(usize, usize, Played)>, Fail> {
     for (scenario, (nth, when, rows)) in FAILING.iter().enumerate() {
-        let mut world = a_world(alloc, 1, *nth, *when)?;
-        if let Some((at, played)) = other_in(&mut world, rows) {
+        if let Some((at, played)) = other_with_a_failure(alloc, *nth, *when, rows)? {
             return Ok(Some((scenario, at, played)));
         }
     }

@@ -17,3 +17,5 @@ mod protocols;
 pub mod scripted;
 #[cfg(test)]
 mod uses;
+#[cfg(test)]
+mod workloads;

@@ -1,0 +1,46 @@
+-- What words ask for.
+use Rattle.std.proofs.Common.{◌≡◌, ◌≢◌, ℕ, ◌<◌, ◌≤◌, ◌↔◌, List, [], ◌∷◌, length, get_or, drop, map, Bool, true, MatchBool, nat_eq, Some, refl, sym, ap, subst, ◌∙◌, arith}
+use Rattle.std.specs.Prelude.{codes}
+use Rattle.std.specs.Cmp.Lexicographic.{told_text}
+use Rattle.std.proofs.lemmas.Option.{same_Some}
+use lib.Pointwise.{pointwise}
+use Rattle.txn_commands.specs.declared.command.Command.{Command}
+use Rattle.txn_commands.specs.declared.command.Command.TheVariants as commands
+use Rattle.txn_commands.specs.Commands.{IsCount, count_text, IsCommand, command_words}
+
+-- a text that was compared, and found the same
+pub said : (b : Bool) (text want : List ℕ) → b ≡ true → b ≡ pointwise nat_eq text want → text ≡ want
+said b text want is told = subst (λ (c : Bool). MatchBool c (text ≡ want) (text ≢ want)) is (told_text text want b told)
+
+pub two_words : {S : Type 0} (f : S → List ℕ) (words : List S) (mode : S) → 2 ≤ length words → length words < 3 → mode ≡ get_or words 1 mode → map f (drop 1 words) ≡ f mode ∷ []
+two_words f [] mode least most is = absurd (omega (arith, least))
+two_words f (a ∷ []) mode least most is = absurd (omega (arith, least))
+two_words f (a ∷ m ∷ []) mode least most is = ap (λ s. f s ∷ []) (sym is)
+two_words f (a ∷ m ∷ n ∷ more) mode least most is = absurd (omega (arith, most))
+
+pub three_words : {S : Type 0} (f : S → List ℕ) (words : List S) (mode count : S) → 3 ≤ length words → length words < 4 → mode ≡ get_or words 1 mode → count ≡ get_or words 2 count → map f (drop 1 words) ≡ f mode ∷ f count ∷ []
+three_words f [] mode count least most is at = absurd (omega (arith, least))
+three_words f (a ∷ []) mode count least most is at = absurd (omega (arith, least))
+three_words f (a ∷ m ∷ []) mode count least most is at = absurd (omega (arith, least))
+three_words f (a ∷ m ∷ n ∷ []) mode count least most is at = ap (λ s. f s ∷ f n ∷ []) (sym is) ∙ ap (λ s. f mode ∷ f s ∷ []) (sym at)
+three_words f (a ∷ m ∷ n ∷ o ∷ more) mode count least most is at = absurd (omega (arith, most))
+
+one_not_two : (a b c : List ℕ) → (a ∷ []) ≡ (b ∷ c ∷ []) → ⊥
+one_not_two a b c e = let lengths : length (a ∷ []) ≡ length (b ∷ c ∷ []) = ap length e in absurd (omega (arith, lengths))
+
+last_of_two : (a b c : List ℕ) → (a ∷ b ∷ []) ≡ (a ∷ c ∷ []) → b ≡ c
+last_of_two a b c e = cc
+
+pub asks_for_script : (words : List (List ℕ)) (mode : List ℕ) → words ≡ mode ∷ [] → mode ≡ codes "script" → (command : Command) → IsCommand command
+    → (Some commands.Script ≡ Some command) ↔ (words ≡ command_words command)
+asks_for_script words mode is script commands.Script fits = (λ _. is ∙ ap (λ m. m ∷ []) script, λ _. refl)
+asks_for_script words mode is script (commands.Threads n) fits = (λ e. cc, λ e. absurd (one_not_two mode (codes "threads") (count_text n) (sym is ∙ e)))
+
+pub asks_for_threads : (words : List (List ℕ)) (mode count : List ℕ) (m : ℕ) → words ≡ mode ∷ count ∷ [] → mode ≡ codes "threads" → ((n : ℕ) → IsCount n → (Some m ≡ Some n) ↔ (count ≡ count_text n)) → (command : Command) → IsCommand command
+    → (Some (commands.Threads m) ≡ Some command) ↔ (words ≡ command_words command)
+asks_for_threads words mode count m is threads exact commands.Script fits = (λ e. cc, λ e. absurd (one_not_two (codes "script") mode count (sym e ∙ is)))
+asks_for_threads words mode count m is threads exact (commands.Threads n) fits = (
+  λ e. let same : Some m ≡ Some n = cc in is ∙ (ap (λ t. t ∷ count ∷ []) threads ∙ ap (λ t. codes "threads" ∷ t ∷ []) ((exact n fits).0 same)),
+  λ e. let same : count ≡ count_text n = last_of_two (codes "threads") count (count_text n) (sym (is ∙ ap (λ t. t ∷ count ∷ []) threads) ∙ e) in
+      ap (λ k. Some (commands.Threads k)) (same_Some _ _ ((exact n fits).1 same)),
+)

@@ -1,0 +1,19 @@
+-- The words of each command, after the program's name.
+use Rattle.std.specs.Prelude.{ℕ, ◌+◌, ◌≤◌, List, [], ◌∷◌, codes}
+use Rattle.txn_commands.specs.declared.command.Command.{Command}
+use Rattle.txn_commands.specs.declared.command.Command.TheVariants as commands
+
+-- a count of workers, and the one digit that is its text
+abbrev pub IsCount : ℕ → Type 0
+IsCount n = (1 ≤ n) × (n ≤ 8)
+
+abbrev pub count_text : ℕ → List ℕ
+count_text n = (48 + n) ∷ []
+
+abbrev pub IsCommand : Command → Type 0
+IsCommand commands.Script = Unit {0}
+IsCommand (commands.Threads workers) = IsCount workers
+
+abbrev pub command_words : Command → List (List ℕ)
+command_words commands.Script = codes "script" ∷ []
+command_words (commands.Threads workers) = codes "threads" ∷ count_text workers ∷ []

@@ -1,0 +1,84 @@
+-- What a run of workers does and prints.
+use Rattle.std.specs.Prelude.{◌≡◌, ℕ, ◌+◌, ◌*◌, List, [], ◌∷◌, ◌++◌, Bool, true, false, Option, None, codes, count_by, decimal, find, map}
+use Rattle.std.specs.Option.{option_map}
+use Rattle.txn_lines.specs.declared.record.Record.{Record}
+use Rattle.txn_history.specs.declared.event.Call.TheVariants as calls
+use Rattle.txn_view_history.specs.declared.event.AnyCall.TheVariants as any
+use Rattle.txn_threads.specs.declared.work.Job.{Job}
+use Rattle.txn_threads.specs.declared.work.Job.TheVariants as jobs
+use Rattle.txn_threads.specs.declared.work.End.{End}
+use Rattle.txn_threads.specs.declared.work.End.TheVariants as ends
+use Rattle.txn_threads.specs.declared.work.Worked.{Worked}
+use Rattle.txn_threads.specs.declared.work.Worker.{Worker}
+use Rattle.txn_threads.specs.declared.gate.FreeGate.{FreeGate}
+use Rattle.txn_threads.specs.declared.kept.Share.{Share}
+use Rattle.txn_view_history.specs.Trace.{AnyRow}
+use Rattle.txn_history.specs.declared.trace.RowOf.TheVariants.{Effect, Begun, Answered}
+use Rattle.txn_commands.specs.declared.threads.Tally.{Tally}
+use Rattle.txn_commands.specs.declared.threads.Halt.{Halt}
+use Rattle.txn_commands.specs.declared.threads.Halt.TheVariants as halts
+use Rattle.txn_lines.specs.Printed.{stop_text}
+
+-- the k-th value of a worker, counted from 1
+abbrev pub value_of : ℕ → ℕ → Record
+value_of worker k = record { epoch = 0; payload = worker * 100 + k }
+
+-- a worker's jobs: the first version, and then four writes on what it reads
+abbrev pub job_list : ℕ → List (Job Record)
+job_list worker =
+    jobs.Call (any.Plain (calls.Write None (value_of worker 1))) ∷ jobs.WriteOnRead (value_of worker 2) ∷ jobs.WriteOnRead (value_of worker 3)
+    ∷ jobs.WriteOnRead (value_of worker 4) ∷ jobs.WriteOnRead (value_of worker 5) ∷ []
+
+abbrev pub verdict : Bool → List ℕ
+verdict true = codes "agree"
+verdict false = codes "differ"
+
+-- a name and its number on a line of their own, and what follows
+abbrev pub number_line : List ℕ → ℕ → List ℕ → List ℕ
+number_line name number rest = name ++ (decimal number ++ 10 ∷ rest)
+
+-- the lines of a run, the last without its line feed
+abbrev pub tally_text : Tally → List ℕ
+tally_text tally =
+    number_line (codes "workers ") tally.workers (number_line (codes "calls ") tally.calls (number_line (codes "answers ") tally.answers
+    (number_line (codes "history ") tally.history (codes "counts " ++ verdict tally.agree))))
+
+-- the line of a run that prints nothing else
+abbrev pub halt_text : Halt → List ℕ
+halt_text (halts.Worker number) = codes "worker " ++ (decimal number ++ codes " stopped")
+halt_text (halts.Stop stop) = stop_text stop
+
+-- a worker that left a job undone
+abbrev pub is_stopped : End → Bool
+is_stopped ends.Done = false
+is_stopped ends.GateSpent = true
+is_stopped ends.LimitSpent = true
+is_stopped (ends.Refused fault) = true
+
+-- the first of them
+abbrev pub stopped_worker : List Worked → Option ℕ
+stopped_worker worked = option_map (λ one. one.share.worker) (find (λ one. is_stopped one.end) worked)
+
+abbrev pub share_list : List Worked → List Share
+share_list worked = map (λ one. one.share) worked
+
+abbrev pub says_begun : AnyRow Record → Bool
+says_begun (Begun op call) = true
+says_begun (Answered op answer) = false
+says_begun (Effect op request) = false
+
+abbrev pub says_answered : AnyRow Record → Bool
+says_answered (Begun op call) = false
+says_answered (Answered op answer) = true
+says_answered (Effect op request) = false
+
+-- how many rows say that a call began, and how many that it was answered
+abbrev pub begun_count : List (AnyRow Record) → ℕ
+begun_count rows = count_by says_begun rows
+
+abbrev pub answered_count : List (AnyRow Record) → ℕ
+answered_count rows = count_by says_answered rows
+
+-- each worker has its share and its jobs
+abbrev pub IsCrew : List Share → List (Worker Record FreeGate) → Type 0
+IsCrew shares crew = map {B = Share × List (Job Record)} (λ worker. (worker.share, worker.jobs.items)) crew ≡ map {B = Share × List (Job Record)} (λ share. (share, job_list share.worker)) shares
