@@ -1,9 +1,11 @@
 //! The commands of `txnworld`: their words, and what a run of workers prints.
 ghost use Rattle.std.specs.Prelude.{◌≤◌};
 
-use std::alloc::{AllocError, Global};
+use std::alloc::{AllocError, AllocGlobal, Global};
 use std::str;
+use std::sync::Wait;
 use std::test::Fail;
+use std::thread::Threads;
 use txn_commands::command::{Command, command_of};
 use txn_commands::threads::{Halt, Tally, run_threads};
 use txn_lines::stop::Stop;
@@ -79,7 +81,7 @@ fn history_in(text: &str, workers: u64) -> Option<u64> {
 }
 
 /// The length of the history that so many workers leave, where they succeed and nothing is said on the other writer.
-fn history_of(rt: &HostRuntime, workers: u64) -> Option<u64>
+fn history_of(rt: &(impl Threads + Wait + Sync + AllocGlobal), workers: u64) -> Option<u64>
     requires some { 1 ≤ workers }
     requires few { workers ≤ 64 }
 {
