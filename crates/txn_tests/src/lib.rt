@@ -1,5 +1,5 @@
-//! Tests of lines, worlds, scripts and workers: what no clause says, and that each call succeeds with ample
-//! memory. Most are tables that one function plays; what a script shows stands in the folder `cases` at the top
+//! Tests of lines, worlds, scripts, workers and commands: what no clause says, and that each call succeeds with
+//! ample memory. Most are tables that one function plays; what a script shows stands in the folder `cases` at the top
 //! of the repository.
 #![tactic(auto)]
 
