@@ -1,33 +1,34 @@
 -- What the calls of a protocol over an object store make of what it stands for.
-use Rattle.std.proofs.Common.{◌≡◌, ◌⊎◌, ℕ, ◌+◌, ◌^◌, ◌<◌, ◌≤◌, nat_lt, List, [], ◌∷◌, ◌++◌, length, Option, Some, None, Result, Ok, Err, IsSome, IfOk, IfErr, refl, sym, ap, subst, ◌∙◌, inl, inr, arith}
+use Rattle.std.proofs.Common.{◌≡◌, ◌⊎◌, ℕ, ◌+◌, ◌^◌, ◌<◌, ◌≤◌, nat_lt, List, [], ◌∷◌, ◌++◌, length, Option, Some, None, Result, Ok, Err, IsSome, OnOk, IfOk, IfErr, refl, sym, ap, subst, ◌∙◌, inl, inr, arith}
 use Rattle.std.specs.FinMap as map
-use Rattle.std.proofs.lemmas.Bool.{cases_Bool, ltb-true, ltb-false}
+use Rattle.std.proofs.lemmas.Bool.{cases_Bool, ltb-true, ltb-false, eq-eqb, ne_eqb}
 use Rattle.std.proofs.lemmas.Option.{same_Some}
 use Rattle.txn_store.specs.Paths.{Segments}
 use Rattle.txn_store.specs.VersionName.{Names, version_path}
 use Rattle.txn_store.specs.Store.{State, Kept}
+use Rattle.txn_store.proofs.FileLemmas.{get-remove_same}
 use Rattle.txn_store.specs.declared.store.Got.{Got}
 use Rattle.txn_store.specs.declared.store.StoreError.TheVariants as errors
+use Rattle.txn_types.specs.Errors.{error_number}
 use Rattle.txn_types.specs.Numbers.{number_of}
 use Rattle.txn_types.specs.declared.error.TransactionalObjectError.{TransactionalObjectError}
 use Rattle.txn_types.specs.declared.error.TransactionalObjectError.TheVariants as kinds
 use Rattle.txn_caches.specs.declared.caches.Cached.{Cached}
 use Rattle.txn_caches.specs.Windows.{greatest_held}
-use Rattle.txn_drivers.specs.Calls.{SameAt, Spends}
+use Rattle.txn_drivers.specs.Calls.{SameAt, Spends, HasCauseOfRead, HasCauseOfGet}
 use Rattle.txn_drivers.specs.Standing.{FilesStand, WindowFits}
 use Rattle.txn_drivers.specs.WriteRuns.{VersionsStand, WriteLeaves, WriteStands, Written}
 use Rattle.txn_drivers.specs.RemovalRuns.{Deleted}
-use Rattle.txn_drivers.specs.LatestReads.{UpTo, Ended, IsLatest, Walked, IsStored, HasToList, IsProbed, IsListed}
+use Rattle.txn_drivers.specs.LatestReads.{UpTo, Ended, IsLatest, Walked, IsOneOf, IsStored, IsRefused, HasToList, IsProbed, IsListed}
 use Rattle.txn_drivers.specs.PageCount.{pages_below}
 use Rattle.txn_drivers.specs.ListRuns.{VersionsListed, ids_of}
-use Rattle.txn_drivers.specs.VersionReads.{VersionRead, SeenRead}
+use Rattle.txn_drivers.specs.VersionReads.{AreRefused, VersionRead, SeenRead}
 use Rattle.txn_steps.specs.Listed.{Listed}
 use Rattle.std.specs.declared.ops.Bound.{Bound}
 use Rattle.txn_drivers.proofs.NextPages.{has_pages}
-use Rattle.txn_drivers.proofs.Windows.{greatest_fits}
 use Rattle.txn_drivers.proofs.Frames.{same_at-kept, kept-refl, FilesStand-kept}
-use Rattle.slatedb_txn_obj.specs.Protocol.{base_number, Entered, Overtaken, MayAppend, LatestOrFenced, IsEntry, AreListed, IsWarmRead}
-use Rattle.slatedb_txn_obj.specs.Whole.{Whole, IsGreatestHeld}
+use Rattle.slatedb_txn_obj.specs.Protocol.{base_number, Entered, Overtaken, MayAppend, LatestOrFenced, IsEntry, AreListed, IsWarmRead, Unheld, HasCauseOfLatestUnchecked, HasCauseOfVersion}
+use Rattle.slatedb_txn_obj.specs.Whole.{Whole, IsGreatestHeld, IsMissing, probe_calls}
 
 -- the number of a base, both ways
 pub base_is : (base : Option ℕ) → base_number (λ n. n) base ≡ number_of base
@@ -192,11 +193,15 @@ module _ {T : Type 0} (names : Names) (decode : List ℕ → Option T) (bounds b
         let low = fenced.1 in
         absurd (omega (arith, above, up, low))
 
-  few_calls : (page : ℕ) (turns turns' : ℕ) (id : ℕ) (result : Result (Option (ℕ × T)) TransactionalObjectError) → Ended names page decode old new turns turns' latest latest' result → ((id + 1 ≡ 2 ^ 64) × (new.calls ≡ old.calls)) ⊎ ((id + 1 < 2 ^ 64) × (new.calls ≡ old.calls + 1)) → Spends 1 0 old new
-  few_calls page turns turns' id result ended calls =
+  -- it looked once for a successor of that id, where one may follow
+  probed_calls : (id : ℕ) → ((id + 1 ≡ 2 ^ 64) × (new.calls ≡ old.calls)) ⊎ ((id + 1 < 2 ^ 64) × (new.calls ≡ old.calls + 1)) → new.calls ≡ old.calls + probe_calls id
+  probed_calls id (inl none) = let same = none.1 in rw (eq-eqb (id + 1) (2 ^ 64) none.0) (omega (arith, same))
+  probed_calls id (inr one) = let small = one.0 in let more = one.1 in rw (ne_eqb (id + 1) (2 ^ 64) (λ same. omega (arith, small, same))) more
+
+  few_calls : (page : ℕ) (turns turns' : ℕ) (calls : ℕ) (result : Result (Option (ℕ × T)) TransactionalObjectError) → Ended names page decode old new turns turns' latest latest' result → new.calls ≡ old.calls + calls → Spends calls 0 old new
+  few_calls page turns turns' calls result ended made =
       let spends = ended.spends in
-      let most : new.calls ≤ old.calls + 1 = elim calls [ inl none ↦ let same = none.1 in omega (arith, same) | inr one ↦ let more = one.1 in omega (arith, more) ] in
-      record { calls_rise = spends.calls_rise; calls_most = most; failures_rise = spends.failures_rise; left_falls = spends.left_falls; left_least = spends.left_least }
+      record { calls_rise = spends.calls_rise; calls_most = omega (arith, made); failures_rise = spends.failures_rise; left_falls = spends.left_falls; left_least = spends.left_least }
 
   -- a read of the newest version
   pub whole-found : (page : ℕ) (turns turns' : ℕ) (result : Result (Option (ℕ × T)) TransactionalObjectError) → Ended names page decode old new turns turns' latest latest' result
@@ -210,17 +215,15 @@ module _ {T : Type 0} (names : Names) (decode : List ℕ → Option T) (bounds b
   whole-read page turns turns' result ended h b whole = whole-kept ended.kept h b (λ fits. (ended.stands h b whole.versions.files_stand fits).window) whole
 
   pub whole-warm : (page : ℕ) (turns turns' : ℕ) (result : Result (Option (ℕ × T)) TransactionalObjectError) → Ended names page decode old new turns turns' latest latest' result
-      → (h : List T) (b : ℕ) → Whole bounds file names decode latest old.files h b → IsGreatestHeld latest (length h) → IsWarmRead 1 0 (λ n. n) h turns turns' old new result
-  whole-warm page turns turns' (Ok None) ended h b whole (version, is, at) =
+      → (h : List T) (b : ℕ) → Whole bounds file names decode latest old.files h b → IsGreatestHeld latest (length h) → 0 < length h → IsWarmRead (probe_calls (length h)) 0 (λ n. n) h turns turns' old new result
+  whole-warm page turns turns' (Ok None) ended h b whole (version, is, at) some =
       let stands = ended.stands h b whole.versions.files_stand whole.versions.window_fits in
       absurd (no_versions version latest stands.answer.1 is)
-  whole-warm page turns turns' (Ok (Some read)) ended h b whole (version, is, at) =
+  whole-warm page turns turns' (Ok (Some read)) ended h b whole (version, is, at) some =
       let stands = ended.stands h b whole.versions.files_stand whole.versions.window_fits in
-      let carried = greatest_fits decode h b latest version whole.versions.window_fits is in
-      let positive = carried.positive in
-      let some : 0 < length h = omega (arith, positive, at) in
-      (newest_of h b version is at whole.versions.files_stand ended.spent ended.calls read some ended.answer.0 stands.answer, few_calls page turns turns' version.id (Ok (Some read)) ended (stands.at_newest version is at), (let none = probed_unspent h b version is at whole.versions.files_stand ended.spent ended.calls read.0 read.1 ended.answer.0 in let all = ended.spent_is in omega (arith, none, all)))
-  whole-warm page turns turns' (Err error) ended h b whole warm = tt
+      let made : new.calls ≡ old.calls + probe_calls (length h) = subst (λ n. new.calls ≡ old.calls + probe_calls n) at (probed_calls version.id (stands.at_newest version is at)) in
+      (newest_of h b version is at whole.versions.files_stand ended.spent ended.calls read some ended.answer.0 stands.answer, few_calls page turns turns' (probe_calls (length h)) (Ok (Some read)) ended made, made, (let none = probed_unspent h b version is at whole.versions.files_stand ended.spent ended.calls read.0 read.1 ended.answer.0 in let all = ended.spent_is in omega (arith, none, all)))
+  whole-warm page turns turns' (Err error) ended h b whole warm some = tt
 
   -- a read of a version that was perhaps seen
   pub whole-seen : (id : ℕ) (result : Result (Option T) TransactionalObjectError) → SeenRead names decode old new latest latest' id result → IfOk result (λ answer. (h : List T) (b : ℕ) → Whole bounds file names decode latest old.files h b → IsEntry h b id answer)
@@ -229,6 +232,62 @@ module _ {T : Type 0} (names : Names) (decode : List ℕ → Option T) (bounds b
 
   pub whole-seen_kept : (id : ℕ) (result : Result (Option T) TransactionalObjectError) → SeenRead names decode old new latest latest' id result → (h : List T) (b : ℕ) → Whole bounds file names decode latest old.files h b → Whole bounds' file names decode latest' new.files h b
   whole-seen_kept id result read h b whole = whole-kept read.kept h b (λ fits. (read.stands h b whole.versions.files_stand fits).1) whole
+
+-- whatever stands decodes
+module _ {T : Type 0} (names : Names) (decode : List ℕ → Option T) (old : State) (h : List T) (b : ℕ) (stand : FilesStand names decode old.files h b) where
+  decodes_not : (answer : Option T) → IsSome answer → answer ≡ None → ⊥
+  decodes_not None some none = cc
+  decodes_not (Some value) some none = cc
+
+  stored_decodes : (id : ℕ) → id < 2 ^ 64 → AreRefused names decode old.files id → ⊥
+  stored_decodes id fits (got, is_file, refused) = decodes_not (decode got.bytes) (stand.known id got fits is_file).2 refused
+
+  held_decodes : (latest : List Cached) (version : Cached) → WindowFits decode h b latest → IsOneOf latest version → decode version.bytes ≡ None → ⊥
+  held_decodes [] version fits one refused = absurd one
+  held_decodes (first ∷ versions) version fits (inl one) refused = decodes_not (decode first.bytes) fits.0.decodes (ap (λ (v : Cached). decode v.bytes) one ∙ refused)
+  held_decodes (first ∷ versions) version fits (inr one) refused = held_decodes versions version fits.1 one refused
+
+  none_refused : (latest : List Cached) → WindowFits decode h b latest → IsRefused names decode old.files latest → ⊥
+  none_refused latest fits (version, inl held, refused) = held_decodes latest version fits held refused
+  none_refused latest fits (version, inr stored, refused) = stored_decodes version.id stored.small (stored.file, stored.is_file, ap decode (sym stored.bytes) ∙ refused)
+
+-- why reads of a protocol failed
+module _ {T : Type 0} (names : Names) (decode : List ℕ → Option T) (bounds : ℕ → Type 0) (file : Segments) (old new : State) (latest : List Cached) where
+  abbrev stood : List T → ℕ → Type 0
+  stood h b = Whole bounds file names decode latest old.files h b
+
+  unheld : IsRefused names decode old.files latest → Unheld stood
+  unheld refused h b whole = none_refused names decode old h b whole.versions.files_stand latest whole.versions.window_fits refused
+
+  latest_by : (left : ℕ) (error : TransactionalObjectError) → HasCauseOfRead left old new error → (error_number error ≡ 8 → IsRefused names decode old.files latest) → HasCauseOfLatestUnchecked (Unheld stood) left old new error
+  latest_by left kinds.TurnsExhausted cause refused = cause
+  latest_by left (kinds.CallbackError error) cause refused = unheld (refused refl)
+  latest_by left (kinds.ObjectStoreError error) cause refused = cause
+  latest_by left kinds.NoMemory cause refused = cause
+  latest_by left error cause refused = absurd cause
+
+  version_by : (error : TransactionalObjectError) → HasCauseOfGet old new error → (error_number error ≡ 8 → Unheld stood) → HasCauseOfVersion (Unheld stood) old new error
+  version_by (kinds.CallbackError error) cause refused = refused refl
+  version_by (kinds.ObjectStoreError error) cause refused = cause
+  version_by kinds.NoMemory cause refused = cause
+  version_by error cause refused = absurd cause
+
+  pub whole-latest_cause : (page : ℕ) (turns turns' : ℕ) (latest' : List Cached) (result : Result (Option (ℕ × T)) TransactionalObjectError) → Ended names page decode old new turns turns' latest latest' result → IfErr result (HasCauseOfLatestUnchecked (Unheld stood) turns' old new)
+  whole-latest_cause page turns turns' latest' (Ok read) ended = tt
+  whole-latest_cause page turns turns' latest' (Err error) ended = latest_by turns' error ended.cause ended.refused
+
+  pub whole-version_cause : (id : ℕ) (result : Result (Option T) TransactionalObjectError) → id < 2 ^ 64 → VersionRead names decode old new id result → IfErr result (HasCauseOfVersion (Unheld stood) old new)
+  whole-version_cause id (Ok answer) small read = tt
+  whole-version_cause id (Err error) small read = version_by error read.cause (λ is h b whole. stored_decodes names decode old h b whole.versions.files_stand id small (read.refused is))
+
+  pub whole-seen_cause : (id : ℕ) (latest' : List Cached) (result : Result (Option T) TransactionalObjectError) → SeenRead names decode old new latest latest' id result → IfErr result (HasCauseOfVersion (Unheld stood) old new)
+  whole-seen_cause id latest' (Ok answer) read = tt
+  whole-seen_cause id latest' (Err error) read = version_by error read.cause (λ is. unheld (read.refused is))
+
+-- where a delete is done no file stands under the version's name
+pub whole-removed : {T : Type 0} (names : Names) (decode : List ℕ → Option T) (id : ℕ) (old new : State) (latest latest' : List Cached) (result : Result (Unit {0}) TransactionalObjectError) → Deleted names decode id old new latest latest' result → OnOk result (IsMissing names new.files id)
+whole-removed names decode id old new latest latest' (Ok done) deleted = ap (λ files. map.get files (version_path names id)) deleted.ends.leaves.0.files ∙ get-remove_same old.files (version_path names id)
+whole-removed names decode id old new latest latest' (Err error) deleted = tt
 
 -- a read of one version
 pub whole-version : {T : Type 0} (names : Names) (decode : List ℕ → Option T) (bounds : ℕ → Type 0) (file : Segments) (old new : State) (latest : List Cached) (id : ℕ) (result : Result (Option T) TransactionalObjectError) → VersionRead names decode old new id result → IfOk result (λ answer. (h : List T) (b : ℕ) → Whole bounds file names decode latest old.files h b → IsEntry h b id answer)

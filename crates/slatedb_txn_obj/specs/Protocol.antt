@@ -74,9 +74,9 @@ abbrev pub LatestBy : {T Id : Type 0} → (Id → ℕ) → List T → Option (Id
 LatestBy number h None = h ≡ []
 LatestBy number h (Some read) = IsLatest h (number read.0) read.1
 
--- a read that answers, where the newest version was held: the last entry, with so many calls and turns at most
+-- a read that answers, where the newest version was held: the last entry, with exactly so many calls, no token taken, and so many turns at most
 abbrev pub IsWarmRead : {T Id : Type 0} → ℕ → ℕ → (Id → ℕ) → List T → ℕ → ℕ → State → State → Result (Option (Id × T)) TransactionalObjectError → Type 0
-IsWarmRead calls spent number h turns turns' old new result = IfOk result (λ read. LatestBy number h read × Spends calls 0 old new × (turns ≤ turns' + spent))
+IsWarmRead calls spent number h turns turns' old new result = IfOk result (λ read. LatestBy number h read × Spends calls 0 old new × (new.calls ≡ old.calls + calls) × (turns ≤ turns' + spent))
 
 -- a conflict, no number above the base, a boundary file that says no boundary where none stood, or a failure with its cause
 abbrev pub HasCauseOfWrite : Type 0 → ℕ → State → State → TransactionalObjectError → Type 0
@@ -85,10 +85,22 @@ HasCauseOfWrite unheld base old new IdExhausted = base + 1 ≡ 2 ^ 64
 HasCauseOfWrite unheld base old new InvalidObjectState = unheld
 HasCauseOfWrite unheld base old new error = HasCause old new error
 
+-- Why reads fail. The bytes of whatever stands decode, so a codec refuses some only where nothing stood.
+-- turns that were spent, a codec that refused, or a failure with its cause
+abbrev pub HasCauseOfLatestUnchecked : Type 0 → ℕ → State → State → TransactionalObjectError → Type 0
+HasCauseOfLatestUnchecked unheld left old new TurnsExhausted = left ≡ 0
+HasCauseOfLatestUnchecked unheld left old new (CallbackError error) = unheld
+HasCauseOfLatestUnchecked unheld left old new error = HasCause old new error
+
+-- a codec that refused, or a failure with its cause
+abbrev pub HasCauseOfVersion : Type 0 → State → State → TransactionalObjectError → Type 0
+HasCauseOfVersion unheld old new (CallbackError error) = unheld
+HasCauseOfVersion unheld old new error = HasCause old new error
+
 -- turns that were spent, a codec that refused, a boundary file that says no boundary where none stood, or a failure with its cause
 abbrev pub HasCauseOfLatest : Type 0 → ℕ → State → State → TransactionalObjectError → Type 0
 HasCauseOfLatest unheld left old new TurnsExhausted = left ≡ 0
-HasCauseOfLatest unheld left old new (CallbackError error) = Unit {0}
+HasCauseOfLatest unheld left old new (CallbackError error) = unheld
 HasCauseOfLatest unheld left old new InvalidObjectState = unheld
 HasCauseOfLatest unheld left old new error = HasCause old new error
 

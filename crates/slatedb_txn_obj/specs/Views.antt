@@ -9,7 +9,7 @@ use Rattle.txn_types.specs.declared.error.TransactionalObjectError.{Transactiona
 use Rattle.txn_types.specs.declared.error.TransactionalObjectError.TheVariants.{Fenced, InvalidObjectState, CallbackError, LatestRecordMissing, IdExhausted, TurnsExhausted}
 use Rattle.txn_drivers.specs.Calls.{HasCause}
 use Rattle.txn_drivers.specs.LatestReads.{IsLatest}
-use Rattle.slatedb_txn_obj.specs.Protocol.{HasCauseOfWrite, HasCauseOfLatest}
+use Rattle.slatedb_txn_obj.specs.Protocol.{Unheld, HasCauseOfWrite, HasCauseOfLatest}
 
 module _ {T : Type 0} where
   -- the value is the entry of that number
@@ -32,9 +32,10 @@ module _ {T : Type 0} where
   abbrev pub IsEmpty : (before : List T → ℕ → Type 0) → Type 0
   IsEmpty before = (h : List T) (b : ℕ) → before h b → h ≡ []
 
-  -- nothing was stored, or what a read of the newest fails for
+  -- nothing was stored, a codec refused where nothing stood, or what else a read of the newest fails for
   abbrev pub HasCauseOfRefresh : (before : List T → ℕ → Type 0) → ℕ → State → State → TransactionalObjectError → Type 0
   HasCauseOfRefresh before left old new InvalidObjectState = IsEmpty before
+  HasCauseOfRefresh before left old new (CallbackError error) = Unheld before
   HasCauseOfRefresh before left old new error = HasCauseOfLatest ⊥ left old new error
 
 -- every invariant holds; or each one before some does, which fails with this

@@ -1,5 +1,6 @@
 -- When a protocol over an object store and its store stand for a history and a boundary.
-use Rattle.std.specs.Prelude.{◌≡◌, ℕ, ◌^◌, ◌<◌, List, Option, Some, Result, Ok, Err}
+use Rattle.std.specs.Prelude.{◌≡◌, ℕ, ◌+◌, ◌^◌, ◌<◌, ◌==◌, not, List, Option, Some, None, Result, Ok, Err}
+use Rattle.std.specs.FinMap as map
 use Rattle.txn_store.specs.Paths.{Segments}
 use Rattle.txn_store.specs.VersionName.{Names, version_path}
 use Rattle.txn_store.specs.Store.{Files}
@@ -8,6 +9,7 @@ use Rattle.txn_types.specs.declared.error.TransactionalObjectError.{Transactiona
 use Rattle.txn_types.specs.declared.error.TransactionalObjectError.TheVariants.{ObjectVersionExists}
 use Rattle.txn_caches.specs.declared.caches.Cached.{Cached}
 use Rattle.txn_caches.specs.Windows.{greatest_held, above}
+use Rattle.txn_drivers.specs.Calls.{one_if}
 use Rattle.txn_drivers.specs.WriteRuns.{VersionsStand}
 
 -- a protocol as a clause sees it: where its versions lie, which it holds, and its boundary
@@ -29,6 +31,14 @@ StandsFor bounds file decoded protocol files h b = Whole bounds file protocol.la
 -- the version of an id is held, and none above it
 abbrev pub IsGreatestHeld : List Cached → ℕ → Type 0
 IsGreatestHeld latest id = (version : Cached) × (greatest_held latest ≡ Some version) × (version.id ≡ id)
+
+-- no file stands under the name of a version
+abbrev pub IsMissing : Names → Files → ℕ → Type 0
+IsMissing names files id = map.get files (version_path names id) ≡ None
+
+-- how many calls look for a successor of an id: none where no id follows it
+abbrev pub probe_calls : ℕ → ℕ
+probe_calls id = one_if (not (id + 1 == 2 ^ 64))
 
 -- what a check leaves of the held versions: those above an id that it refused
 abbrev pub after_check : ℕ → Result (Unit {0}) TransactionalObjectError → List Cached → List Cached

@@ -1,20 +1,20 @@
 -- What a check and an advance make of what a protocol over an object store stands for.
-use Rattle.std.specs.Prelude.{◌≡◌, ◌⊎◌, ℕ, ◌<◌, ◌≤◌, List, [], length, Option, Result, Ok, Err}
-use Rattle.std.proofs.Common.{refl, ◌∙◌}
+use Rattle.std.specs.Prelude.{◌≡◌, ◌⊎◌, ℕ, ◌+◌, ◌^◌, ◌<◌, ◌≤◌, ◌==◌, Bool, true, false, not, List, [], length, Option, Result, Ok, Err}
+use Rattle.std.proofs.Common.{refl, ◌∙◌, arith}
 use Rattle.txn_store.specs.Paths.{Segments}
 use Rattle.txn_store.specs.VersionName.{version_path}
 use Rattle.txn_store.specs.Store.{Files, State}
 use Rattle.txn_types.specs.declared.error.TransactionalObjectError.{TransactionalObjectError}
 use Rattle.txn_types.specs.declared.error.TransactionalObjectError.TheVariants as kinds
 use Rattle.txn_caches.specs.declared.caches.Cached.{Cached}
-use Rattle.txn_drivers.specs.Calls.{SameBut}
+use Rattle.txn_drivers.specs.Calls.{one_if, SameBut}
 use Rattle.txn_drivers.specs.LatestReads.{UpTo}
 use Rattle.txn_drivers.specs.PageCount.{pages_below}
 use Rattle.txn_drivers.specs.Standing.{WindowFits}
 use Rattle.txn_drivers.proofs.Effects.{raised_window}
 use Rattle.txn_drivers.proofs.Standings.{files_same, files_raised, none_above}
 use Rattle.txn_drivers.proofs.Windows.{above_fits}
-use Rattle.slatedb_txn_obj.specs.Whole.{Protocol, Whole, after_check, after_advance, Checks, Advances}
+use Rattle.slatedb_txn_obj.specs.Whole.{Protocol, Whole, probe_calls, after_check, after_advance, Checks, Advances}
 
 module _ {T : Type 0} (decode : List ℕ → Option T) (h : List T) (b : ℕ) where
   checked_fits : (id : ℕ) (result : Result (Unit {0}) TransactionalObjectError) (latest : List Cached) → WindowFits decode h b latest → WindowFits decode h b (after_check id result latest)
@@ -56,3 +56,11 @@ refused-fresh inner id p q checks up = checks.latest_is ∙ none_above id p.late
 -- a check leaves the pages of a listing
 pub pages-checked : {C B : Type 0} (inner : Type 0) (id : ℕ) (result : Result (Unit {0}) TransactionalObjectError) (p q : Protocol C B) (files files' : Files) → files' ≡ files → Checks inner id result p q → pages_below q.layout.names q.layout.page files' ≡ pages_below p.layout.names p.layout.page files
 pages-checked inner id result p q files files' same checks = rw (checks.same_layout, same) refl
+
+-- one call at most looks for a successor
+one_if_few : (b : Bool) → one_if b ≤ 1
+one_if_few true = omega arith
+one_if_few false = omega arith
+
+pub probe_few : (id : ℕ) → probe_calls id ≤ 1
+probe_few id = one_if_few (not (id + 1 == 2 ^ 64))

@@ -26,6 +26,9 @@ pub trait BoundaryObject<S: ObjectStore> {
     /// What a check of an id that answers so may leave of the object and the store.
     ghost checks_to: { Self → S → ℕ → Result (Unit {0}) TransactionalObjectError → Self → S → Type 0 };
 
+    /// How many calls of the store a check makes that accepts an id.
+    ghost check_calls: { ℕ };
+
     /// Checks that an id is above the boundary. An id at or below it is `ObjectVersionExists`. Any other error names a cause
     /// that occurred: the store's own error in `ObjectStoreError`, a growth that was refused in `NoMemory`, and
     /// `InvalidObjectState` only where the object and the store stood for no boundary. It makes one call of the store at most,
@@ -35,6 +38,7 @@ pub trait BoundaryObject<S: ObjectStore> {
         ensures fenced { IsErrOf result TransactionalObjectError.ObjectVersionExists → (b : ℕ) → bounds self.old store.old b → id ≤ b }
         ensures cause { IfErr result (HasCauseOfCheck ((b : ℕ) → bounds self.old store.old b → ⊥) (S.state store.old) (S.state store.new)) }
         ensures spends { Spends 1 0 (S.state store.old) (S.state store.new) }
+        ensures asked { OnOk result ((S.state store.new).calls ≡ (S.state store.old).calls + check_calls) }
         ensures moved { checks_to self.old store.old id result self.new store.new };
 
     /// What an advance to a target that answers so may leave of the object and the store.
@@ -58,6 +62,9 @@ pub trait BoundaryObject<S: ObjectStore> {
         ensures few { (b : ℕ) → bounds self.old store.old b → turns.old ≤ turns.new + 2 }
         ensures enough { (b : ℕ) → bounds self.old store.old b → 2 ≤ turns.old → IsErrOf result TransactionalObjectError.TurnsExhausted → ⊥ }
         ensures moved { advances_to self.old store.old id result self.new store.new };
+
+    /// They are one at most.
+    ghost check_calls_few: { check_calls ≤ 1 };
 
     /// Whoever leaves the file, and forgets no token, leaves the boundary.
     ghost bounds_frame: { (p : Self) (s t : S) (b : ℕ) → SameAt (file p) (S.state s) (S.state t) → bounds p s b → bounds p t b };

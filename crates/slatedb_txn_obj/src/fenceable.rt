@@ -216,11 +216,14 @@ impl<T: Clone, I: Invariant<T> + Drop, X: EpochField<T>> TransactionalObject<T, 
         self.delegate.object()
     }
 
+    /// Where its version has a greater epoch than the holder's it is `Fenced`, and where a smaller one `InvalidObjectState`.
     fn prepare_dirty(&self) -> Result<DirtyObject<T, MonotonicId>, TransactionalObjectError> {
         self.check_epoch()?;
         self.delegate.prepare_dirty()
     }
 
+    /// The version that it read shuts it out where its epoch is greater than the holder's, which is `Fenced`, or smaller, which
+    /// is `InvalidObjectState`; the holder is at it then, with the epoch that it has claimed.
     fn refresh<S: ObjectStore, P: TransactionalStorageProtocol<T, MonotonicId, S>>(
         &mut self,
         protocol: &mut P,
@@ -232,6 +235,8 @@ impl<T: Clone, I: Invariant<T> + Drop, X: EpochField<T>> TransactionalObject<T, 
         Ok(self.delegate.object())
     }
 
+    /// Where its version has a greater epoch than the holder's it is `Fenced`, and where a smaller one `InvalidObjectState`. A
+    /// candidate with another epoch than the holder's is `InvalidObjectState`. Nothing is written then.
     fn update<S: ObjectStore, P: TransactionalStorageProtocol<T, MonotonicId, S>>(
         &mut self,
         protocol: &mut P,

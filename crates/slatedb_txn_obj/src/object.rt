@@ -62,7 +62,9 @@ pub trait TransactionalObject<T: Clone, Id: Copy + Eq> {
 
     /// Reads the newest version, and is at it then. Each pass of the read spends a turn, and so does each page after the
     /// first that it lists; where one is due and none is left, it is `TurnsExhausted`. Where nothing is stored, it is
-    /// `InvalidObjectState`. After an error the object is as it was; only where the version that it read shuts it is it at that version.
+    /// `InvalidObjectState`. Where the version that it read shuts it, it is that error, as `Fenced`, and the object is at that
+    /// version. Its other errors are those of the read, `CallbackError`, `ObjectStoreError` and `NoMemory`, and after them the
+    /// object is as it was.
     fn refresh<S: ObjectStore, P: TransactionalStorageProtocol<T, Id, S>>(
         &mut self,
         protocol: &mut P,
@@ -80,9 +82,11 @@ pub trait TransactionalObject<T: Clone, Id: Copy + Eq> {
         ensures paged { (h : List T) (b : ℕ) → P.stands protocol.old store.old h b → P.pages protocol.new store.new ≡ P.pages protocol.old store.old };
 
     /// Writes the candidate's value on the version that the object is at, and is at the new version then. A candidate of
-    /// another id, and a version that isn't the newest, is `ObjectVersionExists`. After an error the object is as it was;
-    /// the value may have been written, unless the error is a refusal before the write. It makes at most two calls of the
-    /// store and takes at most one token.
+    /// another id, and a version that isn't the newest, is `ObjectVersionExists`. A candidate that the object refuses, as one
+    /// that an invariant fails for, is that error, and nothing is written. Its other errors are those of the write:
+    /// `IdExhausted` where the version has the greatest id, `InvalidObjectState` where the boundary file says no number,
+    /// `ObjectStoreError` and `NoMemory`. After an error the object is as it was; the value may have been written, unless the
+    /// error is a refusal before the write. It makes at most two calls of the store and takes at most one token.
     fn update<S: ObjectStore, P: TransactionalStorageProtocol<T, Id, S>>(
         &mut self,
         protocol: &mut P,

@@ -9,18 +9,98 @@ use txn_types::error::TransactionalObjectError;
 use txn_types::id::MonotonicId;
 use txn_types::identified::IdentifiedObjectMetadata;
 
+/// A protocol that writes a value where the newest version is the base, and reads the newest.
+///
+/// `ObjectStoreError(Failed)` comes only where the store failed, `ObjectStoreError(TokensExhausted)` only where the store has
+/// no token left, and `NoMemory` where a growth was refused.
+pub trait TransactionalStorageProtocol<T, Id, S: ObjectStore> {
+    ghost use Rattle.std.specs.Prelude.{ℕ, List, length, ◌≡◌, ◌+◌, ◌*◌, ◌<◌, ◌≤◌, OnOk, IfOk, IfErr, IsErrOf};
+    ghost use Rattle.txn_drivers.specs.Calls.{Spends, SpendsTurns};
+    ghost use Rattle.slatedb_txn_obj.specs.Protocol.{base_number, Appended, Overtaken, MayAppend, Stays, IsWarmRead, LatestBy, Unheld, UnheldAt, HasCauseOfWrite, HasCauseOfLatest};
+
+    /// This protocol and a store stand for a history and a boundary.
+    ghost stands: { Self → S → List T → ℕ → Type 0 };
+
+    /// Which number an id stands for.
+    ghost number: { Id → ℕ };
+
+    /// The version of this number is held, and none above it.
+    ghost at_hand: { Self → ℕ → Type 0 };
+
+    /// How many calls of the store a read makes that answers, where the newest version has this number and is at hand.
+    ghost warm_calls: { ℕ → ℕ };
+
+    /// How many pages a listing has.
+    ghost pages: { Self → S → ℕ };
+
+    /// Writes the value as the version above the base, or as version 1 where there is none, and answers its id. It makes at
+    /// most two calls of the store, and takes at most one token.
+    ///
+    /// Where the base isn't the newest version it is `ObjectVersionExists`, and what stood stands. A sequenced protocol may
+    /// then have created a version, whose id the boundary had reached; no reader sees it. The greatest id as base is
+    /// `IdExhausted`, without a call of the store. After any other error the value may have been written:
+    /// `InvalidObjectState`, where the boundary file says no number, `ObjectStoreError` and `NoMemory`.
+    fn write(
+        &mut self,
+        store: &mut S,
+        base: Option<Id>,
+        value: &T,
+    ) -> Result<Id, TransactionalObjectError>
+        ensures appended { IfOk result (λ id. Appended (stands self.old store.old) (stands self.new store.new) (base_number number base) value.now (number id)) }
+        ensures conflict { IsErrOf result TransactionalObjectError.ObjectVersionExists → Overtaken (stands self.old store.old) (stands self.new store.new) (base_number number base) }
+        ensures err { IfErr result (λ _. MayAppend (stands self.old store.old) (stands self.new store.new) (base_number number base) value.now) }
+        ensures cause { IfErr result (HasCauseOfWrite (UnheldAt (stands self.old store.old) (base_number number base)) (base_number number base) (S.state store.old) (S.state store.new)) }
+        ensures spends { Spends 2 1 (S.state store.old) (S.state store.new) }
+        ensures paged { (h : List T) (b : ℕ) → stands self.old store.old h b → base_number number base ≤ length h → pages self.new store.new ≤ pages self.old store.old + 1 };
+
+    /// The newest version and its value, or nothing where there is none. Each pass, and each page after the first that a pass
+    /// lists, spends a turn. It makes at most seven calls of the store for each turn that it spends; where the newest version
+    /// is at hand, it is `warm_calls` where it answers, and one turn.
+    ///
+    /// `TurnsExhausted` comes where a turn is due and none is left. Where nothing stood, a value that the codec refuses is
+    /// `CallbackError`, and a boundary file that says no number `InvalidObjectState`. The other errors are
+    /// `ObjectStoreError` and `NoMemory`. What it stood for stands, also after an error.
+    fn try_read_latest(
+        &mut self,
+        store: &mut S,
+        turns: &mut Turns,
+    ) -> Result<Option<(Id, T)>, TransactionalObjectError>
+        ensures latest { IfOk result (λ r. (h : List T) (b : ℕ) → stands self.old store.old h b → LatestBy number h r) }
+        ensures kept { Stays (stands self.old store.old) (stands self.new store.new) }
+        ensures few { (h : List T) (b : ℕ) → stands self.old store.old h b → turns.old ≤ turns.new + 2 * pages self.old store.old }
+        ensures enough { (h : List T) (b : ℕ) → stands self.old store.old h b → 2 * pages self.old store.old ≤ turns.old → IsErrOf result TransactionalObjectError.TurnsExhausted → ⊥ }
+        ensures warm { (h : List T) (b : ℕ) → stands self.old store.old h b → at_hand self.old (length h) → 0 < length h → IsWarmRead (warm_calls (length h)) 1 number h turns.old turns.new (S.state store.old) (S.state store.new) result }
+        ensures spends { SpendsTurns 7 0 0 turns.old turns.new (S.state store.old) (S.state store.new) }
+        ensures paged { (h : List T) (b : ℕ) → stands self.old store.old h b → pages self.new store.new ≡ pages self.old store.old }
+        ensures cause { IfErr result (HasCauseOfLatest (Unheld (stands self.old store.old)) turns.new (S.state store.old) (S.state store.new)) };
+
+    /// They are two at most.
+    ghost warm_calls_few: { (n : ℕ) → warm_calls n ≤ 2 };
+
+    /// A listing has one page at least.
+    ghost pages_some: { (p : Self) (s : S) → 1 ≤ pages p s };
+
+    /// No two ids stand for one number.
+    ghost one_number: { (a b : Id) → number a ≡ number b → a ≡ b };
+}
+
 /// Versions in sequence, each under an id of its own, over a boundary.
 ///
 /// Each type says by a relation of its own when it and a store stand for a history of values and a boundary. What its calls
 /// answer and move is said where they stand; what they cost, and why they fail, always.
+///
+/// Three errors mean the same in every call: `ObjectStoreError(Failed)` comes only where the store failed,
+/// `ObjectStoreError(TokensExhausted)` only where the store has no token left, and `NoMemory` where a growth was refused. A
+/// value that the codec refuses is `CallbackError`: where a history stands no version has such bytes. Each call says which
+/// other errors it has, and what an error leaves.
 pub trait SequencedStorageProtocol<T, S: ObjectStore>: BoundaryObject<S> {
     ghost use Rattle.std.specs.Prelude.{ℕ, List, length, map, ◌≡◌, ◌⊎◌, ◌+◌, ◌<◌, ◌≤◌, OnOk, IfOk, IfErr, IsErrOf};
     ghost use Rattle.std.specs.Prelude.{Result, Err};
     ghost use Rattle.txn_types.specs.declared.error.TransactionalObjectError.{TransactionalObjectError};
     ghost use Rattle.txn_types.specs.declared.error.TransactionalObjectError.TheVariants.{ObjectVersionExists};
     ghost use Rattle.txn_types.specs.declared.identified.IdentifiedObjectMetadata.{IdentifiedObjectMetadata};
-    ghost use Rattle.txn_drivers.specs.Calls.{HasCause, HasCauseOfGet, HasCauseOfPut, HasCauseOfRead, Spends, SpendsTurns};
-    ghost use Rattle.slatedb_txn_obj.specs.Protocol.{base_number, LatestOrFenced, IsEntry, AreListed, Entered, Overtaken, MayAppend, Stays, IsWarmRead, HasCauseOfDelete};
+    ghost use Rattle.txn_drivers.specs.Calls.{HasCause, HasCauseOfPut, Spends, SpendsTurns};
+    ghost use Rattle.slatedb_txn_obj.specs.Protocol.{base_number, LatestOrFenced, IsEntry, AreListed, Entered, Overtaken, MayAppend, Stays, IsWarmRead, Unheld, HasCauseOfLatestUnchecked, HasCauseOfVersion, HasCauseOfDelete};
 
     /// This protocol and a store stand for a history and a boundary.
     ghost stands: { Self → S → List T → ℕ → Type 0 };
@@ -34,12 +114,21 @@ pub trait SequencedStorageProtocol<T, S: ObjectStore>: BoundaryObject<S> {
     /// The version of this id is held, and none above it.
     ghost at_hand: { Self → ℕ → Type 0 };
 
+    /// How many calls of the store an unchecked read makes that answers, where the newest version has this id and is at hand.
+    ghost warm_calls: { ℕ → ℕ };
+
+    /// No version of this id is stored.
+    ghost lacks: { Self → S → ℕ → Type 0 };
+
     /// How many pages a listing has.
     ghost pages: { Self → S → ℕ };
 
-    /// Creates the version above the base, or version 1 where there is none. A version that stands already is
-    /// `ObjectVersionExists`, and the greatest id as base is `IdExhausted`, without a call of the store. It makes at most
-    /// one call. After any other error the version may have been created.
+    /// Creates the version above the base, or version 1 where there is none, and answers its id. It makes at most one call of
+    /// the store, and takes at most one token.
+    ///
+    /// `ObjectVersionExists` comes where a version of that id stands already, and `IdExhausted` exactly where the base is the
+    /// greatest id, without a call of the store; neither creates it. After any other error, as `ObjectStoreError` or
+    /// `NoMemory`, the version may have been created, and nothing else moved.
     fn write_unchecked(
         &mut self,
         store: &mut S,
@@ -54,8 +143,11 @@ pub trait SequencedStorageProtocol<T, S: ObjectStore>: BoundaryObject<S> {
         ensures paged { pages self.new store.new ≤ pages self.old store.old + 1 };
 
     /// The version of the greatest id, and its value, or nothing where there is none. It may be fenced. Each page after the
-    /// first that it lists spends a turn; where one is due and none is left, it is `TurnsExhausted`. A value that the codec
-    /// refuses is `CallbackError`.
+    /// first that it lists spends a turn. It makes at most six calls of the store, and two for each turn that it spends; where
+    /// the newest version is at hand, it is `warm_calls` where it answers.
+    ///
+    /// `TurnsExhausted` comes where a turn is due and none is left; the other errors are `CallbackError`,
+    /// `ObjectStoreError` and `NoMemory`. What it stood for stands, also after an error.
     fn try_read_latest_unchecked(
         &mut self,
         store: &mut S,
@@ -65,13 +157,13 @@ pub trait SequencedStorageProtocol<T, S: ObjectStore>: BoundaryObject<S> {
         ensures kept { Stays (stands self.old store.old) (stands self.new store.new) }
         ensures few { (h : List T) (b : ℕ) → stands self.old store.old h b → turns.old + 1 ≤ turns.new + pages self.old store.old }
         ensures enough { (h : List T) (b : ℕ) → stands self.old store.old h b → pages self.old store.old ≤ turns.old + 1 → IsErrOf result TransactionalObjectError.TurnsExhausted → ⊥ }
-        ensures warm { (h : List T) (b : ℕ) → stands self.old store.old h b → at_hand self.old (length h) → IsWarmRead 1 0 (λ n. n) h turns.old turns.new (S.state store.old) (S.state store.new) result }
+        ensures warm { (h : List T) (b : ℕ) → stands self.old store.old h b → at_hand self.old (length h) → 0 < length h → IsWarmRead (warm_calls (length h)) 0 (λ n. n) h turns.old turns.new (S.state store.old) (S.state store.new) result }
         ensures spends { SpendsTurns 2 6 0 turns.old turns.new (S.state store.old) (S.state store.new) }
         ensures paged { pages self.new store.new ≡ pages self.old store.old }
-        ensures cause { IfErr result (HasCauseOfRead turns.new (S.state store.old) (S.state store.new)) };
+        ensures cause { IfErr result (HasCauseOfLatestUnchecked (Unheld (stands self.old store.old)) turns.new (S.state store.old) (S.state store.new)) };
 
-    /// The value of a version, or nothing where it isn't stored. A value that the codec refuses is `CallbackError`. It
-    /// makes at most one call of the store.
+    /// The value of a version, or nothing where it isn't stored. It makes at most one call of the store. Its errors are
+    /// `CallbackError`, `ObjectStoreError` and `NoMemory`, and what it stood for stands, also after an error.
     fn try_read_unchecked(
         &mut self,
         store: &mut S,
@@ -81,9 +173,9 @@ pub trait SequencedStorageProtocol<T, S: ObjectStore>: BoundaryObject<S> {
         ensures kept { Stays (stands self.old store.old) (stands self.new store.new) }
         ensures spends { Spends 1 0 (S.state store.old) (S.state store.new) }
         ensures paged { pages self.new store.new ≡ pages self.old store.old }
-        ensures cause { IfErr result (HasCauseOfGet (S.state store.old) (S.state store.new)) };
+        ensures cause { IfErr result (HasCauseOfVersion (Unheld (stands self.old store.old)) (S.state store.old) (S.state store.new)) };
 
-    /// The same, without a call of the store where the version is held.
+    /// The same, with the same errors, and without a call of the store where the version is held.
     fn try_read_seen(
         &mut self,
         store: &mut S,
@@ -93,10 +185,11 @@ pub trait SequencedStorageProtocol<T, S: ObjectStore>: BoundaryObject<S> {
         ensures kept { Stays (stands self.old store.old) (stands self.new store.new) }
         ensures spends { Spends 1 0 (S.state store.old) (S.state store.new) }
         ensures paged { pages self.new store.new ≡ pages self.old store.old }
-        ensures cause { IfErr result (HasCauseOfGet (S.state store.old) (S.state store.new)) };
+        ensures cause { IfErr result (HasCauseOfVersion (Unheld (stands self.old store.old)) (S.state store.old) (S.state store.new)) };
 
     /// The versions whose ids are within the bounds, in ascending ids, with what the store tells of their files. It makes at
-    /// most one call of the store a page.
+    /// most one call of the store a page, and is lent no turns. Its errors are `ObjectStoreError` and `NoMemory`, and what it
+    /// stood for stands, also after an error.
     fn list(
         &mut self,
         store: &mut S,
@@ -109,20 +202,27 @@ pub trait SequencedStorageProtocol<T, S: ObjectStore>: BoundaryObject<S> {
         ensures paged { pages self.new store.new ≡ pages self.old store.old }
         ensures cause { IfErr result (HasCause (S.state store.old) (S.state store.new)) };
 
-    /// Removes a version. It makes at most one call of the store. A version at or below the boundary may be removed: what
-    /// stands then stands on, also after an error.
+    /// Removes a version, whatever the boundary is: where it is done no version of the id is stored, also where none was. It
+    /// makes at most one call of the store. Its errors are `ObjectStoreError`, after which the version may be removed, and
+    /// `NoMemory`. What stands stands on where the id is at or below the boundary, also after an error.
     fn delete_unchecked(
         &mut self,
         store: &mut S,
         id: MonotonicId,
     ) -> Result<(), TransactionalObjectError>
+        ensures removed { OnOk result (lacks self.new store.new id) }
         ensures kept { (h : List T) (b : ℕ) → stands self.old store.old h b → id ≤ b → stands self.new store.new h b }
         ensures spends { Spends 1 0 (S.state store.old) (S.state store.new) }
         ensures cause { IfErr result (HasCause (S.state store.old) (S.state store.new)) };
 
-    /// Removes a version at or below the boundary. An id above it is `InvalidObjectState`, and so is a boundary file that
-    /// says no number; then nothing is removed. It makes at most two calls of the store.
+    /// Removes a version at or below the boundary: where it is done no version of the id is stored. It makes at most two calls
+    /// of the store.
+    ///
+    /// An id above the boundary is `InvalidObjectState`, and so is a boundary file that says no number; then nothing is
+    /// removed. After any other error, as `ObjectStoreError` or `NoMemory`, the version may be removed. What it stood for
+    /// stands, also after an error.
     fn delete(&mut self, store: &mut S, id: MonotonicId) -> Result<(), TransactionalObjectError>
+        ensures removed { OnOk result (lacks self.new store.new id) }
         ensures fenced { OnOk result ((h : List T) (b : ℕ) → stands self.old store.old h b → id ≤ b) }
         ensures unfenced { IsErrOf result TransactionalObjectError.InvalidObjectState → (h : List T) (b : ℕ) → stands self.old store.old h b → b < id }
         ensures kept { Stays (stands self.old store.old) (stands self.new store.new) }
@@ -146,6 +246,9 @@ pub trait SequencedStorageProtocol<T, S: ObjectStore>: BoundaryObject<S> {
     /// A check leaves what stands.
     ghost stands_checked: { (p q : Self) (s t : S) (id : ℕ) (r : Result (Unit {0}) TransactionalObjectError) (h : List T) (b : ℕ) → Self.checks_to p s id r q t → stands p s h b → stands q t h b };
 
+    /// They are one at most.
+    ghost warm_calls_few: { (n : ℕ) → warm_calls n ≤ 1 };
+
     /// A listing has one page at least.
     ghost pages_some: { (p : Self) (s : S) → 1 ≤ pages p s };
 
@@ -158,79 +261,25 @@ pub trait SequencedStorageProtocol<T, S: ObjectStore>: BoundaryObject<S> {
     ghost stands_advanced: { (p q : Self) (s t : S) (h : List T) (id b c : ℕ) (r : Result (Unit {0}) TransactionalObjectError) → Self.advances_to p s id r q t → stands p s h b → b ≤ c → c ≡ b ⊎ c < length h → Self.bounds q t c → stands q t h c };
 }
 
-/// A protocol that writes a value where the newest version is the base, and reads the newest.
-pub trait TransactionalStorageProtocol<T, Id, S: ObjectStore> {
-    ghost use Rattle.std.specs.Prelude.{ℕ, List, length, ◌≡◌, ◌+◌, ◌*◌, ◌<◌, ◌≤◌, OnOk, IfOk, IfErr, IsErrOf};
-    ghost use Rattle.txn_drivers.specs.Calls.{Spends, SpendsTurns};
-    ghost use Rattle.slatedb_txn_obj.specs.Protocol.{base_number, Appended, Overtaken, MayAppend, Stays, IsWarmRead, LatestBy, Unheld, UnheldAt, HasCauseOfWrite, HasCauseOfLatest};
-
-    /// This protocol and a store stand for a history and a boundary.
-    ghost stands: { Self → S → List T → ℕ → Type 0 };
-
-    /// Which number an id stands for.
-    ghost number: { Id → ℕ };
-
-    /// The version of this number is held, and none above it.
-    ghost at_hand: { Self → ℕ → Type 0 };
-
-    /// How many pages a listing has.
-    ghost pages: { Self → S → ℕ };
-
-    /// Writes the value as the version above the base, or as version 1 where there is none. Where the base isn't the newest
-    /// version it is `ObjectVersionExists`, and nothing moves; the greatest id as base is `IdExhausted`, without a call of
-    /// the store. After any other error the value may have been written. It makes at most two calls and takes at most one
-    /// token.
-    fn write(
-        &mut self,
-        store: &mut S,
-        base: Option<Id>,
-        value: &T,
-    ) -> Result<Id, TransactionalObjectError>
-        ensures appended { IfOk result (λ id. Appended (stands self.old store.old) (stands self.new store.new) (base_number number base) value.now (number id)) }
-        ensures conflict { IsErrOf result TransactionalObjectError.ObjectVersionExists → Overtaken (stands self.old store.old) (stands self.new store.new) (base_number number base) }
-        ensures err { IfErr result (λ _. MayAppend (stands self.old store.old) (stands self.new store.new) (base_number number base) value.now) }
-        ensures cause { IfErr result (HasCauseOfWrite (UnheldAt (stands self.old store.old) (base_number number base)) (base_number number base) (S.state store.old) (S.state store.new)) }
-        ensures spends { Spends 2 1 (S.state store.old) (S.state store.new) }
-        ensures paged { (h : List T) (b : ℕ) → stands self.old store.old h b → base_number number base ≤ length h → pages self.new store.new ≤ pages self.old store.old + 1 };
-
-    /// The newest version and its value, or nothing where there is none. Each pass, and each page after the first that a pass
-    /// lists, spends a turn; where one is due and none is left, it is `TurnsExhausted`. A value that the codec refuses is
-    /// `CallbackError`. What it stood for stands, also after an error.
-    fn try_read_latest(
-        &mut self,
-        store: &mut S,
-        turns: &mut Turns,
-    ) -> Result<Option<(Id, T)>, TransactionalObjectError>
-        ensures latest { IfOk result (λ r. (h : List T) (b : ℕ) → stands self.old store.old h b → LatestBy number h r) }
-        ensures kept { Stays (stands self.old store.old) (stands self.new store.new) }
-        ensures few { (h : List T) (b : ℕ) → stands self.old store.old h b → turns.old ≤ turns.new + 2 * pages self.old store.old }
-        ensures enough { (h : List T) (b : ℕ) → stands self.old store.old h b → 2 * pages self.old store.old ≤ turns.old → IsErrOf result TransactionalObjectError.TurnsExhausted → ⊥ }
-        ensures warm { (h : List T) (b : ℕ) → stands self.old store.old h b → at_hand self.old (length h) → IsWarmRead 2 1 number h turns.old turns.new (S.state store.old) (S.state store.new) result }
-        ensures spends { SpendsTurns 7 0 0 turns.old turns.new (S.state store.old) (S.state store.new) }
-        ensures paged { (h : List T) (b : ℕ) → stands self.old store.old h b → pages self.new store.new ≡ pages self.old store.old }
-        ensures cause { IfErr result (HasCauseOfLatest (Unheld (stands self.old store.old)) turns.new (S.state store.old) (S.state store.new)) };
-
-    /// A listing has one page at least.
-    ghost pages_some: { (p : Self) (s : S) → 1 ≤ pages p s };
-
-    /// No two ids stand for one number.
-    ghost one_number: { (a b : Id) → number a ≡ number b → a ≡ b };
-}
-
 impl<T: Drop, S: ObjectStore, P: SequencedStorageProtocol<T, S>> TransactionalStorageProtocol<
     T,
     MonotonicId,
     S,
 > for P {
-    ghost use Rattle.std.specs.Prelude.{ℕ, List, length, ◌≡◌, ◌+◌, ◌*◌, ◌≤◌, IfOk, IfErr, IsErrOf};
+    ghost use Rattle.std.specs.Prelude.{ℕ, List, length, ◌≡◌, ◌+◌, ◌*◌, ◌<◌, ◌≤◌, IfOk, IfErr, IsErrOf};
     ghost use Rattle.txn_drivers.specs.Calls.{Spends, SpendsTurns};
     ghost use Rattle.slatedb_txn_obj.specs.Protocol.{base_number, Appended, Overtaken, MayAppend, Stays, IsWarmRead, LatestBy, Unheld, UnheldAt, HasCauseOfWrite, HasCauseOfLatest};
+    ghost use Rattle.std.proofs.Math.Nat.{add-le-add};
 
     ghost stands = { P.stands };
 
     ghost number = { λ id. id };
 
     ghost at_hand = { P.at_hand };
+
+    ghost warm_calls = { λ n. P.warm_calls n + P.check_calls };
+
+    ghost warm_calls_few = { λ n. add-le-add (P.warm_calls_few n) P.check_calls_few };
 
     ghost pages = { P.pages };
 
@@ -265,7 +314,7 @@ impl<T: Drop, S: ObjectStore, P: SequencedStorageProtocol<T, S>> TransactionalSt
         ensures kept { Stays (P.stands self.old store.old) (P.stands self.new store.new) }
         ensures few { (h : List T) (b : ℕ) → P.stands self.old store.old h b → turns.old ≤ turns.new + 2 * P.pages self.old store.old }
         ensures enough { (h : List T) (b : ℕ) → P.stands self.old store.old h b → 2 * P.pages self.old store.old ≤ turns.old → IsErrOf result TransactionalObjectError.TurnsExhausted → ⊥ }
-        ensures warm { (h : List T) (b : ℕ) → P.stands self.old store.old h b → P.at_hand self.old (length h) → IsWarmRead 2 1 (λ n. n) h turns.old turns.new (S.state store.old) (S.state store.new) result }
+        ensures warm { (h : List T) (b : ℕ) → P.stands self.old store.old h b → P.at_hand self.old (length h) → 0 < length h → IsWarmRead (P.warm_calls (length h) + P.check_calls) 1 (λ n. n) h turns.old turns.new (S.state store.old) (S.state store.new) result }
         ensures spends { SpendsTurns 7 0 0 turns.old turns.new (S.state store.old) (S.state store.new) }
         ensures paged { (h : List T) (b : ℕ) → P.stands self.old store.old h b → P.pages self.new store.new ≡ P.pages self.old store.old }
         ensures cause { IfErr result (HasCauseOfLatest (Unheld (P.stands self.old store.old)) turns.new (S.state store.old) (S.state store.new)) }

@@ -26,7 +26,7 @@ pub struct SimpleTransactionalObject<T, Id, I> {
 
 impl<T: Drop, Id: Drop, I> SimpleTransactionalObject<T, Id, I> {
     /// Writes the first version, and is at it, without invariants. Where one is stored, it is `ObjectVersionExists`. After
-    /// any other error the version may have been written.
+    /// any other error, `InvalidObjectState`, `ObjectStoreError` or `NoMemory` as of a write, the version may have been written.
     pub fn init<S: ObjectStore, P: TransactionalStorageProtocol<T, Id, S>>(
         alloc: Global,
         protocol: &mut P,
@@ -49,7 +49,7 @@ impl<T: Drop, Id: Drop, I> SimpleTransactionalObject<T, Id, I> {
     }
 
     /// Reads the newest version and is at it, without invariants, or nothing where none is stored. It spends turns as
-    /// the read does; where one is due and none is left, it is `TurnsExhausted`.
+    /// the read does; where one is due and none is left, it is `TurnsExhausted`. Its other errors are those of the read.
     pub fn try_load<S: ObjectStore, P: TransactionalStorageProtocol<T, Id, S>>(
         alloc: Global,
         protocol: &mut P,

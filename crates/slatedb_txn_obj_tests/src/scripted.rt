@@ -56,6 +56,7 @@ impl TestBoundary {
 impl<S: ObjectStore> BoundaryObject<S> for TestBoundary {
     ghost use Rattle.std.specs.Prelude.{refl, [], ◌≡◌, Contains};
     ghost use Rattle.std.proofs.Common.{ap, subst, sym};
+    ghost use Rattle.std.proofs.Math.Nat.{le-add_right};
     ghost use Rattle.std.specs.FinMap.{get};
 
     ghost bounds = { λ _ _ _. ⊥ };
@@ -63,6 +64,10 @@ impl<S: ObjectStore> BoundaryObject<S> for TestBoundary {
     ghost file = { λ _. [] };
 
     ghost checks_to = { λ p s _ _ q t. S.state t ≡ S.state s };
+
+    ghost check_calls = { 0 };
+
+    ghost check_calls_few = { le-add_right 0 1 };
 
     ghost advances_to = { λ p s _ _ q t. S.state t ≡ S.state s };
 
@@ -145,6 +150,7 @@ impl ScriptedReadLatestStore {
 impl<S: ObjectStore> BoundaryObject<S> for ScriptedReadLatestStore {
     ghost use Rattle.std.specs.Prelude.{refl, [], ◌≡◌, Contains};
     ghost use Rattle.std.proofs.Common.{ap, subst, sym};
+    ghost use Rattle.std.proofs.Math.Nat.{le-add_right};
     ghost use Rattle.std.specs.FinMap.{get};
 
     ghost bounds = { λ _ _ _. ⊥ };
@@ -152,6 +158,10 @@ impl<S: ObjectStore> BoundaryObject<S> for ScriptedReadLatestStore {
     ghost file = { λ _. [] };
 
     ghost checks_to = { λ p s _ _ q t. S.state t ≡ S.state s };
+
+    ghost check_calls = { 0 };
+
+    ghost check_calls_few = { le-add_right 0 1 };
 
     ghost advances_to = { λ p s _ _ q t. S.state t ≡ S.state s };
 
@@ -188,7 +198,7 @@ impl<S: ObjectStore> BoundaryObject<S> for ScriptedReadLatestStore {
 
 impl<S: ObjectStore> SequencedStorageProtocol<u64, S> for ScriptedReadLatestStore {
     ghost use Rattle.std.proofs.Common.{refl};
-    ghost use Rattle.std.proofs.Math.Nat.{le_refl};
+    ghost use Rattle.std.proofs.Math.Nat.{le_refl, le-add_right};
 
     ghost stands = { λ _ _ _ _. ⊥ };
 
@@ -197,6 +207,12 @@ impl<S: ObjectStore> SequencedStorageProtocol<u64, S> for ScriptedReadLatestStor
     ghost freshens = { λ _ _. Unit {0} };
 
     ghost at_hand = { λ _ _. ⊥ };
+
+    ghost warm_calls = { λ _. 0 };
+
+    ghost warm_calls_few = { λ _. le-add_right 0 1 };
+
+    ghost lacks = { λ _ _ _. Unit {0} };
 
     ghost pages = { λ _ _. 1 };
 

@@ -33,13 +33,17 @@ impl Register {
 
 impl<S: ObjectStore> TransactionalStorageProtocol<u64, Revision, S> for Register {
     ghost use Rattle.std.specs.Prelude.{◌≡◌, ℕ, refl};
-    ghost use Rattle.std.proofs.Math.Nat.{le_refl};
+    ghost use Rattle.std.proofs.Math.Nat.{le_refl, le-add_right};
 
     ghost stands = { λ p _ h b. Registered p.values.items h b };
 
     ghost number = { λ r. r.0 };
 
     ghost at_hand = { λ _ _. Unit {0} };
+
+    ghost warm_calls = { λ _. 0 };
+
+    ghost warm_calls_few = { λ _. le-add_right 0 2 };
 
     ghost pages = { λ _ _. 1 };
 

@@ -49,6 +49,7 @@ impl ObjectStoreBoundaryObject {
 
 impl<S: ObjectStore> BoundaryObject<S> for ObjectStoreBoundaryObject {
     ghost use Rattle.std.specs.Prelude.{ℕ, ◌≡◌, ◌⊎◌, ◌+◌, ◌<◌, ◌≤◌, true, OnOk, IfErr, IsErrOf, max};
+    ghost use Rattle.std.proofs.Math.Nat.{le_refl};
     ghost use Rattle.txn_caches.specs.Boundaries.{refused_by};
     ghost use Rattle.txn_drivers.specs.Calls.{HasCauseOfCheck, HasCauseOfAdvance, Spends, SpendsTurns};
     ghost use Rattle.txn_drivers.specs.Standing.{BoundaryStands};
@@ -62,6 +63,10 @@ impl<S: ObjectStore> BoundaryObject<S> for ObjectStoreBoundaryObject {
     ghost file = { λ p. p.path };
 
     ghost checks_to = { λ p s id r q t. BoundaryChecks p.path q.path p.cached q.cached (S.state s) id r (S.state t) };
+
+    ghost check_calls = { 1 };
+
+    ghost check_calls_few = { le_refl 1 };
 
     ghost advances_to = { λ p s id r q t. BoundaryAdvances p.path q.path p.cached q.cached (S.state s) id r (S.state t) };
 

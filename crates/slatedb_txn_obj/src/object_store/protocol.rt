@@ -136,6 +136,10 @@ impl<T, S: ObjectStore, C, B: BoundaryObject<S>> BoundaryObject<S>
 
     ghost checks_to = { λ p s id r q t. Checks (B.checks_to p.boundary s id r q.boundary t) id r p q };
 
+    ghost check_calls = { B.check_calls };
+
+    ghost check_calls_few = { B.check_calls_few };
+
     ghost advances_to = { λ p s id r q t. Advances (B.advances_to p.boundary s id r q.boundary t) id r p q };
 
     ghost check_file = { λ p q s t id r m. B.check_file p.boundary q.boundary s t id r m.boundary };
@@ -180,18 +184,18 @@ impl<T: Drop, S: ObjectStore, C: ObjectCodec<T>, B: BoundaryObject<S>> Sequenced
     T,
     S,
 > for ObjectStoreSequencedStorageProtocol<T, C, B> {
-    ghost use Rattle.std.specs.Prelude.{ℕ, List, [], length, map, ◌≡◌, ◌+◌, ◌≤◌, Ok, Err, IfOk, IfErr, IsErrOf};
+    ghost use Rattle.std.specs.Prelude.{ℕ, List, [], length, map, ◌≡◌, ◌+◌, ◌<◌, ◌≤◌, Ok, Err, IfOk, IfErr, IsErrOf, OnOk};
     ghost use Rattle.txn_types.specs.declared.error.TransactionalObjectError.TheVariants.{ObjectVersionExists};
-    ghost use Rattle.txn_drivers.specs.Calls.{HasCause, HasCauseOfGet, HasCauseOfPut, HasCauseOfRead, Spends, SpendsTurns};
+    ghost use Rattle.txn_drivers.specs.Calls.{HasCause, HasCauseOfPut, Spends, SpendsTurns};
     ghost use Rattle.txn_drivers.specs.LatestReads.{UpTo, Ended};
     ghost use Rattle.txn_drivers.specs.ListRuns.{VersionsListed};
     ghost use Rattle.txn_drivers.specs.RemovalRuns.{Deleted};
     ghost use Rattle.txn_drivers.specs.VersionReads.{SeenRead, VersionRead};
     ghost use Rattle.txn_drivers.specs.WriteRuns.{Written};
     ghost use Rattle.txn_drivers.specs.PageCount.{pages_below};
-    ghost use Rattle.slatedb_txn_obj.specs.Whole.{Whole, StandsFor, IsGreatestHeld};
-    ghost use Rattle.slatedb_txn_obj.specs.Protocol.{base_number, LatestOrFenced, IsEntry, AreListed, Entered, Overtaken, MayAppend, Stays, IsWarmRead};
-    ghost use Rattle.slatedb_txn_obj.specs.WholeLaws.{whole-checked, whole-advanced, refused-fresh, pages-checked};
+    ghost use Rattle.slatedb_txn_obj.specs.Whole.{Whole, StandsFor, IsGreatestHeld, IsMissing, probe_calls};
+    ghost use Rattle.slatedb_txn_obj.specs.Protocol.{base_number, LatestOrFenced, IsEntry, AreListed, Entered, Overtaken, MayAppend, Stays, IsWarmRead, Unheld, HasCauseOfLatestUnchecked, HasCauseOfVersion};
+    ghost use Rattle.slatedb_txn_obj.specs.WholeLaws.{whole-checked, whole-advanced, refused-fresh, pages-checked, probe_few};
     ghost use Rattle.txn_drivers.proofs.Standings.{some_page};
 
     ghost stands = { λ p s h b. Whole (B.bounds p.boundary s) (B.file p.boundary) p.layout.names (C.decoded p.layout.codec) p.latest (S.state s).files h b };
@@ -201,6 +205,12 @@ impl<T: Drop, S: ObjectStore, C: ObjectCodec<T>, B: BoundaryObject<S>> Sequenced
     ghost freshens = { λ p id. UpTo id p.latest };
 
     ghost at_hand = { λ p id. IsGreatestHeld p.latest id };
+
+    ghost warm_calls = { λ n. probe_calls n };
+
+    ghost warm_calls_few = { λ n. probe_few n };
+
+    ghost lacks = { λ p s id. IsMissing p.layout.names (S.state s).files id };
 
     ghost pages = { λ p s. pages_below p.layout.names p.layout.page (S.state s).files };
 
@@ -259,10 +269,10 @@ impl<T: Drop, S: ObjectStore, C: ObjectCodec<T>, B: BoundaryObject<S>> Sequenced
         ensures kept { Stays (StandsFor (B.bounds self.old.boundary store.old) (B.file self.old.boundary) C.decoded self.old (S.state store.old).files) (StandsFor (B.bounds self.new.boundary store.new) (B.file self.new.boundary) C.decoded self.new (S.state store.new).files) }
         ensures few { (h : List T) (b : ℕ) → (StandsFor (B.bounds self.old.boundary store.old) (B.file self.old.boundary) C.decoded self.old (S.state store.old).files) h b → turns.old + 1 ≤ turns.new + pages_below self.old.layout.names self.old.layout.page (S.state store.old).files }
         ensures enough { (h : List T) (b : ℕ) → (StandsFor (B.bounds self.old.boundary store.old) (B.file self.old.boundary) C.decoded self.old (S.state store.old).files) h b → pages_below self.old.layout.names self.old.layout.page (S.state store.old).files ≤ turns.old + 1 → IsErrOf result TransactionalObjectError.TurnsExhausted → ⊥ }
-        ensures warm { (h : List T) (b : ℕ) → (StandsFor (B.bounds self.old.boundary store.old) (B.file self.old.boundary) C.decoded self.old (S.state store.old).files) h b → IsGreatestHeld self.old.latest (length h) → IsWarmRead 1 0 (λ n. n) h turns.old turns.new (S.state store.old) (S.state store.new) result }
+        ensures warm { (h : List T) (b : ℕ) → (StandsFor (B.bounds self.old.boundary store.old) (B.file self.old.boundary) C.decoded self.old (S.state store.old).files) h b → IsGreatestHeld self.old.latest (length h) → 0 < length h → IsWarmRead (probe_calls (length h)) 0 (λ n. n) h turns.old turns.new (S.state store.old) (S.state store.new) result }
         ensures spends { SpendsTurns 2 6 0 turns.old turns.new (S.state store.old) (S.state store.new) }
         ensures paged { pages_below self.new.layout.names self.new.layout.page (S.state store.new).files ≡ pages_below self.old.layout.names self.old.layout.page (S.state store.old).files }
-        ensures cause { IfErr result (HasCauseOfRead turns.new (S.state store.old) (S.state store.new)) }
+        ensures cause { IfErr result (HasCauseOfLatestUnchecked (Unheld (StandsFor (B.bounds self.old.boundary store.old) (B.file self.old.boundary) C.decoded self.old (S.state store.old).files)) turns.new (S.state store.old) (S.state store.new)) }
         ensures exact { Ended self.old.layout.names self.old.layout.page (C.decoded self.old.layout.codec) (S.state store.old) (S.state store.new) turns.old turns.new self.old.latest self.new.latest result }
         ensures unmoved { self.new ≡ record { layout = self.old.layout; latest = self.new.latest; boundary = self.old.boundary } }
     {
@@ -279,10 +289,11 @@ impl<T: Drop, S: ObjectStore, C: ObjectCodec<T>, B: BoundaryObject<S>> Sequenced
         ensures kept { Stays (StandsFor (B.bounds self.old.boundary store.old) (B.file self.old.boundary) C.decoded self.old (S.state store.old).files) (StandsFor (B.bounds self.new.boundary store.new) (B.file self.new.boundary) C.decoded self.new (S.state store.new).files) }
         ensures spends { Spends 1 0 (S.state store.old) (S.state store.new) }
         ensures paged { pages_below self.new.layout.names self.new.layout.page (S.state store.new).files ≡ pages_below self.old.layout.names self.old.layout.page (S.state store.old).files }
-        ensures cause { IfErr result (HasCauseOfGet (S.state store.old) (S.state store.new)) }
+        ensures cause { IfErr result (HasCauseOfVersion (Unheld (StandsFor (B.bounds self.old.boundary store.old) (B.file self.old.boundary) C.decoded self.old (S.state store.old).files)) (S.state store.old) (S.state store.new)) }
         ensures exact { VersionRead self.old.layout.names (C.decoded self.old.layout.codec) (S.state store.old) (S.state store.new) id result }
         ensures same { self.new ≡ self.old }
     {
+        number_fits(id);
         read_version(self.alloc, &self.layout, store, id)
     }
 
@@ -296,7 +307,7 @@ impl<T: Drop, S: ObjectStore, C: ObjectCodec<T>, B: BoundaryObject<S>> Sequenced
         ensures kept { Stays (StandsFor (B.bounds self.old.boundary store.old) (B.file self.old.boundary) C.decoded self.old (S.state store.old).files) (StandsFor (B.bounds self.new.boundary store.new) (B.file self.new.boundary) C.decoded self.new (S.state store.new).files) }
         ensures spends { Spends 1 0 (S.state store.old) (S.state store.new) }
         ensures paged { pages_below self.new.layout.names self.new.layout.page (S.state store.new).files ≡ pages_below self.old.layout.names self.old.layout.page (S.state store.old).files }
-        ensures cause { IfErr result (HasCauseOfGet (S.state store.old) (S.state store.new)) }
+        ensures cause { IfErr result (HasCauseOfVersion (Unheld (StandsFor (B.bounds self.old.boundary store.old) (B.file self.old.boundary) C.decoded self.old (S.state store.old).files)) (S.state store.old) (S.state store.new)) }
         ensures exact { SeenRead self.old.layout.names (C.decoded self.old.layout.codec) (S.state store.old) (S.state store.new) self.old.latest self.new.latest id result }
         ensures unmoved { self.new ≡ record { layout = self.old.layout; latest = self.new.latest; boundary = self.old.boundary } }
     {
@@ -330,6 +341,7 @@ impl<T: Drop, S: ObjectStore, C: ObjectCodec<T>, B: BoundaryObject<S>> Sequenced
         store: &mut S,
         id: MonotonicId,
     ) -> Result<(), TransactionalObjectError>
+        ensures removed { OnOk result (IsMissing self.new.layout.names (S.state store.new).files id) }
         ensures kept { (h : List T) (b : ℕ) → (StandsFor (B.bounds self.old.boundary store.old) (B.file self.old.boundary) C.decoded self.old (S.state store.old).files) h b → id ≤ b → StandsFor (B.bounds self.new.boundary store.new) (B.file self.new.boundary) C.decoded self.new (S.state store.new).files h b }
         ensures spends { Spends 1 0 (S.state store.old) (S.state store.new) }
         ensures cause { IfErr result (HasCause (S.state store.old) (S.state store.new)) }

@@ -1,5 +1,5 @@
 -- A read leaves the file of the boundary.
-use Rattle.slatedb_txn_obj.proofs.Wholes.{whole-found, whole-read, whole-warm, turns_few, turns_enough}
+use Rattle.slatedb_txn_obj.proofs.Wholes.{whole-found, whole-read, whole-warm, whole-latest_cause, turns_few, turns_enough}
 use Rattle.slatedb_txn_obj.proofs.object_store.protocol.ObjectStoreSequencedStorageProtocolSequencedStorageProtocol.try_read_latest_unchecked.Goals as goal
 
 pub returns-clause-found : goal.returns-clause-found
@@ -16,3 +16,6 @@ returns-clause-enough g c = rw (← c.self.view_is) (λ h b whole. turns_enough 
 
 pub returns-clause-warm : goal.returns-clause-warm
 returns-clause-warm g c = rw (← c.self.view_is) (whole-warm _ _ _ _ _ _ _ _ _ (λ b same bounds. g.met.B.BoundaryObject.bounds_frame c.self.inside.boundary c.args.store.now c.read_latest.new.store b same bounds) _ _ _ c.read_latest.result c.read_latest.ensures)
+
+pub returns-clause-cause : goal.returns-clause-cause
+returns-clause-cause g c = rw (← c.self.view_is) (whole-latest_cause _ _ _ _ _ _ _ _ _ _ _ c.read_latest.result c.read_latest.ensures)

@@ -1,5 +1,5 @@
 -- A read leaves the file of the boundary.
-use Rattle.slatedb_txn_obj.proofs.Wholes.{whole-seen, whole-seen_kept}
+use Rattle.slatedb_txn_obj.proofs.Wholes.{whole-seen, whole-seen_kept, whole-seen_cause}
 use Rattle.slatedb_txn_obj.proofs.object_store.protocol.ObjectStoreSequencedStorageProtocolSequencedStorageProtocol.try_read_seen.Goals as goal
 
 pub returns-clause-found : goal.returns-clause-found
@@ -7,3 +7,6 @@ returns-clause-found g c = rw (← c.self.view_is) (whole-seen _ _ _ _ _ _ _ _ _
 
 pub returns-clause-kept : goal.returns-clause-kept
 returns-clause-kept g c = rw (← c.self.view_is) (whole-seen_kept _ _ _ _ _ _ _ _ _ (λ b same bounds. g.met.B.BoundaryObject.bounds_frame c.self.inside.boundary c.args.store.now c.read_seen.new.store b same bounds) _ c.read_seen.result c.read_seen.ensures)
+
+pub returns-clause-cause : goal.returns-clause-cause
+returns-clause-cause g c = rw (← c.self.view_is) (whole-seen_cause _ _ _ _ _ _ _ _ _ c.read_seen.result c.read_seen.ensures)
