@@ -1,163 +1,166 @@
-//! Operations that run alone.
+//! Operations that run alone, each with what it answers.
 ghost use Rattle.std.specs.Prelude.{◌≤◌};
 
-use crate::calls::{a_layout, are_listed, written};
+use crate::calls::a_layout;
+use crate::operations::Call::{
+    Advance, Check, Delete, DeleteUnchecked, Forgets, Latest, Lists, Read, ReadSeen, ReadUnchecked,
+    Says, Write, WriteUnchecked,
+};
+use crate::operations::Told::{Did, Fails, GoesOn, Is, Newest, Value, Wrote};
+use crate::operations::{Call, Place, Told, a_place, answered};
 use std::alloc::Global;
-use std::ops::Bound;
 use std::test::Fail;
-use txn_caches::caches::Caches;
-use txn_drivers::drive::Drive;
-use txn_drivers::drive_version::ReadVersion;
-use txn_steps::latest::ReadAnswer;
-use txn_steps::listing::ListOp;
-use txn_steps::read::ReadOp;
-use txn_steps::seen::ValueAnswer;
-use txn_steps::write::WriteUncheckedOp;
-use txn_store::in_memory::InMemory;
-use txn_types::error::TransactionalObjectError;
-use txn_types::id::MonotonicId;
+use txn_store::path::PathFault;
 use txn_types::layout::Layout;
 use txn_types::test_utils::NumberCodec;
 
-/// Whether a read of one version answers this value, or none.
-fn is_value(answer: ValueAnswer<u64>, value: Option<u64>) -> bool {
-    matches!(answer, Ok(found) if found == value)
-}
+/// An operation, for how many steps it is driven at most, and what it answers.
+type Row = (Call, u64, Told);
 
-/// Whether a read answers this version as the newest.
-fn is_newest(answer: ReadAnswer<u64>, id: u64, value: u64) -> bool {
-    matches!(answer, Ok(Some((found, read))) if found.is(id) && read == value)
-}
-
-/// The store, and the caches of its client.
-#[derive(Drop)]
-struct Place {
-    store: InMemory,
-    caches: Caches,
-}
-
-fn a_place(alloc: Global) -> Place {
-    Place {
-        store: InMemory::new(alloc),
-        caches: Caches::new(),
+/// The first row that goes otherwise, counted from 0, with what it answers, where there is one.
+fn other_in(
+    alloc: Global,
+    layout: &Layout<NumberCodec>,
+    place: &mut Place,
+    rows: &[Row],
+) -> Option<(usize, Told)>
+    requires { 1 ≤ layout.now.page }
+{
+    for (at, (call, steps, answer)) in rows.iter().enumerate() {
+        let told = answered(alloc, layout, place, *call, *steps);
+        if told != *answer {
+            return Some((at, told));
+        }
     }
+    None
 }
 
-/// Drives an operation and drops it.
-fn driven<A: Drop, O: Drive<NumberCodec, Answer = A> + Drop>(
-    alloc: Global,
-    layout: &Layout<NumberCodec>,
-    place: &mut Place,
-    op: O,
-    steps: u64,
-) -> Option<A>
-    requires { O.asks layout.now op }
-{
-    let mut op = op;
-    op.drive(alloc, &mut place.store, layout, &mut place.caches, steps)
+/// The same, over a store of their own, whose pages have one file.
+fn other(alloc: Global, rows: &[Row]) -> Result<Option<(usize, Told)>, PathFault> {
+    let layout = a_layout(alloc)?;
+    Ok(other_in(alloc, &layout, &mut a_place(alloc), rows))
 }
 
-/// What a write of the first version with this value answers within so many steps, as a number, where it ends.
-fn write(
-    alloc: Global,
-    layout: &Layout<NumberCodec>,
-    place: &mut Place,
-    value: u64,
-    steps: u64,
-) -> Result<Option<u64>, TransactionalObjectError> {
-    let op = WriteUncheckedOp::start(alloc, layout, None, &value)?;
-    match driven(alloc, layout, place, op, steps) {
-        None => Ok(None),
-        Some(answer) => Ok(Some(written(answer))),
+/// All but those that go on have as many steps as are always enough.
+const SCENARIOS: &[(&str, &[Row])] = &[
+    (
+        "a check of an id that the boundary has reached is a conflict",
+        &[
+            (Check(1), 5, Did),
+            (Check(0), 5, Fails(5)),
+            (Advance(1), 43, Did),
+            (Check(2), 5, Did),
+            (Check(1), 5, Fails(5)),
+            (Forgets, 0, Did),
+            (Check(2), 5, Did),
+            (Check(1), 5, Fails(5)),
+        ],
+    ),
+    (
+        "an advance raises the boundary and never lowers it",
+        &[
+            (Advance(2), 43, Did),
+            (Says(b"2"), 0, Is(true)),
+            (Advance(1), 43, Did),
+            (Says(b"2"), 0, Is(true)),
+            (Forgets, 0, Did),
+            (Advance(1), 43, Did),
+            (Says(b"2"), 0, Is(true)),
+            (Advance(10), 43, Did),
+            (Says(b"10"), 0, Is(true)),
+        ],
+    ),
+    (
+        "a write answers its id, or a conflict",
+        &[
+            (Write(0, 10), 7, Wrote(1)),
+            (Write(1, 20), 7, Wrote(2)),
+            (Write(1, 21), 7, Fails(5)),
+            (ReadUnchecked(2), 1, Value(Some(20))),
+            (Write(u64::MAX, 7), 7, Fails(10)),
+            (Advance(3), 43, Did),
+            (Write(2, 30), 7, Fails(5)),
+            (Write(3, 40), 7, Wrote(4)),
+        ],
+    ),
+    (
+        "a delete removes a version that the boundary has reached",
+        &[
+            (Write(0, 10), 7, Wrote(1)),
+            (Write(1, 20), 7, Wrote(2)),
+            (Write(2, 30), 7, Wrote(3)),
+            (Delete(1), 7, Fails(7)),
+            (Advance(2), 43, Did),
+            (Delete(1), 7, Did),
+            (ReadUnchecked(1), 1, Value(None)),
+            (Delete(2), 7, Did),
+            (Delete(2), 7, Did),
+            (Delete(3), 7, Fails(7)),
+            (Lists(&[3]), 1, Is(true)),
+        ],
+    ),
+    (
+        "an unchecked delete removes any version",
+        &[
+            (WriteUnchecked(0, 10), 2, Wrote(1)),
+            (WriteUnchecked(1, 20), 2, Wrote(2)),
+            (DeleteUnchecked(2), 2, Did),
+            (ReadUnchecked(2), 1, Value(None)),
+            (DeleteUnchecked(2), 2, Did),
+            (Lists(&[1]), 1, Is(true)),
+            (Latest, 16, Newest(Some((1, 10)))),
+        ],
+    ),
+    (
+        "reads answer what was written",
+        &[
+            (Lists(&[]), 1, Is(true)),
+            (Latest, 16, Newest(None)),
+            (Read, 42, Newest(None)),
+            (ReadUnchecked(1), 1, Value(None)),
+            (ReadSeen(1), 3, Value(None)),
+            (WriteUnchecked(0, 10), 2, Wrote(1)),
+            (WriteUnchecked(1, 20), 2, Wrote(2)),
+            (Latest, 17, Newest(Some((2, 20)))),
+            (Read, 44, Newest(Some((2, 20)))),
+            (ReadUnchecked(1), 1, Value(Some(10))),
+            (ReadSeen(1), 3, Value(Some(10))),
+            (Forgets, 0, Did),
+            (ReadSeen(1), 3, Value(Some(10))),
+            (ReadSeen(3), 3, Value(None)),
+            (Forgets, 0, Did),
+            (Latest, 17, Newest(Some((2, 20)))),
+            (Forgets, 0, Did),
+            (Read, 44, Newest(Some((2, 20)))),
+            (Lists(&[1, 2]), 2, Is(true)),
+        ],
+    ),
+    (
+        "what too few steps leave",
+        &[
+            // It has created its version.
+            (WriteUnchecked(0, 7), 1, GoesOn),
+            (WriteUnchecked(0, 8), 2, Fails(5)),
+            // It has not asked for the boundary.
+            (Check(1), 2, GoesOn),
+            // It has raised the boundary.
+            (Advance(1), 4, GoesOn),
+            (Says(b"1"), 0, Is(true)),
+            // It has not removed its version.
+            (Delete(1), 3, GoesOn),
+            (Lists(&[1]), 1, Is(true)),
+            // None of these has got its version.
+            (ReadSeen(1), 1, GoesOn),
+            (Latest, 1, GoesOn),
+            (Read, 0, GoesOn),
+        ],
+    ),
+];
+
+#[test]
+fn operations_that_run_alone_answer(rt: HostRuntime) -> Result<(), Fail> {
+    for (name, rows) in SCENARIOS {
+        assert_eq!(rt; other(rt.alloc(), rows)?, None, "{name}");
     }
-}
-
-fn two_writes(
-    alloc: Global,
-    layout: &Layout<NumberCodec>,
-    place: &mut Place,
-) -> Result<[Option<u64>; 2], TransactionalObjectError> {
-    let first = write(alloc, layout, place, 7, 1)?;
-    Ok([first, write(alloc, layout, place, 8, 100)?])
-}
-
-#[test]
-fn a_write_takes_two_steps(rt: HostRuntime) -> Result<(), Fail> {
-    let layout = a_layout(rt.alloc())?;
-    let wrote = two_writes(rt.alloc(), &layout, &mut a_place(rt.alloc()))?;
-    assert_eq!(rt; wrote, [None, Some(0)]);
-    Ok(())
-}
-
-/// Whether a listing ends with its first step, and tells nothing.
-fn lists_nothing(
-    alloc: Global,
-    layout: &Layout<NumberCodec>,
-    place: &mut Place,
-) -> Result<bool, TransactionalObjectError>
-    requires { 1 ≤ layout.now.page }
-{
-    let op = ListOp::start(alloc, layout, Bound::Unbounded, Bound::Unbounded)?;
-    let told = driven(alloc, layout, place, op, 1);
-    Ok(told.is_some_and(|answer| are_listed(answer, &[])))
-}
-
-#[test]
-fn a_listing_takes_a_step_a_page(rt: HostRuntime) -> Result<(), Fail> {
-    let layout = a_layout(rt.alloc())?;
-    let lists = lists_nothing(rt.alloc(), &layout, &mut a_place(rt.alloc()))?;
-    assert!(rt; lists);
-    Ok(())
-}
-
-/// Whether a read of a version answers this value, or none, with its first step.
-fn reads(
-    alloc: Global,
-    layout: &Layout<NumberCodec>,
-    place: &mut Place,
-    id: u64,
-    value: Option<u64>,
-) -> Result<bool, TransactionalObjectError> {
-    let op = ReadVersion::start(alloc, layout, MonotonicId::new(id))?;
-    let told = driven(alloc, layout, place, op, 1);
-    Ok(told.is_some_and(|answer| is_value(answer, value)))
-}
-
-/// Whether a read answers this version as the newest in 42 steps.
-fn reads_newest(
-    alloc: Global,
-    layout: &Layout<NumberCodec>,
-    place: &mut Place,
-    id: u64,
-    value: u64,
-) -> Result<bool, TransactionalObjectError>
-    requires { 1 ≤ layout.now.page }
-{
-    let told = driven(alloc, layout, place, ReadOp::start(layout)?, 42);
-    Ok(told.is_some_and(|answer| is_newest(answer, id, value)))
-}
-
-/// What a write answers, and whether each read answers what was written.
-fn written_and_read(
-    alloc: Global,
-    layout: &Layout<NumberCodec>,
-    place: &mut Place,
-) -> Result<(Option<u64>, [bool; 3]), TransactionalObjectError>
-    requires { 1 ≤ layout.now.page }
-{
-    let wrote = write(alloc, layout, place, 7, 2)?;
-    let first = reads(alloc, layout, place, 1, Some(7))?;
-    let second = reads(alloc, layout, place, 2, None)?;
-    Ok((
-        wrote,
-        [first, second, reads_newest(alloc, layout, place, 1, 7)?],
-    ))
-}
-
-#[test]
-fn reads_answer_what_was_written(rt: HostRuntime) -> Result<(), Fail> {
-    let layout = a_layout(rt.alloc())?;
-    let told = written_and_read(rt.alloc(), &layout, &mut a_place(rt.alloc()))?;
-    assert_eq!(rt; told, (Some(1), [true, true, true]));
     Ok(())
 }

@@ -52,7 +52,7 @@ pub(crate) fn are_listed(answer: ListAnswer, ids: &[u64]) -> bool {
     true
 }
 
-fn base(id: u64) -> Option<MonotonicId> {
+pub(crate) fn base(id: u64) -> Option<MonotonicId> {
     if id == 0 {
         None
     } else {

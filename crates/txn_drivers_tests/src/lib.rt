@@ -6,4 +6,6 @@ mod alone;
 #[cfg(test)]
 mod calls;
 #[cfg(test)]
+mod operations;
+#[cfg(test)]
 mod views;

@@ -8,7 +8,7 @@ use std::alloc::Global;
 use std::test::Fail;
 use txn_caches::caches::{CachedBoundary, Caches};
 use txn_store::page::{Listing, Page};
-use txn_store::path::Path;
+use txn_store::path::{Path, PathFault};
 use txn_store::request::{Reply, Request};
 use txn_store::store::StoreError::{
     AlreadyExists, Failed, NoMemory, NotFound, NotModified, Precondition,
@@ -223,38 +223,6 @@ const SCENARIOS: &[(&str, &[Row])] = &[
         ],
     ),
     (
-        "nothing is listed after four successors",
-        &[
-            (WriteUnchecked(0, 10), &[Puts], Wrote(1), 1, 1),
-            (
-                Latest,
-                &[Finds(TEN), Finds(TEN), Finds(TEN), Finds(TEN), Lists(None)],
-                Found(None),
-                5,
-                7,
-            ),
-            (Holds(&[]), &[], Is(true), 0, 0),
-        ],
-    ),
-    (
-        "a listed version is gone, and another is listed",
-        &[
-            (
-                Latest,
-                &[
-                    Lists(Some(SECOND)),
-                    Refuses(NotFound),
-                    Lists(Some(FIRST)),
-                    Finds(TEN),
-                ],
-                Found(Some((1, 10))),
-                4,
-                4,
-            ),
-            (Holds(&[1]), &[], Is(true), 0, 0),
-        ],
-    ),
-    (
         "a listed version is gone, and nothing else is listed",
         &[(
             Read,
@@ -305,5 +273,112 @@ fn each_reply_leads_on(rt: HostRuntime) -> Result<(), Fail> {
     for (name, rows) in SCENARIOS {
         assert_eq!(rt; other(rt.alloc(), rows)?, None, "{name}");
     }
+    Ok(())
+}
+
+#[test]
+fn test_latest_read_invalidates_cache_when_list_is_empty(rt: HostRuntime) -> Result<(), Fail> {
+    const ROWS: &[Row] = &[
+        (
+            Latest,
+            &[Lists(Some(FIRST)), Finds(TEN)],
+            Found(Some((1, 10))),
+            2,
+            3,
+        ),
+        (Holds(&[1]), &[], Is(true), 0, 0),
+        // It finds four successors, and nothing is listed.
+        (
+            Latest,
+            &[Finds(TEN), Finds(TEN), Finds(TEN), Finds(TEN), Lists(None)],
+            Found(None),
+            5,
+            7,
+        ),
+        (Holds(&[]), &[], Is(true), 0, 0),
+    ];
+    assert_eq!(rt; other(rt.alloc(), ROWS)?, None);
+    Ok(())
+}
+
+#[test]
+fn test_try_read_latest_retries_missing_listed_file(rt: HostRuntime) -> Result<(), Fail> {
+    const ROWS: &[Row] = &[
+        (
+            Read,
+            &[
+                Lists(Some(FIRST)),
+                Refuses(NotFound),
+                Lists(Some(SECOND)),
+                Finds(TEN),
+                // There is no boundary.
+                Refuses(NotFound),
+            ],
+            Found(Some((2, 10))),
+            5,
+            6,
+        ),
+        (Holds(&[2]), &[], Is(true), 0, 0),
+    ];
+    assert_eq!(rt; other(rt.alloc(), ROWS)?, None);
+    Ok(())
+}
+
+/// A store whose boundary file did not change since it was cached. It keeps the token that the last get of it names.
+#[derive(Drop)]
+struct Unchanged {
+    named: Option<u64>,
+}
+
+/// Whether this is the path of the boundary's file.
+fn is_of_boundary(alloc: Global, path: &Path) -> Result<bool, PathFault> {
+    Ok(*path == Path::from_text(alloc, "root/gc/test.boundary")?)
+}
+
+impl Replies for Unchanged {
+    fn reply(
+        &mut self,
+        alloc: Global,
+        request: &Request,
+        _boundary: &mut Option<CachedBoundary>,
+    ) -> Result<Reply, Fail> {
+        match request {
+            Request::Get {
+                path,
+                if_none_match,
+            } if is_of_boundary(alloc, path)? => {
+                self.named = if_none_match.map(|token| token.number());
+                Ok(Reply::Get(Err(NotModified)))
+            }
+            _ => Err("it is no get of the boundary's file")?,
+        }
+    }
+}
+
+/// The cached boundary and its token.
+fn known(caches: &Caches) -> Option<(u64, u64)> {
+    caches
+        .boundary
+        .map(|known| (known.number, known.token.number()))
+}
+
+/// The token that the get of a check names, what the check says and takes, and the cached boundary and its token then.
+type Checked = (Option<u64>, Played, Option<(u64, u64)>);
+
+/// A check of an id where a boundary of this number and token is cached.
+fn checked_with(alloc: Global, id: u64, number: u64, token: u64) -> Result<Checked, Fail> {
+    let layout = a_layout(alloc)?;
+    let mut store = Unchanged { named: None };
+    let mut caches = Caches::new();
+    let token = Token::new(token);
+    caches.boundary = Some(CachedBoundary { number, token });
+    let played = perform(alloc, &mut store, &layout, &mut caches, Check(id))?;
+    Ok((store.named, played, known(&caches)))
+}
+
+#[test]
+fn a_check_asks_for_the_file_unless_it_is_as_cached(rt: HostRuntime) -> Result<(), Fail> {
+    let checked = checked_with(rt.alloc(), 3, 2, 31)?;
+    assert_eq!(rt; checked, (Some(31), (Did, 1, 3), Some((2, 31))));
     Ok(())
 }
