@@ -16,15 +16,17 @@ use Rattle.txn_types.specs.declared.error.TransactionalObjectError.TheVariants a
 use Rattle.txn_caches.specs.declared.caches.Cached.{Cached}
 use Rattle.txn_caches.specs.Windows.{greatest_held}
 use Rattle.txn_drivers.specs.Calls.{SameAt, Spends, HasCauseOfRead, HasCauseOfGet}
-use Rattle.txn_drivers.specs.Standing.{FilesStand, WindowFits}
+use Rattle.txn_drivers.specs.Standing.{Carried, FilesStand, WindowFits}
 use Rattle.txn_drivers.specs.WriteRuns.{VersionsStand, WriteLeaves, WriteStands, Written}
 use Rattle.txn_drivers.specs.RemovalRuns.{Deleted}
-use Rattle.txn_drivers.specs.LatestReads.{UpTo, Ended, IsLatest, Walked, IsOneOf, IsStored, IsRefused, HasToList, IsProbed, IsListed}
+use Rattle.txn_drivers.specs.LatestReads.{UpTo, Ended, IsLatest, Walked, IsStored, IsRefused, HasToList, IsProbed, IsListed}
 use Rattle.txn_drivers.specs.PageCount.{pages_below}
 use Rattle.txn_drivers.specs.ListRuns.{VersionsListed, ids_of}
 use Rattle.txn_drivers.specs.VersionReads.{AreRefused, VersionRead, SeenRead}
 use Rattle.txn_steps.specs.Listed.{Listed}
 use Rattle.std.specs.declared.ops.Bound.{Bound}
+use Rattle.txn_drivers.proofs.LatestStands.{stored_carried}
+use Rattle.txn_drivers.proofs.LatestWindows.{every_carried, every_one}
 use Rattle.txn_drivers.proofs.NextPages.{has_pages}
 use Rattle.txn_drivers.proofs.Frames.{same_at-kept, kept-refl, FilesStand-kept}
 use Rattle.slatedb_txn_obj.specs.Protocol.{base_number, Entered, Overtaken, MayAppend, LatestOrFenced, IsEntry, AreListed, IsWarmRead, Unheld, HasCauseOfLatestUnchecked, HasCauseOfVersion}
@@ -242,14 +244,9 @@ module _ {T : Type 0} (names : Names) (decode : List ℕ → Option T) (old : St
   stored_decodes : (id : ℕ) → id < 2 ^ 64 → AreRefused names decode old.files id → ⊥
   stored_decodes id fits (got, is_file, refused) = decodes_not (decode got.bytes) (stand.known id got fits is_file).2 refused
 
-  held_decodes : (latest : List Cached) (version : Cached) → WindowFits decode h b latest → IsOneOf latest version → decode version.bytes ≡ None → ⊥
-  held_decodes [] version fits one refused = absurd one
-  held_decodes (first ∷ versions) version fits (inl one) refused = decodes_not (decode first.bytes) fits.0.decodes (ap (λ (v : Cached). decode v.bytes) one ∙ refused)
-  held_decodes (first ∷ versions) version fits (inr one) refused = held_decodes versions version fits.1 one refused
-
   none_refused : (latest : List Cached) → WindowFits decode h b latest → IsRefused names decode old.files latest → ⊥
-  none_refused latest fits (version, inl held, refused) = held_decodes latest version fits held refused
-  none_refused latest fits (version, inr stored, refused) = stored_decodes version.id stored.small (stored.file, stored.is_file, ap decode (sym stored.bytes) ∙ refused)
+  none_refused latest fits (version, inl held, refused) = decodes_not (decode version.bytes) (every_one (Carried decode h b) latest version (every_carried decode h b latest fits) held).decodes refused
+  none_refused latest fits (version, inr stored, refused) = decodes_not (decode version.bytes) (stored_carried names decode old.files h b stand version stored).decodes refused
 
 -- why reads of a protocol failed
 module _ {T : Type 0} (names : Names) (decode : List ℕ → Option T) (bounds : ℕ → Type 0) (file : Segments) (old new : State) (latest : List Cached) where

@@ -25,3 +25,4 @@ pub use txn_types::error::TransactionalObjectError;
 pub use txn_types::id::MonotonicId;
 pub use txn_types::identified::IdentifiedObjectMetadata;
 pub use txn_types::invariant::{Invariant, NoInvariant};
+pub use txn_types::test_utils;

@@ -37,7 +37,7 @@ pub trait TransactionalStorageProtocol<T, Id, S: ObjectStore> {
     /// most two calls of the store, and takes at most one token.
     ///
     /// Where the base isn't the newest version it is `ObjectVersionExists`, and what stood stands. A sequenced protocol may
-    /// then have created a version, whose id the boundary had reached; no reader sees it. The greatest id as base is
+    /// then have created a version, whose id the boundary had reached; no checked read answers it. The greatest id as base is
     /// `IdExhausted`, without a call of the store. After any other error the value may have been written:
     /// `InvalidObjectState`, where the boundary file says no number, `ObjectStoreError` and `NoMemory`.
     fn write(

@@ -3,6 +3,7 @@ use crate::scripted::TestBoundary;
 use slatedb_txn_obj::boundary::BoundaryObject;
 use slatedb_txn_obj::object_store::protocol::ObjectStoreSequencedStorageProtocol;
 use slatedb_txn_obj::protocol::{SequencedStorageProtocol, TransactionalStorageProtocol};
+use slatedb_txn_obj::test_utils::NumberCodec;
 use std::alloc::Global;
 use std::test::Fail;
 use txn_drivers::turns::Turns;
@@ -10,7 +11,6 @@ use txn_store::in_memory::InMemory;
 use txn_store::path::Path;
 use txn_types::error::TransactionalObjectError;
 use txn_types::id::MonotonicId;
-use txn_types::test_utils::NumberCodec;
 
 type Protocol = ObjectStoreSequencedStorageProtocol<u64, NumberCodec, TestBoundary>;
 
