@@ -7,31 +7,12 @@ use Rattle.txn_drivers.specs.LatestReads.{IsLatest}
 use Rattle.slatedb_txn_obj.specs.Protocol.{Appended}
 use Rattle.slatedb_txn_obj.specs.Views.{IsVersion, Updated, Tested}
 
-entry_appended : {T : Type 0} (h : List T) (value : T) → slice_get (h ++ value ∷ []) (length h) ≡ Some value
-entry_appended [] value = refl
-entry_appended (x ∷ xs) value = entry_appended xs value
-
--- the last entry of a list with one more
-pub latest-appended : {T : Type 0} (h : List T) (id : ℕ) (value : T) → id ≡ length h + 1 → IsLatest (h ++ value ∷ []) id value
-latest-appended h id value is = record {
-  some = omega (arith, length_push h value);
-  id_is = omega (arith, is, length_push h value);
-  entry = subst (λ n. slice_get (h ++ value ∷ []) n ≡ Some value) (omega (arith, is)) (entry_appended h value);
-}
-
 pub version-of_latest : {T : Type 0} {h : List T} {id : ℕ} {value : T} → IsLatest h id value → IsVersion h id value
 version-of_latest latest = record { positive = omega (arith, latest.some, latest.id_is); within = omega (arith, latest.id_is); entry = latest.entry }
 
 -- a history with a version is not empty
 pub none-empty : {T : Type 0} (h : List T) {number : ℕ} {value : T} → h ≡ [] → IsVersion h number value → ⊥
 none-empty h empty version = let none = ap length empty in absurd (omega (arith, none, version.positive, version.within))
-
-pub updated-of_appended : {T : Type 0} (before after : List T → ℕ → Type 0) (number number' : ℕ) (value value' : T) → Appended before after number value' number' → Updated before after number number' value value'
-updated-of_appended before after number number' value value' appended = record {
-  newest = λ h b stands version. record { some = omega (arith, version.positive, version.within); id_is = appended.newest h b stands version.within; entry = version.entry };
-  stands = λ h b stands version. appended.stands h b stands version.within;
-  next = λ h b stands version. latest-appended h number' value' (omega (arith, appended.id_is h b stands version.within, appended.newest h b stands version.within));
-}
 
 -- a list at one of its places
 pub split_at : {X : Type 0} (xs : List X) (k : ℕ) (d : X) → k < length xs → xs ≡ take k xs ++ get_or xs k d ∷ drop (suc k) xs

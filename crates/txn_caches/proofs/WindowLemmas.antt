@@ -60,14 +60,6 @@ pub replaced_at : (v : Cached) (xs : List Cached) → 0 < place_of v.id xs → r
 replaced_at v [] h = absurd (omega arith)
 replaced_at v (x ∷ xs) h = replaced_beside (nat_lt x.id v.id) v x xs h
 
-replaced_not_beside : (b : Bool) (v x : Cached) (xs : List Cached) → (if b then suc (place_of v.id xs) else 0) ≤ 0 → (if b then placed v xs else x ∷ xs) ≡ x ∷ xs
-replaced_not_beside true v x xs h = absurd (omega arith)
-replaced_not_beside false v x xs h = refl
-
-pub replaced_not : (v : Cached) (xs : List Cached) → place_of v.id xs ≤ 0 → replaced v xs ≡ xs
-replaced_not v [] h = refl
-replaced_not v (x ∷ xs) h = replaced_not_beside (nat_lt x.id v.id) v x xs h
-
 -- a version that isn't held keeps the order
 placed_from_beside : (lt eq : Bool) (low : ℕ) (v x : Cached) (xs : List Cached) → nat_lt x.id v.id ≡ lt → (x.id == v.id) ≡ eq → low < v.id → low < x.id → AscendsFrom x.id xs
     → (if eq then Some x else held v.id xs) ≡ None → (held v.id xs ≡ None → x.id < v.id → AscendsFrom x.id (placed v xs)) → AscendsFrom low (if lt then x ∷ placed v xs else v ∷ x ∷ xs)

@@ -224,32 +224,6 @@ pub record Between (path : Segments) (id : ℕ) (a : Scene CheckOp) (store : Sta
   pub latest : (caches.latest ≡ a.caches.latest) ⊎ (caches.latest ≡ above id a.caches.latest)
   pub stands : (b : ℕ) → BoundaryStands path a.caches.boundary a.store b → BoundaryStands path caches.boundary store b
 
--- the versions that a check that ended leaves
-either_latest : (id : ℕ) (answer : Result (Unit {0}) TransactionalObjectError) (latest : List Cached) → (checked_latest id answer latest ≡ latest) ⊎ (checked_latest id answer latest ≡ above id latest)
-either_latest id (Ok accepted) latest = inl refl
-either_latest id (Err kinds.ObjectVersionExists) latest = inr refl
-either_latest id (Err kinds.IoError) latest = inl refl
-either_latest id (Err (kinds.ObjectStoreError e)) latest = inl refl
-either_latest id (Err (kinds.ObjectUpdateTimeout timeout)) latest = inl refl
-either_latest id (Err kinds.LatestRecordMissing) latest = inl refl
-either_latest id (Err kinds.Fenced) latest = inl refl
-either_latest id (Err kinds.InvalidObjectState) latest = inl refl
-either_latest id (Err (kinds.CallbackError e)) latest = inl refl
-either_latest id (Err kinds.NoMemory) latest = inl refl
-either_latest id (Err kinds.IdExhausted) latest = inl refl
-either_latest id (Err kinds.TurnsExhausted) latest = inl refl
-
--- a check that ended
-pub ended_between : (path : Segments) (id : ℕ) (a : Scene CheckOp) (c : Scene CheckOp) (answer : Result (Unit {0}) TransactionalObjectError) → Checked path id a.store c.store a.caches.boundary c.caches.boundary answer → c.caches.latest ≡ checked_latest id answer a.caches.latest → Between path id a c.store c.caches
-ended_between path id a c answer checked latest = record {
-  kept = checked.kept;
-  calls_rise = checked.spends.calls_rise;
-  calls_most = checked.spends.calls_most;
-  failures_rise = checked.spends.failures_rise;
-  latest = elim (either_latest id answer a.caches.latest) [ inl same ↦ inl (latest ∙ same) | inr less ↦ inr (latest ∙ less) ];
-  stands = checked.stands;
-}
-
 -- a check that goes on takes a reply, whatever it makes of that
 module _ (path : Segments) (id : ℕ) (a : Scene CheckOp) (starts : a.op ≡ check_started path id) where
   module _ (b : Scene CheckOp) (reply : Option Reply) (store : State) (caches : Caches) where

@@ -153,22 +153,6 @@ module _ {T : Type 0} (decode : List ℕ → Option T) (h : List T) (b : ℕ) wh
 
 -- a raise of the boundary to the greater of it and a number that is 0 or below the newest: what stood above the old one stands above the new one
 module _ {T : Type 0} (names : Names) (decode : List ℕ → Option T) (h : List T) (b c : ℕ) where
-  raised_files' : (top : ℕ) (files : Files) → b ≤ top → top ≤ length h → (0 < length h → top < length h) → FilesStand names decode files h b → FilesStand names decode files h top
-  raised_files' top files up below newest stand = record {
-    known = stand.known;
-    stored = λ m above le. stand.stored m (omega (arith, above, up)) le;
-    below = below;
-    newest = newest;
-    fits = stand.fits;
-  }
-
-  pub raised_files : (files : Files) → (c ≡ 0) ⊎ (c < length h) → FilesStand names decode files h b → FilesStand names decode files h (max b c)
-  raised_files files low stand =
-      let below = stand.below in
-      let most : c ≤ length h = elim low [ inl none ↦ omega (arith, none) | inr lt ↦ omega (arith, lt) ] in
-      raised_files' (max b c) files (omega arith) (omega (arith, below, most))
-      (λ some. let newest = stand.newest some in elim low [ inl none ↦ omega (arith, none, newest) | inr lt ↦ omega (arith, lt, newest) ]) stand
-
   carried_raised : (top : ℕ) (version : Cached) → b ≤ top → Carried decode h b version → Carried decode h top version
   carried_raised top version up carried = record {
     positive = carried.positive;

@@ -19,10 +19,6 @@ FilesStand-frame names decode h b files files' same stand = record {
   fits = stand.fits;
 }
 
--- what changes one path alone, which is no version's, leaves the files of versions
-pub FilesStand-other : {T : Type 0} (names : Names) (decode : List ℕ → Option T) (h : List T) (b : ℕ) (path : Segments) (old new : State) → ((n : ℕ) → version_path names n ≡ path → ⊥) → SameBut path old new → FilesStand names decode old.files h b → FilesStand names decode new.files h b
-FilesStand-other names decode h b path old new apart others stand = FilesStand-frame names decode h b old.files new.files (λ n. others (version_path names n) (apart n)) stand
-
 -- only the boundary's path and the given tokens matter to the boundary
 
 module _ (path : Segments) (old new : State) (b : ℕ) (at : SameAt path old new) where

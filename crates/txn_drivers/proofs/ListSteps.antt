@@ -206,10 +206,6 @@ module _ (names : Names) (page : ℕ) (room : 1 ≤ page) (from to : Bound ℕ) 
 pub list_goes : (names : Names) (page : ℕ) (from to : Bound ℕ) (old mid new : State) (op op' : ListOp) (told : Turned (Result (List Listed) TransactionalObjectError)) → 1 ≤ page → ListRuns names page from to old mid op → IsListStep names page mid new op op' told → ListGoes names page from to old new op op' told
 list_goes names page from to old mid new op op' told room runs step = goes_by names page room from to old mid new op op' runs told step.reply step.replies step.turned step.error
 
--- what it asks of the store
-pub runs_can : (names : Names) (page : ℕ) (from to : Bound ℕ) (old new : State) (op : ListOp) → 1 ≤ page → ListRuns names page from to old new op → CanList op.request
-runs_can names page from to old new op room runs = subst CanList (sym runs.asks) room
-
 -- where the files stand for a history, the ids of an answer do
 are_ids : {T : Type 0} (names : Names) (decode : List ℕ → Option T) (from to : Bound ℕ) (files : Files) (found : List Listed) (h : List T) (b : ℕ) → AreStored names from to files found → FilesStand names decode files h b → AreIds from to (length h) b found
 are_ids names decode from to files found h b ids stand = record {

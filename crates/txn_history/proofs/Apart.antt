@@ -49,9 +49,6 @@ other : (path : Segments) (b : Bool) → is_boundary path ≡ b → world_bounda
 other path true e h = absurd (h (sym (is_boundary_path path e)))
 other path false e h = refl
 
-pub not_boundary : (path : Segments) → world_boundary ≢ path → is_boundary path ≡ false
-not_boundary path h = other path (is_boundary path) refl h
-
 -- the code's test of a path for the boundary's
 pub same_path : (path file : Segments) → file ≡ world_boundary → (test : Bool) → test ≡ pointwise (pointwise nat_eq) path file → is_boundary path ≡ test
 same_path path file is test e = sym (e ∙ (ap (pointwise (pointwise nat_eq) path) is ∙ lists_ties (slice_cmp nat_cmp) texts_ties path world_boundary))

@@ -97,9 +97,6 @@ module _ {C A T : Type 0} (decode : List ℕ → Option T) (get_epoch : T → �
 module _ {C A : Type 0} where
   -- one more row
 
-  pub AtRow-more : (rows : List (RowOf C A)) (row : RowOf C A) (op : ℕ) (holds : List (RowOf C A) → Type 0) → AtRow rows op holds → AtRow (rows ++ row ∷ []) op holds
-  AtRow-more rows row op holds a = at_kept rows (row ∷ []) op holds a
-
   -- the end of the rows is a row of a call that began
   pub AtRow-now : (rows : List (RowOf C A)) (op : ℕ) (holds : List (RowOf C A) → Type 0) → was_begun rows op ≡ true → holds rows → AtRow rows op holds
   AtRow-now rows op holds begun h =

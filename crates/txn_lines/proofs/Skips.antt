@@ -14,10 +14,6 @@ use Rattle.txn_lines.proofs.Texts.{not_long}
 abbrev pub Skipping : Option (List ℕ) → ℕ → Option (List ℕ) → ℕ → Type 0
 Skipping old n new m = IfSome old (λ input. (now : List ℕ) × (skipped : List (List ℕ)) × (new ≡ Some now) × (lines_of input ≡ skipped ++ lines_of now) × (kept skipped ≡ []) × (m ≡ n + length skipped))
 
-pub skip_start : (old : Option (List ℕ)) (n : ℕ) → Skipping old n old n
-skip_start None n = tt
-skip_start (Some input) n = (input, [], refl, refl, refl, omega arith)
-
 kept_by : (l : List ℕ) (ls : List (List ℕ)) (line : List ℕ) (b : Bool) → is_skipped l ≡ b → kept (l ∷ ls) ≡ [] → (kept ls ≡ [] → kept (ls ++ line ∷ []) ≡ []) → kept (l ∷ (ls ++ line ∷ [])) ≡ []
 kept_by l ls line true e none more = rw e (more (rw e at none))
 kept_by l ls line false e none more = let some = rw e at none in absurd (cc)
@@ -56,13 +52,6 @@ skip_line (Some input) mid new n m text line on read is skipped =
 skips_to : (input now : List ℕ) (n m : ℕ) (skipped : List (List ℕ)) (left : List (List ℕ)) → lines_of input ≡ skipped ++ lines_of now → kept skipped ≡ [] → m ≡ n + length skipped → lines_of now ≡ left → SkipsTo input n (m + 1) left
 skips_to input now n m skipped left all none number first =
     record { skipped = skipped; lines = all ∙ ap (λ ls. skipped ++ ls) first; none_kept = none; number = omega (arith, number) }
-
--- no line is left
-pub next_none : (old mid new : Option (List ℕ)) (n m : ℕ) (text : List ℕ) → Skipping old n mid m → ReadsLine mid new text taken.End → ReadsNext old n new (m + 1) None
-next_none None mid new n m text on read = tt
-next_none (Some input) mid new n m text on read =
-    let here : ReadsLine (Some on.0) new text taken.End = subst (λ o. ReadsLine o new text taken.End) on.2 read in
-    ([], here.1, skips_to input on.0 n m on.1 [] on.3 on.4 on.5 (ap lines_of here.0))
 
 -- a line that is kept, and says something
 pub next_some : (old mid new : Option (List ℕ)) (n m : ℕ) (text bytes : List ℕ) (line : Line) → Skipping old n mid m → ReadsLine mid new text taken.Line → bytes ≡ strip_last 10 text → is_skipped bytes ≡ false → SaysOnly bytes line → ReadsNext old n new (m + 1) (Some line)

@@ -223,20 +223,6 @@ module _ {T : Type 0} where
         same = λ got h e. (sym (ap (λ (files : Files). get files world_boundary) kept.files) ∙ e, refl);
       }
 
-  -- one after another
-  pub frame_after : (rows middle last : List (Row T)) (old next new : StoreState) → Frame rows old middle next → Frame middle next last new → Frame rows old last new
-  frame_after rows middle last old next new first second =
-      record {
-        more = first.more ++ second.more;
-        is = second.is ∙ (ap (λ (rs : List (Row T)). rs ++ second.more) first.is ∙ append_assoc rows first.more second.more);
-        up = (let up = first.up in let more = second.up in omega (arith, up, more));
-        given = λ t h. second.given t (first.given t h);
-        same = λ got h e.
-            let then = second.same got (first.given got.token h) e in
-            let before = first.same got h then.0 in
-            (before.0, then.1 ∙ before.1);
-      }
-
   -- a row that is no effect
   quiet_frame : (rows : List (Row T)) (store : StoreState) (row : Row T) → stored (rows ++ row ∷ []) ≡ stored rows → Frame rows store (rows ++ row ∷ []) store
   quiet_frame rows store row kept =

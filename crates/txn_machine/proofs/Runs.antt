@@ -71,9 +71,6 @@ module _ {T : Type 0} (encode : T → List ℕ) (decode : List ℕ → Option T)
   pub reached_wide : (s : State T) → IsReached encode decode get_epoch s → length s.caches ≡ s.clients
   reached_wide s r = (reached_stands encode decode get_epoch s r).wide
 
-  pub reached_caches : (s : State T) (op : ℕ) (o : Operation T) → IsReached encode decode get_epoch s → numbered s.operations op ≡ Some o → (caches : Caches) × (numbered s.caches o.client ≡ Some caches)
-  reached_caches s op o r e = let at = at_place decode get_epoch s op o (reached_stands encode decode get_epoch s r) e in (at.0, at.1)
-
   -- the rows that an event adds
 
   serve_adds : (old : State T) (op : ℕ) (said : Told T) (new : State T) → Served decode old op said new → Stands decode get_epoch old → AddsRows (seen_of old) old.trace old.store.files (events.Serve op) said new.trace new.store.files

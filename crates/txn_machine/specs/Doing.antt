@@ -59,12 +59,6 @@ abbrev pub asks_as : Option StateAsk → Option Ask
 asks_as None = None
 asks_as (Some ask) = Some (ask_of (asks ask))
 
--- the request of an ask
-abbrev pub request_in : Option Ask → Option Request
-request_in None = None
-request_in (Some (Store request)) = Some request
-request_in (Some Look) = None
-
 module _ {T : Type 0} where
   abbrev pub is_write : Call T → Bool
   is_write (calls.Write base value) = true

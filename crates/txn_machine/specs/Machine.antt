@@ -289,23 +289,6 @@ module _ {T : Type 0} (encode : T → List ℕ) (decode : List ℕ → Option T)
     pub allowed : refusal_of old event ≡ None
     pub step : Steps encode decode old event said new
 
-  -- An event's outcome: it is taken, or it is refused as the trace and what stands beside it say, or for want of memory, and changes nothing.
-  abbrev pub Meets : State T → Event T → Result (Told T) EventFault → State T → Type 0
-  Meets old event (Ok said) new = Takes old event said new
-  Meets old event (Err fault) new = (fault_met {A = Told T} (Err fault) ≡ refusal_of old event) × (new ≡ old)
-
-  -- Events in order, each with its outcome.
-  abbrev pub Outcomes : State T → List (Event T × Result (Told T) EventFault) → State T → Type 0
-  Outcomes old [] new = new ≡ old
-  Outcomes old (met ∷ rest) new = (middle : State T) × Meets old met.0 met.1 middle × Outcomes middle rest new
-
-  -- These events in order, past those that are refused; so many were taken.
-  pub record RunsPast (old : State T) (events : List (Event T)) (count : ℕ) (new : State T) : Type 0 where
-    pub met : List (Event T × Result (Told T) EventFault)
-    pub all : map (λ m. m.0) met ≡ events
-    pub run : Outcomes old met new
-    pub taken : count ≡ taken_count met
-
   -- a run: events in order, each with what it told
   abbrev pub Runs : State T → List (Event T × Told T) → State T → Type 0
   Runs old [] new = new ≡ old

@@ -134,9 +134,6 @@ module _ {T : Type 0} where
   found_kept latest successor (Done (Ok answer)) = kept successor latest
   found_kept latest successor (Done (Err number)) = latest
 
-  abbrev pub dropped : List Cached → ℕ → Turned (ReadAnswer T) → List Cached
-  dropped latest id told = above id latest
-
   -- what it leaves of the cached versions, by what it says: a found successor is cached but for an error
   abbrev pub latest_left : LatestOp T → List Cached → Turned (ReadAnswer T) → List Cached
   latest_left (Finds successor found) latest told = found_kept latest successor told

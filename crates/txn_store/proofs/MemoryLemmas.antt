@@ -50,15 +50,6 @@ delete_removed m n path is = rw is (record {
   err = tt;
 })
 
--- a page of a listing
-pub list_in_order : (m n : Memory) → n ≡ called m → (prefix : Segments) (after : Option Segments) (limit : ℕ) (page : Page) → page ≡ page_of limit (listing prefix after (entries m.files)) → Lists prefix after limit (state_of m) (Ok page) (state_of n)
-list_in_order m n is prefix after limit page listed = rw is (record {
-  counted = record { calls = refl; failures = omega arith };
-  listed = listed;
-  kept = record { files = refl; given = refl; left = refl };
-  err = tt;
-})
-
 -- what a put and a delete leave, after the call was counted
 pub file_put : (m v n : Memory) (path : Segments) (bytes : List ℕ) → v ≡ called m → n ≡ record { files = insert v.files path (record { bytes = bytes; token = v.next }); first = v.first; next = v.next + 1; calls = v.calls } → n ≡ with_file path bytes m
 file_put m v n path bytes begun is = is ∙ ap (λ (w : Memory). record { files = insert w.files path (record { bytes = bytes; token = w.next }); first = w.first; next = w.next + 1; calls = w.calls }) begun

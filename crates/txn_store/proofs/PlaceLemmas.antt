@@ -23,10 +23,6 @@ pub when_some : {A : Type 0} {P : Type 0} (o : Option A) → OnSome o P → IsSo
 when_some None h some = absurd (cc)
 when_some (Some x) h some = h
 
-pub when_ok : {A E : Type 0} {P : Type 0} (r : Result A E) (x : A) → OnOk r P → r ≡ Ok x → P
-when_ok (Ok y) x h is = h
-when_ok (Err e) x h is = cc
-
 -- an index with an entry is within
 pub there_within : (es : Entries) (i : ℕ) (e : Segments × Got) → slice_get es i ≡ Some e → i < length es
 there_within [] i e is = cc

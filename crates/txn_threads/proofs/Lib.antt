@@ -3,4 +3,3 @@ pub mod Counting
 pub mod Journal
 pub mod Once
 pub mod Shares
-pub mod Working

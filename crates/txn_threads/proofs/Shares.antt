@@ -15,13 +15,6 @@ one_further f n m h is k from to = elim (near k (n + 1) (omega (arith, to))) [
   | inr at ↦ subst (λ j. f j ≡ m) (sym at) is
 ]
 
--- what holds of each element before a place, and of the one there
-pub get_further : {A : Type 0} (P : A → Type 0) (xs : List A) (n : ℕ) (x : A) → ((k : ℕ) (y : A) → k < n → slice_get xs k ≡ Some y → P y) → slice_get xs n ≡ Some x → P x → (k : ℕ) (y : A) → k < n + 1 → slice_get xs k ≡ Some y → P y
-get_further P xs n x h at is k y small e = elim (near k n small) [
-  | inl below ↦ h k y below e
-  | inr here ↦ subst P (same_Some _ _ (sym at ∙ (ap (slice_get xs) (sym here) ∙ e))) is
-]
-
 not_both : (b : Bool) → b ≡ true → b ≡ false → ⊥
 not_both b is not = cc
 

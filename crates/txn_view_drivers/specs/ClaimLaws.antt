@@ -66,10 +66,6 @@ module _ {T : Type 0} (names : Names) (path : Segments) (encode : T → List ℕ
   again_asks (Some found) claiming is = begun_asks found.0 found.1 claiming (begun found.0 found.1 claiming is)
   again_asks None claiming is = absurd (cc)
 
-  -- a claim asks as it starts
-  pub starts_asking : (id : ℕ) (value : T) (claiming : Claiming T) → attempted names path encode epoch_of with_epoch asked id value ≡ Ok claiming → CanClaim claiming
-  starts_asking id value claiming is = begun_asks id value claiming (begun id value claiming is)
-
 module _ {T : Type 0} (names : Names) (path : Segments) (page : ℕ) (room : 1 ≤ page) (encode : T → List ℕ) (decode : List ℕ → Option T) (epoch_of : T → ℕ) (with_epoch : T → ℕ → T) (asked : Option ℕ) where
   attempt_next : (write_value : T) (epoch : ℕ) (from : Scene WriteOp) (b : Scene (Claiming T)) → CanWriteChecked from.op → AttemptLed path write_value epoch from Goes b → CanClaim b.op
   attempt_next value epoch from b can (inl on) = subst CanClaim (sym on.2) (write_asks from (part_of on.0 b) can on.1)

@@ -27,10 +27,6 @@ use Rattle.txn_view_machine.specs.Layer.{Used, Inner, Starts, Writes, Reads, Act
 use Rattle.txn_view_machine.proofs.History.{front_before, front_all}
 use Rattle.txn_view_machine.proofs.Stands.{NeverBelow, Uses, Fresh, Quiet, IsUnseen, shown_by, MayWrite, WriteStands, AttemptStands, Attempts, OwnFenced, InnerStands, OpStands, AskedStand, ViewAt}
 
-held_or : (a b c : Option ℕ) → b ≡ None → or_else a b ≡ c → a ≡ c
-held_or None b c e f = sym e ∙ f
-held_or (Some x) b c e f = f
-
 held_same : (a b : Option ℕ) → b ≡ None → a ≡ or_else a b
 held_same None b e = sym e
 held_same (Some x) b e = refl

@@ -31,30 +31,3 @@ module _ {T : Type 0} (owner : ℕ → ℕ) (fine : List (Row T)) (rows : List (
   erases_too op id called e = (let low = same_boundary owner fine rows h in record { called = called; below = (let le = e.below in omega (arith, le, low)) })
 
 module _ {T : Type 0} (decode : List ℕ → Option T) (get_epoch : T → ℕ) (owner : ℕ → ℕ) (fine : List (Row T)) (rows : List (AnyRow T)) (h : Alike owner fine rows) where
-  -- What is put by an operation that writes this on this base: the next version, or one that was removed.
-  pub record PutOn (base id : ℕ) (bytes : List ℕ) (value : T) : Type 0 where
-    pub next : id ≡ base + 1
-    pub reads : decode bytes ≡ Some value
-    pub place : (base ≡ newest rows) ⊎ WasRemoved rows (base + 1)
-
-  pub put_on : (op base id : ℕ) (bytes : List ℕ) (value : T) → ((call : Call T) → IsCall fine op call → call ≡ calls.Write (base_on base) value) → VersionPut decode get_epoch fine op (Some (id, bytes)) → PutOn base id bytes value
-  put_on op base id bytes value one (inl a) =
-      let w : WritesOn decode get_epoch fine op (calls.Write (base_on base) value) (newest fine) a.value = subst (λ (c : Call T). WritesOn decode get_epoch fine op c (newest fine) a.value) (one a.call a.called) a.written in
-      let at = same_base base (newest fine) w.0 in
-      let new = same_newest owner fine rows h in
-      let next = a.next in
-      record { next = omega (arith, next, at); reads = a.reads ∙ ap Some w.1; place = inl (omega (arith, at, new)) }
-  put_on op base id bytes value one (inr r) =
-      let w : WritesOn decode get_epoch fine op (calls.Write (base_on base) value) r.base r.value = subst (λ (c : Call T). WritesOn decode get_epoch fine op c r.base r.value) (one r.call r.called) r.written in
-      let at = same_base base r.base w.0 in
-      let id_is : id ≡ base + 1 = r.next ∙ ap (λ (n : ℕ). n + 1) (sym at) in
-      let low = same_boundary owner fine rows h in
-      record {
-        next = id_is;
-        reads = r.reads ∙ ap Some w.1;
-        place = inr (record {
-          again = subst (λ (n : ℕ). has_id (versions_of rows) n ≡ true) id_is (rw (same_versions owner fine rows h) r.again);
-          erased = subst (λ (n : ℕ). was_erased rows n ≡ true) id_is (same_erased owner fine rows h id ∙ r.erased);
-          below = (let le = r.below in omega (arith, le, low, id_is));
-        });
-      }

@@ -61,17 +61,6 @@ module _ {T : Type 0} where
   IsViewInRange (HolderRefresh op) = IsHolderRefreshInRange op
   IsViewInRange (HolderUpdate op) = Unit {0}
 
-  -- a claim: the calls whose refusal ends their view
-  abbrev pub is_claim : ViewOp T → Bool
-  is_claim (Claim op) = true
-  is_claim (ClaimAt op) = true
-  is_claim (Init op) = false
-  is_claim (Load op) = false
-  is_claim (Refresh op) = false
-  is_claim (Update op) = false
-  is_claim (HolderRefresh op) = false
-  is_claim (HolderUpdate op) = false
-
   -- what it leaves of the caches, by what it says
   abbrev pub view_left : ViewOp T → Caches → Turned (Result (Outcome T) ℕ) → Caches
   view_left (Init op) caches told = init_caches op caches

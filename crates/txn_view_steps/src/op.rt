@@ -3,7 +3,7 @@ ghost use Rattle.std.specs.Prelude.{◌≡◌};
 ghost use Rattle.txn_types.specs.Clones.{IsExactClone};
 ghost use Rattle.txn_caches.specs.Steps.{turned_by_number, lacks_memory, TellsErrorOf};
 ghost use Rattle.txn_caches.specs.Asking.{asks, reply_told};
-ghost use Rattle.txn_view_steps.specs.ViewOps.{view_asked, view_left, view_turned, is_claim, IsViewReply, IsViewInRange, IsClaimReading, IsViewMade, MayLack};
+ghost use Rattle.txn_view_steps.specs.ViewOps.{view_asked, view_left, view_turned, IsViewReply, IsViewInRange, IsClaimReading, IsViewMade, MayLack};
 
 use crate::claim::ClaimOp;
 use crate::claim_at::ClaimAtOp;
@@ -50,13 +50,6 @@ impl<T: Drop> ViewOp<T> {
             ViewOp::HolderRefresh(op) => op.ask(),
             ViewOp::HolderUpdate(op) => op.ask(),
         }
-    }
-
-    /// Whether it is a claim, whose view ends where it is refused or given up.
-    pub fn is_claim(&self) -> bool
-        ensures { result ≡ is_claim self.now }
-    {
-        matches!(self, ViewOp::Claim(_) | ViewOp::ClaimAt(_))
     }
 }
 

@@ -175,10 +175,6 @@ module _ {T : Type 0} where
       same_view o true = refl
       same_view o false = refl
 
-  -- who uses which view, of what stands in its place
-  pub usage_found : (operations : List (AnyOperation T)) (op : ℕ) (o : AnyOperation T) → numbered operations op ≡ Some o → option_map usage_of (numbered operations op) ≡ Some (usage_of o)
-  usage_found operations op o found = ap (option_map usage_of) found
-
   pub none_from_one : (operations : List (AnyOperation T)) → operations ≡ [] → AreFromOne operations
   none_from_one operations none op o e = absurd (lacks op (sym (ap (λ (os : List (AnyOperation T)). numbered os op) none) ∙ e))
     where

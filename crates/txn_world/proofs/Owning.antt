@@ -133,10 +133,6 @@ module _ {T : Type 0} where
   changed_keeps (Some used) (Makes id value epoch) = refl
   changed_keeps (Some used) Closes = tt
 
-  pub busy_keeps : (used : Option (Used T)) (busy : Option ℕ) → KeepsOwner used (option_map (with_busy busy) used)
-  busy_keeps None busy = tt
-  busy_keeps (Some used) busy = refl
-
   -- a view that is taken out of its place and put back
   pub put_in : (views rest after : List (Option (Used T))) (number : ℕ) (put : Option (Used T)) → rest ≡ with_used views (Some number) None → after ≡ with_used rest (Some number) put → after ≡ with_used views (Some number) put
   put_in views rest after number put out is = is ∙ (ap (λ (vs : List (Option (Used T))). set vs (number - 1) put) out ∙ set-set views (number - 1) None put)
