@@ -1,5 +1,56 @@
-//! The protocols of a transactional object: versions that many clients write by compare and swap, and a boundary that
-//! fences old ones, over any store.
+//! One object in a store, as numbered versions that many clients write by compare and swap, with a boundary at or below
+//! which versions are fenced and may be removed, and with holders whose epoch shuts older holders out.
+//!
+//! A caller holds a [`TransactionalObject`]: a copy of one version, which it refreshes and updates. What an update does in
+//! the store is the protocol's, and what the store is its own: any type that keeps `ObjectStore` of `txn_store` serves.
+//! Protocol, store, turns and clock are lent to each call, and no call waits or retries beyond the turns that it is lent.
+//!
+//! ## Core types
+//! - [`TransactionalStorageProtocol`]: what an object asks of its storage: `write` a value on a base, if that is the newest
+//!   version, and `try_read_latest`. Its contracts alone say what an object over it does.
+//! - [`SequencedStorageProtocol`]: versions with ids from 1 on, over a boundary: reads of one version, listings and deletes.
+//!   Every type with it has the trait above.
+//! - [`BoundaryObject`]: the boundary of a sequence: `check` an id against it, `advance` it.
+//! - [`object_store`]: both over an object store: version 1 of `manifest` with the suffix `manifest` is the file
+//!   `manifest/00000000000000000001.manifest` below a root, and the boundary the file `gc/manifest.boundary`.
+//! - [`TransactionalObject`]: a version in memory. `refresh` moves it to the newest, `update` writes a [`DirtyObject`] on it,
+//!   and `maybe_apply_update` asks a mutator, and once more after each conflict.
+//! - [`SimpleTransactionalObject`]: such an object, with [`Invariant`]s that each update keeps.
+//! - [`FenceableTransactionalObject`]: such an object in the hands of a holder. A claim (`init`) writes the newest value once
+//!   more with a greater epoch in it, by an [`EpochField`]; from then on older holders are `Fenced`.
+//! - [`ObjectCodec`]: how a value is written as bytes. [`MonotonicId`]: the id of a version. [`Turns`]: how many passes and
+//!   pages a call may still begin. [`SystemClock`]: by which a claim ends in time.
+//!
+//! ## Errors
+//! An error is a [`TransactionalObjectError`], and each contract says which come, why, and what they leave.
+//! - `ObjectVersionExists` is a conflict: the version that was to be written stands already, or it is at or below the
+//!   boundary. Refresh and try again, or let `maybe_apply_update` do so.
+//! - `Fenced`: a holder with a greater epoch has claimed the object. This holder writes nothing more.
+//! - `InvalidObjectState`: what stands, or what is given, is not what the call needs: a file that has to be there is missing
+//!   or says no number, a refresh finds no version, an id to be deleted is above the boundary, or a holder's version has a
+//!   smaller epoch than its own, or its candidate another one.
+//! - `LatestRecordMissing`: a load found no version. `ObjectUpdateTimeout`, `TurnsExhausted`: a claim's time, or the turns
+//!   that were lent, ran out; what was written stands. `IdExhausted`: no greater id or epoch is left.
+//! - `CallbackError` passes on what a codec, an invariant or a mutator refused, `ObjectStoreError` what the store did, and
+//!   `NoMemory` tells that a growth was refused.
+//!
+//! After an error of a write or an update the value may stand in the store, unless the contract rules it out: whoever has to
+//! know reads again.
+//!
+//! ## Example
+//! A holder claims an object, writes on it, and is fenced once another has claimed it (a part of `fences_older_holder` of
+//! `uses_of_protocol`, which is proved for every protocol, store and codec):
+//! ```text
+//! let view: SimpleTransactionalObject<T, MonotonicId, NoInvariant> =
+//!     SimpleTransactionalObject::load(alloc, protocol, store, turns)?;
+//! let mut older = FenceableTransactionalObject::init(view, protocol, store, turns, TIMEOUT, clock, epochs)?;
+//! let dirty = older.prepare_dirty()?; // a copy of the newest value, with its id
+//! older.update(protocol, store, dirty)?; // written straight on it, with the holder's epoch
+//! // .. another client claims the object ..
+//! older.refresh(protocol, store, turns) // Err(Fenced)
+//! ```
+//!
+//! A store of manifests is such an object with a codec of manifests, and helpers of its own around `maybe_apply_update`.
 #![tactic(auto)]
 
 pub mod boundary;
