@@ -45,6 +45,12 @@ def all_below(name, uses):
     return found
 
 
+def lines_of_crates(root, names):
+    """The lines of crates.txt of these crates."""
+    with open(f"{root}/crates.txt", encoding="utf-8") as lines:
+        return [it for it in lines if (it.partition("#")[0].partition(":")[0].split() or [""])[0] in names]
+
+
 def texts_of(crate):
     """The texts of a crate by path."""
     texts = {}
@@ -122,7 +128,8 @@ class Copies:
             self.made += 1
             top = f"{self.room}/{self.name}-{self.made}"
         os.makedirs(top)
-        self.write_list_of_crates(f"{top}/crates.txt")
+        with open(f"{top}/crates.txt", "w", encoding="utf-8") as file:
+            file.writelines(lines_of_crates(self.root, {self.name, *self.below}))
         self.copy_parts(source, f"{top}/crates/{self.name}", [*PARTS, *kept])
         for name in self.below:
             self.copy_parts(libraries[name], f"{top}/crates/{name}", [*PARTS, "out/rlib"], linked)
@@ -138,12 +145,6 @@ class Copies:
     def remove_kept_work(first):
         """Removes what the first copy kept of its check: the crates above need its library alone."""
         shutil.rmtree(f"{first}/out/incremental", ignore_errors=True)
-
-    def write_list_of_crates(self, path):
-        """Writes a crates.txt with the lines of this crate and of those below it."""
-        names = {self.name, *self.below}
-        with open(f"{self.root}/crates.txt", encoding="utf-8") as lines, open(path, "w", encoding="utf-8") as file:
-            file.writelines(it for it in lines if (it.partition("#")[0].partition(":")[0].split() or [""])[0] in names)
 
     @staticmethod
     def copy_parts(crate, to, parts, copy=shutil.copy2):

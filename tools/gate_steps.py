@@ -1,17 +1,25 @@
 """The steps of tools/gate: runs each, shows what it writes, and counts what passed."""
 from __future__ import annotations
 
+import argparse
+import contextlib
 import os
 import re
+import shutil
 import subprocess
 import sys
+import tempfile
 import time
 from dataclasses import dataclass
+
+from crate_copies import all_below, crates_listed, lines_of_crates
 
 # How the names of the two builds of a program end that `rt ci` leaves in its out/: LLVM's, and Rattle's own compiler's.
 BUILDS = ("", ".by-rattle")
 # The program whose scripts the cases are. What any other prints, `rt ci` holds against its own stdout.
 PROGRAM_OF_CASES = "txnworld_cli"
+# How the name of a crate of tests ends.
+TESTS = "_tests"
 LAST_LINE = re.compile(r"(\d+) passed, (\d+) failed")
 TESTS_LINE = re.compile(r"^test result: \w+\. (\d+) passed; (\d+) failed", re.M)
 
@@ -74,7 +82,7 @@ def count_of_unittest(text):
 
 
 def count_of_ci(text):
-    """What `rt ci` counts, the proofs and the must-fail edits, and beside it the tests that it ran."""
+    """What `rt ci` counts, the proofs and the programs, and beside it the tests that it ran."""
     tests = [(int(passed), int(failed)) for passed, failed in TESTS_LINE.findall(text)]
     return count_of_last_line(text), (sum(it[0] for it in tests), sum(it[1] for it in tests))
 
@@ -97,6 +105,13 @@ def remove_builds(root):
                 os.remove(build)
 
 
+def date_builds(root, began):
+    """Gives the builds the time at which their run began, so that a source which was edited meanwhile is newer."""
+    for build in (it for program in programs_in(root) for it in builds_of(root, program)):
+        if os.path.isfile(build):
+            os.utime(build, (began, began))
+
+
 def step(name, words, root, count=count_of_last_line):
     """Runs a step and counts by what it writes."""
     say(f"== {name}")
@@ -104,19 +119,21 @@ def step(name, words, root, count=count_of_last_line):
     return Step(name, *count(text), status, real, processor)
 
 
-def ci_steps(root):
-    """Runs `rt ci`, as the step of its proofs and edits, and the tests that it ran as one without a time of its own."""
+def ci_steps(root, options=()):
+    """Runs `rt ci`, as the step of its proofs, and the tests that it ran as one without a time of its own."""
     say("== rt ci")
     remove_builds(root)
-    status, text, real, processor = run_and_show(["rt", "ci"], root)
+    began = time.time()
+    status, text, real, processor = run_and_show(["rt", "ci", *options], root)
+    date_builds(root, began)
     proofs, tests = count_of_ci(text)
-    return [Step("proofs and must-fail edits", *proofs, status, real, processor), Step("tests (within rt ci)", *tests)]
+    return [Step("proofs and programs", *proofs, status, real, processor), Step("tests (within rt ci)", *tests)]
 
 
-def case_steps(root):
-    """Looks for the builds of each program, and replays the cases on those of theirs. A build that was not made is a
+def case_steps(root, programs):
+    """Looks for the builds of these programs, and replays the cases on those of theirs. A build that was not made is a
     failure."""
-    for program in sorted({*programs_in(root), PROGRAM_OF_CASES}):
+    for program in programs:
         made = [it for it in builds_of(root, program) if os.path.isfile(it)]
         lacking = [os.path.basename(it) for it in builds_of(root, program) if it not in made]
         if lacking:
@@ -134,21 +151,60 @@ def table(steps):
         yield f"{it.name:{width}}  {it.passed:6}  {it.failed:6}  {it.real:6.0f}s  {it.processor:8.0f}s"
 
 
-def main():
-    """Runs the steps and returns the exit status."""
-    root = os.path.dirname(os.path.dirname(os.path.realpath(__file__)))
+def part_of(uses, names):
+    """The crates that are tried with these: those below, the crates of tests that name one, and those below these."""
+    tops = {*names, *(it for it, below in uses.items() if it.endswith(TESTS) and {*below} & {*names})}
+    return tops | {below for it in tops for below in all_below(it, uses)}
+
+
+@contextlib.contextmanager
+def copied(root, names):
+    """A copy of the repository with these crates alone, as they now stand, without what was made of them."""
+    with tempfile.TemporaryDirectory(prefix="test-") as room:
+        top = f"{room}/{os.path.basename(root)}"
+        for it in ("tools", "cases", "examples", *(f"crates/{name}" for name in sorted(names))):
+            shutil.copytree(f"{root}/{it}", f"{top}/{it}", symlinks=True, ignore=shutil.ignore_patterns("out"))
+        shutil.copy2(f"{root}/HANDLES", top)
+        with open(f"{top}/crates.txt", "w", encoding="utf-8") as file:
+            file.writelines(lines_of_crates(root, names))
+        yield top
+
+
+def steps_of(root, given):
+    """Runs the steps of the command, of all crates or of those that are given, and yields them."""
+    anew, every = ["--anew"] * given.anew, ["--all"] * given.all
     unit_tests = [sys.executable, "-m", "unittest", "discover", "-s", "tools/tests"]
-    steps = [step("tests of the tools", unit_tests, root, count_of_unittest)]
-    steps += ci_steps(root)
-    steps.append(step("wrong bodies", [f"{root}/tools/wrong-bodies", "--after-ci"], root))
-    steps += case_steps(root)
+    yield step("tests of the tools", unit_tests, root, count_of_unittest)
+    yield from ci_steps(root, anew)
+    yield step("wrong bodies", [f"{root}/tools/wrong-bodies", *given.crates, "--after-ci", *every, *anew], root)
+    programs = programs_in(root)
+    yield from case_steps(root, programs if given.crates else sorted({*programs, PROGRAM_OF_CASES}))
+
+
+def arguments_of(words, usage):
+    form = argparse.RawDescriptionHelpFormatter
+    how = {"prog": "./test", "usage": "./test [CRATE..] [--all] [--anew]", "formatter_class": form}
+    parser = argparse.ArgumentParser(description=usage.replace("usage: ./test [CRATE..] [--all] [--anew]\n\n", ""), **how)
+    parser.add_argument("crates", nargs="*", metavar="CRATE", help="only these crates and what their tests take")
+    parser.add_argument("--all", action="store_true", help="every wrong body, also those of wrong-bodies/more")
+    parser.add_argument("--anew", action="store_true", help="also what passed before on this machine")
+    return parser.parse_args(words)
+
+
+def main(words, usage="", root=os.path.dirname(os.path.dirname(os.path.realpath(__file__)))):
+    """Runs the steps and returns the exit status."""
+    given = arguments_of(words, usage)
+    uses = crates_listed(root)
+    unknown = [it for it in given.crates if it not in uses]
+    if unknown:
+        say(f"crates.txt names no crate {', '.join(unknown)}")
+        say(f"0 passed, {len(unknown)} failed")
+        return 2
+    with copied(root, part_of(uses, given.crates)) if given.crates else contextlib.nullcontext(root) as top:
+        steps = list(steps_of(top, given))
     say("")
     for line in table(steps):
         say(line)
     failed = sum(it.failed for it in steps)
     say(f"{sum(it.passed for it in steps)} passed, {failed} failed")
     return 1 if failed or any(it.status for it in steps) else 0
-
-
-if __name__ == "__main__":
-    sys.exit(main())

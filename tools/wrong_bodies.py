@@ -35,9 +35,11 @@ class BadEdit(Exception):
 
 @dataclass
 class Edit:
-    """An edit file: its pairs of an old and a new text by the path of the file that they change."""
+    """An edit file: its pairs of an old and a new text by the path of the file that they change, and the functions that
+    have to be refused: those whose bodies it changes, or, where it changes definitions alone, those that it names."""
 
     name: str
+    text: str
     pairs: list
     functions: set = field(default_factory=set)
     modules: set = field(default_factory=set)
@@ -79,8 +81,8 @@ class Log:
 
 
 def pairs_of(text):
-    """The pairs of an edit file: (path, old text, new text)."""
-    path, old, found = "", None, []
+    """The pairs of an edit file, (path, old text, new text), and the functions that its lines 'refused:' name."""
+    path, old, found, named = "", None, [], []
     for line in text.split("\n"):
         if line.startswith("file: "):
             path = line[len("file: ") :].strip()
@@ -95,13 +97,18 @@ def pairs_of(text):
                 raise BadEdit("a 'new:' line stands before any 'file:' or 'old:' line")
             found.append((path, old, re.sub(r"\A ", "", line[len("new:") :])))
             old = None
+        elif line.startswith("refused: "):
+            named.append(line[len("refused: ") :].strip())
     if old is not None:
         raise BadEdit("an 'old:' line has no 'new:' line")
     if not found:
         raise BadEdit("it has no 'old:' and 'new:' pair")
-    if not any(path.startswith("src/") for path, _, _ in found):
-        raise BadEdit("it changes no file of src/, so it changes no body")
-    return found
+    changes_code = any(path.startswith("src/") for path, _, _ in found)
+    if not changes_code and not named:
+        raise BadEdit("it changes no file of src/, and no line 'refused:' names a function that this makes false")
+    if changes_code and named:
+        raise BadEdit("a line 'refused:' stands beside a change of src/, which tells what is refused")
+    return found, named
 
 
 def applied(texts, pairs):
@@ -119,7 +126,10 @@ def applied(texts, pairs):
 
 def read_edit(name, text, texts):
     """The edit of this text, with the functions that it changes in the crate's texts."""
-    edit = Edit(name, pairs_of(text))
+    pairs, named = pairs_of(text)
+    edit = Edit(name, text, pairs)
+    if named:
+        edit.functions.update(functions_named(named, texts))
     homes = homes_of(sources_of(texts))
     for pair in edit.pairs:
         changed = applied(texts, [pair])
@@ -129,6 +139,15 @@ def read_edit(name, text, texts):
             edit.is_of_bodies = False
         texts = changed
     return edit
+
+
+def functions_named(names, texts):
+    """The functions of a crate's texts that have these names."""
+    functions = {it.label: it for it in functions_in(texts)}
+    for name in names:
+        if name not in functions:
+            raise BadEdit(f"src/ has no function {name}")
+    return [functions[name] for name in names]
 
 
 def add_place(edit, pair, text, homes):

@@ -11,11 +11,13 @@ import traceback
 from concurrent.futures import FIRST_COMPLETED, ThreadPoolExecutor, wait
 
 from crate_copies import Commands, Copies, all_below, crates_listed, rlib_in
+from kept_verdicts import FOLDER_VARIABLE, NoSheet, Verdicts, default_folder
 from wrong_bodies import MOST_IN_A_CHECK, BadEdit, Outcome, Trial, batches, read_edit
 
 
-# The folder of a crate with those that the test command reads, but does not try.
+# The folder of a crate with those that are tried only where all are asked for, and are else read alone.
 MORE = "wrong-bodies/more"
+FOLDERS = ("wrong-bodies", MORE)
 
 
 def say(text):
@@ -36,11 +38,11 @@ def edit_files(crate, folders):
 
 
 class CrateRun:
-    """The edits of one crate and what became of them."""
+    """The edits of one crate and what became of them. Those that an earlier run saw refused count as passed."""
 
-    def __init__(self, copies, folders, only, is_tried):
-        self.copies, self.name = copies, copies.name
-        self.edits, self.failed = [], []
+    def __init__(self, copies, folders, only, is_tried, sheet):
+        self.copies, self.name, self.sheet = copies, copies.name, sheet
+        self.edits, self.failed, self.kept = [], [], []
         self.passed = self.checks = self.alone = self.left = self.rounds = 0
         # How many copies were made to try edits in, and how many of them no check runs in.
         self.copied = self.idle = 0
@@ -57,15 +59,18 @@ class CrateRun:
             try:
                 with open(path, encoding="utf-8") as file:
                     edit = read_edit(name, file.read(), copies.texts)
-                self.edits += [edit] * is_tried(name)
+                if is_tried(name):
+                    (self.kept if sheet.has(edit) else self.edits).append(edit)
             except (BadEdit, UnicodeDecodeError) as error:
                 self.failed.append(Outcome(name, f"BAD EDIT: {error}"))
+        self.passed = len(self.kept)
         self.batches = batches(copies.texts, self.edits)
 
     def listed(self):
-        """The batches and the functions that each edit changes, as lines."""
-        for number, batch in enumerate(self.batches, 1):
-            yield f"{self.name}: check {number}, {len(batch)} edits"
+        """The batches and the functions that each edit changes, as lines, and at last the edits of earlier runs."""
+        groups = [(f"check {number}", batch) for number, batch in enumerate(self.batches, 1)]
+        for name, batch in groups + [("refused by an earlier run", self.kept)] * bool(self.kept):
+            yield f"{self.name}: {name}, {len(batch)} edits"
             for edit in batch:
                 modules = ", ".join(it or self.name for it in sorted(edit.modules))
                 changed = ", ".join(sorted(it.label for it in edit.functions)) or f"no function, module {modules}"
@@ -81,6 +86,13 @@ class CrateRun:
             if outcome.was_alone:
                 say(f"{self.name}/{outcome.edit}: refused, tried alone")
         self.alone += outcome.was_alone
+
+    def take_all(self, outcomes):
+        """Counts these outcomes, and keeps which edits were refused."""
+        for outcome in outcomes:
+            self.take(outcome)
+        refused = {it.edit for it in outcomes if not it.reason}
+        self.sheet.keep([it for it in self.edits if it.name in refused])
 
     def take_copy(self):
         """Counts that a check takes an idle copy, or a new one."""
@@ -203,8 +215,7 @@ class Run:
         crate.idle += 1
         crate.left -= 1
         crate.checks += 1
-        for outcome in outcomes:
-            crate.take(outcome)
+        crate.take_all(outcomes)
         crate.undecided += rest
         if not crate.left:
             self.try_again(crate)
@@ -238,10 +249,11 @@ def arguments_of(words, usage):
     parser.add_argument("--list", action="store_true", help="list what each check tries, and check nothing")
     parser.add_argument("--only", default="", metavar="NAME", help="only edits whose path in the crate contains NAME")
     more = f"try the edits of {MORE} too, which are else read alone"
-    parser.add_argument("--more", action="store_true", help=more)
+    parser.add_argument("--all", action="store_true", help=more)
+    anew = f"try also what an earlier run on this machine saw refused; {FOLDER_VARIABLE} names where that is kept"
+    parser.add_argument("--anew", action="store_true", help=anew)
     after = "take the libraries that rt ci has just left in this checkout, and check no crate without edits"
     parser.add_argument("--after-ci", action="store_true", help=after)
-    parser.add_argument("--must-fail", action="store_true", help="the edits of must-fail/ too, which rt ci tries")
     processors = len(os.sched_getaffinity(0))
     parser.add_argument("--jobs", type=int, default=processors, metavar="N", help="how many checks run side by side")
     return parser.parse_args(words)
@@ -265,15 +277,18 @@ def main(words, usage="", root=os.path.dirname(os.path.dirname(os.path.realpath(
         return 1
     # (what ends this command ends its checks too)
     signal.signal(signal.SIGTERM, lambda *_: sys.exit(128 + signal.SIGTERM))
-    folders = ["wrong-bodies", MORE] + ["must-fail"] * given.must_fail
     commands = Commands()
+    folder = default_folder(os.environ)
     with tempfile.TemporaryDirectory(prefix="wrong-bodies-") as room:
+        copies = {name: Copies(root, room, name, uses, commands) for name in uses}
+        texts = {name: it.texts for name, it in copies.items()}
+        verdicts = Verdicts(folder, root, texts, commands, given.anew)
+        wanted = {*(given.crates or uses)} & {*folders_with_edits(root)}
+        is_tried = lambda edit: given.all or not edit.startswith(f"{MORE}/")  # noqa: E731
         runs = {}
-        for name in uses:
-            is_wanted = not given.crates or name in given.crates
-            copies = Copies(root, room, name, uses, commands)
-            is_tried = lambda edit: given.more or not edit.startswith(f"{MORE}/")  # noqa: E731
-            runs[name] = CrateRun(copies, folders if is_wanted else [], given.only, is_tried)
+        for name, it in copies.items():
+            sheet = verdicts.sheet(name, it.below) if name in wanted else NoSheet()
+            runs[name] = CrateRun(it, FOLDERS if name in wanted else [], given.only, is_tried, sheet)
         for crate in runs.values():
             for outcome in crate.failed:
                 say(f"{crate.name}/{outcome.edit}: {outcome.reason}")
@@ -292,6 +307,9 @@ def main(words, usage="", root=os.path.dirname(os.path.dirname(os.path.realpath(
     if (given.crates or given.only) and not passed and not failed:
         say("there is no such edit")
         failed = 1
+    kept = sum(len(it.kept) for it in runs.values())
+    if kept:
+        say(f"{kept} of {passed + failed} were refused by earlier runs of the same texts on this machine")
     say(f"{passed} passed, {failed} failed")
     return 1 if failed else 0
 

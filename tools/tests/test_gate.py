@@ -5,13 +5,16 @@ import os
 import sys
 import tempfile
 import unittest
+from unittest import mock
 
 sys.dont_write_bytecode = True
 sys.path.insert(0, os.path.dirname(os.path.dirname(os.path.realpath(__file__))))
 
 import gate_steps  # noqa: E402
-from gate_steps import Step, case_steps, count_of_ci, count_of_last_line, count_of_unittest, step, table  # noqa: E402
+from gate_steps import Step, case_steps, count_of_ci, count_of_last_line, count_of_unittest  # noqa: E402
+from gate_steps import date_builds, part_of, step, table  # noqa: E402
 
+PROGRAM = "txnworld_cli"
 CI = """\
 == low
 fn low::echo: proved
@@ -84,14 +87,16 @@ class Steps(unittest.TestCase):
         self.file("crates/low/src/lib.rt")
         self.file("crates/txnworld_cli/src/main.rt")
         self.file("tools/replay-cases", "#!/bin/sh\necho \"$# passed, 0 failed\"\n", 0o755)
-        steps = silently(lambda: list(case_steps(self.room)))
+        steps = silently(lambda: list(case_steps(self.room, [PROGRAM])))
         self.assertEqual([(it.passed, it.failed) for it in steps], [(0, 2)])
         self.file("crates/txnworld_cli/out/txnworld_cli")
-        steps = silently(lambda: list(case_steps(self.room)))
+        steps = silently(lambda: list(case_steps(self.room, [PROGRAM])))
         self.assertEqual([(it.passed, it.failed) for it in steps], [(0, 1), (1, 0)])
         self.file("crates/txnworld_cli/out/txnworld_cli.by-rattle")
-        steps = silently(lambda: list(case_steps(self.room)))
+        steps = silently(lambda: list(case_steps(self.room, [PROGRAM])))
         self.assertEqual([(it.passed, it.failed) for it in steps], [(2, 0)])
+        date_builds(self.room, 1000)
+        self.assertEqual(os.stat(f"{self.room}/crates/txnworld_cli/out/txnworld_cli").st_mtime, 1000)
         gate_steps.remove_builds(self.room)
         self.assertEqual(os.listdir(f"{self.room}/crates/txnworld_cli/out"), [])
 
@@ -101,11 +106,54 @@ class Steps(unittest.TestCase):
             self.file(f"crates/txnworld_cli/out/{build}")
         self.file("crates/app/src/main.rt")
         self.file("crates/app/out/app")
-        steps = silently(lambda: list(case_steps(self.room)))
+        steps = silently(lambda: list(case_steps(self.room, ["app", PROGRAM])))
         self.assertEqual([(it.name, it.passed, it.failed) for it in steps], [("builds of app", 0, 1), ("cases", 2, 0)])
         self.file("crates/app/out/app.by-rattle")
-        steps = silently(lambda: list(case_steps(self.room)))
+        steps = silently(lambda: list(case_steps(self.room, ["app", PROGRAM])))
         self.assertEqual([it.name for it in steps], ["cases"])
+
+    def test_a_part(self):
+        uses = {"base": [], "low": ["base"], "high": ["low"], "side": [], "some_tests": ["high", "low", "side"], "app": ["high"]}
+        self.assertEqual(part_of(uses, ["base"]), {"base"})
+        self.assertEqual(part_of(uses, ["low"]), {"base", "low", "high", "side", "some_tests"})
+        self.assertEqual(part_of(uses, ["app"]), {"base", "low", "high", "app"})
+
+    def run_command(self, *words):
+        """The status and the lines of the command in a small repository, in which each step says where it runs."""
+        self.file("repository/crates.txt", "# The crates.\nlow: bytes\nhigh: low\nother_tests: other\nother:\nhigh_tests: high\n")
+        for name in ("low", "high", "other", "other_tests", "high_tests"):
+            self.file(f"repository/crates/{name}/src/lib.rt")
+            self.file(f"repository/crates/{name}/out/made")
+        for it in ("HANDLES", "cases/a", "examples/a"):
+            self.file(f"repository/{it}")
+        self.file("repository/tools/tests/test_one.py", "import unittest\nclass One(unittest.TestCase):\n  def test(self): pass\n")
+        self.file("repository/tools/wrong-bodies", '#!/bin/sh\necho "edits of $*"\necho "4 passed, 0 failed"\n', 0o755)
+        self.file("repository/tools/replay-cases", "#!/bin/sh\necho '8 passed, 0 failed'\n", 0o755)
+        says = '#!/bin/sh\necho "rt $*:" $(ls crates) $(find . -name made)\ngrep -v "#" crates.txt\necho "2 passed, 0 failed"\n'
+        self.file("bin/rt", says, 0o755)
+        said = io.StringIO()
+        said.buffer = io.BytesIO()
+        path = f"{self.room}/bin{os.pathsep}{os.environ['PATH']}"
+        with mock.patch.dict(os.environ, PATH=path), contextlib.redirect_stdout(said):
+            status = gate_steps.main([*words], root=f"{self.room}/repository")
+        return status, said.buffer.getvalue().decode() + said.getvalue()
+
+    def test_some_crates_in_a_copy(self):
+        status, said = self.run_command("low")
+        self.assertEqual((status, said.split("\n")[-2]), (0, "7 passed, 0 failed"))
+        self.assertIn("rt ci: low\nlow: bytes\n2 passed", said)
+        self.assertIn("edits of low --after-ci\n", said)
+        status, said = self.run_command("high", "--all", "--anew")
+        self.assertIn("rt ci --anew: high high_tests low\nlow: bytes\nhigh: low\nhigh_tests: high\n2 passed", said)
+        self.assertIn("edits of high --after-ci --all --anew\n", said)
+        self.assertEqual(self.run_command("high", "none"), (2, "crates.txt names no crate none\n0 passed, 1 failed\n"))
+
+    def test_all_crates_where_they_are(self):
+        status, said = self.run_command()
+        self.assertEqual((status, said.split("\n")[-2]), (1, "7 passed, 2 failed"))
+        self.assertIn("FAILED: rt ci built no txnworld_cli and no txnworld_cli.by-rattle", said)
+        self.assertIn("edits of --after-ci\n", said)
+        self.assertEqual(said.count("/out/made"), 5)
 
     def test_table(self):
         lines = list(table([Step("proofs", 20, 0, 0, 61.4, 200.6), Step("cases", 3, 1)]))

@@ -92,12 +92,13 @@ SECOND = ("        Fault::Second", "        Fault::First")
 class Reading(unittest.TestCase):
     def test_pairs(self):
         text = "a note\nfile: src/a.rt\nold: one\nnew: two\nold:   three\nnew:\nfile: src/b.rt\nold: x\nnew:  y\n"
-        found = pairs_of(text)
+        found = pairs_of(text)[0]
         self.assertEqual(found, [("src/a.rt", "one", "two"), ("src/a.rt", "  three", ""), ("src/b.rt", "x", " y")])
 
     def test_edits_that_are_none(self):
         for text in ("", "file: src/a.rt\nold: x\n", "old: x\nnew: y\n", "file: src/a.rt\nold: x\nold: y\nnew: z\n",
-                     "file: specs/A.antt\nold: x\nnew: y\n", "file: src/../a.rt\nold: x\nnew: y\n"):
+                     "file: specs/A.antt\nold: x\nnew: y\n", "file: src/../a.rt\nold: x\nnew: y\n",
+                     "file: src/a.rt\nold: x\nnew: y\nrefused: f\n"):
             with self.assertRaises(BadEdit, msg=text):
                 pairs_of(text)
 
@@ -162,6 +163,14 @@ class Places(unittest.TestCase):
         found = read_edit("a", text, texts)
         self.assertEqual((labels(found), found.modules, found.is_of_bodies), ({"path::is_dots"}, {"path"}, False))
         self.assertEqual(len(functions_in(texts)), 8)
+
+    def test_definitions_alone_name_their_law(self):
+        texts = {**TEXTS, "specs/A.antt": "a : b\n"}
+        text = edit_text(("a : b", "a : c"), path="specs/A.antt")
+        found = read_edit("a", f"{text}refused: path::Path::join\n", texts)
+        self.assertEqual((labels(found), found.is_of_bodies), ({"path::Path::join"}, False))
+        with self.assertRaises(BadEdit):
+            read_edit("a", f"{text}refused: path::Path::none\n", texts)
 
     def test_constant_and_signature_are_more_than_bodies(self):
         constant = edit("a", ("usize = 9", "usize = 8"))

@@ -11,6 +11,7 @@ sys.dont_write_bytecode = True
 sys.path.insert(0, os.path.dirname(os.path.dirname(os.path.realpath(__file__))))
 
 from crate_copies import Copies, all_below, crates_listed  # noqa: E402
+from kept_verdicts import default_folder  # noqa: E402
 import wrong_bodies_run  # noqa: E402
 
 # It refuses first where src/ has WRONG_first, and so the others, but lets those wait that CALL_second where it refuses
@@ -19,6 +20,7 @@ import wrong_bodies_run  # noqa: E402
 CHECK = """\
 #!/bin/sh
 [ "$1" = doc ] && echo "$KIT/START-HERE.md" && exit 0
+[ "$1" = version ] && echo "made $VERSION" && exit 0
 name=$(basename "$PWD")
 echo "$name $(basename "$0") $1" >> "$CALLS"
 grep -q UNREAD src/lib.rt && echo "src/lib.rt:1:1: error: expected a word" && exit 1
@@ -74,14 +76,18 @@ class Runs(unittest.TestCase):
     def files(self):
         return sorted(f"{at}/{it}" for at, _, names in os.walk(f"{self.room}/repository") for it in names)
 
-    def run_command(self, *words):
-        """The status, the last line, the other lines and the calls of the script."""
+    def run_command(self, *words, anew=True, version="1"):
+        """The status, the last line, the other lines and the calls of the script. Unless what was kept is to count, all is
+        tried."""
         said, before = io.StringIO(), self.files()
         calls = f"{self.room}/calls"
         open(calls, "w").close()
         path = f"{self.room}/bin{os.pathsep}{os.environ['PATH']}"
-        with mock.patch.dict(os.environ, PATH=path, CALLS=calls, KIT="/kit"), contextlib.redirect_stdout(said):
-            status = wrong_bodies_run.main(["--jobs", "2", *words], root=f"{self.room}/repository")
+        given = {"PATH": path, "CALLS": calls, "KIT": "/kit", "VERSION": version}
+        given["TENDRIFALO_CACHE"] = f"{self.room}/cache"
+        words = ["--jobs", "2", *words, *["--anew"] * anew]
+        with mock.patch.dict(os.environ, given), contextlib.redirect_stdout(said):
+            status = wrong_bodies_run.main(words, root=f"{self.room}/repository")
         self.assertEqual(self.files(), before)
         lines = said.getvalue().splitlines()
         with open(calls, encoding="utf-8") as file:
@@ -172,20 +178,89 @@ class Runs(unittest.TestCase):
     def test_more_edits_are_read_and_tried_where_asked_for(self):
         self.edit("low", "more/first", "    1", "    WRONG_first + 1")
         self.assertEqual(self.run_command("low")[:2], (0, "2 passed, 0 failed"))
-        self.assertEqual(self.run_command("low", "--more")[:2], (0, "3 passed, 0 failed"))
+        self.assertEqual(self.run_command("low", "--all")[:2], (0, "3 passed, 0 failed"))
         self.edit("low", "more/absent", "    3", "    4")
         status, last, said, _ = self.run_command("low")
         self.assertEqual((status, last), (1, "2 passed, 1 failed"))
         self.assertIn("low/wrong-bodies/more/absent.edit: BAD EDIT", said)
 
-    def test_must_fail_edits_too(self):
-        os.rename(f"{self.room}/repository/crates/low/wrong-bodies", f"{self.room}/repository/crates/low/must-fail")
-        self.assertEqual(self.run_command()[:2], (0, "2 passed, 0 failed"))
-        self.assertEqual(self.run_command("--must-fail")[:2], (0, "4 passed, 0 failed"))
+    def test_an_edit_of_definitions_names_what_it_makes_false(self):
+        self.file("repository/crates/low/specs/Sums.antt", "sum : WRONG_first\n")
+        self.file("repository/crates/low/src/lib.rt", SOURCE)
+        said = "file: specs/Sums.antt\nold: sum : \nnew: sum : not \nrefused: "
+        self.file("repository/crates/low/wrong-bodies/sum.edit", f"{said}first\n")
+        self.file("bin/rattle", CHECK.replace('"WRONG_$it" src/lib.rt', '"not WRONG_$it" specs/Sums.antt'), 0o755)
+        status, last, out, _ = self.run_command("low", "--only", "sum")
+        self.assertEqual((status, last), (0, "1 passed, 0 failed"))
+        self.file("repository/crates/low/wrong-bodies/sum.edit", f"{said}second\n")
+        status, last, out, _ = self.run_command("low", "--only", "sum")
+        self.assertEqual((status, last), (1, "0 passed, 1 failed"))
 
     def test_wrong_bodies_of_no_listed_crate(self):
         self.edit("lost", "first", "    1", "    2")
         self.assertEqual(self.run_command()[:2], (1, "0 passed, 1 failed"))
+
+    def test_what_was_refused_is_kept(self):
+        self.edit("high", "proved", "fn second() -> u8 {", "fn second() -> u8 { 0;")
+        self.assertEqual(self.run_command(anew=False)[:2], (1, "4 passed, 1 failed"))
+        status, last, said, calls = self.run_command("low", anew=False)
+        self.assertEqual((status, last, calls), (0, "2 passed, 0 failed", []))
+        self.assertIn("2 of 2 were refused by earlier runs of the same texts on this machine", said)
+        # (what was not refused is tried once more)
+        status, last, said, calls = self.run_command(anew=False)
+        self.assertEqual((status, last), (1, "4 passed, 1 failed"))
+        self.assertEqual(calls.count("high rattle check"), 1)
+        self.assertEqual(self.run_command("low")[3], ["low rt check", "low rattle check"])
+
+    def test_what_was_kept_of_other_texts_does_not_count(self):
+        self.run_command(anew=False)
+        self.assertEqual(self.run_command(anew=False)[3], [])
+        self.assertNotEqual(self.run_command(anew=False, version="2")[3], [])
+        self.edit("low", "first", "    1", "    WRONG_first + 1")
+        self.assertEqual(self.run_command(anew=False)[3], ["low rt check", "low rattle check"])
+        self.file("repository/crates/low/specs/Sums.antt", "sum : one\n")
+        self.assertEqual(self.run_command("high", anew=False)[3].count("high rattle check"), 1)
+        self.file("repository/crates.txt", "high: low\nlow: bytes\n")
+        self.assertEqual(self.run_command("high", anew=False)[3].count("high rattle check"), 1)
+        self.assertEqual(self.run_command("high", anew=False)[3], [])
+
+    def test_a_damaged_line_is_as_none(self):
+        self.run_command("low", anew=False)
+        folder = f"{self.room}/cache/wrong-bodies/low"
+        path = f"{folder}/{os.listdir(folder)[0]}"
+        with open(path, encoding="utf-8") as file:
+            lines = file.read().split("\n")
+        self.file(f"cache/wrong-bodies/low/{os.path.basename(path)}", "\n".join(it[:-3] + "000" for it in lines))
+        self.assertEqual(self.run_command("low", anew=False)[3], ["low rt check", "low rattle check"])
+        self.assertEqual(self.run_command("low", anew=False)[3], [])
+
+    def test_texts_that_were_touched_meanwhile_keep_nothing(self):
+        touch = f"echo >> {self.room}/repository/crates/low/src/other.rt"
+        self.file("repository/crates/low/src/other.rt", "")
+        self.file("bin/rattle", CHECK.replace("status=0\n", f"status=0\n{touch}\n"), 0o755)
+        self.run_command("low", anew=False)
+        self.assertFalse(os.path.exists(f"{self.room}/cache"))
+
+    def test_a_folder_that_cannot_be_written(self):
+        self.file("cache", "")
+        with contextlib.redirect_stderr(io.StringIO()) as said:
+            self.assertEqual(self.run_command("low", anew=False)[:2], (0, "2 passed, 0 failed"))
+        self.assertEqual(said.getvalue().count("nothing is kept"), 1)
+
+    def test_few_sheets_are_kept(self):
+        with mock.patch("kept_verdicts.MOST_SHEETS", 2):
+            for number in range(4):
+                self.file("repository/crates/low/specs/Sums.antt", f"sum : {number}\n")
+                self.run_command("low", anew=False)
+        self.assertEqual(len(os.listdir(f"{self.room}/cache/wrong-bodies/low")), 2)
+
+
+class Folders(unittest.TestCase):
+    def test_the_folder_of_what_is_kept(self):
+        self.assertEqual(default_folder({"HOME": "/me"}), "/me/.cache/tendrifalo/wrong-bodies")
+        self.assertEqual(default_folder({"HOME": "/me", "XDG_CACHE_HOME": "/c"}), "/c/tendrifalo/wrong-bodies")
+        self.assertEqual(default_folder({"HOME": "/me", "TENDRIFALO_CACHE": "/t"}), "/t/wrong-bodies")
+        self.assertEqual(default_folder({}), "")
 
 
 if __name__ == "__main__":
