@@ -1,0 +1,51 @@
+"""Tests that the pages name what stands in the tree."""
+import os
+import re
+import unittest
+
+TOP = os.path.dirname(os.path.dirname(os.path.dirname(os.path.realpath(__file__))))
+FILE = re.compile(r"^`(crates/\S+\.(?:antt|rt))`")
+# A definition of specs/, and a type of src/.
+DEFINED = r"^ *(?:(?:abbrev|pub|record|data|unfoldable) )*{0}(?= *[:({{])|^pub (?:enum|struct) {0}\b"
+
+
+def text_of(path):
+    with open(f"{TOP}/{path}", encoding="utf-8") as file:
+        return file.read()
+
+
+def names_by_file(page):
+    """The names that a page's lists define, each with the file that it stands under."""
+    file = ""
+    for line in page.split("\n"):
+        found = FILE.match(line)
+        file = found[1] if found else file
+        if line.startswith("- "):
+            head = re.match(r"- `([^`]+)`(?: \(([^)]*)\))?: ", line)
+            for name in [head[1], *re.findall(r"`([^`]+)`", head[2] or "")] if head else [""]:
+                yield file, name, line
+
+
+class Pages(unittest.TestCase):
+    def test_an_auditor_finds_each_name(self):
+        found = list(names_by_file(text_of("docs/audit.md")))
+        self.assertGreater(len(found), 150)
+        for file, name, line in found:
+            self.assertTrue(file and name, line)
+            self.assertRegex(text_of(file), re.compile(DEFINED.format(re.escape(name)), re.M), f"{name} in {file}")
+
+    def test_a_name_that_is_not_there_is_missed(self):
+        self.assertNotRegex("abbrev pub other : ℕ\n", re.compile(DEFINED.format("othe"), re.M))
+        self.assertRegex("  abbrev pub other : ℕ\n", re.compile(DEFINED.format("other"), re.M))
+
+    def test_links_of_the_pages(self):
+        pages = ["README.md", *(f"docs/{it}" for it in sorted(os.listdir(f"{TOP}/docs")))]
+        pages += [f"crates/{it}/README.md" for it in sorted(os.listdir(f"{TOP}/crates"))]
+        for page in pages:
+            for link in re.findall(r"\]\(([^)#\s]+)(?:#[^)]*)?\)", text_of(page)):
+                if "://" not in link:
+                    self.assertTrue(os.path.exists(f"{TOP}/{os.path.dirname(page)}/{link}"), f"{link} in {page}")
+
+
+if __name__ == "__main__":
+    unittest.main()
