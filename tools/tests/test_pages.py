@@ -1,4 +1,5 @@
 """Tests that the pages name what stands in the tree."""
+import glob
 import os
 import re
 import unittest
@@ -37,6 +38,13 @@ class Pages(unittest.TestCase):
     def test_a_name_that_is_not_there_is_missed(self):
         self.assertNotRegex("abbrev pub other : ℕ\n", re.compile(DEFINED.format("othe"), re.M))
         self.assertRegex("  abbrev pub other : ℕ\n", re.compile(DEFINED.format("other"), re.M))
+
+    def test_the_files_that_pages_of_crates_list(self):
+        for crate in sorted(os.listdir(f"{TOP}/crates")):
+            files = text_of(f"crates/{crate}/README.md").partition("## Files")[2].partition("\n## ")[0]
+            for path in re.findall(r"`((?:src|specs|proofs)/[^`]*)`", files):
+                found = any(glob.glob(f"{TOP}/crates/{crate}/{path}{end}") for end in ("", ".antt"))
+                self.assertTrue(found, f"{path} in crates/{crate}/README.md")
 
     def test_links_of_the_pages(self):
         pages = ["README.md", *(f"docs/{it}" for it in sorted(os.listdir(f"{TOP}/docs")))]
