@@ -1,10 +1,7 @@
-//! Tests of lines, worlds, scripts, workers and commands: what no clause says, and that each call succeeds with
-//! ample memory. Most are tables that one function plays; what a script shows stands in the folder `cases` at the top
-//! of the repository.
+//! Tests of lines, worlds and workers: what no clause says, and that each call succeeds with ample memory. Most are tables
+//! that one function plays; what a script shows stands in the folder `cases` at the top of the repository.
 #![tactic(auto)]
 
-#[cfg(test)]
-mod commands;
 #[cfg(test)]
 mod events;
 #[cfg(test)]
@@ -13,8 +10,6 @@ mod lines;
 mod refused;
 #[cfg(test)]
 mod schedules;
-#[cfg(test)]
-mod streams;
 #[cfg(test)]
 mod workers;
 #[cfg(test)]
