@@ -266,6 +266,33 @@ def with_libraries(runs, uses):
     return {name: it for name, it in runs.items() if name in wanted}
 
 
+def crate_runs(given, root, room, uses, commands):
+    """The edits of each crate that the command is to try, read and held against what is kept of them."""
+    copies = {name: Copies(root, room, name, uses, commands) for name in uses}
+    texts = {name: it.texts for name, it in copies.items()}
+    verdicts = Verdicts(default_folder(os.environ), root, texts, commands, given.anew)
+    wanted = {*(given.crates or uses)} & {*folders_with_edits(root)}
+    is_tried = lambda edit: given.all or not edit.startswith(f"{MORE}/")  # noqa: E731
+    runs = {}
+    for name, it in copies.items():
+        sheet = verdicts.sheet(name, it.below) if name in wanted else NoSheet()
+        runs[name] = CrateRun(it, FOLDERS if name in wanted else [], given.only, is_tried, sheet)
+    return runs
+
+
+def total(given, runs):
+    """Says how many edits passed and failed, and returns how many failed; none at all is a failure where some are named."""
+    passed, failed = sum(it.passed for it in runs.values()), sum(len(it.failed) for it in runs.values())
+    if (given.crates or given.only) and not passed and not failed:
+        say("there is no such edit")
+        failed = 1
+    kept = sum(len(it.kept) for it in runs.values())
+    if kept:
+        say(f"{kept} of {passed + failed} were refused by earlier runs of the same texts on this machine")
+    say(f"{passed} passed, {failed} failed")
+    return failed
+
+
 def main(words, usage="", root=os.path.dirname(os.path.dirname(os.path.realpath(__file__)))):
     """Tries the edits of the repository and returns the exit status."""
     given = arguments_of(words, usage)
@@ -278,40 +305,22 @@ def main(words, usage="", root=os.path.dirname(os.path.dirname(os.path.realpath(
     # (what ends this command ends its checks too)
     signal.signal(signal.SIGTERM, lambda *_: sys.exit(128 + signal.SIGTERM))
     commands = Commands()
-    folder = default_folder(os.environ)
     with tempfile.TemporaryDirectory(prefix="wrong-bodies-") as room:
-        copies = {name: Copies(root, room, name, uses, commands) for name in uses}
-        texts = {name: it.texts for name, it in copies.items()}
-        verdicts = Verdicts(folder, root, texts, commands, given.anew)
-        wanted = {*(given.crates or uses)} & {*folders_with_edits(root)}
-        is_tried = lambda edit: given.all or not edit.startswith(f"{MORE}/")  # noqa: E731
-        runs = {}
-        for name, it in copies.items():
-            sheet = verdicts.sheet(name, it.below) if name in wanted else NoSheet()
-            runs[name] = CrateRun(it, FOLDERS if name in wanted else [], given.only, is_tried, sheet)
+        runs = crate_runs(given, root, room, uses, commands)
         for crate in runs.values():
             for outcome in crate.failed:
                 say(f"{crate.name}/{outcome.edit}: {outcome.reason}")
             for line in crate.listed() if given.list else []:
                 say(line)
+        if given.list:
+            return 1 if any(it.failed for it in runs.values()) else 0
         try:
-            if not given.list:
-                Run(with_libraries(runs, uses), uses, max(1, given.jobs), commands, given.after_ci).all()
+            Run(with_libraries(runs, uses), uses, max(1, given.jobs), commands, given.after_ci).all()
         except Exception:
             traceback.print_exc()
             say("0 passed, 1 failed")
             return 1
-    passed, failed = sum(it.passed for it in runs.values()), sum(len(it.failed) for it in runs.values())
-    if given.list:
-        return 1 if failed else 0
-    if (given.crates or given.only) and not passed and not failed:
-        say("there is no such edit")
-        failed = 1
-    kept = sum(len(it.kept) for it in runs.values())
-    if kept:
-        say(f"{kept} of {passed + failed} were refused by earlier runs of the same texts on this machine")
-    say(f"{passed} passed, {failed} failed")
-    return 1 if failed else 0
+    return 1 if total(given, runs) else 0
 
 
 def folders_with_edits(root):
