@@ -176,7 +176,9 @@ def steps_of(root, given):
     unit_tests = [sys.executable, "-m", "unittest", "discover", "-s", "tools/tests"]
     yield step("tests of the tools", unit_tests, root, count_of_unittest)
     yield from ci_steps(root, anew)
-    yield step("wrong bodies", [f"{root}/tools/wrong-bodies", *given.crates, "--after-ci", *every, *anew], root)
+    with_edits = [it for it in given.crates if os.path.isdir(f"{root}/crates/{it}/wrong-bodies")]
+    if with_edits or not given.crates:
+        yield step("wrong bodies", [f"{root}/tools/wrong-bodies", *with_edits, "--after-ci", *every, *anew], root)
     programs = programs_in(root)
     yield from case_steps(root, programs if given.crates else sorted({*programs, PROGRAM_OF_CASES}))
 

@@ -124,6 +124,8 @@ class Steps(unittest.TestCase):
         for name in ("low", "high", "other", "other_tests", "high_tests"):
             self.file(f"repository/crates/{name}/src/lib.rt")
             self.file(f"repository/crates/{name}/out/made")
+        for name in ("low", "high"):
+            self.file(f"repository/crates/{name}/wrong-bodies/first.edit")
         for it in ("HANDLES", "cases/a", "examples/a"):
             self.file(f"repository/{it}")
         self.file("repository/tools/tests/test_one.py", "import unittest\nclass One(unittest.TestCase):\n  def test(self): pass\n")
@@ -146,6 +148,9 @@ class Steps(unittest.TestCase):
         status, said = self.run_command("high", "--all", "--anew")
         self.assertIn("rt ci --anew: high high_tests low\nlow: bytes\nhigh: low\nhigh_tests: high\n2 passed", said)
         self.assertIn("edits of high --after-ci --all --anew\n", said)
+        status, said = self.run_command("high_tests", "low")
+        self.assertIn("edits of low --after-ci\n", said)
+        self.assertNotIn("edits of", self.run_command("high_tests")[1])
         self.assertEqual(self.run_command("high", "none"), (2, "crates.txt names no crate none\n0 passed, 1 failed\n"))
 
     def test_all_crates_where_they_are(self):
