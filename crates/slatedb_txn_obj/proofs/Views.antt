@@ -1,11 +1,10 @@
 -- What the calls of an object give, of what those of its protocol give.
-use Rattle.std.proofs.Common.{suc, zero, slice_get, ◌≡◌, ℕ, ◌+◌, ◌<◌, List, [], ◌∷◌, ◌++◌, length, take, drop, All, Some, Err, refl, sym, ap, subst, arith}
+use Rattle.std.proofs.Common.{suc, zero, ◌≡◌, ℕ, ◌+◌, ◌<◌, List, [], ◌∷◌, ◌++◌, length, take, drop, All, Err, refl, sym, ap, subst, arith}
 use Rattle.std.proofs.Math.ListN.{get_or}
-use Rattle.std.proofs.lemmas.List.{length_push, get_or-take, length-take}
+use Rattle.std.proofs.lemmas.List.{get_or-take, length-take}
 use Rattle.txn_types.specs.declared.callback.CallbackFault.{CallbackFault}
 use Rattle.txn_drivers.specs.LatestReads.{IsLatest}
-use Rattle.slatedb_txn_obj.specs.Protocol.{Appended}
-use Rattle.slatedb_txn_obj.specs.Views.{IsVersion, Updated, Tested}
+use Rattle.slatedb_txn_obj.specs.Views.{IsVersion, Tested}
 
 pub version-of_latest : {T : Type 0} {h : List T} {id : ℕ} {value : T} → IsLatest h id value → IsVersion h id value
 version-of_latest latest = record { positive = omega (arith, latest.some, latest.id_is); within = omega (arith, latest.id_is); entry = latest.entry }

@@ -31,7 +31,7 @@ use Rattle.txn_drivers.specs.Asked.{Replies}
 use Rattle.txn_drivers.specs.Calls.{Spends, HasCause}
 use Rattle.txn_drivers.specs.PageCount.{files_below, pages_below}
 use Rattle.txn_drivers.specs.Standing.{FilesStand}
-use Rattle.txn_drivers.specs.ListRuns.{ListRuns, list_rank, CanList, IsListStep, ListEnds, AreStored, AreIds, VersionsListed}
+use Rattle.txn_drivers.specs.ListRuns.{ListRuns, list_rank, IsListStep, ListEnds, AreStored, AreIds, VersionsListed}
 use Rattle.txn_drivers.proofs.Frames.{kept-trans}
 use Rattle.txn_drivers.proofs.ListIds.{are_stored}
 use Rattle.txn_drivers.proofs.NextPages.{next_page, page_within, page_last}

@@ -1,7 +1,6 @@
 -- What holds of each state that a world reaches, as its public calls say it: its history, the kinds of replies, and the rows that an event adds.
-use Rattle.std.proofs.Common.{◌≡◌, ℕ, ◌+◌, ◌≤◌, List, [], ◌∷◌, ◌++◌, length, Bool, true, false, Option, Some, inr, refl, sym, ◌∙◌, ap, subst}
+use Rattle.std.proofs.Common.{◌≡◌, ℕ, ◌+◌, ◌≤◌, List, [], ◌∷◌, ◌++◌, length, Bool, true, false, Option, inr, refl, sym, ◌∙◌, ap, subst}
 use Rattle.std.proofs.lemmas.List.{append-nil}
-use Rattle.txn_caches.specs.declared.caches.Caches.{Caches}
 use Rattle.txn_history.specs.declared.event.Call.{Call}
 use Rattle.txn_history.specs.declared.event.Answer.{Answer}
 use Rattle.txn_history.specs.declared.event.Answer.TheVariants as answers
@@ -12,17 +11,14 @@ use Rattle.txn_history.specs.declared.event.ToldOf.TheVariants as told
 use Rattle.txn_history.specs.Trace.{Event}
 use Rattle.txn_history.specs.declared.event.EventOf.TheVariants as events
 use Rattle.txn_history.specs.declared.trace.RowOf.TheVariants.{Begun}
-use Rattle.txn_history.specs.Lists.{numbered}
 use Rattle.txn_history.specs.History.{stored}
 use Rattle.txn_history.specs.Calls.{begun_count}
 use Rattle.txn_history.specs.OneHistory.{IsOneHistory}
 use Rattle.txn_history.specs.Added.{Tells, answer_row, effect_rows, IsEffectRow, AddsRows}
-use Rattle.txn_machine.specs.declared.doing.Operation.{Operation}
 use Rattle.txn_machine.specs.Machine.{State, HasContents, opening, seen_of, effect_of, next_op, FailsFirst, Fails, Lands, Looks, Served, Begins, Takes, Runs, IsReached}
 use Rattle.txn_machine.proofs.Stands.{Stands}
 use Rattle.txn_machine.proofs.EffectRows.{served_row, effect_empty, tells_answer, went_row, began_row}
 use Rattle.txn_machine.proofs.Going.{seen_at}
-use Rattle.txn_machine.proofs.States.{at_place}
 use Rattle.txn_machine.proofs.World.{reached_stands}
 
 module _ {T : Type 0} (encode : T → List ℕ) (decode : List ℕ → Option T) (get_epoch : T → ℕ) where

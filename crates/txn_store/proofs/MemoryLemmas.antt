@@ -1,13 +1,12 @@
 -- What the calls of a store in memory mean.
 use Rattle.std.proofs.Common.{◌≡◌, ℕ, zero, suc, ◌+◌, ◌-◌, ◌^◌, ◌<◌, ◌≤◌, List, [], ◌∷◌, ◌++◌, Contains, Option, Some, None, Ok, refl, ap, ◌∙◌, arith, inl, inr}
 use Rattle.std.specs.Option.{SomeIff}
-use Rattle.std.specs.FinMap.{get, entries, insert, remove}
+use Rattle.std.specs.FinMap.{get, insert, remove}
 use Rattle.std.proofs.lemmas.List.Elements.{Contains-push_cases}
 use Rattle.txn_store.specs.Paths.{Segments}
-use Rattle.txn_store.specs.Store.{Puts, Lists, Deletes, put_fault, listing, page_of}
+use Rattle.txn_store.specs.Store.{Puts, Deletes, put_fault}
 use Rattle.txn_store.specs.Memory.{Memory, tokens_from, state_of, called, with_file, without_file}
 use Rattle.txn_store.specs.MemoryFields.{end_of}
-use Rattle.txn_store.specs.declared.page.Page.{Page}
 use Rattle.txn_store.specs.declared.store.PutMode.{PutMode}
 
 -- every token so far is below the next one

@@ -1,5 +1,5 @@
 -- What stands at a place among sorted files, and what a put or a removal there makes of them.
-use Rattle.std.proofs.Common.{◌≡◌, ℕ, zero, suc, ◌+◌, ◌≤◌, ◌<◌, Bool, true, false, cond, not, T, List, [], ◌∷◌, ◌++◌, length, take, drop, slice_get, slice_index_or, slice_set, Option, Some, None, OnSome, IsSome, OnOk, Result, Ok, Err, map, append_assoc, append-nil, refl, sym, ap, subst, ◌∙◌, arith}
+use Rattle.std.proofs.Common.{◌≡◌, ℕ, zero, suc, ◌+◌, ◌≤◌, ◌<◌, Bool, true, false, cond, not, T, List, [], ◌∷◌, ◌++◌, length, take, drop, slice_get, slice_index_or, slice_set, Option, Some, None, OnSome, IsSome, map, append_assoc, append-nil, refl, sym, ap, subst, ◌∙◌, arith}
 use Rattle.std.specs.List.{AllByRecursion, insert, remove}
 use Rattle.std.specs.FinMap as finmap
 use Rattle.std.specs.FinMap.{from_sorted, find, put, is_sorted, entries, get, entries-from_sorted, entries-insert, get-from_sorted, get-entries, get-remove, same_map, same_entries_map, empty_of_len, len-entries}

@@ -1,6 +1,5 @@
 -- What holds of one more element, and tests that say what they are asked.
-use Rattle.std.proofs.Common.{◌≡◌, ◌↔◌, IsTrue, ℕ, zero, suc, ◌+◌, ◌<◌, ◌≤◌, List, slice_get, Bool, true, false, Some, ◌⊎◌, inl, inr, refl, sym, ◌∙◌, ap, subst, arith}
-use Rattle.std.proofs.lemmas.Option.{same_Some}
+use Rattle.std.proofs.Common.{◌≡◌, ◌↔◌, IsTrue, ℕ, zero, suc, ◌+◌, ◌<◌, ◌≤◌, Bool, true, false, ◌⊎◌, inl, inr, refl, sym, ap, subst, arith}
 
 near : (k n : ℕ) → k < n + 1 → (k < n) ⊎ (k ≡ n)
 near zero zero small = inr refl

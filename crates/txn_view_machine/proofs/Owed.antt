@@ -1,17 +1,14 @@
--- What a write or a read of the machine owes the layer, and what its legal effects are on the layer's rows.
-use Rattle.std.proofs.Common.{◌≡◌, ℕ, zero, suc, ◌+◌, List, true, Option, Some, ◌⊎◌, inl, inr, refl, sym, ◌∙◌, ap, subst, arith}
+-- What the raises and erasures of the machine are on the layer's rows.
+use Rattle.std.proofs.Common.{◌≡◌, ℕ, zero, suc, List, refl, arith}
 use Rattle.std.proofs.lemmas.Option.{same_Some}
-use Rattle.txn_history.specs.declared.event.Call.{Call}
 use Rattle.txn_history.specs.declared.event.Call.TheVariants as calls
 use Rattle.txn_history.specs.Trace.{Row}
-use Rattle.txn_history.specs.History.{has_id, versions_of, newest, was_erased}
 use Rattle.txn_history.specs.Calls.{IsCall}
-use Rattle.txn_history.specs.OneHistory.{base_on, WritesOn, Raises, Erases, VersionPut}
+use Rattle.txn_history.specs.OneHistory.{base_on, Raises, Erases}
 use Rattle.txn_view_history.specs.declared.event.AnyCall.TheVariants as any
 use Rattle.txn_view_history.specs.Trace.{AnyRow}
 use Rattle.txn_view_history.specs.OneHistory as history
-use Rattle.txn_view_machine.specs.Steps.{WasRemoved}
-use Rattle.txn_view_machine.proofs.Tied.{Alike, same_versions, same_newest, same_boundary, same_erased}
+use Rattle.txn_view_machine.proofs.Tied.{Alike, same_newest, same_boundary}
 
 pub same_base : (n m : ℕ) → base_on n ≡ base_on m → n ≡ m
 same_base zero zero e = refl
@@ -29,5 +26,3 @@ module _ {T : Type 0} (owner : ℕ → ℕ) (fine : List (Row T)) (rows : List (
 
   pub erases_too : (op id : ℕ) → IsCall rows (owner op) (any.Plain (calls.Delete id)) → Erases fine op id → history.Erases rows (owner op) id
   erases_too op id called e = (let low = same_boundary owner fine rows h in record { called = called; below = (let le = e.below in omega (arith, le, low)) })
-
-module _ {T : Type 0} (decode : List ℕ → Option T) (get_epoch : T → ℕ) (owner : ℕ → ℕ) (fine : List (Row T)) (rows : List (AnyRow T)) (h : Alike owner fine rows) where

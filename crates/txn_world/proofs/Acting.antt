@@ -28,12 +28,11 @@ use Rattle.txn_any_machine.specs.declared.doing.AnyOperation.{AnyOperation}
 use Rattle.txn_any_machine.specs.Doing.{Next, asked, ended, plain_next, view_next, turned, caches_left, IsReply, InRange, Turns}
 use Rattle.txn_any_machine.specs.Machine.{doing_next, with_doing, ended_by}
 use Rattle.txn_world.specs.Running.{asked_of, asked_by, runs_for, ended_where}
-use Rattle.std.specs.Option.{option_map}
 use Rattle.txn_history.proofs.Lists.{numbered_set, numbered_more}
 use Rattle.std.proofs.lemmas.Bool.{eq-eqb, ne_eqb}
 use Rattle.txn_machine.proofs.Lists.{within, numbered_map, numbered_here, numbered_other}
 use Rattle.txn_world.specs.Owning.{IsFromOne}
-use Rattle.txn_world.specs.Acting.{usage_of, TakesReply, Ends, TakesTurn}
+use Rattle.txn_world.specs.Acting.{TakesReply, Ends, TakesTurn}
 use Rattle.txn_world.proofs.Running.{AreRunning, client_there, found_same, eq_cases}
 
 module _ {T : Type 0} where

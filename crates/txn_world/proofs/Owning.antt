@@ -10,7 +10,7 @@ use Rattle.std.specs.HashSet.{HashSet, contains}
 use Rattle.txn_history.specs.Lists.{numbered}
 use Rattle.txn_history.specs.History.{is_id}
 use Rattle.txn_view_history.specs.Seen.{view_in}
-use Rattle.txn_view_machine.specs.Layer.{Used, Change, Keeps, Puts, Makes, Closes, with_busy, changed}
+use Rattle.txn_view_machine.specs.Layer.{Used, Change, Keeps, Puts, Makes, Closes, changed}
 use Rattle.txn_view_machine.specs.Steps.{view_without}
 use Rattle.txn_any_machine.specs.Machine.{seen_view, seen_views, used_in, used_by, with_used}
 use Rattle.txn_world.specs.Owning.{is_in_set, owns, is_own, stands_for, owner_of, emptied_where, as_made}
