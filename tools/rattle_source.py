@@ -1,6 +1,7 @@
 """Reads from the text of a Rattle file which functions it has, and finds the function that a check's log names."""
 from __future__ import annotations
 
+import functools
 import re
 from dataclasses import dataclass
 
@@ -75,6 +76,7 @@ class Place:
     end: int
 
 
+@functools.lru_cache(maxsize=None)
 def code_of(text):
     """The text with blanks in place of comments, strings and characters, each letter where it was."""
     return NOT_CODE.sub(lambda found: re.sub(r"[^\n]", " ", found[0]), text)
