@@ -29,5 +29,3 @@ module _ {T : Type 0} (owner : ℕ → ℕ) (fine : List (Row T)) (rows : List (
 
   pub erases_too : (op id : ℕ) → IsCall rows (owner op) (any.Plain (calls.Delete id)) → Erases fine op id → history.Erases rows (owner op) id
   erases_too op id called e = (let low = same_boundary owner fine rows h in record { called = called; below = (let le = e.below in omega (arith, le, low)) })
-
-module _ {T : Type 0} (decode : List ℕ → Option T) (get_epoch : T → ℕ) (owner : ℕ → ℕ) (fine : List (Row T)) (rows : List (AnyRow T)) (h : Alike owner fine rows) where
