@@ -1,5 +1,5 @@
 -- The rows that an event adds.
-use Rattle.std.proofs.Common.{◌≡◌, ℕ, ◌+◌, ◌-◌, List, [], ◌∷◌, ◌++◌, length, Bool, true, false, Option, Some, None, inr, refl, sym, ◌∙◌, ap, subst, arith}
+use Rattle.std.proofs.Common.{◌≡◌, ℕ, ◌+◌, ◌-◌, List, [], ◌∷◌, ◌++◌, length, Bool, true, false, Option, Some, None, inl, inr, refl, sym, ◌∙◌, ap, subst, arith}
 use Rattle.std.specs.FinMap.{get-empty}
 use Rattle.std.proofs.lemmas.List.{length-append, length-map, length-set}
 use Rattle.txn_store.specs.Paths.{path_cmp}
@@ -26,9 +26,9 @@ use Rattle.txn_view_history.specs.Trace.{AnyRow, AnyEvent, AnyTold}
 use Rattle.txn_view_history.specs.Calls.{view_used}
 use Rattle.txn_any_machine.specs.declared.doing.AnyOperation.{AnyOperation}
 use Rattle.txn_any_machine.specs.Doing.{Next, ended, refused, caches_left}
-use Rattle.txn_any_machine.specs.Machine.{State, opening, seen_calls, answered, answer_next, doing_next, next_op, new_operation, acted, effected, loosened, failing, given_up, ended_by, crashed, begun_as, ReachesStore, FailsFirst, Fails, Lands, Looks, Served, Begins, Takes, IsReached}
+use Rattle.txn_any_machine.specs.Machine.{State, opening, seen_calls, answered, answer_next, doing_next, next_op, new_operation, acted, effected, loosened, failing, given_up, ended_by, crashed, begun_as, ReachesStore, FailsFirst, Fails, Lands, Looks, Served, Begins, Lacks, Takes, TakesOrLacks, IsReached}
 use Rattle.txn_any_machine.proofs.Busy.{seen_asks}
-use Rattle.txn_any_machine.proofs.Runs.{runs_keep}
+use Rattle.txn_any_machine.proofs.Runs.{runs_keep, or_lacking}
 use Rattle.txn_any_machine.proofs.TokensGiven.{served_given}
 
 module _ {T : Type 0} where
@@ -45,6 +45,17 @@ module _ {T : Type 0} where
     ap (λ (s : State T). s.trace) v.state ∙ ap (λ (t : AnyTold T). old.trace ++ answer_row t) (sym v.tells),
     ap (λ (s : State T). s.store.files) v.state,
   )
+
+  lacks_adds : (old : State T) (op : ℕ) (said : AnyTold T) (new : State T) → Lacks old op said new → AddsRows (seen_calls old) old.trace old.store.files (events.Serve op) said new.trace new.store.files
+  lacks_adds old op said new v =
+      record {
+        request = v.request;
+        asked = seen_asks old.operations op v.operation v.acts.found ∙ v.acts.asks;
+        rows = [];
+        effect = inl (refl, ap (λ (s : State T). s.store.files) v.state);
+        told = inr (answers.Plain (plain_answers.Refused 9), v.tells);
+        added = ap (λ (s : State T). s.trace) v.state ∙ (ap (λ (t : AnyTold T). old.trace ++ answer_row t) (sym v.tells) ∙ ap (λ (rows : List (AnyRow T)). rows ++ answer_row said) (sym (Rattle.std.proofs.lemmas.List.append-nil old.trace)));
+      }
 
   fail_adds : (failure : Failure) (old : State T) (op : ℕ) (said : AnyTold T) (new : State T) → Fails old op failure said new → AllGiven old.store → AddsRows (seen_calls old) old.trace old.store.files (events.Fail op failure) said new.trace new.store.files
   fail_adds failures.Before old op said new v given = first_adds false old op said new v
@@ -175,11 +186,11 @@ module _ {T : Type 0} (encode : T → List ℕ) (decode : List ℕ → Option T)
       )
 
   -- which rows an event adds, where each file's token was given, and each operation has its begin
-  pub added_rows_with : (old : State T) (event : AnyEvent T) (said : AnyTold T) (new : State T) → AllGiven old.store → length old.operations ≡ begun_count old.trace → Takes encode decode get_epoch set_epoch old event said new →
+  pub added_rows_with : (old : State T) (event : AnyEvent T) (said : AnyTold T) (new : State T) → AllGiven old.store → length old.operations ≡ begun_count old.trace → TakesOrLacks encode decode get_epoch set_epoch old event said new →
       AddsRows (seen_calls old) old.trace old.store.files event said new.trace new.store.files
   added_rows_with old (events.Begin client call) said new given count t = begin_adds old client call said new t.step count
   added_rows_with old (events.Look op) said new given count t = look_adds old op said new t.step
-  added_rows_with old (events.Serve op) said new given count t = serve_adds old op said new t.step given
+  added_rows_with old (events.Serve op) said new given count t = elim t.step [ inl v ↦ serve_adds old op said new v given | inr v ↦ lacks_adds old op said new v ]
   added_rows_with old (events.Fail op failure) said new given count t = fail_adds failure old op said new t.step given
   added_rows_with old (events.GiveUp op) said new given count t = (t.step.tells, ap (λ (s : State T). s.trace) t.step.state, ap (λ (s : State T). s.store.files) t.step.state)
   added_rows_with old (events.Land k) said new given count t = land_adds old k said new t.step given
@@ -187,13 +198,13 @@ module _ {T : Type 0} (encode : T → List ℕ) (decode : List ℕ → Option T)
 
   -- each operation has its begin among the rows, and each file's token was given
 
-  takes_counted : (old : State T) (event : AnyEvent T) (said : AnyTold T) (new : State T) → Counted old → Takes encode decode get_epoch set_epoch old event said new → Counted new
+  takes_counted : (old : State T) (event : AnyEvent T) (said : AnyTold T) (new : State T) → Counted old → TakesOrLacks encode decode get_epoch set_epoch old event said new → Counted new
   takes_counted old (events.Begin client call) said new h t = subst Counted (sym t.step.state) (begun_counted old client call t.step.next h)
   takes_counted old (events.Look op) said new h t = (let v = t.step in subst Counted (sym v.state) (acted_counted old op v.operation v.next (caches_left v.operation.doing v.caches v.next.1) h))
-  takes_counted old (events.Serve op) said new h t = (
-      let v = t.step in
-      subst Counted (sym v.state) (acted_counted (effected old op v.request v.reply v.store) op v.operation v.next (caches_left v.operation.doing v.caches v.next.1) (effected_counted old op v.request v.reply v.store v.reaches h))
-      )
+  takes_counted old (events.Serve op) said new h t = elim t.step [
+    | inl v ↦ subst Counted (sym v.state) (acted_counted (effected old op v.request v.reply v.store) op v.operation v.next (caches_left v.operation.doing v.caches v.next.1) (effected_counted old op v.request v.reply v.store v.reaches h))
+    | inr v ↦ subst Counted (sym v.state) (acted_counted old op v.operation (refused 9) v.caches h)
+  ]
   takes_counted old (events.Fail op failure) said new h t = fails_counted failure old op said new t.step h
   takes_counted old (events.GiveUp op) said new h t = (
       let v = t.step in
@@ -207,5 +218,8 @@ module _ {T : Type 0} (encode : T → List ℕ) (decode : List ℕ → Option T)
   reached_counts s r = runs_keep encode decode get_epoch set_epoch Counted takes_counted (opening s.clients s.page) r.0 s r.1 (record { given = λ path got e. absurd (let clash = sym (get-empty path_cmp path) ∙ e in cc); count = refl })
 
   -- which rows an event adds
+  pub added_rows_or_lacking : (old : State T) (event : AnyEvent T) (said : AnyTold T) (new : State T) → IsReached encode decode get_epoch set_epoch old → TakesOrLacks encode decode get_epoch set_epoch old event said new → AddsRows (seen_calls old) old.trace old.store.files event said new.trace new.store.files
+  added_rows_or_lacking old event said new r t = let c = reached_counts old r in added_rows_with old event said new c.given c.count t
+
   pub added_rows : (old : State T) (event : AnyEvent T) (said : AnyTold T) (new : State T) → IsReached encode decode get_epoch set_epoch old → Takes encode decode get_epoch set_epoch old event said new → AddsRows (seen_calls old) old.trace old.store.files event said new.trace new.store.files
-  added_rows old event said new r t = let c = reached_counts old r in added_rows_with old event said new c.given c.count t
+  added_rows old event said new r t = added_rows_or_lacking old event said new r (or_lacking encode decode get_epoch set_epoch old event said new t)

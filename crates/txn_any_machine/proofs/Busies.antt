@@ -9,12 +9,12 @@ use Rattle.txn_view_history.specs.Trace.{AnyRow}
 use Rattle.txn_view_history.specs.Calls.{view_used}
 use Rattle.txn_view_machine.specs.Layer.{Used}
 use Rattle.txn_view_machine.specs.Steps.{view_without}
-use Rattle.txn_machine.proofs.Lists.{numbered_here, numbered_other, numbered_map, within}
+use Rattle.txn_history.proofs.Lists.{get_kept, get_last, get_more, numbered_kept, numbered_more}
+use Rattle.txn_machine.proofs.Lists.{numbered_here, numbered_other, numbered_map, within, get_append, numbered_new, numbered_of_map}
 use Rattle.txn_any_machine.specs.declared.doing.AnyDoing.{AnyDoing}
 use Rattle.txn_any_machine.specs.declared.doing.AnyOperation.{AnyOperation}
 use Rattle.txn_any_machine.specs.Doing.{asked, ended, is_claim_call}
 use Rattle.txn_any_machine.specs.Machine.{doing_next, with_doing, ended_by, new_operation}
-use Rattle.txn_any_machine.proofs.Places.{row_kept, row_apart, row_new, row_old_or_new, numbered_kept, numbered_new, numbered_old_or_new, numbered_of_map}
 
 -- it is this number, or is not
 pub uses_or_not : (view : Option ℕ) (number : ℕ) → (view ≡ Some number) ⊎ (view ≡ Some number → ⊥)
@@ -104,8 +104,8 @@ module _ {T : Type 0} (operations : List (AnyOperation T)) (views : List (Option
   busies_rows more none = record {
     holds = h.holds;
     runs = h.runs;
-    begun = λ k op call e. elim (row_apart rows more k (Begun op call) e) [ inl old ↦ h.begun k op call old | inr new ↦ absurd (none new.0 op call new.1) ];
-    noted = λ op o e. let n = h.noted op o e in record { place = n.place; call = n.call; row = row_kept rows more n.place (Begun op n.call) n.row; uses = n.uses; claims = n.claims };
+    begun = λ k op call e. elim (get_append rows more k (Begun op call) e) [ inl old ↦ h.begun k op call old | inr new ↦ absurd (none new.0 op call new.1) ];
+    noted = λ op o e. let n = h.noted op o e in record { place = n.place; call = n.call; row = get_kept rows more n.place (Begun op n.call) n.row; uses = n.uses; claims = n.claims };
   }
 
   -- what an operation holds of its view
@@ -219,7 +219,7 @@ module _ {T : Type 0} (operations : List (AnyOperation T)) (views : List (Option
 
     begun_holds : (n number : ℕ) (p : AnyOperation T) → numbered (operations ++ new_one ∷ []) n ≡ Some p → IsRunning p → p.view ≡ Some number → IsHeldBy after number n p.client
     begun_holds n number p f r uses =
-        elim (numbered_old_or_new operations new_one n p f) [
+        elim (numbered_more operations new_one n p f) [
           | inl old ↦ (
               let was = h.holds n number p old r uses in
               let apart : view_used call ≡ Some number → ⊥ = λ own. none_busy was.used n (takes.free number was.used own was.there) was.busy in
@@ -254,7 +254,7 @@ module _ {T : Type 0} (operations : List (AnyOperation T)) (views : List (Option
 
     begun_begun : (k n : ℕ) (c : AnyCall T) → slice_get (rows ++ Begun new_op call ∷ []) k ≡ Some (Begun n c) → IsOf (operations ++ new_one ∷ []) n c
     begun_begun k n c f =
-        elim (row_old_or_new rows (Begun new_op call) k (Begun n c) f) [
+        elim (get_more rows (Begun new_op call) k (Begun n c) f) [
           | inl old ↦ (let was = h.begun k n c old in record { operation = was.operation; found = numbered_kept operations (new_one ∷ []) n was.operation was.found; uses = was.uses; claims = was.claims })
           | inr new ↦ (
               let row : ◌≡◌ {A = AnyRow T} (Begun new_op call) (Begun n c) = new.1 in
@@ -266,12 +266,12 @@ module _ {T : Type 0} (operations : List (AnyOperation T)) (views : List (Option
 
     begun_noted : (n : ℕ) (p : AnyOperation T) → numbered (operations ++ new_one ∷ []) n ≡ Some p → IsNoted (rows ++ Begun new_op call ∷ []) n p
     begun_noted n p f =
-        elim (numbered_old_or_new operations new_one n p f) [
-          | inl old ↦ (let was = h.noted n p old in record { place = was.place; call = was.call; row = row_kept rows (Begun new_op call ∷ []) was.place (Begun n was.call) was.row; uses = was.uses; claims = was.claims })
+        elim (numbered_more operations new_one n p f) [
+          | inl old ↦ (let was = h.noted n p old in record { place = was.place; call = was.call; row = get_kept rows (Begun new_op call ∷ []) was.place (Begun n was.call) was.row; uses = was.uses; claims = was.claims })
           | inr new ↦ record {
             place = length rows;
             call = call;
-            row = row_new rows (Begun new_op call) ∙ ap (λ (m : ℕ). Some (Begun m call)) (sym new.0);
+            row = get_last rows (Begun new_op call) ∙ ap (λ (m : ℕ). Some (Begun m call)) (sym new.0);
             uses = ap (λ (q : AnyOperation T). q.view) new.1;
             claims = ap (λ (q : AnyOperation T). q.claims) new.1;
           }

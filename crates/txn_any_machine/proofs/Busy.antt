@@ -22,7 +22,8 @@ use Rattle.txn_history.specs.Names.{world_boundary}
 use Rattle.txn_history.specs.Seen.{Store, Look, asks_in, asks_of}
 use Rattle.txn_history.specs.Added.{answer_rows, effect_rows}
 use Rattle.txn_history.proofs.Rows.{is_id_some}
-use Rattle.txn_machine.proofs.Lists.{numbered_here, numbered_other, numbered_map, numbered_append, within}
+use Rattle.txn_history.proofs.Lists.{numbered_kept}
+use Rattle.txn_machine.proofs.Lists.{numbered_here, numbered_other, numbered_map, numbered_append, within, numbered_of_map, numbered_new}
 use Rattle.txn_machine.specs.declared.doing.Doing.TheVariants as doings
 use Rattle.txn_machine.specs.Machine.{effect_of}
 use Rattle.txn_view_steps.specs.declared.outcome.Outcome.TheVariants as outcomes
@@ -41,8 +42,8 @@ use Rattle.txn_any_machine.specs.declared.doing.AnyOperation.{AnyOperation}
 use Rattle.txn_any_machine.specs.declared.doing.Ending.{Ending}
 use Rattle.txn_any_machine.specs.declared.doing.Ending.TheVariants as endings
 use Rattle.txn_any_machine.specs.Doing.{Next, asked, ended, refused, is_claim_call, caches_left}
-use Rattle.txn_any_machine.specs.Machine.{State, opening, refusal_of, seen_operation, seen_operations, seen_view, seen_views, seen_of, used_in, used_by, with_used, let_go, made_by, change_of, views_after, views_taken, answered, doing_next, with_doing, acted, effected, loosened, failing, given_up, next_op, new_operation, begun_as, Fails, Looks, Served, Takes, IsReached}
-use Rattle.txn_any_machine.proofs.Places.{numbered_kept, numbered_of_map, numbered_new, set_new, any_at, place_of_any}
+use Rattle.txn_any_machine.specs.Machine.{State, opening, refusal_of, seen_operation, seen_operations, seen_view, seen_views, seen_of, used_in, used_by, with_used, let_go, made_by, change_of, views_after, views_taken, answered, doing_next, with_doing, acted, effected, loosened, failing, given_up, next_op, new_operation, begun_as, Fails, Looks, Served, Lacks, TakesOrLacks, IsReached}
+use Rattle.txn_any_machine.proofs.Places.{set_new, any_at, place_of_any}
 use Rattle.txn_any_machine.proofs.Fits.{Fits, turned_fits, started_fits}
 use Rattle.txn_any_machine.proofs.Busies.{IsRunning, Busies, HasNoBegin, Frees, TakesOne, busies_opening, busies_rows, busies_goes, busies_ends, busies_begins, busies_crashes}
 use Rattle.txn_any_machine.proofs.Runs.{runs_keep}
@@ -298,6 +299,9 @@ module _ {T : Type 0} (encode : T → List ℕ) (decode : List ℕ → Option T)
       (acted_busied (effected old op v.request v.reply v.store) op v.operation v.next (caches_left v.operation.doing v.caches v.next.1) (effected_busied old op v.request v.reply v.store h) v.acts.found (ap is_some v.acts.asks)
       (subst Fits (sym v.turns.turns) (turned_fits old.page encode decode get_epoch set_epoch v.turns.refused v.operation.doing v.caches (Some v.reply) (Store v.request) v.acts.asks)))
 
+  lacks_busied : (old : State T) (op : ℕ) (said : AnyTold T) (new : State T) → Busied old → Lacks old op said new → Busied new
+  lacks_busied old op said new h v = subst Busied (sym v.state) (acted_busied old op v.operation (refused 9) v.caches h v.acts.found (ap is_some v.acts.asks) refl)
+
   fails_busied : (failure : Failure) (old : State T) (op : ℕ) (said : AnyTold T) (new : State T) → Busied old → Fails old op failure said new → Busied new
   fails_busied failures.Before old op said new h v = subst Busied (sym v.state) (acted_busied (failing old op) op v.operation (refused 2) v.caches h v.acts.found (ap is_some v.acts.asks) refl)
   fails_busied failures.After old op said new h v =
@@ -306,12 +310,12 @@ module _ {T : Type 0} (encode : T → List ℕ) (decode : List ℕ → Option T)
       subst Busied (sym v.state) (acted_busied (failing (loosened old op (Store v.request)) op) op v.operation (refused 2) v.caches h v.acts.found (ap is_some v.acts.asks) refl)
 
   -- what each event keeps
-  pub takes_busied : (old : State T) (event : AnyEvent T) (said : AnyTold T) (new : State T) → Busied old → Takes encode decode get_epoch set_epoch old event said new → Busied new
+  pub takes_busied : (old : State T) (event : AnyEvent T) (said : AnyTold T) (new : State T) → Busied old → TakesOrLacks encode decode get_epoch set_epoch old event said new → Busied new
   takes_busied old (events.Begin client call) said new h t =
       subst Busied (sym t.step.state)
       (begun_busied old client call t.step.next h (free_begin old h client call t.allowed) (subst Fits (sym t.step.starts) (started_fits old.page encode get_epoch set_epoch call (seen_view (used_by old.views (view_used call))))))
   takes_busied old (events.Look op) said new h t = looks_busied old op said new h t.step
-  takes_busied old (events.Serve op) said new h t = served_busied old op said new h t.step
+  takes_busied old (events.Serve op) said new h t = elim t.step [ inl v ↦ served_busied old op said new h v | inr v ↦ lacks_busied old op said new h v ]
   takes_busied old (events.Fail op failure) said new h t = fails_busied failure old op said new h t.step
   takes_busied old (events.GiveUp op) said new h t = subst Busied (sym t.step.state) (given_up_busied (loosened old op t.step.ask) op t.step.operation h t.step.found (ap is_some t.step.asks))
   takes_busied old (events.Land k) said new h t = subst Busied (sym t.step.state) (effected_busied old t.step.op t.step.request t.step.reply t.step.store h)

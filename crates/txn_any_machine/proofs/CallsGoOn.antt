@@ -1,5 +1,5 @@
 -- What a world shows of its operations goes on as each event that is taken says.
-use Rattle.std.proofs.Common.{◌≡◌, ◌≢◌, ℕ, zero, suc, ◌+◌, List, [], ◌∷◌, ◌++◌, length, map, set, slice_get, Bool, true, false, not, is_some, option_map, Option, Some, None, refl, sym, ◌∙◌, ap, subst, arith}
+use Rattle.std.proofs.Common.{◌≡◌, ◌≢◌, ℕ, zero, suc, ◌+◌, List, [], ◌∷◌, ◌++◌, length, map, set, slice_get, Bool, true, false, not, is_some, option_map, Option, Some, None, inl, inr, refl, sym, ◌∙◌, ap, subst, arith}
 use Rattle.std.proofs.lemmas.Bool.{eq-eqb, ne_eqb}
 use Rattle.std.proofs.lemmas.List.{length-map, map-append, map-set}
 use Rattle.std.proofs.lemmas.Option.{slice_get-map}
@@ -23,7 +23,7 @@ use Rattle.txn_any_machine.specs.declared.doing.AnyDoing.{AnyDoing}
 use Rattle.txn_any_machine.specs.declared.doing.AnyOperation.{AnyOperation}
 use Rattle.txn_any_machine.specs.declared.doing.Ending.{Ending}
 use Rattle.txn_any_machine.specs.Doing.{Next, asked, ended, refused, caches_left}
-use Rattle.txn_any_machine.specs.Machine.{State, seen_operation, seen_operations, seen_calls, seen_view, used_by, answered, answer_next, doing_next, with_doing, new_operation, acted, effected, loosened, failing, given_up, ended_by, crashed, next_op, begun_as, Fails, GivesUp, Lands, Crashes, Looks, Served, Begins, Takes}
+use Rattle.txn_any_machine.specs.Machine.{State, seen_operation, seen_operations, seen_calls, seen_view, used_by, answered, answer_next, doing_next, with_doing, new_operation, acted, effected, loosened, failing, given_up, ended_by, crashed, next_op, begun_as, Fails, GivesUp, Lands, Crashes, Looks, Served, Begins, Lacks, TakesOrLacks}
 use Rattle.txn_any_machine.proofs.Fits.{Fits, turned_fits, started_fits}
 use Rattle.txn_any_machine.proofs.Busy.{seen_asks}
 
@@ -82,6 +82,12 @@ module _ {T : Type 0} where
   failed_states : (old : State T) (op : ℕ) (o : AnyOperation T) (ask : Ask) → numbered old.operations op ≡ Some o → asked o.doing ≡ Some ask →
       map state_of (seen_operations (with_doing old.operations op o ended)) ≡ states_after {A = AnyAnswer T} (told.Answered op (answers.Plain (plain_answers.Refused 2))) 1 (seen_operations old.operations) None
   failed_states old op o ask found asks = acted_states (told.Answered op (answers.Plain (plain_answers.Refused 2))) op true old.operations o ask ended found (answer_ends op (answers.Plain (plain_answers.Refused 2))) asks refl
+
+  lacks_goes : (old : State T) (op : ℕ) (said : AnyTold T) (new : State T) → Lacks old op said new → GoesOn {C = AnyCall T} (seen_calls old) (events.Serve op) said (seen_calls new)
+  lacks_goes old op said new v =
+      let answer : AnyAnswer T = answers.Plain (plain_answers.Refused 9) in
+      told_so old (events.Serve op) said (told.Answered op answer) new (acted old op v.operation (refused 9) v.caches) v.tells v.state
+      (record { clients = refl; operations = acted_states (told.Answered op answer) op true old.operations v.operation (Store v.request) ended v.acts.found (answer_ends op answer) v.acts.asks refl; loose = refl; failed = refl })
 
   fail_goes : (failure : Failure) (old : State T) (op : ℕ) (said : AnyTold T) (new : State T) → Fails old op failure said new → GoesOn {C = AnyCall T} (seen_calls old) (events.Fail op failure) said (seen_calls new)
   fail_goes failures.Before old op said new v =
@@ -143,10 +149,10 @@ module _ {T : Type 0} (encode : T → List ℕ) (decode : List ℕ → Option T)
       (record { clients = refl; operations = turn_states old op v.operation (Store v.request) v.next v.acts.found v.acts.asks fits; loose = refl; failed = refl })
 
   -- what a world shows of its operations goes on with each event that is taken, whatever the state before it
-  pub calls_go_on : (old : State T) (event : AnyEvent T) (said : AnyTold T) (new : State T) → Takes encode decode get_epoch set_epoch old event said new → GoesOn (seen_calls old) event said (seen_calls new)
+  pub calls_go_on : (old : State T) (event : AnyEvent T) (said : AnyTold T) (new : State T) → TakesOrLacks encode decode get_epoch set_epoch old event said new → GoesOn (seen_calls old) event said (seen_calls new)
   calls_go_on old (events.Begin client call) said new t = begin_goes old client call said new t.step
   calls_go_on old (events.Look op) said new t = look_goes old op said new t.step
-  calls_go_on old (events.Serve op) said new t = serve_goes old op said new t.step
+  calls_go_on old (events.Serve op) said new t = elim t.step [ inl v ↦ serve_goes old op said new v | inr v ↦ lacks_goes old op said new v ]
   calls_go_on old (events.Fail op failure) said new t = fail_goes failure old op said new t.step
   calls_go_on old (events.GiveUp op) said new t = give_up_goes old op said new t.step
   calls_go_on old (events.Land k) said new t = land_goes old k said new t.step

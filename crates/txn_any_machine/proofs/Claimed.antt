@@ -11,6 +11,7 @@ use Rattle.txn_history.specs.History.{is_id}
 use Rattle.txn_history.specs.Lists.{numbered}
 use Rattle.txn_history.specs.Seen.{Store, Look}
 use Rattle.txn_history.proofs.Rows.{is_id_some}
+use Rattle.txn_history.proofs.Lists.{numbered_more}
 use Rattle.txn_machine.proofs.Lists.{numbered_here, numbered_other, numbered_map, within}
 use Rattle.txn_view_history.specs.declared.event.ViewCall.TheVariants as view_calls
 use Rattle.txn_view_history.specs.declared.event.AnyCall.{AnyCall}
@@ -20,8 +21,8 @@ use Rattle.txn_view_history.specs.Calls.{view_used}
 use Rattle.txn_view_history.specs.GoesOn.{is_claim_on}
 use Rattle.txn_any_machine.specs.declared.doing.AnyOperation.{AnyOperation}
 use Rattle.txn_any_machine.specs.Doing.{ended, is_claim_call}
-use Rattle.txn_any_machine.specs.Machine.{State, opening, seen_view, used_by, doing_next, new_operation, ended_by, Fails, Takes, IsReached}
-use Rattle.txn_any_machine.proofs.Places.{numbered_old_or_new, any_at, place_of_any}
+use Rattle.txn_any_machine.specs.Machine.{State, opening, seen_view, used_by, doing_next, new_operation, ended_by, Fails, TakesOrLacks, IsReached}
+use Rattle.txn_any_machine.proofs.Places.{any_at, place_of_any}
 use Rattle.txn_any_machine.proofs.Busy.{Busied}
 use Rattle.txn_any_machine.proofs.Claims.{ClaimFits, NextFits, turned_claims, started_claims}
 use Rattle.txn_any_machine.proofs.Runs.{runs_keep}
@@ -39,7 +40,7 @@ module _ {T : Type 0} (P : AnyOperation T → Type 0) where
       ]
 
   each_new : (operations : List (AnyOperation T)) (new : AnyOperation T) → Each operations → P new → Each (operations ++ new ∷ [])
-  each_new operations new each p = λ n q f. elim (numbered_old_or_new operations new n q f) [ inl old ↦ each n q old | inr one ↦ subst P one.1 p ]
+  each_new operations new each p = λ n q f. elim (numbered_more operations new n q f) [ inl old ↦ each n q old | inr one ↦ subst P one.1 p ]
 
   each_map : (change : AnyOperation T → AnyOperation T) (operations : List (AnyOperation T)) → ((o : AnyOperation T) → P o → P (change o)) → Each operations → Each (map change operations)
   each_map change operations keeps each = λ n q f. let was = numbered_map change operations n q f in subst P (sym was.2) (keeps was.0 (each n was.0 was.1))
@@ -142,7 +143,7 @@ module _ {T : Type 0} (s : State T) (h : Busied s) (op : ℕ) (o : AnyOperation 
       same_tests false false to from = refl
 
 module _ {T : Type 0} (encode : T → List ℕ) (decode : List ℕ → Option T) (get_epoch : T → ℕ) (set_epoch : T → ℕ → T) where
-  takes_claims : (old : State T) (event : AnyEvent T) (said : AnyTold T) (new : State T) → ClaimsFit old → Takes encode decode get_epoch set_epoch old event said new → ClaimsFit new
+  takes_claims : (old : State T) (event : AnyEvent T) (said : AnyTold T) (new : State T) → ClaimsFit old → TakesOrLacks encode decode get_epoch set_epoch old event said new → ClaimsFit new
   takes_claims old (events.Begin client call) said new h t =
       let v = t.step in
       let fits = subst (NextFits (is_claim_call call)) (sym v.starts) (started_claims old.page encode get_epoch set_epoch call (seen_view (used_by old.views (view_used call)))) in
@@ -151,10 +152,12 @@ module _ {T : Type 0} (encode : T → List ℕ) (decode : List ℕ → Option T)
       let v = t.step in
       let fits = subst (NextFits v.operation.claims) (sym v.turns.turns) (turned_claims old.page encode decode get_epoch set_epoch v.operation.claims v.turns.refused v.operation.doing v.caches None Look v.acts.asks (h op v.operation v.acts.found)) in
       subst ClaimsFit (sym v.state) (each_set OpFits old.operations op v.operation (doing_next v.operation v.next.0) v.acts.found h fits.0)
-  takes_claims old (events.Serve op) said new h t =
-      let v = t.step in
-      let fits = subst (NextFits v.operation.claims) (sym v.turns.turns) (turned_claims old.page encode decode get_epoch set_epoch v.operation.claims v.turns.refused v.operation.doing v.caches (Some v.reply) (Store v.request) v.acts.asks (h op v.operation v.acts.found)) in
-      subst ClaimsFit (sym v.state) (each_set OpFits old.operations op v.operation (doing_next v.operation v.next.0) v.acts.found h fits.0)
+  takes_claims old (events.Serve op) said new h t = elim t.step [
+    | inl v ↦ (
+        let fits = subst (NextFits v.operation.claims) (sym v.turns.turns) (turned_claims old.page encode decode get_epoch set_epoch v.operation.claims v.turns.refused v.operation.doing v.caches (Some v.reply) (Store v.request) v.acts.asks (h op v.operation v.acts.found)) in
+        subst ClaimsFit (sym v.state) (each_set OpFits old.operations op v.operation (doing_next v.operation v.next.0) v.acts.found h fits.0))
+    | inr v ↦ subst ClaimsFit (sym v.state) (each_set OpFits old.operations op v.operation (doing_next v.operation ended) v.acts.found h (λ e. refl))
+  ]
   takes_claims old (events.Fail op failure) said new h t = fails_claims failure old op said new h t.step
   takes_claims old (events.GiveUp op) said new h t = subst ClaimsFit (sym t.step.state) (each_set OpFits old.operations op t.step.operation (doing_next t.step.operation ended) t.step.found h (λ e. refl))
   takes_claims old (events.Land k) said new h t = subst ClaimsFit (sym t.step.state) h

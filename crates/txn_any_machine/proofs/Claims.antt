@@ -35,7 +35,6 @@ use Rattle.txn_view_steps.specs.Loads.{as_load, loaded}
 use Rattle.txn_view_steps.specs.Readings.{seen}
 use Rattle.txn_view_steps.specs.Refreshes.{as_refresh, refreshed}
 use Rattle.txn_view_steps.specs.Updates.{update_started}
-use Rattle.txn_view_steps.specs.ViewOps as views
 use Rattle.txn_view_steps.specs.ViewOps.{view_turned}
 use Rattle.txn_view_history.specs.declared.event.ViewCall.TheVariants as view_calls
 use Rattle.txn_view_history.specs.declared.event.AnyCall.{AnyCall}
@@ -55,10 +54,21 @@ module _ {T : Type 0} where
   EndsFit claims (endings.Comes (outcomes.Held id value epoch)) = claims ≡ true
   EndsFit claims (endings.Comes (outcomes.Shut id value error)) = claims ≡ false
 
+  -- an operation of one of the two claims
+  abbrev pub is_claim : ViewOp T → Bool
+  is_claim (Claim op) = true
+  is_claim (ClaimAt op) = true
+  is_claim (Init op) = false
+  is_claim (Load op) = false
+  is_claim (Refresh op) = false
+  is_claim (Update op) = false
+  is_claim (HolderRefresh op) = false
+  is_claim (HolderUpdate op) = false
+
   -- it is a claim just where it does what a claim does
   abbrev pub ClaimFits : Bool → AnyDoing T → Type 0
   ClaimFits claims (does.Plain doing) = claims ≡ true → doing ≡ doings.Ended
-  ClaimFits claims (does.View op) = claims ≡ views.is_claim op
+  ClaimFits claims (does.View op) = claims ≡ is_claim op
 
   abbrev pub EndingFits : Bool → Option (Ending T) → Type 0
   EndingFits claims None = Unit {0}
@@ -138,7 +148,7 @@ module _ {T : Type 0} (page : ℕ) (encode : T → List ℕ) (decode : List ℕ 
 
   -- a step keeps whether it is a claim
   view_fits : (lacks : Bool) (op : ViewOp T) (caches : Caches) (reply : Option Reply) →
-      (views.is_claim op ≡ views.is_claim (view_turned world_names world_boundary page encode decode get_epoch set_epoch lacks op caches reply).0) × OutcomeFits (views.is_claim op) (view_turned world_names world_boundary page encode decode get_epoch set_epoch lacks op caches reply).1
+      (is_claim op ≡ is_claim (view_turned world_names world_boundary page encode decode get_epoch set_epoch lacks op caches reply).0) × OutcomeFits (is_claim op) (view_turned world_names world_boundary page encode decode get_epoch set_epoch lacks op caches reply).1
   view_fits lacks (Init op) caches reply = (refl, entry_fits op.entry caches reply)
   view_fits lacks (Load op) caches reply = (refl, lacking_fits false lacks _ _ (seen_fits as_load loaded loaded_fits (read_turned world_names world_boundary page decode op.read caches reply)))
   view_fits lacks (Refresh op) caches reply = (refl, lacking_fits false lacks _ _ (seen_fits as_refresh refreshed refreshed_fits (read_turned world_names world_boundary page decode op.read caches reply)))
@@ -150,7 +160,7 @@ module _ {T : Type 0} (page : ℕ) (encode : T → List ℕ) (decode : List ℕ 
   view_fits lacks (HolderUpdate op) caches reply = (refl, entry_fits op.entry caches reply)
 
 module _ {T : Type 0} where
-  next_of_fits : (claims : Bool) (op : ViewOp T) (told : Turned (Result (Outcome T) ℕ)) → claims ≡ views.is_claim op → OutcomeFits claims told → NextFits claims (next_of (does.View op) told)
+  next_of_fits : (claims : Bool) (op : ViewOp T) (told : Turned (Result (Outcome T) ℕ)) → claims ≡ is_claim op → OutcomeFits claims told → NextFits claims (next_of (does.View op) told)
   next_of_fits claims op turns.Goes is fits = (is, tt)
   next_of_fits claims op (turns.Done (Ok outcome)) is fits = (λ e. refl, fits)
   next_of_fits claims op (turns.Done (Err number)) is fits = (λ e. refl, tt)
@@ -164,7 +174,7 @@ module _ {T : Type 0} where
   plain_no_claim false doing ask h asks = refl
   plain_no_claim true doing ask h asks = (let none : None ≡ Some ask = ap plain.asked (sym (h refl)) ∙ asks in absurd (cc none))
 
-  first_next_fits : {O : Type 0} (claims : Bool) (whole : O → ViewOp T) (r : Result O ℕ) → ((op : O) → claims ≡ views.is_claim (whole op)) → NextFits claims (first_next whole r)
+  first_next_fits : {O : Type 0} (claims : Bool) (whole : O → ViewOp T) (r : Result O ℕ) → ((op : O) → claims ≡ is_claim (whole op)) → NextFits claims (first_next whole r)
   first_next_fits {O} claims whole (Ok op) is = (is op, tt)
   first_next_fits {O} claims whole (Err number) is = (λ e. refl, tt)
 

@@ -61,7 +61,7 @@ module _ {T : Type 0} where
   failed_inside = parts.Refused 2
 
   -- a call on a view is refused, and frees its view, or ends that of a claim
-  refusing_is : (call : ViewCall T) (number : ℕ) → refusing (any.View call) number ≡ ends_with number (let_go (is_claim_call (any.View call)))
+  pub refusing_is : (call : ViewCall T) (number : ℕ) → refusing (any.View call) number ≡ ends_with number (let_go (is_claim_call (any.View call)))
   refusing_is (view_calls.Init value) number = refl
   refusing_is view_calls.Load number = refl
   refusing_is (view_calls.Refresh view) number = refl
@@ -71,7 +71,7 @@ module _ {T : Type 0} where
   refusing_is (view_calls.HolderRefresh view) number = refl
   refusing_is (view_calls.HolderUpdate view value) number = refl
 
-  refusing_epoch : (get_epoch : T → ℕ) (call : ViewCall T) (number : ℕ) → HasEpoch get_epoch (refusing (any.View call) number)
+  pub refusing_epoch : (get_epoch : T → ℕ) (call : ViewCall T) (number : ℕ) → HasEpoch get_epoch (refusing (any.View call) number)
   refusing_epoch get_epoch call number = subst (HasEpoch get_epoch) (sym (refusing_is call number)) tt
 
   -- what a failed store call makes of it

@@ -1,5 +1,5 @@
 -- Every state that events lead to is joined with a machine of the nine calls and with a layer of views.
-use Rattle.std.proofs.Common.{◌≡◌, ℕ, zero, suc, ◌≤◌, List, [], Option, Some, None, refl, sym, ap, subst, arith}
+use Rattle.std.proofs.Common.{◌≡◌, ℕ, zero, suc, ◌≤◌, List, [], Option, Some, None, inl, inr, refl, sym, ap, subst, arith}
 use Rattle.txn_history.specs.declared.event.EventFault.TheVariants as faults
 use Rattle.txn_history.specs.declared.event.EventOf.TheVariants as events
 use Rattle.txn_history.specs.Lists.{numbered}
@@ -14,13 +14,14 @@ use Rattle.txn_view_machine.proofs.Goes.{same_goes}
 use Rattle.txn_view_machine.proofs.Runs as layer_runs
 use Rattle.txn_view_machine.proofs.Tied.{tied_first}
 use Rattle.txn_any_machine.specs.declared.doing.AnyOperation.{AnyOperation}
-use Rattle.txn_any_machine.specs.Machine.{State, opening, used_in, Takes, IsReached}
+use Rattle.txn_any_machine.specs.Machine.{State, opening, used_in, TakesOrLacks, IsReached}
 use Rattle.txn_any_machine.proofs.Joined.{Past, At, Joined}
-use Rattle.txn_any_machine.proofs.Runs.{opening_reached, taken_reached, runs_keep}
+use Rattle.txn_any_machine.proofs.Runs.{opening_reached, taken_reached_or_lacking, runs_keep}
 use Rattle.txn_any_machine.proofs.Busy.{reached_busy}
 use Rattle.txn_any_machine.proofs.Serving.{look_joins, serve_joins}
 use Rattle.txn_any_machine.proofs.GivingUp.{give_up_joins, land_joins}
 use Rattle.txn_any_machine.proofs.Failing.{fail_joins}
+use Rattle.txn_any_machine.proofs.Lacking.{lacks_joins}
 use Rattle.txn_any_machine.proofs.Crashing.{crash_joins}
 use Rattle.txn_any_machine.proofs.Beginning.{begin_joins}
 
@@ -56,10 +57,10 @@ module _ {T : Type 0} (encode : T → List ℕ) (decode : List ℕ → Option T)
       }
 
   -- an event keeps a world joined
-  pub takes_joins : (past : Past T) (old : State T) (event : AnyEvent T) (said : AnyTold T) (new : State T) → IsReached encode decode get_epoch set_epoch old → Takes encode decode get_epoch set_epoch old event said new → Joined decode get_epoch set_epoch past old → Joined decode get_epoch set_epoch past new
+  pub takes_joins : (past : Past T) (old : State T) (event : AnyEvent T) (said : AnyTold T) (new : State T) → IsReached encode decode get_epoch set_epoch old → TakesOrLacks encode decode get_epoch set_epoch old event said new → Joined decode get_epoch set_epoch past old → Joined decode get_epoch set_epoch past new
   takes_joins past old (events.Begin client call) said new r t j = begin_joins encode decode get_epoch set_epoch past old j (λ number used there. reached_busy encode decode get_epoch set_epoch old r number used there) client call said new t.allowed t.step
   takes_joins past old (events.Look op) said new r t j = look_joins encode decode get_epoch set_epoch past old j op said new t.step
-  takes_joins past old (events.Serve op) said new r t j = serve_joins encode decode get_epoch set_epoch past old j op said new t.step
+  takes_joins past old (events.Serve op) said new r t j = elim t.step [ inl v ↦ serve_joins encode decode get_epoch set_epoch past old j op said new v | inr v ↦ lacks_joins encode decode get_epoch set_epoch past old j op said new v ]
   takes_joins past old (events.Fail op failure) said new r t j = fail_joins encode decode get_epoch set_epoch past old j op said new failure t.step
   takes_joins past old (events.GiveUp op) said new r t j = give_up_joins encode decode get_epoch set_epoch past old j op said new t.step
   takes_joins past old (events.Land k) said new r t j = land_joins encode decode get_epoch set_epoch past old j k said new t.step
@@ -69,7 +70,7 @@ module _ {T : Type 0} (encode : T → List ℕ) (decode : List ℕ → Option T)
   pub reached_joins : (s : State T) → IsReached encode decode get_epoch set_epoch s → Joined decode get_epoch set_epoch nothing s
   reached_joins s r =
       (runs_keep encode decode get_epoch set_epoch (λ x. IsReached encode decode get_epoch set_epoch x × Joined decode get_epoch set_epoch nothing x)
-      (λ old event said new h t. (taken_reached encode decode get_epoch set_epoch old event said new h.0 t, takes_joins nothing old event said new h.0 t h.1))
+      (λ old event said new h t. (taken_reached_or_lacking encode decode get_epoch set_epoch old event said new h.0 t, takes_joins nothing old event said new h.0 t h.1))
       (opening s.clients s.page) r.0 s r.1 (opening_reached encode decode get_epoch set_epoch s.clients s.page r.2, opening_joins s.clients s.page r.2)).1
 
   -- the same, from here on

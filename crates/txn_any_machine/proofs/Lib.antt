@@ -27,6 +27,7 @@ pub mod Serving
 pub mod Leaving
 pub mod GivingUp
 pub mod Failing
+pub mod Lacking
 mod Places
 mod Busies
 pub mod Fits

@@ -23,12 +23,12 @@ use Rattle.txn_view_machine.proofs.Tied.{same_stored}
 use Rattle.txn_view_machine.proofs.Tables as layer_tables
 use Rattle.txn_any_machine.specs.declared.doing.AnyOperation.{AnyOperation}
 use Rattle.txn_any_machine.specs.Doing.{asked, IsReply, InRange}
-use Rattle.txn_any_machine.specs.Machine.{State, opening, used_in, seen_views, seen_of, Takes, Runs, IsReached}
+use Rattle.txn_any_machine.specs.Machine.{State, opening, used_in, seen_views, seen_of, Takes, TakesOrLacks, Runs, RunsOrLacks, IsReached}
 use Rattle.txn_any_machine.proofs.Joined.{as_fine, At, Joined}
 use Rattle.txn_any_machine.proofs.Alike.{matched_same}
 use Rattle.txn_any_machine.proofs.Serving.{held_of}
 use Rattle.txn_any_machine.proofs.Beginning.{views_fit}
-use Rattle.txn_any_machine.proofs.Runs.{opening_reached, taken_reached, runs_keep}
+use Rattle.txn_any_machine.proofs.Runs.{opening_reached, taken_reached_or_lacking, runs_keep, or_lacking, runs_or_lacking}
 use Rattle.txn_any_machine.proofs.ViewsGoOn.{goes_on_with}
 use Rattle.txn_any_machine.proofs.Joining.{nothing, takes_joins, reached_joins, from_here, begins_again}
 
@@ -94,9 +94,9 @@ module _ {T : Type 0} (encode : T → List ℕ) (decode : List ℕ → Option T)
   both_go : (was is : Used T) → GoesOn (Some was) (Some is) → ViewGoesOn was.view is.view
   both_go was is h = h
 
-  pub next_views : (old : State T) (event : AnyEvent T) (said : AnyTold T) (new : State T) → IsReached encode decode get_epoch set_epoch old → Takes encode decode get_epoch set_epoch old event said new →
+  pub next_views_or_lacking : (old : State T) (event : AnyEvent T) (said : AnyTold T) (new : State T) → IsReached encode decode get_epoch set_epoch old → TakesOrLacks encode decode get_epoch set_epoch old event said new →
       (number : ℕ) (was is : Used T) → numbered old.views number ≡ Some (Some was) → numbered new.views number ≡ Some (Some is) → ViewGoesOn was.view is.view
-  next_views old event said new r t number was is before after =
+  next_views_or_lacking old event said new r t number was is before after =
       let j = reached_joins encode decode get_epoch set_epoch old r in
       let k = takes_joins encode decode get_epoch set_epoch (from_here encode decode get_epoch set_epoch nothing old j) old event said new r t (begins_again encode decode get_epoch set_epoch nothing old j) in
       let there : j.l.views number ≡ Some was = j.tie.views number ∙ ap used_in before in
@@ -106,11 +106,23 @@ module _ {T : Type 0} (encode : T → List ℕ) (decode : List ℕ → Option T)
 
 module _ {T : Type 0} (encode : T → List ℕ) (decode : List ℕ → Option T) (get_epoch : T → ℕ) (set_epoch : T → ℕ → T) where
   -- a run from the opening reaches its state
-  pub run_reaches : (clients page : ℕ) (taken : List (AnyEvent T × AnyTold T)) (s : State T) → 1 ≤ page → Runs encode decode get_epoch set_epoch (opening clients page) taken s → IsReached encode decode get_epoch set_epoch s
-  run_reaches clients page taken s room runs =
-      runs_keep encode decode get_epoch set_epoch (IsReached encode decode get_epoch set_epoch) (λ old event said new r t. taken_reached encode decode get_epoch set_epoch old event said new r t)
+  pub run_reaches_or_lacking : (clients page : ℕ) (taken : List (AnyEvent T × AnyTold T)) (s : State T) → 1 ≤ page → RunsOrLacks encode decode get_epoch set_epoch (opening clients page) taken s → IsReached encode decode get_epoch set_epoch s
+  run_reaches_or_lacking clients page taken s room runs =
+      runs_keep encode decode get_epoch set_epoch (IsReached encode decode get_epoch set_epoch) (λ old event said new r t. taken_reached_or_lacking encode decode get_epoch set_epoch old event said new r t)
       (opening clients page) taken s runs (opening_reached encode decode get_epoch set_epoch clients page room)
 
   -- what stands beside the rows goes on
+  pub reached_goes_on_or_lacking : (old : State T) (event : AnyEvent T) (said : AnyTold T) (new : State T) → IsReached encode decode get_epoch set_epoch old → TakesOrLacks encode decode get_epoch set_epoch old event said new → AllGoOn (seen_of old) event said new.trace (seen_of new)
+  reached_goes_on_or_lacking old event said new r t = goes_on_with encode decode get_epoch set_epoch old event said new r t (next_views_or_lacking encode decode get_epoch set_epoch old event said new r t)
+
+  -- the same of a world, of which no serve lacks memory
+
+  pub next_views : (old : State T) (event : AnyEvent T) (said : AnyTold T) (new : State T) → IsReached encode decode get_epoch set_epoch old → Takes encode decode get_epoch set_epoch old event said new →
+      (number : ℕ) (was is : Used T) → numbered old.views number ≡ Some (Some was) → numbered new.views number ≡ Some (Some is) → ViewGoesOn was.view is.view
+  next_views old event said new r t = next_views_or_lacking encode decode get_epoch set_epoch old event said new r (or_lacking encode decode get_epoch set_epoch old event said new t)
+
+  pub run_reaches : (clients page : ℕ) (taken : List (AnyEvent T × AnyTold T)) (s : State T) → 1 ≤ page → Runs encode decode get_epoch set_epoch (opening clients page) taken s → IsReached encode decode get_epoch set_epoch s
+  run_reaches clients page taken s room runs = run_reaches_or_lacking clients page taken s room (runs_or_lacking encode decode get_epoch set_epoch (opening clients page) taken s runs)
+
   pub reached_goes_on : (old : State T) (event : AnyEvent T) (said : AnyTold T) (new : State T) → IsReached encode decode get_epoch set_epoch old → Takes encode decode get_epoch set_epoch old event said new → AllGoOn (seen_of old) event said new.trace (seen_of new)
-  reached_goes_on old event said new r t = goes_on_with encode decode get_epoch set_epoch old event said new r t (next_views encode decode get_epoch set_epoch old event said new r t)
+  reached_goes_on old event said new r t = reached_goes_on_or_lacking old event said new r (or_lacking encode decode get_epoch set_epoch old event said new t)

@@ -16,7 +16,8 @@ use Rattle.txn_history.specs.Lists.{numbered}
 use Rattle.txn_history.specs.Seen.{Operation as SeenOperation, Store, Look}
 use Rattle.txn_history.specs.Added.{told_of}
 use Rattle.txn_machine.specs.Machine.{effect_of}
-use Rattle.txn_machine.proofs.Lists.{numbered_here, numbered_other, numbered_map, within}
+use Rattle.txn_history.proofs.Lists.{numbered_kept}
+use Rattle.txn_machine.proofs.Lists.{numbered_here, numbered_other, numbered_map, within, numbered_of_map, numbered_new}
 use Rattle.txn_view_steps.specs.declared.outcome.Outcome.TheVariants as outcomes
 use Rattle.txn_view_history.specs.declared.event.AnyCall.{AnyCall}
 use Rattle.txn_view_history.specs.declared.event.AnyAnswer.{AnyAnswer}
@@ -32,8 +33,7 @@ use Rattle.txn_any_machine.specs.declared.doing.AnyOperation.{AnyOperation}
 use Rattle.txn_any_machine.specs.declared.doing.Ending.{Ending}
 use Rattle.txn_any_machine.specs.declared.doing.Ending.TheVariants as endings
 use Rattle.txn_any_machine.specs.Doing.{Next, ended, refused, is_claim_call, caches_left}
-use Rattle.txn_any_machine.specs.Machine.{State, seen_operation, seen_view, seen_views, seen_of, used_in, used_by, with_used, let_go, answer_of, change_of, made_by, views_after, views_taken, answered, doing_next, answer_next, acted, effected, loosened, failing, given_up, crashed, next_op, new_operation, begun_as, Fails, Takes, IsReached}
-use Rattle.txn_any_machine.proofs.Places.{numbered_kept, numbered_new, numbered_of_map}
+use Rattle.txn_any_machine.specs.Machine.{State, seen_operation, seen_view, seen_views, seen_of, used_in, used_by, with_used, let_go, answer_of, change_of, made_by, views_after, views_taken, answered, doing_next, answer_next, acted, effected, loosened, failing, given_up, crashed, next_op, new_operation, begun_as, Fails, TakesOrLacks, IsReached}
 use Rattle.txn_any_machine.proofs.Busies.{IsRunning, uses_or_not}
 use Rattle.txn_any_machine.proofs.Busy.{Busied, IsFree, takes_free, effected_busied, view_there, takes_busied, reached_busied, free_begin}
 use Rattle.txn_any_machine.proofs.CallsGoOn.{calls_go_on}
@@ -353,7 +353,7 @@ module _ {T : Type 0} where
       (acted_goes middle op v.operation (refused 2) v.caches h v.acts.found (ap is_some v.acts.asks) (λ e. refl, tt) (subst Busied v.state after))
 
 module _ {T : Type 0} (encode : T → List ℕ) (decode : List ℕ → Option T) (get_epoch : T → ℕ) (set_epoch : T → ℕ → T) where
-  takes_go : (old : State T) (event : AnyEvent T) (said : AnyTold T) (new : State T) → Busied old → ClaimsFit old → Busied new → Takes encode decode get_epoch set_epoch old event said new → Goes old.views said new
+  takes_go : (old : State T) (event : AnyEvent T) (said : AnyTold T) (new : State T) → Busied old → ClaimsFit old → Busied new → TakesOrLacks encode decode get_epoch set_epoch old event said new → Goes old.views said new
   takes_go old (events.Begin client call) said new h claims after t =
       let v = t.step in
       let fits = subst (NextFits (is_claim_call call)) (sym v.starts) (started_claims old.page encode get_epoch set_epoch call (seen_view (used_by old.views (view_used call)))) in
@@ -366,13 +366,16 @@ module _ {T : Type 0} (encode : T → List ℕ) (decode : List ℕ → Option T)
       let caches = caches_left v.operation.doing v.caches v.next.1 in
       goes_so old.views said (told_of (told.Went op) op (answer_next old v.operation v.next)) new (acted old op v.operation v.next caches) v.tells v.state
       (acted_goes old op v.operation v.next caches h v.acts.found (ap is_some v.acts.asks) fits (subst Busied v.state after))
-  takes_go old (events.Serve op) said new h claims after t =
-      let v = t.step in
-      let fits = subst (NextFits v.operation.claims) (sym v.turns.turns) (turned_claims old.page encode decode get_epoch set_epoch v.operation.claims v.turns.refused v.operation.doing v.caches (Some v.reply) (Store v.request) v.acts.asks (claims op v.operation v.acts.found)) in
-      let caches = caches_left v.operation.doing v.caches v.next.1 in
-      let middle = effected old op v.request v.reply v.store in
-      goes_so old.views said (told_of (told.Went op) op (answer_next old v.operation v.next)) new (acted middle op v.operation v.next caches) v.tells v.state
-      (acted_goes middle op v.operation v.next caches (effected_busied old op v.request v.reply v.store h) v.acts.found (ap is_some v.acts.asks) fits (subst Busied v.state after))
+  takes_go old (events.Serve op) said new h claims after t = elim t.step [
+    | inl v ↦ (
+        let fits = subst (NextFits v.operation.claims) (sym v.turns.turns) (turned_claims old.page encode decode get_epoch set_epoch v.operation.claims v.turns.refused v.operation.doing v.caches (Some v.reply) (Store v.request) v.acts.asks (claims op v.operation v.acts.found)) in
+        let caches = caches_left v.operation.doing v.caches v.next.1 in
+        let middle = effected old op v.request v.reply v.store in
+        goes_so old.views said (told_of (told.Went op) op (answer_next old v.operation v.next)) new (acted middle op v.operation v.next caches) v.tells v.state
+        (acted_goes middle op v.operation v.next caches (effected_busied old op v.request v.reply v.store h) v.acts.found (ap is_some v.acts.asks) fits (subst Busied v.state after)))
+    | inr v ↦ goes_so old.views said (told.Answered op (answers.Plain (plain_answers.Refused 9))) new (acted old op v.operation (refused 9) v.caches) v.tells v.state
+        (acted_goes old op v.operation (refused 9) v.caches h v.acts.found (ap is_some v.acts.asks) (λ e. refl, tt) (subst Busied v.state after))
+  ]
   takes_go old (events.Fail op failure) said new h claims after t = fails_go failure old op said new h after t.step
   takes_go old (events.GiveUp op) said new h claims after t =
       let v = t.step in
@@ -389,7 +392,7 @@ module _ {T : Type 0} (encode : T → List ℕ) (decode : List ℕ → Option T)
   none_view (Some used) e = absurd (cc)
 
   -- What stands beside the rows goes on with each event that is taken, where each view that is there before and after goes on.
-  pub goes_on_with : (old : State T) (event : AnyEvent T) (said : AnyTold T) (new : State T) → IsReached encode decode get_epoch set_epoch old → Takes encode decode get_epoch set_epoch old event said new →
+  pub goes_on_with : (old : State T) (event : AnyEvent T) (said : AnyTold T) (new : State T) → IsReached encode decode get_epoch set_epoch old → TakesOrLacks encode decode get_epoch set_epoch old event said new →
       ((number : ℕ) (was is : Used T) → numbered old.views number ≡ Some (Some was) → numbered new.views number ≡ Some (Some is) → ViewGoesOn was.view is.view) → GoesOn (seen_of old) event said new.trace (seen_of new)
   goes_on_with old event said new r t each =
       let h = reached_busied encode decode get_epoch set_epoch old r in

@@ -1,5 +1,5 @@
 -- The world's step, over the store's contract, for all calls.
-use Rattle.std.specs.Prelude.{◌≡◌, ◌≤◌, ℕ, List, [], ◌∷◌, ◌++◌, ◌+◌, ◌-◌, ◌==◌, Bool, true, false, if◌then◌else◌, Option, Some, None, Result, Ok, Err, length, slice_set, is_some, map, replicate}
+use Rattle.std.specs.Prelude.{◌≡◌, ◌≤◌, ◌⊎◌, ℕ, List, [], ◌∷◌, ◌++◌, ◌+◌, ◌-◌, ◌==◌, Bool, true, false, if◌then◌else◌, Option, Some, None, Result, Ok, Err, length, slice_set, is_some, map, replicate}
 use Rattle.std.specs.Option.{option_map}
 use Rattle.txn_store.specs.Store.{State as StoreState}
 use Rattle.txn_store.specs.declared.request.Request.{Request}
@@ -249,6 +249,15 @@ module _ {T : Type 0} where
     pub tells : said ≡ told.Answered op (answers.Plain (plain_answers.Refused 2))
     pub state : new ≡ acted (failing (if looses then loosened old op (Store request) else old) op) op operation (refused 2) caches
 
+  -- A call that is refused for memory before anything has reached the store: the operation ends refused, and nothing else changes.
+  pub record Lacks (old : State T) (op : ℕ) (said : AnyTold T) (new : State T) : Type 0 where
+    pub operation : AnyOperation T
+    pub request : Request
+    pub caches : Caches
+    pub acts : Acts old op operation (Store request) caches
+    pub tells : said ≡ told.Answered op (answers.Plain (plain_answers.Refused 9))
+    pub state : new ≡ acted old op operation (refused 9) caches
+
   -- A failure after its effect: the request is served, and its reply is lost. Where the store finds no memory, there is no such event.
   pub record FailsAfter (old : State T) (op : ℕ) (said : AnyTold T) (new : State T) : Type 0 where
     pub operation : AnyOperation T
@@ -369,6 +378,21 @@ module _ {T : Type 0} (encode : T → List ℕ) (decode : List ℕ → Option T)
   Runs old [] new = new ≡ old
   Runs old (taken ∷ rest) new = (middle : State T) × Takes old taken.0 taken.1 middle × Runs middle rest new
 
+  -- Where clients share a store that is none of theirs, a serve may lack memory too.
+
+  abbrev pub StepsOrLacks : State T → AnyEvent T → AnyTold T → State T → Type 0
+  StepsOrLacks old (events.Serve op) said new = Served old op said new ⊎ Lacks old op said new
+  StepsOrLacks old event said new = Steps old event said new
+
+  pub record TakesOrLacks (old : State T) (event : AnyEvent T) (said : AnyTold T) (new : State T) : Type 0 where
+    pub allowed : refusal_of old event ≡ None
+    pub step : StepsOrLacks old event said new
+
+  -- a run of such clients: events in order, each with what it told
+  abbrev pub RunsOrLacks : State T → List (AnyEvent T × AnyTold T) → State T → Type 0
+  RunsOrLacks old [] new = new ≡ old
+  RunsOrLacks old (taken ∷ rest) new = (middle : State T) × TakesOrLacks old taken.0 taken.1 middle × RunsOrLacks middle rest new
+
   -- some events lead here from a world in which nothing has happened, where a page has room for a file at least
   abbrev pub IsReached : State T → Type 0
-  IsReached s = (taken : List (AnyEvent T × AnyTold T)) × Runs (opening s.clients s.page) taken s × (1 ≤ s.page)
+  IsReached s = (taken : List (AnyEvent T × AnyTold T)) × RunsOrLacks (opening s.clients s.page) taken s × (1 ≤ s.page)

@@ -7,7 +7,7 @@ ghost use Rattle.txn_view_history.specs.Laws.{HasOneClaimer};
 ghost use Rattle.txn_view_history.specs.Views.{ViewsFit, ViewGoesOn};
 ghost use Rattle.txn_view_history.specs.Trace.{AnyEvent, AnyTold};
 ghost use Rattle.txn_view_machine.specs.Layer.{Used};
-ghost use Rattle.txn_any_machine.specs.Machine.{State, opening, seen_views, Takes, Runs};
+ghost use Rattle.txn_any_machine.specs.Machine.{State, opening, seen_views, Takes, Runs, RunsOrLacks};
 
 use txn_types::codec::ObjectCodec;
 use txn_types::epoch::EpochField;
@@ -25,4 +25,11 @@ pub fn one_history<T: Drop, C: ObjectCodec<T>, E: EpochField<T>>(_codec: &C, _ep
 pub fn views_go_on<T: Drop, C: ObjectCodec<T>, E: EpochField<T>>(_codec: &C, _epochs: &E)
     ensures { (clients page : _) (taken : List (AnyEvent T × AnyTold T)) (old : State T) (event : AnyEvent T) (said : AnyTold T) (new : State T) → 1 ≤ page → Runs (C.encoded _codec.now) (C.decoded _codec.now) (E.epoch_of _epochs.now) (E.with_epoch _epochs.now) (opening clients page) taken old →
         Takes (C.encoded _codec.now) (C.decoded _codec.now) (E.epoch_of _epochs.now) (E.with_epoch _epochs.now) old event said new → (number : ℕ) (was is : Used T) → numbered old.views number ≡ Some (Some was) → numbered new.views number ≡ Some (Some is) → ViewGoesOn was.view is.view }
+{}
+
+/// What `one_history` says, where clients share a store that is none of theirs, and a serve may lack memory.
+pub fn one_shared_history<T: Drop, C: ObjectCodec<T>, E: EpochField<T>>(_codec: &C, _epochs: &E)
+    ensures rows { (clients page : _) (taken : List (AnyEvent T × AnyTold T)) (state : State T) → 1 ≤ page → RunsOrLacks (C.encoded _codec.now) (C.decoded _codec.now) (E.epoch_of _epochs.now) (E.with_epoch _epochs.now) (opening clients page) taken state → IsOneHistory (C.decoded _codec.now) (E.epoch_of _epochs.now) (E.with_epoch _epochs.now) state.failed state.trace }
+    ensures views { (clients page : _) (taken : List (AnyEvent T × AnyTold T)) (state : State T) → 1 ≤ page → RunsOrLacks (C.encoded _codec.now) (C.decoded _codec.now) (E.epoch_of _epochs.now) (E.with_epoch _epochs.now) (opening clients page) taken state → ViewsFit (C.decoded _codec.now) (E.epoch_of _epochs.now) state.trace (seen_views state.views) }
+    ensures claims { (clients page : _) (taken : List (AnyEvent T × AnyTold T)) (state : State T) → 1 ≤ page → RunsOrLacks (C.encoded _codec.now) (C.decoded _codec.now) (E.epoch_of _epochs.now) (E.with_epoch _epochs.now) (opening clients page) taken state → HasOneClaimer state.trace }
 {}

@@ -1,7 +1,8 @@
--- Elements of a list that has another in one place, and of a list of what a function gives.
-use Rattle.std.proofs.Common.{◌≡◌, ◌≢◌, ℕ, zero, suc, ◌-◌, ◌<◌, ◌≤◌, List, [], ◌∷◌, ◌++◌, length, map, set, slice_get, Some, ◌⊎◌, inl, inr, refl, sym, ap, subst, arith}
+-- Elements of a list that has another in one place or at its end, and of a list of what a function gives.
+use Rattle.std.proofs.Common.{◌≡◌, ◌≢◌, ℕ, zero, suc, ◌+◌, ◌-◌, ◌<◌, ◌≤◌, List, [], ◌∷◌, ◌++◌, length, map, set, slice_get, Some, ◌⊎◌, inl, inr, refl, sym, ap, subst, arith}
 use Rattle.std.proofs.lemmas.Option.{slice_get_within}
 use Rattle.txn_history.specs.Lists.{numbered}
+use Rattle.txn_history.proofs.Lists.{numbered_last}
 
 pub within : {A : Type 0} (xs : List A) (n : ℕ) (x : A) → numbered xs n ≡ Some x → (0 < n) × (n ≤ length xs)
 within xs zero x e = cc
@@ -18,6 +19,10 @@ get_set_other (z ∷ zs) zero zero x ne = absurd (ne refl)
 get_set_other (z ∷ zs) zero (suc m) x ne = refl
 get_set_other (z ∷ zs) (suc k) zero x ne = refl
 get_set_other (z ∷ zs) (suc k) (suc m) x ne = get_set_other zs k m x (λ e. ne (ap suc e))
+
+-- the element that was added
+pub numbered_new : {A : Type 0} (xs : List A) (x : A) → numbered (xs ++ x ∷ []) (length xs + 1) ≡ Some x
+numbered_new xs x = let next : length xs + 1 ≡ suc (length xs) = omega arith in subst (λ (n : ℕ). numbered (xs ++ x ∷ []) n ≡ Some x) (sym next) (numbered_last xs x)
 
 -- the element that was set
 pub numbered_here : {A : Type 0} (xs : List A) (n : ℕ) (x y : A) → numbered xs n ≡ Some y → numbered (set xs (n - 1) x) n ≡ Some x
@@ -38,7 +43,17 @@ pub numbered_map : {A B : Type 0} (f : A → B) (xs : List A) (n : ℕ) (y : B) 
 numbered_map f xs zero y e = cc
 numbered_map f xs (suc n) y e = get_map f xs n y e
 
-get_append : {A : Type 0} (xs ys : List A) (k : ℕ) (y : A) → slice_get (xs ++ ys) k ≡ Some y → (slice_get xs k ≡ Some y) ⊎ ((j : ℕ) × (slice_get ys j ≡ Some y))
+get_of_map : {A B : Type 0} (f : A → B) (xs : List A) (k : ℕ) (x : A) → slice_get xs k ≡ Some x → slice_get (map f xs) k ≡ Some (f x)
+get_of_map f [] k x e = cc
+get_of_map f (z ∷ zs) zero x e = let same : z ≡ x = cc in ap (λ y. Some (f y)) same
+get_of_map f (z ∷ zs) (suc k) x e = get_of_map f zs k x e
+
+-- an element as the function changes it
+pub numbered_of_map : {A B : Type 0} (f : A → B) (xs : List A) (n : ℕ) (x : A) → numbered xs n ≡ Some x → numbered (map f xs) n ≡ Some (f x)
+numbered_of_map f xs zero x e = cc
+numbered_of_map f xs (suc n) x e = get_of_map f xs n x e
+
+pub get_append : {A : Type 0} (xs ys : List A) (k : ℕ) (y : A) → slice_get (xs ++ ys) k ≡ Some y → (slice_get xs k ≡ Some y) ⊎ ((j : ℕ) × (slice_get ys j ≡ Some y))
 get_append [] ys k y e = inr (k, e)
 get_append (x ∷ xs) ys zero y e = inl e
 get_append (x ∷ xs) ys (suc k) y e = get_append xs ys k y e

@@ -1,0 +1,9 @@
+pub mod Parts
+pub mod Journals
+pub mod Logs
+pub mod Numbers
+pub mod Merged
+pub mod Traces
+pub mod Runs
+pub mod Verdict
+pub mod Shares

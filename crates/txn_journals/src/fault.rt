@@ -1,0 +1,31 @@
+//! What an audit may find.
+
+/// Why an audit does not agree.
+#[derive(Clone, Copy, Debug, PartialEq, Eq)]
+pub enum AuditFault {
+    /// Two diaries are of one client.
+    ClientTwice,
+    /// A row of the log is of no diary's client.
+    ClientMissing,
+    /// A diary's receipts are not, in order, the log's rows of its client.
+    RowsDiffer,
+    /// A landing is of a request that its client had not left.
+    LandingUnknown,
+}
+
+impl AuditFault {
+    ghost use Rattle.std.specs.Prelude.{◌≡◌};
+    ghost use Rattle.txn_journals.specs.Verdict.{fault_number};
+
+    /// The number that names the fault: 1 to 4, in the order in which they are tested.
+    pub fn number(&self) -> u8
+        ensures { result ≡ fault_number self.now }
+    {
+        match self {
+            AuditFault::ClientTwice => 1,
+            AuditFault::ClientMissing => 2,
+            AuditFault::RowsDiffer => 3,
+            AuditFault::LandingUnknown => 4,
+        }
+    }
+}
