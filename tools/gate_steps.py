@@ -170,17 +170,18 @@ def copied(root, names):
         yield top
 
 
-def steps_of(root, given):
-    """Runs the steps of the command, of all crates or of those that are given, and yields them."""
+def steps_of(root, top, given):
+    """Runs the steps of the command and yields them: the tests of the tools in the repository, and the others in the
+    folder `top`, which has all crates or those that are given."""
     anew, every = ["--anew"] * given.anew, ["--all"] * given.all
     unit_tests = [sys.executable, "-m", "unittest", "discover", "-s", "tools/tests"]
     yield step("tests of the tools", unit_tests, root, count_of_unittest)
-    yield from ci_steps(root, anew)
-    with_edits = [it for it in given.crates if os.path.isdir(f"{root}/crates/{it}/wrong-bodies")]
+    yield from ci_steps(top, anew)
+    with_edits = [it for it in given.crates if os.path.isdir(f"{top}/crates/{it}/wrong-bodies")]
     if with_edits or not given.crates:
-        yield step("wrong bodies", [f"{root}/tools/wrong-bodies", *with_edits, "--after-ci", *every, *anew], root)
-    programs = programs_in(root)
-    yield from case_steps(root, programs if given.crates else sorted({*programs, PROGRAM_OF_CASES}))
+        yield step("wrong bodies", [f"{top}/tools/wrong-bodies", *with_edits, "--after-ci", *every, *anew], top)
+    programs = programs_in(top)
+    yield from case_steps(top, programs if given.crates else sorted({*programs, PROGRAM_OF_CASES}))
 
 
 def arguments_of(words, usage):
@@ -203,7 +204,7 @@ def main(words, usage="", root=os.path.dirname(os.path.dirname(os.path.realpath(
         say(f"0 passed, {len(unknown)} failed")
         return 2
     with copied(root, part_of(uses, given.crates)) if given.crates else contextlib.nullcontext(root) as top:
-        steps = list(steps_of(top, given))
+        steps = list(steps_of(root, top, given))
     say("")
     for line in table(steps):
         say(line)
