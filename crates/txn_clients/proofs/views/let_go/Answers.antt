@@ -1,0 +1,11 @@
+use Rattle.std.proofs.Common.{◌∙◌, Some, ap}
+use Rattle.txn_any_machine.specs.Machine.{with_used, let_go}
+use Rattle.txn_view_machine.specs.Layer.{changed}
+use Rattle.txn_clients.proofs.Slots.{put_in}
+use Rattle.txn_clients.proofs.views.let_go.Goals as goal
+
+pub returns : goal.returns
+returns g c =
+    let views = c.args.views.now.items in
+    let is = put_in views c.take_out.new.views.items c.put.new.views.items c.in-Some.number c.left-used.result c.take_out.ensures.rest c.put.ensures in
+    record { used = rw c.in-Some.is (is ∙ ap (with_used views (Some c.in-Some.number)) (c.left-used.ensures ∙ ap (λ u. changed u (let_go c.args.claims)) c.take_out.ensures.used)) }

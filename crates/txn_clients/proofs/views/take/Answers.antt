@@ -1,0 +1,12 @@
+use Rattle.std.proofs.Common.{◌∙◌, Some, ap}
+use Rattle.std.specs.Option.{option_map}
+use Rattle.txn_any_machine.specs.Machine.{with_used}
+use Rattle.txn_view_machine.specs.Layer.{with_busy}
+use Rattle.txn_clients.proofs.Slots.{put_in}
+use Rattle.txn_clients.proofs.views.take.Goals as goal
+
+pub returns : goal.returns
+returns g c =
+    let views = c.args.views.now.items in
+    let is = put_in views c.take_out.new.views.items c.put.new.views.items c.in-Some.number c.taken-used.result c.take_out.ensures.rest c.put.ensures in
+    record { used = rw c.in-Some.is (is ∙ ap (with_used views (Some c.in-Some.number)) (c.taken-used.ensures ∙ ap (option_map (with_busy (Some c.args.op))) c.take_out.ensures.used)) }

@@ -1,0 +1,69 @@
+//! Why what a client does is refused, as far as its operations and views tell.
+ghost use Rattle.std.specs.Prelude.{◌≡◌, None, Some, is_some, if◌then◌else◌};
+ghost use Rattle.txn_history.specs.Allowed.{ask_fault};
+ghost use Rattle.txn_history.specs.declared.event.EventFault.TheVariants.{UnknownNumber};
+ghost use Rattle.txn_machine.specs.Doing.{asks_as};
+ghost use Rattle.txn_view_history.specs.Allowed.{may_use, base_seen};
+ghost use Rattle.txn_clients.specs.Views.{seen_with};
+
+use crate::views::get;
+use txn_caches::ask::Ask;
+use txn_history::event::{Call, EventFault};
+use txn_view_history::event::{AnyCall, ViewCall};
+use txn_view_machine::used::Used;
+
+/// Why an operation that asks for this is refused a look, or a store call: it has ended, or asks for the other.
+pub fn ask_refusal(store: bool, ask: Option<Ask<'_>>) -> Option<EventFault>
+    ensures { result ≡ ask_fault store (asks_as ask.entry) }
+{
+    match ask {
+        None => Some(EventFault::UnknownNumber),
+        Some(Ask::Store(_)) if store => None,
+        Some(Ask::Look) if !store => None,
+        Some(Ask::Store(_)) => Some(EventFault::NotAsked),
+        Some(Ask::Look) => Some(EventFault::NotAsked),
+    }
+}
+
+/// Why what asks for this is refused to be given up: it has ended.
+pub fn end_refusal(ask: Option<Ask<'_>>) -> Option<EventFault>
+    ensures { result ≡ (if is_some (asks_as ask.entry) then None else Some UnknownNumber) }
+{
+    match ask {
+        None => Some(EventFault::UnknownNumber),
+        Some(Ask::Store(_)) => None,
+        Some(Ask::Look) => None,
+    }
+}
+
+/// Whether the client may use the view of a call, if it has one: it is the client's own, and a holder exactly where the
+/// call is a holder's.
+pub fn may_use<T>(
+    views: &[Option<Used<T>>],
+    client: u64,
+    holders: bool,
+    view: Option<u64>,
+) -> bool
+    ensures { result ≡ may_use (seen_with views.now) client holders view }
+{
+    let Some(number) = view else {
+        return true;
+    };
+    match get(views, number) {
+        Some(view) => view.client == client && holders == view.epoch.is_some(),
+        None => false,
+    }
+}
+
+/// The base that a call writes on: an update's is where its view stands.
+pub fn base<T>(views: &[Option<Used<T>>], call: &AnyCall<T>) -> Option<u64>
+    ensures { result ≡ base_seen (seen_with views.now) call.now }
+{
+    match call {
+        AnyCall::Plain(Call::Write(base, _)) => *base,
+        AnyCall::Plain(Call::WriteUnchecked(base, _)) => *base,
+        AnyCall::View(ViewCall::Update(view, _)) => Some(get(views, *view)?.id),
+        AnyCall::View(ViewCall::HolderUpdate(view, _)) => Some(get(views, *view)?.id),
+        _ => None,
+    }
+}
