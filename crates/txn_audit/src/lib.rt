@@ -7,4 +7,4 @@
 pub mod audit;
 mod landings;
 mod receipts;
-mod same;
+pub mod same;

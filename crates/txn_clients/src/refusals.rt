@@ -13,6 +13,7 @@ use txn_view_history::event::{AnyCall, ViewCall};
 use txn_view_machine::used::Used;
 
 /// Why an operation that asks for this is refused a look, or a store call: it has ended, or asks for the other.
+#[inline(always)]
 pub fn ask_refusal(store: bool, ask: Option<Ask<'_>>) -> Option<EventFault>
     ensures { result ≡ ask_fault store (asks_as ask.entry) }
 {

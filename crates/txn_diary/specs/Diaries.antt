@@ -1,0 +1,125 @@
+-- What a client's diary is, and what is added to it. Its journal stands oldest first.
+use Rattle.std.specs.Prelude.{◌≡◌, ◌≤◌, ◌+◌, ℕ, List, [], ◌∷◌, ◌++◌, Bool, true, false, if◌then◌else◌, Option, Some, None, is_some, length, map, reverse}
+use Rattle.txn_store.specs.declared.request.Request.{Request}
+use Rattle.txn_history.specs.declared.event.EventFault.{EventFault}
+use Rattle.txn_history.specs.declared.event.EventFault.TheVariants as faults
+use Rattle.txn_history.specs.declared.event.ToldOf.TheVariants as told
+use Rattle.txn_history.specs.Added.{told_of}
+use Rattle.txn_history.specs.Seen.{Ask, Store, Look}
+use Rattle.txn_history.specs.Lists.{numbered}
+use Rattle.txn_view_history.specs.declared.event.AnyCall.{AnyCall}
+use Rattle.txn_view_history.specs.declared.event.AnyAnswer.{AnyAnswer}
+use Rattle.txn_view_history.specs.Trace.{AnyTold}
+use Rattle.txn_any_machine.specs.declared.doing.AnyOperation.{AnyOperation}
+use Rattle.txn_clients.specs.Views.{IsFromOne}
+use Rattle.txn_clients.specs.Operations.{asked_by}
+use Rattle.txn_journals.specs.declared.rows.Act.{Act}
+use Rattle.txn_journals.specs.declared.rows.Act.TheVariants as acts
+use Rattle.txn_journals.specs.declared.rows.Receipt.{Receipt}
+use Rattle.txn_journals.specs.declared.rows.Step.{Step}
+use Rattle.txn_journals.specs.declared.rows.Step.TheVariants as steps
+use Rattle.txn_journals.specs.declared.rows.JournalRow.{JournalRow}
+use Rattle.txn_journals.specs.Parts.{Part, begin_fault}
+use Rattle.txn_journals.specs.Journals.{goes_on, Follows}
+use Rattle.txn_logged.specs.Logged.{IsOfKind}
+use Rattle.txn_takes.specs.Taking.{CanTake}
+
+-- A client with its journal: its number, how many files a page of a listing has at most, its codec, where its values keep their epochs, what it keeps, and what it did.
+pub record DiaryState (T C E : Type 0) : Type 0 where
+  pub client : ℕ
+  pub page : ℕ
+  pub codec : C
+  pub epochs : E
+  pub part : Part T
+  pub rows : List (JournalRow T)
+
+module _ {T : Type 0} where
+  -- a client that did this last, if anything, does more
+  abbrev pub lives_after : List (JournalRow T) → Bool
+  lives_after [] = true
+  lives_after (row ∷ rows) = goes_on row.step
+
+  -- a client of this journal was not killed
+  abbrev pub lives : List (JournalRow T) → Bool
+  lives rows = lives_after (reverse rows)
+
+  -- each operation can take what it asks for, and its view, if it uses one, is counted from 1
+  pub record IsSound (operation : AnyOperation T) : Type 0 where
+    pub can : CanTake operation.doing
+    pub view : IsFromOne operation.view
+
+  abbrev pub AreSound : List (AnyOperation T) → Type 0
+  AreSound operations = (op : ℕ) (operation : AnyOperation T) → numbered operations op ≡ Some operation → IsSound operation
+
+-- why a client that lives, or was killed, is refused something: one that was killed does nothing more
+abbrev pub fault_if : Bool → Option EventFault → Option EventFault
+fault_if alive fault = if alive then fault else Some faults.UnknownNumber
+
+module _ {T C E : Type 0} where
+  -- what an operation of a diary asks for: nothing where it has ended, or its client was killed
+  abbrev pub asked_in : DiaryState T C E → ℕ → Option Ask
+  asked_in diary op = if lives diary.rows then asked_by diary.part.operations op else None
+
+  -- why a begin is refused
+  abbrev pub refusal_of : (T → ℕ) → DiaryState T C E → AnyCall T → Option EventFault
+  refusal_of get_epoch diary call = fault_if (lives diary.rows) (begin_fault get_epoch diary.client diary.part call)
+
+module _ {T : Type 0} where
+  -- why a kill is refused: the client was killed before
+  abbrev pub kill_fault : List (JournalRow T) → Option EventFault
+  kill_fault rows = fault_if (lives rows) None
+
+-- why an operation that asks for this, or for nothing, is refused to be given up
+abbrev pub end_fault : Option Ask → Option EventFault
+end_fault ask = if is_some ask then None else Some faults.UnknownNumber
+
+-- a receipt of this request, with a reply of its kind
+pub record IsReceiptFor (request : Request) (receipt : Receipt) : Type 0 where
+  pub request_is : receipt.request ≡ request
+  pub kind : IsOfKind request receipt.reply
+
+-- Why an operation that asks for this, or for nothing, is refused a receipt: it has ended, or it asks for a look, or the receipt is of another request or its reply of another kind.
+abbrev pub IsReceiptFault : Option Ask → Receipt → Option EventFault → Type 0
+IsReceiptFault None receipt fault = fault ≡ Some faults.UnknownNumber
+IsReceiptFault (Some Look) receipt fault = fault ≡ Some faults.NotAsked
+IsReceiptFault (Some (Store request)) receipt None = IsReceiptFor request receipt
+IsReceiptFault (Some (Store request)) receipt (Some faults.NotAsked) = IsReceiptFor request receipt → ⊥
+IsReceiptFault (Some (Store request)) receipt _ = ⊥
+
+-- an act that gives an operation what it asked for, or says that its store call was refused for memory
+abbrev pub IsTurn : Act → Type 0
+IsTurn acts.Look = Unit {0}
+IsTurn (acts.Receive receipt) = Unit {0}
+IsTurn acts.Lacks = Unit {0}
+IsTurn (acts.GiveUp left) = ⊥
+IsTurn (acts.Fails request) = ⊥
+
+module _ {T C E : Type 0} (encode : T → List ℕ) (decode : List ℕ → Option T) (get_epoch : T → ℕ) (set_epoch : T → ℕ → T) where
+  -- The client did this, with this answer: its journal has one row more, and what it keeps follows.
+  pub record Adds (old : DiaryState T C E) (step : Step T) (answer : Option (AnyAnswer T)) (new : DiaryState T C E) : Type 0 where
+    pub rows : new.rows ≡ old.rows ++ record { step = step; answer = answer } ∷ []
+    pub follows : Follows old.page encode decode get_epoch set_epoch old.client old.part step answer new.part
+    pub client : new.client ≡ old.client
+    pub page : new.page ≡ old.page
+    pub codec : new.codec ≡ old.codec
+    pub epochs : new.epochs ≡ old.epochs
+
+  -- The client did this with an operation, and the answer, if it has one, is told, else what is told otherwise.
+  pub record Tells (old : DiaryState T C E) (step : Step T) (op : ℕ) (otherwise said : AnyTold T) (new : DiaryState T C E) : Type 0 where
+    pub answer : Option (AnyAnswer T)
+    pub said_is : said ≡ told_of otherwise op answer
+    pub adds : Adds old step answer new
+
+  -- A call begins as the operation of the next number.
+  abbrev pub Begun : DiaryState T C E → AnyCall T → AnyTold T → DiaryState T C E → Type 0
+  Begun old call said new = let op = length old.part.operations + 1 in Tells old (steps.Begin call) op (told.Began op) said new
+
+  -- An operation acts so.
+  abbrev pub Acts : DiaryState T C E → ℕ → Act → AnyTold T → DiaryState T C E → Type 0
+  Acts old op act said new = Tells old (steps.Act op act) op (told.Went op) said new
+
+  -- The client is killed, and its last row tells what it leaves.
+  pub record IsKilledNow (old new : DiaryState T C E) : Type 0 where
+    pub row : JournalRow T
+    pub ends : goes_on row.step ≡ false
+    pub adds : Adds old row.step row.answer new

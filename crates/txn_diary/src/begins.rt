@@ -1,0 +1,76 @@
+//! Why a client does not permit a begin, by its views and what it was told.
+use crate::tables::Tables;
+use txn_clients::calls::{is_holders, value_written, view_used};
+use txn_clients::refusals::{base, may_use};
+use txn_clients::views::is_used;
+use txn_history::event::{Call, EventFault};
+use txn_types::codec::ObjectCodec;
+use txn_types::epoch::EpochField;
+use txn_view_history::event::AnyCall;
+
+impl<T: Clone, C: ObjectCodec<T> + Drop, E: EpochField<T>> Tables<T, C, E> {
+    ghost use Rattle.std.specs.Prelude.{◌≡◌};
+    ghost use Rattle.txn_types.specs.Numbers.{number_of};
+    ghost use Rattle.txn_history.specs.OneHistory.{is_high};
+    ghost use Rattle.txn_view_history.specs.Calls.{value_written};
+    ghost use Rattle.txn_any_machine.specs.Machine.{used_by};
+    ghost use Rattle.txn_journals.specs.Parts.{is_low, epoch_told, is_in_use, begin_fault};
+    ghost use Rattle.txn_diary.specs.Shown.{shown};
+
+    /// Whether an operation runs on the view of a call, if it has one.
+    fn is_busy(&self, view: Option<u64>) -> bool
+        ensures { result ≡ is_in_use (used_by (shown self.now).views view) }
+    {
+        match view {
+            Some(number) => is_used(&self.views, number),
+            None => false,
+        }
+    }
+
+    /// Whether the call advances to 0, or to what is below an id that a checked call answered.
+    fn is_low(&self, call: &AnyCall<T>) -> bool
+        ensures { result ≡ is_low (shown self.now).told call.now }
+    {
+        match call {
+            AnyCall::Plain(Call::Advance(to)) => *to == 0 || self.notes.is_below(*to),
+            _ => true,
+        }
+    }
+
+    /// Whether the value that a call writes has an epoch of at least that of its base's version.
+    fn keeps_epoch(&self, base: Option<u64>, call: &AnyCall<T>) -> bool
+        ensures { result ≡ is_high (E.epoch_of self.now.epochs) (epoch_told (shown self.now).told (number_of base)) (value_written call.now) }
+    {
+        match value_written(call) {
+            Some(value) => {
+                self.notes.epoch_of(base.unwrap_or(0)) <= self.epochs.get_epoch(value)
+            }
+            None => true,
+        }
+    }
+
+    /// Why the client does not permit a begin, if it does not: its number and its view, whether that is free, its base, its
+    /// boundary and its epoch are tested, in this order. It takes no memory.
+    pub fn begin_refusal(&self, call: &AnyCall<T>) -> Option<EventFault>
+        ensures { result ≡ begin_fault (E.epoch_of self.now.epochs) self.now.client (shown self.now) call.now }
+    {
+        let view = view_used(call);
+        if self.client == 0 || !may_use(&self.views, self.client, is_holders(call), view) {
+            return Some(EventFault::UnknownNumber);
+        }
+        if self.is_busy(view) {
+            return Some(EventFault::ViewBusy);
+        }
+        let base = base(&self.views, call);
+        if !self.notes.knows_base(base) {
+            return Some(EventFault::UnknownBase);
+        }
+        if !self.is_low(call) {
+            return Some(EventFault::BoundaryTooHigh);
+        }
+        if !self.keeps_epoch(base, call) {
+            return Some(EventFault::EpochLowered);
+        }
+        None
+    }
+}

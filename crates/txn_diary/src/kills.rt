@@ -1,0 +1,133 @@
+//! What a client leaves that is killed.
+ghost use Rattle.std.specs.Prelude.{◌≡◌, ◌<◌, ◌++◌, IfOk, map, vec_len, vec_capacity};
+ghost use Rattle.txn_history.specs.GoesOn.{as_loose, all_left_loose};
+ghost use Rattle.txn_view_machine.specs.Steps.{view_without};
+ghost use Rattle.txn_any_machine.specs.Machine.{ended_by, seen_operations};
+ghost use Rattle.txn_journals.specs.Journals.{as_pair};
+ghost use Rattle.txn_diary.specs.Kills.{EndsAt, EmptiesAt, left_here};
+
+use crate::tables::Tables;
+use std::alloc::{AllocError, Global};
+use std::mem;
+use txn_any_machine::doing::{AnyDoing, AnyOperation};
+use txn_caches::caches::Caches;
+use txn_clients::operations::loose_copy;
+use txn_journals::rows::Left;
+use txn_machine::doing::Doing;
+use txn_store::request::Request;
+use txn_types::codec::ObjectCodec;
+use txn_types::epoch::EpochField;
+use txn_types::room::push_within;
+use txn_view_machine::used::Used;
+
+/// A copy of the put or the delete that this operation asks for, where one is and the operation is the client's. The only
+/// error is want of memory.
+fn left_here<T: Drop>(
+    client: u64,
+    operation: &AnyOperation<T>,
+) -> Result<Option<Request>, AllocError>
+    ensures { IfOk result (λ left. left ≡ left_here client operation.now) }
+{
+    if operation.client == client {
+        loose_copy(operation.doing.ask())
+    } else {
+        Ok(None)
+    }
+}
+
+/// Adds what an operation left, where there is something, where there is room.
+fn add_left(lefts: &mut Vec<Left>, op: u64, left: Option<Request>)
+    requires { vec_len lefts.old < vec_capacity lefts.old }
+    ensures { map as_pair lefts.new.items ≡ map as_pair lefts.old.items ++ as_loose op left }
+{
+    if let Some(request) = left {
+        push_within(lefts, Left { op, request });
+    }
+}
+
+/// The puts and deletes that the client's operations ask for, in the order of their numbers. The only error is want of
+/// memory.
+fn left_by<T: Drop>(
+    alloc: Global,
+    client: u64,
+    operations: &[AnyOperation<T>],
+) -> Result<Vec<Left>, AllocError>
+    ensures { IfOk result (λ lefts. map as_pair lefts.items ≡ all_left_loose client 1 (seen_operations operations.now)) }
+{
+    let mut lefts = Vec::new(alloc);
+    let mut op = 1;
+    for operation in operations {
+        let left = left_here(client, operation)?;
+        lefts.reserve(1)?;
+        add_left(&mut lefts, op, left);
+        op += 1;
+    }
+    Ok(lefts)
+}
+
+/// Ends the operation at this place, where it is the client's.
+fn end_at<T: Drop>(operations: &mut Vec<AnyOperation<T>>, client: u64, place: usize)
+    requires { place < vec_len operations.old }
+    ensures { EndsAt client place operations.old.items operations.new.items }
+{
+    let operation = &mut operations[place];
+    if operation.client == client {
+        drop(mem::replace(&mut operation.doing, AnyDoing::Plain(Doing::Ended)));
+    }
+}
+
+/// Ends the client's operations.
+fn end_all<T: Drop>(operations: &mut Vec<AnyOperation<T>>, client: u64)
+    ensures { operations.new.items ≡ map (ended_by client) operations.old.items }
+{
+    for place in 0..operations.len() {
+        end_at(operations, client, place);
+    }
+}
+
+/// Ends the view at this place, where it is the client's.
+fn empty_at<T: Drop>(views: &mut Vec<Option<Used<T>>>, client: u64, place: usize)
+    requires { place < vec_len views.old }
+    ensures { EmptiesAt client place views.old.items views.new.items }
+{
+    let view = &mut views[place];
+    let ends = match view {
+        Some(used) => used.view.client == client,
+        None => false,
+    };
+    if ends {
+        drop(view.take());
+    }
+}
+
+/// Ends the client's views.
+fn empty_all<T: Drop>(views: &mut Vec<Option<Used<T>>>, client: u64)
+    ensures { views.new.items ≡ map (view_without client) views.old.items }
+{
+    for place in 0..views.len() {
+        empty_at(views, client, place);
+    }
+}
+
+impl<T: Clone, C: ObjectCodec<T> + Drop, E: EpochField<T>> Tables<T, C, E> {
+    ghost use Rattle.std.specs.Prelude.{◌≡◌, ◌≤◌, None, IfOk, OnErr};
+    ghost use Rattle.txn_journals.specs.Journals.{IsKilled};
+    ghost use Rattle.txn_diary.specs.Shown.{shown};
+
+    /// The client is killed: what its operations leave. The only error is want of memory, and then nothing changes. It takes
+    /// time by how many operations and views there ever were.
+    pub fn kill(&mut self) -> Result<Vec<Left>, AllocError>
+        requires { 1 ≤ self.old.client }
+        ensures client { self.new.client ≡ self.old.client }
+        ensures layout { self.new.layout ≡ self.old.layout }
+        ensures epochs { self.new.epochs ≡ self.old.epochs }
+        ensures err { OnErr result (shown self.new ≡ shown self.old) }
+        ensures ok { IfOk result (λ lefts. IsKilled self.old.client (shown self.old) lefts.items None (shown self.new)) }
+    {
+        let lefts = left_by(self.alloc, self.client, &self.operations)?;
+        end_all(&mut self.operations, self.client);
+        empty_all(&mut self.views, self.client);
+        self.caches = Caches::new();
+        Ok(lefts)
+    }
+}

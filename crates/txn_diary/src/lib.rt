@@ -1,0 +1,10 @@
+//! One client of a store, with a journal of what it did, which an audit reads.
+#![tactic(auto)]
+
+mod begins;
+pub mod diary;
+mod kills;
+mod notes;
+mod reading;
+mod step;
+mod tables;

@@ -1,0 +1,163 @@
+//! What a client was told: the ids that its checked calls answered, each with the epoch of its version.
+ghost use Rattle.std.specs.Prelude.{◌≡◌, ◌++◌, ◌<◌, ◌≤◌, ℕ, [], IfOk, OnOk, Some, is_some, reverse, nat_eq, nat_lt, vec_len, vec_capacity};
+ghost use Rattle.std.specs.HashMap.{get, spare};
+ghost use Rattle.txn_journals.specs.Parts.{knows_base, is_below_known, epoch_told, epoch_written, note_of, note_plain, note_wrote, written_in};
+ghost use Rattle.txn_history.specs.Lists.{numbered};
+ghost use Rattle.txn_diary.specs.Notes.{note_at, as_told, first_epoch};
+
+use std::alloc::{AllocError, Global};
+use std::collections::HashMap;
+use txn_history::event::{Answer, Call};
+use txn_types::epoch::EpochField;
+use txn_types::room::push_within;
+use txn_view_history::event::{AnyAnswer, AnyCall};
+
+/// The id that an answer tells, with the epoch of its version.
+pub(crate) type Note = (u64, u64);
+
+/// The epoch of what a checked write writes.
+pub(crate) fn epoch_written<T, E: EpochField<T>>(epochs: &E, call: &AnyCall<T>) -> Option<u64>
+    ensures { result ≡ epoch_written (E.epoch_of epochs.now) call.now }
+{
+    match call {
+        AnyCall::Plain(Call::Write(_, value)) => Some(epochs.get_epoch(value)),
+        _ => None,
+    }
+}
+
+/// The epoch of what this operation writes, where it is a checked write.
+pub(crate) fn written_at(writes: &[Option<u64>], op: u64) -> Option<u64>
+    ensures { result ≡ written_in (numbered writes.now op) }
+{
+    if op == 0 {
+        return None;
+    }
+    match writes.get((op - 1) as usize) {
+        Some(written) => *written,
+        None => None,
+    }
+}
+
+/// What the answer of a checked call without a view tells.
+fn note_plain<T, E: EpochField<T>>(
+    epochs: &E,
+    written: Option<u64>,
+    answer: &Answer<T>,
+) -> Option<Note>
+    ensures { as_told result ≡ note_plain (E.epoch_of epochs.now) written answer.now }
+{
+    match answer {
+        Answer::Wrote(id) => match written {
+            Some(epoch) => Some((*id, epoch)),
+            None => None,
+        },
+        Answer::Read(Some((id, value))) => Some((*id, epochs.get_epoch(value))),
+        _ => None,
+    }
+}
+
+/// What the answer of a checked call tells.
+pub(crate) fn note_of<T, E: EpochField<T>>(
+    epochs: &E,
+    written: Option<u64>,
+    answer: &AnyAnswer<T>,
+) -> Option<Note>
+    ensures { as_told result ≡ note_of (E.epoch_of epochs.now) written (Some answer.now) }
+{
+    match answer {
+        AnyAnswer::Plain(answer) => note_plain(epochs, written, answer),
+        AnyAnswer::View(_, id, value) => Some((*id, epochs.get_epoch(value))),
+        AnyAnswer::Held(_, id, value, _) => Some((*id, epochs.get_epoch(value))),
+    }
+}
+
+/// Notes, with what is looked up in them.
+#[derive(Drop)]
+pub(crate) struct Notes {
+    /// All that was noted, the first first.
+    pub noted: Vec<Note>,
+    /// The epoch of each id that was noted, as it was noted last.
+    epochs: HashMap<u64, u64>,
+    /// The greatest id that was noted, 0 where there is none.
+    greatest: u64,
+    ghost all_epochs: { (id : ℕ) → get nat_eq epochs id ≡ note_at (reverse noted.items) id },
+    ghost all_below: { (n : ℕ) → nat_lt n greatest ≡ is_below_known (reverse noted.items) n },
+}
+
+impl Notes {
+    ghost use Rattle.std.specs.Prelude.{◌≡◌, ◌++◌, ◌<◌, ◌≤◌, [], OnOk, reverse, vec_len, vec_capacity};
+    ghost use Rattle.std.specs.HashMap.{spare};
+    ghost use Rattle.txn_journals.specs.Parts.{knows_base, is_below_known, epoch_told};
+    ghost use Rattle.txn_diary.specs.Notes.{as_told};
+    ghost use Rattle.txn_diary.specs.Room.{HasRoom};
+
+    /// No notes.
+    pub fn new(alloc: Global) -> Notes
+        ensures { result.noted.items ≡ [] }
+    {
+        Notes {
+            noted: Vec::new(alloc),
+            epochs: HashMap::new(alloc),
+            greatest: 0,
+        }
+    }
+
+    /// Whether a base is none, or an id that was noted.
+    pub fn knows_base(&self, base: Option<u64>) -> bool
+        ensures { result ≡ knows_base (reverse self.now.noted.items) base }
+    {
+        match base {
+            Some(id) => self.epochs.contains_key(&id),
+            None => true,
+        }
+    }
+
+    /// Whether an id above this was noted.
+    pub fn is_below(&self, to: u64) -> bool
+        ensures { result ≡ is_below_known (reverse self.now.noted.items) to }
+    {
+        to < self.greatest
+    }
+
+    /// The epoch of the version of this id, 0 where it was not noted.
+    pub fn epoch_of(&self, id: u64) -> u64
+        ensures { result ≡ epoch_told (reverse self.now.noted.items) id }
+    {
+        match self.epochs.get(&id) {
+            Some(epoch) => *epoch,
+            None => 0,
+        }
+    }
+
+    /// Makes room for one note.
+    pub fn reserve(&mut self) -> Result<(), AllocError>
+        ensures same { self.new.noted.items ≡ self.old.noted.items }
+        ensures room { OnOk result (HasRoom self.new) }
+    {
+        self.noted.reserve(1)?;
+        self.epochs.reserve(1)
+    }
+
+    /// Notes this, where there is room.
+    pub fn add(&mut self, note: Option<Note>)
+        requires { HasRoom self.old }
+        ensures { reverse self.new.noted.items ≡ as_told note ++ reverse self.old.noted.items }
+    {
+        if let Some((id, epoch)) = note {
+            push_within(&mut self.noted, (id, epoch));
+            insert_within(&mut self.epochs, id, epoch);
+            self.greatest = self.greatest.max(id);
+        }
+    }
+}
+
+/// Enters the epoch of an id, where there is room.
+fn insert_within(epochs: &mut HashMap<u64, u64>, id: u64, epoch: u64)
+    requires { 1 ≤ spare epochs.old }
+    ensures { (n : ℕ) → get nat_eq epochs.new n ≡ first_epoch n id epoch (get nat_eq epochs.old n) }
+{
+    match epochs.insert(id, epoch) {
+        Ok(_) => {}
+        Err(_) => unreachable!(),
+    }
+}

@@ -1,0 +1,79 @@
+//! What a client notes of a step, and what it is told.
+ghost use Rattle.std.specs.Prelude.{◌≡◌, ◌<◌, ◌++◌, ◌∷◌, [], vec_len, vec_capacity};
+ghost use Rattle.std.specs.Option.{ForSome};
+ghost use Rattle.txn_store.specs.declared.request.Request.TheVariants as requests;
+ghost use Rattle.txn_history.specs.Added.{told_of};
+ghost use Rattle.txn_machine.specs.Doing.{asks_as, first_of};
+ghost use Rattle.txn_diary.specs.Diaries.{IsReceiptFault};
+ghost use Rattle.txn_logged.specs.Logged.{IsOfKind};
+ghost use Rattle.std.specs.Prelude.{Decides};
+
+use txn_audit::same::same_request;
+use txn_caches::ask::Ask;
+use txn_clients::views::Answers;
+use txn_history::event::EventFault;
+use txn_journals::rows::{JournalRow, Receipt, Step};
+use txn_store::request::{Reply, Request};
+use txn_types::room::push_within;
+use txn_view_history::event::{AnyAnswer, AnyTold};
+
+/// Whether a reply is of the request's kind.
+fn is_of_kind(request: &Request, reply: &Reply) -> bool
+    ensures { Decides result (IsOfKind request.now reply.now) }
+{
+    match (request, reply) {
+        (Request::Put { .. }, Reply::Put(_)) => true,
+        (Request::Get { .. }, Reply::Get(_)) => true,
+        (Request::List { .. }, Reply::List(_)) => true,
+        (Request::Delete { .. }, Reply::Delete(_)) => true,
+        _ => false,
+    }
+}
+
+/// Why an operation that asks for this is refused a receipt, where it is.
+pub(crate) fn receipt_refusal(ask: Option<Ask<'_>>, receipt: &Receipt) -> Option<EventFault>
+    ensures { IsReceiptFault (asks_as ask.entry) receipt.now result }
+{
+    match ask {
+        None => Some(EventFault::UnknownNumber),
+        Some(Ask::Look) => Some(EventFault::NotAsked),
+        Some(Ask::Store(request)) => {
+            if same_request(request, &receipt.request) && is_of_kind(request, &receipt.reply) {
+                None
+            } else {
+                Some(EventFault::NotAsked)
+            }
+        }
+    }
+}
+
+/// Notes a step with its answer, where there is room, and tells the answer, or this where there is none.
+pub(crate) fn note<T: Drop>(
+    rows: &mut Vec<JournalRow<T>>,
+    step: Step<T>,
+    op: u64,
+    otherwise: AnyTold<T>,
+    answers: Option<Answers<T>>,
+) -> AnyTold<T>
+    requires room { vec_len rows.old < vec_capacity rows.old }
+    requires twice { ForSome answers (λ pair. pair.1 ≡ pair.0) }
+    ensures rows { rows.new.items ≡ rows.old.items ++ record { step = step; answer = first_of answers } ∷ [] }
+    ensures told { result ≡ told_of otherwise op (first_of answers) }
+{
+    match answers {
+        None => {
+            push_within(rows, JournalRow { step, answer: None });
+            otherwise
+        }
+        Some((answer, copy)) => {
+            push_within(
+                rows,
+                JournalRow {
+                    step,
+                    answer: Some(answer),
+                },
+            );
+            AnyTold::Answered(op, copy)
+        }
+    }
+}

@@ -1,0 +1,237 @@
+//! What a client keeps, and what each thing that it does makes of that.
+ghost use Rattle.std.specs.Prelude.{◌≡◌, IfOk};
+ghost use Rattle.txn_history.specs.Names.{world_names, world_boundary};
+
+use crate::notes::{Notes, epoch_written, note_of, written_at};
+use std::alloc::{AllocError, Global};
+use txn_any_machine::doing::{AnyOperation, Ending, Twice, is_claim, start};
+use txn_caches::ask::Ask;
+use txn_caches::caches::Caches;
+use txn_clients::calls::view_used;
+use txn_clients::layout::world_layout;
+use txn_clients::operations::{Usage, asked, end, loose_copy, turn, usage_at};
+use txn_clients::views::{Answers, find, let_go, settle, take};
+use txn_store::request::{Reply, Request};
+use txn_types::codec::ObjectCodec;
+use txn_types::epoch::EpochField;
+use txn_types::layout::Layout;
+use txn_types::room::push_within;
+use txn_view_history::event::AnyCall;
+use txn_view_machine::used::Used;
+
+/// All that a client keeps but its journal.
+#[derive(Drop)]
+pub(crate) struct Tables<T: Drop, C: ObjectCodec<T> + Drop, E: EpochField<T>> {
+    pub alloc: Global,
+    /// The client's number.
+    pub client: u64,
+    pub layout: Layout<C>,
+    pub epochs: E,
+    pub caches: Caches,
+    /// Its operations, numbered from 1.
+    pub operations: Vec<AnyOperation<T>>,
+    /// Its views, numbered from 1. One that has ended is none.
+    pub views: Vec<Option<Used<T>>>,
+    /// Of each operation that is a checked write, the epoch of its value.
+    pub writes: Vec<Option<u64>>,
+    /// What its checked calls told.
+    pub notes: Notes,
+    ghost names: { layout.names ≡ world_names },
+    ghost boundary_file: { layout.boundary ≡ world_boundary },
+}
+
+impl<T: Clone, C: ObjectCodec<T> + Drop, E: EpochField<T>> Tables<T, C, E> {
+    ghost use Rattle.std.specs.Prelude.{◌≡◌, ◌++◌, ◌<◌, None, Some, IfOk, OnOk, OnErr, IsSome, length, vec_len, vec_capacity};
+    ghost use Rattle.std.specs.Option.{ForSome};
+    ghost use Rattle.txn_types.specs.Clones.{IsExactClone};
+    ghost use Rattle.txn_history.specs.Seen as seen;
+    ghost use Rattle.txn_history.specs.Lists.{numbered};
+    ghost use Rattle.txn_machine.specs.Doing.{asks_as, first_of};
+    ghost use Rattle.txn_view_history.specs.Calls.{view_used};
+    ghost use Rattle.txn_any_machine.specs.Doing.{refused, refusal_in};
+    ghost use Rattle.txn_any_machine.specs.Machine.{answered, views_after};
+    ghost use Rattle.txn_any_machine.specs.declared.doing.AnyOperation.{AnyOperation};
+    ghost use Rattle.txn_clients.specs.Operations.{asked_by, TakesReply};
+    ghost use Rattle.txn_clients.specs.Views.{IsFromOne};
+    ghost use Rattle.txn_journals.specs.Parts.{no_part, begin_fault, answer_in, note_of, written_in, turned_with};
+    ghost use Rattle.txn_journals.specs.Journals.{Begins, TakesTurn, GivesUp};
+    ghost use Rattle.txn_diary.specs.Diaries.{AreSound};
+    ghost use Rattle.txn_diary.specs.Room.{HasRoom};
+    ghost use Rattle.txn_diary.specs.Shown.{shown};
+
+    pub fn new(
+        alloc: Global,
+        client: u64,
+        codec: C,
+        epochs: E,
+        page: u64,
+    ) -> Result<Tables<T, C, E>, AllocError>
+        ensures shown { IfOk result (λ tables. shown tables ≡ no_part) }
+        ensures client { IfOk result (λ tables. tables.client ≡ client) }
+        ensures codec { IfOk result (λ tables. tables.layout.codec ≡ codec) }
+        ensures page { IfOk result (λ tables. tables.layout.page ≡ page) }
+        ensures epochs { IfOk result (λ tables. tables.epochs ≡ epochs) }
+    {
+        Ok(Tables {
+            alloc,
+            client,
+            layout: world_layout(alloc, codec, page)?,
+            epochs,
+            caches: Caches::new(),
+            operations: Vec::new(alloc),
+            views: Vec::new(alloc),
+            writes: Vec::new(alloc),
+            notes: Notes::new(alloc),
+        })
+    }
+
+    /// What an operation asks for: nothing where it is not there, or has ended.
+    pub fn asks(&self, op: u64) -> Option<Ask<'_>>
+        ensures { asks_as result ≡ asked_by (shown self.now).operations op }
+    {
+        asked(&self.operations, op)
+    }
+
+    /// Makes room for what one step adds: an operation, a view and a note.
+    pub fn reserve(&mut self) -> Result<(), AllocError>
+        ensures shown { shown self.new ≡ shown self.old }
+        ensures client { self.new.client ≡ self.old.client }
+        ensures layout { self.new.layout ≡ self.old.layout }
+        ensures epochs { self.new.epochs ≡ self.old.epochs }
+        ensures room_operations { OnOk result (vec_len self.new.operations < vec_capacity self.new.operations) }
+        ensures room_writes { OnOk result (vec_len self.new.writes < vec_capacity self.new.writes) }
+        ensures room_views { OnOk result (vec_len self.new.views < vec_capacity self.new.views) }
+        ensures room_notes { OnOk result (HasRoom self.new.notes) }
+    {
+        self.operations.reserve(1)?;
+        self.writes.reserve(1)?;
+        self.views.reserve(1)?;
+        self.notes.reserve()
+    }
+
+    /// Begins a call that is permitted, where there is room. It answers the number of its refusal, where it is refused at
+    /// once. The only error is want of memory, and then nothing changes.
+    pub fn begin(&mut self, call: &AnyCall<T>) -> Result<Option<u8>, AllocError>
+        requires exact { IsExactClone T.is_clone }
+        requires permits { begin_fault (E.epoch_of self.old.epochs) self.old.client (shown self.old) call.now ≡ None }
+        requires view { IsFromOne (view_used call.now) }
+        requires room_operations { vec_len self.old.operations < vec_capacity self.old.operations }
+        requires room_writes { vec_len self.old.writes < vec_capacity self.old.writes }
+        ensures client { self.new.client ≡ self.old.client }
+        ensures layout { self.new.layout ≡ self.old.layout }
+        ensures epochs { self.new.epochs ≡ self.old.epochs }
+        ensures err { OnErr result (shown self.new ≡ shown self.old) }
+        ensures ok { IfOk result (λ refusal. Begins self.old.layout.page (C.encoded self.old.layout.codec) (C.decoded self.old.layout.codec) (E.epoch_of self.old.epochs) (E.with_epoch self.old.epochs) self.old.client (shown self.old) call.now (answered (length self.old.views.items) (view_used call.now) (refusal_in refusal)) (shown self.new)) }
+    {
+        let of = Usage {
+            client: self.client,
+            view: view_used(call),
+            claims: is_claim(call),
+        };
+        let view = find(&self.views, of.view);
+        let (doing, refusal) = start(self.alloc, &self.layout, &self.epochs, call, view)?;
+        let op = self.operations.len() as u64 + 1;
+        push_within(
+            &mut self.operations,
+            AnyOperation {
+                client: of.client,
+                view: of.view,
+                claims: of.claims,
+                doing,
+            },
+        );
+        push_within(&mut self.writes, epoch_written(&self.epochs, call));
+        take(&mut self.views, of.view, op);
+        if refusal.is_some() {
+            let_go(&mut self.views, of.view, of.claims);
+        }
+        Ok(refusal)
+    }
+
+    /// Notes what an operation's end tells, and what becomes of its view; the answer twice, where it ends.
+    fn settle(&mut self, op: u64, of: Usage, ending: Option<Ending<T>>) -> Option<Answers<T>>
+        requires view { IsFromOne of.view }
+        requires room_views { vec_len self.old.views < vec_capacity self.old.views }
+        requires room_notes { HasRoom self.old.notes }
+        ensures client { self.new.client ≡ self.old.client }
+        ensures layout { self.new.layout ≡ self.old.layout }
+        ensures epochs { self.new.epochs ≡ self.old.epochs }
+        ensures caches { self.new.caches ≡ self.old.caches }
+        ensures operations { self.new.operations ≡ self.old.operations }
+        ensures writes { self.new.writes ≡ self.old.writes }
+        ensures views { self.new.views.items ≡ views_after self.old.views.items of.client of.view of.claims ending }
+        ensures answer { first_of result ≡ answered (length self.old.views.items) of.view ending }
+        ensures told { (shown self.new).told ≡ note_of (E.epoch_of self.old.epochs) (written_in (numbered self.old.writes.items op)) (answered (length self.old.views.items) of.view ending) ++ (shown self.old).told }
+        ensures twice { ForSome result (λ pair. pair.1 ≡ pair.0) }
+    {
+        let answers = settle(&mut self.views, of, ending);
+        if let Some((answer, _)) = &answers {
+            let written = written_at(&self.writes, op);
+            self.notes.add(note_of(&self.epochs, written, answer));
+        }
+        answers
+    }
+
+    /// An operation takes a look, or the store's reply to what it asked for, where there is room; its answer twice, where it
+    /// ends.
+    pub fn turn(&mut self, op: u64, reply: Option<Reply>) -> Option<Answers<T>>
+        requires exact { IsExactClone T.is_clone }
+        requires sound { AreSound (shown self.old).operations }
+        requires takes { TakesReply (shown self.old).operations op reply }
+        requires room_views { vec_len self.old.views < vec_capacity self.old.views }
+        requires room_notes { HasRoom self.old.notes }
+        ensures client { self.new.client ≡ self.old.client }
+        ensures layout { self.new.layout ≡ self.old.layout }
+        ensures epochs { self.new.epochs ≡ self.old.epochs }
+        ensures turned { (ask : seen.Ask) → asked_by (shown self.old).operations op ≡ Some ask → TakesTurn self.old.layout.page (C.encoded self.old.layout.codec) (C.decoded self.old.layout.codec) (E.epoch_of self.old.epochs) (E.with_epoch self.old.epochs) (shown self.old) op ask reply (first_of result) (shown self.new) }
+        ensures twice { ForSome result (λ pair. pair.1 ≡ pair.0) }
+    {
+        let of = usage_at(&self.operations, op);
+        let ending = turn(
+            self.alloc,
+            &self.layout,
+            &self.epochs,
+            &mut self.operations,
+            &mut self.caches,
+            op,
+            reply,
+        );
+        self.settle(op, of, ending)
+    }
+
+    /// An operation that runs ends with the refusal of this number, where there is room; the refusal twice.
+    pub fn refuse(&mut self, op: u64, number: u8) -> Option<Answers<T>>
+        requires sound { AreSound (shown self.old).operations }
+        requires runs { IsSome (asked_by (shown self.old).operations op) }
+        requires room_views { vec_len self.old.views < vec_capacity self.old.views }
+        requires room_notes { HasRoom self.old.notes }
+        ensures client { self.new.client ≡ self.old.client }
+        ensures layout { self.new.layout ≡ self.old.layout }
+        ensures epochs { self.new.epochs ≡ self.old.epochs }
+        ensures answer { (o : AnyOperation T) → numbered (shown self.old).operations op ≡ Some o → first_of result ≡ answer_in (shown self.old) o (refused number) }
+        ensures shown { (o : AnyOperation T) → numbered (shown self.old).operations op ≡ Some o → shown self.new ≡ turned_with (E.epoch_of self.old.epochs) (shown self.old) op o (refused number) (shown self.old).caches }
+        ensures twice { ForSome result (λ pair. pair.1 ≡ pair.0) }
+    {
+        let of = usage_at(&self.operations, op);
+        end(&mut self.operations, op);
+        self.settle(op, of, Some(Ending::Answers(Twice::refused(number))))
+    }
+
+    /// An operation that runs is given up: a copy of the put or the delete that it leaves. The only error is want of memory,
+    /// and then nothing changes.
+    pub fn give_up(&mut self, op: u64) -> Result<Option<Request>, AllocError>
+        requires sound { AreSound (shown self.old).operations }
+        requires runs { IsSome (asked_by (shown self.old).operations op) }
+        ensures client { self.new.client ≡ self.old.client }
+        ensures layout { self.new.layout ≡ self.old.layout }
+        ensures epochs { self.new.epochs ≡ self.old.epochs }
+        ensures err { OnErr result (shown self.new ≡ shown self.old) }
+        ensures ok { IfOk result (λ left. GivesUp (shown self.old) op left None (shown self.new)) }
+    {
+        let left = loose_copy(asked(&self.operations, op))?;
+        let of = usage_at(&self.operations, op);
+        end(&mut self.operations, op);
+        let_go(&mut self.views, of.view, of.claims);
+        Ok(left)
+    }
+}
