@@ -8,6 +8,7 @@ use Rattle.txn_any_machine.specs.declared.doing.AnyDoing.{AnyDoing}
 use Rattle.txn_any_machine.specs.declared.doing.AnyOperation.{AnyOperation}
 use Rattle.txn_any_machine.specs.Doing.{Next, IsReply, InRange, Turns, caches_left, ended}
 use Rattle.txn_any_machine.specs.Machine.{with_doing}
+use Rattle.txn_machine.proofs.Lists.{within}
 use Rattle.txn_clients.specs.Operations.{TakesReply, Ends, TakesTurn}
 
 -- what a place holds
@@ -21,19 +22,28 @@ pub numbered_past : {A : Type 0} (xs : List A) (n : ℕ) → length xs < n → n
 numbered_past xs zero lt = refl
 numbered_past xs (suc n) lt = slice_get_past xs n (omega (arith, lt))
 
-found_same : {A : Type 0} (xs : List A) (n : ℕ) (x y : A) → numbered xs n ≡ Some x → y ≡ get_or xs (n - 1) y → y ≡ x
+-- what is found there is what the place holds
+pub found_same : {A : Type 0} (xs : List A) (n : ℕ) (x y : A) → numbered xs n ≡ Some x → y ≡ get_or xs (n - 1) y → y ≡ x
 found_same xs zero x y found e = cc
 found_same xs (suc n) x y found e =
     let place : suc n - 1 ≡ n = omega arith in
     e ∙ (ap (λ m. get_or xs m y) place ∙ get_or_from_slice_get xs n x y found)
 
 -- one that is there stands in its place
-found_here : {A : Type 0} (xs : List A) (n : ℕ) (x : A) → is_some (numbered xs n) ≡ true → x ≡ get_or xs (n - 1) x → numbered xs n ≡ Some x
+pub found_here : {A : Type 0} (xs : List A) (n : ℕ) (x : A) → is_some (numbered xs n) ≡ true → x ≡ get_or xs (n - 1) x → numbered xs n ≡ Some x
 found_here {A = A} xs n x there is = by (numbered xs n) refl there
   where
     by : (found : Option A) → numbered xs n ≡ found → is_some found ≡ true → numbered xs n ≡ Some x
     by None e h = cc
     by (Some y) e h = e ∙ ap Some (sym (found_same xs n y x e is))
+
+-- one that is there has a place
+pub within_there : {A : Type 0} (xs : List A) (n : ℕ) → is_some (numbered xs n) ≡ true → (0 < n) × (n ≤ length xs)
+within_there {A = A} xs n there = by (numbered xs n) refl there
+  where
+    by : (found : Option A) → numbered xs n ≡ found → is_some found ≡ true → (0 < n) × (n ≤ length xs)
+    by None e h = cc
+    by (Some x) e h = within xs n x e
 
 module _ {T : Type 0} where
   -- what is known of an operation, of what stands in its place

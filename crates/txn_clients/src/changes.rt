@@ -5,15 +5,13 @@ ghost use Rattle.txn_view_machine.specs.Layer.{with_busy, changed, new_view, Kee
 ghost use Rattle.txn_any_machine.specs.Machine.{let_go, change_of, made_by, answer_of};
 ghost use Rattle.txn_clients.specs.Views.{as_made};
 
+use crate::views::Answers;
 use txn_any_machine::doing::Ending;
 use txn_history::event::Answer;
 use txn_view_history::event::AnyAnswer;
 use txn_view_history::view::View;
 use txn_view_machine::used::Used;
 use txn_view_steps::outcome::Outcome;
-
-/// An answer twice: once to be noted, and once to be told.
-pub type Answers<T> = (AnyAnswer<T>, AnyAnswer<T>);
 
 /// A view that this operation uses, and for the rest as it was.
 pub(crate) fn taken<T: Drop>(used: Option<Used<T>>, op: u64) -> Option<Used<T>>

@@ -42,6 +42,7 @@ pub fn asked<T: Drop>(operations: &[AnyOperation<T>], op: u64) -> Option<Ask<'_>
 }
 
 /// The request that is asked for, where a store call is.
+#[inline(always)]
 pub fn request_of(ask: Option<Ask<'_>>) -> Option<&Request>
     ensures { option_copied result ≡ request_of (asks_as ask.entry) }
 {
@@ -75,7 +76,7 @@ pub fn runs<T>(doing: &AnyDoing<T>) -> bool
 }
 
 /// Whose an operation is that is there, and the view that it uses.
-pub fn usage<T>(operations: &[AnyOperation<T>], op: u64) -> Usage
+pub fn usage_at<T>(operations: &[AnyOperation<T>], op: u64) -> Usage
     requires { IsSome (numbered operations.now op) }
     ensures { option_map usage_of (numbered operations.now op) ≡ Some result }
 {

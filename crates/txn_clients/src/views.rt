@@ -5,12 +5,16 @@ ghost use Rattle.txn_machine.specs.Doing.{first_of};
 ghost use Rattle.txn_any_machine.specs.Machine.{seen_view, used_by, with_used, let_go, change_of, made_by, answer_of, answered, views_changed, views_after, views_taken};
 ghost use Rattle.txn_clients.specs.Views.{as_made, is_used, IsFromOne};
 
-use crate::changes::{Answers, comes_to, left, makes, taken};
+use crate::changes::{comes_to, left, makes, taken};
 use crate::operations::Usage;
 use txn_any_machine::doing::Ending;
 use txn_types::room::push_within;
+use txn_view_history::event::AnyAnswer;
 use txn_view_history::view::View;
 use txn_view_machine::used::Used;
+
+/// An answer twice: once to be noted, and once to be told.
+pub type Answers<T> = (AnyAnswer<T>, AnyAnswer<T>);
 
 /// The view of this number, where it stands.
 pub fn get<T>(views: &[Option<Used<T>>], number: u64) -> Option<&View<T>>
