@@ -1,5 +1,5 @@
 //! What the clients keep: their caches, their operations, and which of those run.
-ghost use Rattle.std.specs.Prelude.{◌≡◌, ◌||◌, ◌&&◌, ◌==◌, ◌++◌, ◌∷◌, [], ◌<◌, ◌≤◌, ◌+◌, ◌-◌, ℕ, not, true, false, None, Some, IfOk, OnOk, OnErr, IsSome, IfSome, IsTrue, is_some, is_ok, if◌then◌else◌, length, map, replicate, nat_eq, vec_len, vec_capacity};
+ghost use Rattle.std.specs.Prelude.{◌≡◌, ◌||◌, ◌&&◌, ◌==◌, ◌++◌, ◌∷◌, [], ◌<◌, ◌≤◌, ◌+◌, ◌-◌, ℕ, not, true, false, Some, IfOk, OnOk, IsSome, is_ok, if◌then◌else◌, replicate, nat_eq, vec_len, vec_capacity};
 ghost use Rattle.std.specs.List.{list_any};
 ghost use Rattle.txn_history.specs.GoesOn.{as_loose};
 ghost use Rattle.txn_machine.specs.Machine.{no_caches};
@@ -179,7 +179,7 @@ pub(crate) struct Clients<T> {
 }
 
 impl<T: Clone> Clients<T> {
-    ghost use Rattle.std.specs.Prelude.{◌≡◌, ◌≤◌, ◌-◌, ◌++◌, ◌∷◌, [], map, replicate, slice_set, Some, IfOk, OnOk, OnErr, IfSome, IsSome};
+    ghost use Rattle.std.specs.Prelude.{◌≡◌, ◌≤◌, ◌-◌, ◌++◌, ◌∷◌, [], map, replicate, slice_set, Some, IfOk, OnOk, OnErr, IsSome};
     ghost use Rattle.std.specs.Option.{option_map};
     ghost use Rattle.txn_history.specs.Lists.{numbered};
     ghost use Rattle.txn_history.specs.GoesOn.{all_left_loose};
