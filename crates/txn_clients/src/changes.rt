@@ -1,5 +1,5 @@
 //! What becomes of one view.
-ghost use Rattle.std.specs.Prelude.{◌≡◌, ◌≤◌, ◌+◌, ℕ, Bool, None, Some};
+ghost use Rattle.std.specs.Prelude.{◌≡◌, ◌+◌, ℕ, Bool, None, Some};
 ghost use Rattle.std.specs.Option.{option_map, ForSome};
 ghost use Rattle.txn_view_machine.specs.Layer.{with_busy, changed, new_view, Keeps, Puts, Makes};
 ghost use Rattle.txn_any_machine.specs.Machine.{let_go, change_of, made_by, answer_of};

@@ -39,12 +39,7 @@ pub fn end_refusal(ask: Option<Ask<'_>>) -> Option<EventFault>
 
 /// Whether the client may use the view of a call, if it has one: it is the client's own, and a holder exactly where the
 /// call is a holder's.
-pub fn may_use<T>(
-    views: &[Option<Used<T>>],
-    client: u64,
-    holders: bool,
-    view: Option<u64>,
-) -> bool
+pub fn may_use<T>(views: &[Option<Used<T>>], client: u64, holders: bool, view: Option<u64>) -> bool
     ensures { result ≡ may_use (seen_with views.now) client holders view }
 {
     let Some(number) = view else {

@@ -1,6 +1,7 @@
 -- How an operation takes its turn: an answer ends it, and nothing else does.
-use Rattle.std.proofs.Common.{◌≡◌, ℕ, zero, suc, nat_eq, ◌-◌, ◌≤◌, ◌==◌, List, [], ◌∷◌, ◌++◌, length, map, cond, inl, inr, set, get_or, not, Bool, true, false, is_some, Option, Some, None, Result, Ok, Err, refl, sym, ◌∙◌, ap, subst}
+use Rattle.std.proofs.Common.{◌≡◌, ℕ, zero, suc, nat_eq, ◌-◌, ◌≤◌, ◌==◌, ◌&&◌, List, [], ◌∷◌, ◌++◌, length, map, cond, inl, inr, set, get_or, not, Bool, true, false, is_some, Option, Some, None, Result, Ok, Err, refl, sym, ◌∙◌, ap, subst}
 use Rattle.std.specs.BTreeSet.{BTreeSet}
+use Rattle.std.specs.Option.{option_map}
 use Rattle.txn_store.specs.declared.request.Reply.{Reply}
 use Rattle.txn_caches.specs.declared.caches.Caches.{Caches}
 use Rattle.txn_steps.specs.Writes.{write_turned, unchecked_turned}
@@ -25,15 +26,20 @@ use Rattle.txn_caches.specs.declared.turned.Turned.TheVariants as turns
 use Rattle.txn_any_machine.specs.declared.doing.AnyDoing.{AnyDoing}
 use Rattle.txn_any_machine.specs.declared.doing.AnyDoing.TheVariants as does
 use Rattle.txn_any_machine.specs.declared.doing.AnyOperation.{AnyOperation}
-use Rattle.txn_any_machine.specs.Doing.{Next, asked, ended, plain_next, view_next, turned, caches_left, IsReply, InRange, Turns}
+use Rattle.txn_any_machine.specs.declared.doing.Ending.{Ending}
+use Rattle.txn_any_machine.specs.Doing.{Next, asked, ended, plain_next, view_next, turned, IsReply, Turns}
 use Rattle.txn_any_machine.specs.Machine.{doing_next, with_doing, ended_by}
-use Rattle.txn_world.specs.Running.{asked_of, asked_by, runs_for, ended_where}
-use Rattle.txn_history.proofs.Lists.{numbered_set, numbered_more}
+use Rattle.txn_clients.specs.declared.operations.Usage.{Usage}
+use Rattle.txn_clients.specs.Operations.{asked_of, asked_by, usage_of, TakesReply, Ends, TakesTurn}
+use Rattle.txn_clients.specs.Views.{IsFromOne}
+use Rattle.txn_clients.proofs.Acting.{held_at}
+use Rattle.txn_world.specs.Running.{is_in, runs_for, ended_where}
+use Rattle.txn_world.specs.Acting.{EndsAmong, TurnsAmong}
 use Rattle.std.proofs.lemmas.Bool.{eq-eqb, ne_eqb}
-use Rattle.txn_machine.proofs.Lists.{within, numbered_map, numbered_here, numbered_other}
-use Rattle.txn_world.specs.Owning.{IsFromOne}
-use Rattle.txn_world.specs.Acting.{TakesReply, Ends, TakesTurn}
-use Rattle.txn_world.proofs.Running.{AreRunning, client_there, found_same, eq_cases}
+use Rattle.std.proofs.lemmas.Option.{same_Some}
+use Rattle.txn_history.proofs.Lists.{numbered_set, numbered_more}
+use Rattle.txn_machine.proofs.Lists.{within, numbered_map, numbered_here, numbered_other, numbered_there}
+use Rattle.txn_world.proofs.Running.{AreRunning, running_with, eq_cases}
 
 module _ {T : Type 0} where
   -- it has ended exactly where it has an answer
@@ -79,19 +85,33 @@ module _ {T : Type 0} where
   reply_runs (does.Plain doing) reply h = plain_runs doing reply h
   reply_runs (does.View op) reply h = refl
 
-  -- what is known of an operation, of what stands in its place
-  pub kind_of : (operations : List (AnyOperation T)) (op : ℕ) (reply : Option Reply) (o : AnyOperation T) → TakesReply operations op reply → o ≡ get_or operations (op - 1) o → IsReply o.doing reply
-  kind_of operations op reply o takes is = subst (λ (x : AnyOperation T). IsReply x.doing reply) (sym (found_same operations op takes.operation o takes.found is)) takes.kind
+  -- whose an operation is, and the view that it uses
 
-  pub range_of : (operations : List (AnyOperation T)) (op : ℕ) (reply : Option Reply) (o : AnyOperation T) → TakesReply operations op reply → o ≡ get_or operations (op - 1) o → InRange o.doing
-  range_of operations op reply o takes is = subst (λ (x : AnyOperation T). InRange x.doing) (sym (found_same operations op takes.operation o takes.found is)) takes.range
+  pub same_usage : (operations : List (AnyOperation T)) (op : ℕ) (o : AnyOperation T) (of : Usage) → numbered operations op ≡ Some o → option_map usage_of (numbered operations op) ≡ Some of → of ≡ usage_of o
+  same_usage operations op o of found is = sym (same_Some (usage_of o) of (sym (ap (option_map usage_of) found) ∙ is))
 
-  pub found_of : (operations : List (AnyOperation T)) (op : ℕ) (reply : Option Reply) (o : AnyOperation T) → TakesReply operations op reply → o ≡ get_or operations (op - 1) o → numbered operations op ≡ Some o
-  found_of operations op reply o takes is = takes.found ∙ ap Some (sym (found_same operations op takes.operation o takes.found is))
+  pub usage_found : (operations : List (AnyOperation T)) (op : ℕ) (of : Usage) → option_map usage_of (numbered operations op) ≡ Some of → (o : AnyOperation T) × (numbered operations op ≡ Some o) × (of ≡ usage_of o)
+  usage_found operations op of is = by (numbered operations op) refl is
+    where
+      by : (found : Option (AnyOperation T)) → numbered operations op ≡ found → option_map usage_of found ≡ Some of → (o : AnyOperation T) × (numbered operations op ≡ Some o) × (of ≡ usage_of o)
+      by None e h = cc
+      by (Some o) e h = (o, e, sym (same_Some (usage_of o) of h))
 
-  -- the client of an operation that takes a reply is there
-  pub turn_there : (running : List (BTreeSet ℕ)) (operations : List (AnyOperation T)) (op : ℕ) (reply : Option Reply) (o : AnyOperation T) → AreRunning running operations → TakesReply operations op reply → o ≡ get_or operations (op - 1) o → (1 ≤ o.client) × (o.client ≤ length running)
-  turn_there running operations op reply o all takes is = client_there running operations op o all (found_of operations op reply o takes is) (reply_runs o.doing reply (kind_of operations op reply o takes is))
+  -- an operation that asks for something is there
+
+  pub asks_there : (operations : List (AnyOperation T)) (op : ℕ) → is_some (asked_by operations op) ≡ true → is_some (numbered operations op) ≡ true
+  asks_there operations op asks = by (numbered operations op) asks
+    where
+      by : (found : Option (AnyOperation T)) → is_some (asked_of found) ≡ true → is_some found ≡ true
+      by None h = cc
+      by (Some o) h = refl
+
+  pub asks_runs : (operations : List (AnyOperation T)) (op : ℕ) (o : AnyOperation T) → is_some (asked_by operations op) ≡ true → numbered operations op ≡ Some o → is_some (asked o.doing) ≡ true
+  asks_runs operations op o asks found = sym (ap (λ (f : Option (AnyOperation T)). is_some (asked_of f)) found) ∙ asks
+
+  -- and so does one that takes a reply
+  pub takes_asks : (operations : List (AnyOperation T)) (op : ℕ) (reply : Option Reply) → TakesReply operations op reply → is_some (asked_by operations op) ≡ true
+  takes_asks operations op reply takes = ap (λ (f : Option (AnyOperation T)). is_some (asked_of f)) takes.found ∙ reply_runs takes.operation.doing reply takes.kind
 
 module _ {T : Type 0} (page : ℕ) (decode : List ℕ → Option T) where
   plain_turned_over : (refused : Bool) (doing : Doing T) (caches : Caches) (reply : Option Reply) → plain.IsReply doing reply → IsPlainOver (plain.turned page decode refused doing caches reply)
@@ -115,34 +135,46 @@ module _ {T : Type 0} (page : ℕ) (encode : T → List ℕ) (decode : List ℕ 
   pub turns_over : (old : AnyDoing T) (caches : Caches) (reply : Option Reply) (next : Next T) → IsReply old reply → Turns page encode decode get_epoch set_epoch old caches reply next → is_some (asked next.0) ≡ not (is_some next.1)
   turns_over old caches reply next kind t = subst IsOver (sym t.turns) (turned_over t.refused old caches reply kind)
 
-  pub takes_turn : (operations : List (AnyOperation T)) (caches : List Caches) (op : ℕ) (reply : Option Reply) (o : AnyOperation T) (keeps left : Caches) (next : Next T) → numbered operations op ≡ Some o → numbered caches o.client ≡ Some keeps → Turns page encode decode get_epoch set_epoch o.doing keeps reply next → left ≡ caches_left o.doing keeps next.1 →
-      TakesTurn page encode decode get_epoch set_epoch operations caches op reply (with_doing operations op o next.0) (set caches (o.client - 1) left) next.1
-  takes_turn operations caches op reply o keeps left next found kept t is =
+  -- those that run after a turn
+  pub turn_running : (running new : List (BTreeSet ℕ)) (operations after : List (AnyOperation T)) (caches left : Caches) (op : ℕ) (reply : Option Reply) (ending : Option (Ending T)) (of : Usage) (ends : Bool) → AreRunning running operations → option_map usage_of (numbered operations op) ≡ Some of →
+      TakesReply operations op reply → TakesTurn page encode decode get_epoch set_epoch operations caches op reply after left ending → ends ≡ is_some ending → ((c n : ℕ) → is_in new c n ≡ (is_in running c n && not (ends && ((of.client == c) && (op == n))))) → AreRunning new after
+  turn_running running new operations after caches left op reply ending of ends all usage takes v over gone =
+      let o = v.operation in
+      let same : takes.operation ≡ o = same_Some takes.operation o (sym takes.found ∙ v.found) in
+      let kind : IsReply o.doing reply = subst (λ (x : AnyOperation T). IsReply x.doing reply) same takes.kind in
+      let client : of.client ≡ o.client = ap (λ (u : Usage). u.client) (same_usage operations op o of v.found usage) in
+      let next : is_some (asked v.next.0) ≡ not ends = turns_over o.doing caches reply v.next kind v.turns ∙ ap not (sym (over ∙ ap is_some v.ends)) in
+      subst (λ (os : List (AnyOperation T)). AreRunning new os) (sym v.operations)
+      (running_with running new operations op o v.next.0 ends all v.found (reply_runs o.doing reply kind) next (λ c n. gone c n ∙ ap (λ (m : ℕ). is_in running c n && not (ends && ((m == c) && (op == n)))) client))
+
+  -- a turn among the caches of all clients
+  pub turns_among : (operations after : List (AnyOperation T)) (caches : List Caches) (op : ℕ) (reply : Option Reply) (ending : Option (Ending T)) (of : Usage) (keeps rest : Caches) → option_map usage_of (numbered operations op) ≡ Some of → 1 ≤ of.client → of.client ≤ length caches → keeps ≡ get_or caches (of.client - 1) keeps →
+      TakesTurn page encode decode get_epoch set_epoch operations keeps op reply after rest ending → TurnsAmong page encode decode get_epoch set_epoch operations caches op reply after (set caches (of.client - 1) rest) ending
+  turns_among operations after caches op reply ending of keeps rest usage some within at v =
+      let client : of.client ≡ v.operation.client = ap (λ (u : Usage). u.client) (same_usage operations op v.operation of v.found usage) in
       record {
-        operation = o;
-        found = found;
         keeps = keeps;
-        kept = kept;
-        next = next;
-        turns = t;
-        ends = refl;
-        operations = refl;
-        leaves = ap (set caches (o.client - 1)) is;
+        rest = rest;
+        turn = v;
+        kept = subst (λ (n : ℕ). numbered caches n ≡ Some keeps) client (held_at caches of.client keeps some within at);
+        leaves = ap (λ (n : ℕ). set caches (n - 1) rest) client;
       }
 
 module _ {T : Type 0} where
-  -- an operation that asks for something is there, and runs
-  pub runs_found : (operations : List (AnyOperation T)) (op : ℕ) (o : AnyOperation T) → is_some (asked_by operations op) ≡ true → o ≡ get_or operations (op - 1) o → (numbered operations op ≡ Some o) × (is_some (asked o.doing) ≡ true)
-  runs_found operations op o runs is = by (numbered operations op) refl runs
-    where
-      by : (found : Option (AnyOperation T)) → numbered operations op ≡ found → is_some (asked_of found) ≡ true → (numbered operations op ≡ Some o) × (is_some (asked o.doing) ≡ true)
-      by None e h = cc
-      by (Some x) e h =
-          let same : o ≡ x = found_same operations op x o e is in
-          (e ∙ ap Some (sym same), ap (λ (y : AnyOperation T). is_some (asked y.doing)) same ∙ h)
+  -- those that run after an end
+  pub end_running : (running new : List (BTreeSet ℕ)) (operations after : List (AnyOperation T)) (op : ℕ) (of : Usage) → AreRunning running operations → option_map usage_of (numbered operations op) ≡ Some of → is_some (asked_by operations op) ≡ true → Ends operations op after →
+      ((c n : ℕ) → is_in new c n ≡ (is_in running c n && not (true && ((of.client == c) && (op == n))))) → AreRunning new after
+  end_running running new operations after op of all usage asks v gone =
+      let client : of.client ≡ v.operation.client = ap (λ (u : Usage). u.client) (same_usage operations op v.operation of v.found usage) in
+      subst (λ (os : List (AnyOperation T)). AreRunning new os) (sym v.operations)
+      (running_with running new operations op v.operation ended true all v.found (asks_runs operations op v.operation asks v.found) refl (λ c n. gone c n ∙ ap (λ (m : ℕ). is_in running c n && not (true && ((m == c) && (op == n)))) client))
 
-  pub ends_so : (operations : List (AnyOperation T)) (caches : List Caches) (op : ℕ) (o : AnyOperation T) (keeps : Caches) (doing : AnyDoing T) → numbered operations op ≡ Some o → numbered caches o.client ≡ Some keeps → doing ≡ ended → Ends operations caches op (with_doing operations op o doing)
-  ends_so operations caches op o keeps doing found kept is = record { operation = o; found = found; keeps = keeps; kept = kept; operations = ap (with_doing operations op o) is }
+  -- an end among the caches of all clients
+  pub ends_among : (operations after : List (AnyOperation T)) (caches : List Caches) (op : ℕ) (of : Usage) → option_map usage_of (numbered operations op) ≡ Some of → 1 ≤ of.client → of.client ≤ length caches → Ends operations op after → EndsAmong operations caches op after
+  ends_among operations after caches op of usage some within v =
+      let client : of.client ≡ v.operation.client = ap (λ (u : Usage). u.client) (same_usage operations op v.operation of v.found usage) in
+      let keeps = numbered_there caches of.client some within in
+      record { ends = v; keeps = keeps.0; kept = subst (λ (n : ℕ). numbered caches n ≡ Some keeps.0) client keeps.1 }
 
 -- the views of operations are counted from 1
 
@@ -150,9 +182,9 @@ module _ {T : Type 0} where
   abbrev pub AreFromOne : List (AnyOperation T) → Type 0
   AreFromOne operations = (op : ℕ) (o : AnyOperation T) → numbered operations op ≡ Some o → IsFromOne o.view
 
-  pub from_with : (operations : List (AnyOperation T)) (op : ℕ) (o : AnyOperation T) (doing : AnyDoing T) → AreFromOne operations → numbered operations op ≡ Some o → AreFromOne (with_doing operations op o doing)
-  from_with operations op o doing all found n x e =
-      elim (numbered_set operations op (doing_next o doing) n x (within operations op o found).0 e) [
+  pub from_with : (operations after : List (AnyOperation T)) (op : ℕ) (o : AnyOperation T) (doing : AnyDoing T) → AreFromOne operations → numbered operations op ≡ Some o → after ≡ with_doing operations op o doing → AreFromOne after
+  from_with operations after op o doing all found is n x e =
+      elim (numbered_set operations op (doing_next o doing) n x (within operations op o found).0 (subst (λ (os : List (AnyOperation T)). numbered os n ≡ Some x) is e)) [
         | inl h ↦ subst (λ (y : AnyOperation T). IsFromOne y.view) h.1 (all op o found)
         | inr h ↦ all n x h.1
       ]
@@ -182,25 +214,20 @@ module _ {T : Type 0} where
       lacks (suc n) h = cc
 
   -- one operation has ended
-  pub ended_at : (operations : List (AnyOperation T)) (op : ℕ) (o : AnyOperation T) (doing : AnyDoing T) → is_some (numbered operations op) ≡ true → o ≡ get_or operations (op - 1) o → doing ≡ ended → (n : ℕ) → numbered (with_doing operations op o doing) n ≡ ended_where (nat_eq n op) (numbered operations n)
-  ended_at operations op o doing there is ends n = by (numbered operations op) refl there
+  pub ended_at : (operations after : List (AnyOperation T)) (op : ℕ) → Ends operations op after → (n : ℕ) → numbered after n ≡ ended_where (nat_eq n op) (numbered operations n)
+  ended_at operations after op v n =
+      ap (λ (os : List (AnyOperation T)). numbered os n) v.operations
+      ∙ elim (eq_cases n op) [
+        | inl here ↦
+            ap (numbered (with_doing operations op v.operation ended)) here ∙ (numbered_here operations op (doing_next v.operation ended) v.operation v.found
+            ∙ sym (ap (λ b. ended_where b (numbered operations n)) (eq-eqb n op here) ∙ ap (ended_where true) (ap (numbered operations) here ∙ v.found)))
+        | inr ne ↦
+            numbered_other operations op n (doing_next v.operation ended) (within operations op v.operation v.found).0 ne ∙ (unended (numbered operations n) ∙ ap (λ b. ended_where b (numbered operations n)) (sym (ne_eqb n op ne)))
+      ]
     where
       unended : (found : Option (AnyOperation T)) → found ≡ ended_where false found
       unended None = refl
       unended (Some x) = refl
-
-      by : (found : Option (AnyOperation T)) → numbered operations op ≡ found → is_some found ≡ true → numbered (with_doing operations op o doing) n ≡ ended_where (nat_eq n op) (numbered operations n)
-      by None e h = cc
-      by (Some x) e h =
-          let same : o ≡ x = found_same operations op x o e is in
-          let found : numbered operations op ≡ Some o = e ∙ ap Some (sym same) in
-          elim (eq_cases n op) [
-            | inl here ↦
-                ap (numbered (with_doing operations op o doing)) here ∙ (numbered_here operations op (doing_next o doing) o found ∙ (ap (λ (d : AnyDoing T). Some (doing_next o d)) ends
-                ∙ sym (ap (λ b. ended_where b (numbered operations n)) (eq-eqb n op here) ∙ ap (ended_where true) (ap (numbered operations) here ∙ found))))
-            | inr ne ↦
-                numbered_other operations op n (doing_next o doing) (within operations op o found).0 ne ∙ (unended (numbered operations n) ∙ ap (λ b. ended_where b (numbered operations n)) (sym (ne_eqb n op ne)))
-          ]
 
   pub none_running : (operations : List (AnyOperation T)) → operations ≡ [] → (client op : ℕ) → false ≡ runs_for operations client op
   none_running operations none client op = lacks op ∙ sym (ap (λ (os : List (AnyOperation T)). runs_for os client op) none)

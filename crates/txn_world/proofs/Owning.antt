@@ -1,6 +1,6 @@
 -- The views of a table, and whose they are.
 use Rattle.std.proofs.Common.{◌≡◌, ◌≢◌, ℕ, zero, suc, ◌+◌, ◌-◌, ◌≤◌, ◌==◌, ◌&&◌, ◌||◌, nat_eq, List, [], ◌∷◌, ◌++◌, length, map, set, slice_get, get_or, not, Bool, true, false, cond, is_some, Option, Some, None, inl, inr, refl, sym, ◌∙◌, ap, subst, arith}
-use Rattle.std.proofs.lemmas.List.{append-nil, set-set}
+use Rattle.std.proofs.lemmas.List.{append-nil}
 use Rattle.std.proofs.lemmas.Bool.{eq-eqb, ne_eqb, eqb-true, both_ways}
 use Rattle.std.proofs.lemmas.Option.{same_Some, slice_get_within}
 use Rattle.std.proofs.Math.Bool.{or-false}
@@ -10,11 +10,16 @@ use Rattle.std.specs.HashSet.{HashSet, contains}
 use Rattle.txn_history.specs.Lists.{numbered}
 use Rattle.txn_history.specs.History.{is_id}
 use Rattle.txn_view_history.specs.Seen.{view_in}
-use Rattle.txn_view_machine.specs.Layer.{Used, Change, Keeps, Puts, Makes, Closes, changed}
+use Rattle.txn_view_machine.specs.Layer.{Used, Change, Keeps, Puts, Makes, Closes, changed, with_busy, new_view}
 use Rattle.txn_view_machine.specs.Steps.{view_without}
-use Rattle.txn_any_machine.specs.Machine.{seen_view, seen_views, used_in, used_by, with_used}
-use Rattle.txn_world.specs.Owning.{is_in_set, owns, is_own, stands_for, owner_of, emptied_where, as_made}
-use Rattle.txn_world.proofs.Running.{eq_cases, numbered_end, numbered_longer, numbered_past, numbered_mapped, same_numbered, held_at}
+use Rattle.txn_view_steps.specs.declared.outcome.Outcome.TheVariants as outcomes
+use Rattle.txn_any_machine.specs.declared.doing.Ending.{Ending}
+use Rattle.txn_any_machine.specs.declared.doing.Ending.TheVariants as endings
+use Rattle.txn_any_machine.specs.Machine.{seen_view, seen_views, used_in, used_by, with_used, made_by, views_changed, views_taken}
+use Rattle.txn_clients.specs.Views.{as_made, IsFromOne}
+use Rattle.txn_clients.proofs.Acting.{held_at, numbered_past}
+use Rattle.txn_world.specs.Owning.{is_in_set, owns, is_own, stands_for, owner_of, emptied_where}
+use Rattle.txn_world.proofs.Running.{eq_cases, numbered_end, numbered_longer, numbered_mapped, same_numbered}
 
 -- what a place holds where this is put into it
 abbrev pub put_where : {A : Type 0} → A → Option A → Option A
@@ -133,9 +138,31 @@ module _ {T : Type 0} where
   changed_keeps (Some used) (Makes id value epoch) = refl
   changed_keeps (Some used) Closes = tt
 
-  -- a view that is taken out of its place and put back
-  pub put_in : (views rest after : List (Option (Used T))) (number : ℕ) (put : Option (Used T)) → rest ≡ with_used views (Some number) None → after ≡ with_used rest (Some number) put → after ≡ with_used views (Some number) put
-  put_in views rest after number put out is = is ∙ (ap (λ (vs : List (Option (Used T))). set vs (number - 1) put) out ∙ set-set views (number - 1) None put)
+  -- and the use of an operation
+
+  taken_keeps : (op : ℕ) (used : Option (Used T)) → KeepsOwner used (option_map (with_busy (Some op)) used)
+  taken_keeps op None = tt
+  taken_keeps op (Some used) = refl
+
+  -- the view of a number after a change of it
+  changed_there : (views : List (Option (Used T))) (number : ℕ) (change : Change T) → 1 ≤ number → used_by (views_changed views (Some number) change) (Some number) ≡ changed (used_by views (Some number)) change
+  changed_there views number change some = ap used_in (numbered_put views number (changed (used_by views (Some number)) change) some) ∙ by (numbered views number)
+    where
+      by : (found : Option (Option (Used T))) → used_in (put_where (changed (used_in found) change) found) ≡ changed (used_in found) change
+      by None = refl
+      by (Some used) = refl
+
+  -- the view that an ending makes, which is its client's
+  one_made : (client : ℕ) (ending : Ending T) → (made : Option (Used T)) × (made_by client ending ≡ as_made made) × ForSome made (λ used. used.view.client ≡ client)
+  one_made client (endings.Answers answer) = (None, refl, λ used h. cc)
+  one_made client (endings.Comes (outcomes.Viewed id value)) = (Some (new_view client id value), refl, λ used h. ap (λ (u : Used T). u.view.client) (sym (same_Some (new_view client id value) used h)))
+  one_made client (endings.Comes (outcomes.Held id value epoch)) = (None, refl, λ used h. cc)
+  one_made client (endings.Comes (outcomes.Shut id value error)) = (None, refl, λ used h. cc)
+
+  -- it stands where it was added
+  made_stands : (views : List (Option (Used T))) (made : Option (Used T)) → used_by (views ++ as_made made) (Some (length views + 1)) ≡ made
+  made_stands views None = ap (λ (vs : List (Option (Used T))). used_by vs (Some (length views + 1))) (append-nil views) ∙ ap used_in (numbered_past views (length views + 1) (omega arith))
+  made_stands views (Some used) = ap used_in (numbered_end views (Some used))
 
   -- places that are emptied, one and then others
 
@@ -255,6 +282,45 @@ module _ {S T : Type 0} where
       entered c n ∙ (or-false (owns owned c n) ∙ (all c n ∙ ap (λ (vs : List (Option (Used T))). stands_for vs c n) (sym (is ∙ append-nil views))))
   owned_more owned new views after client number (Some used) all next of is entered =
       subst (λ (vs : List (Option (Used T))). AreOwned new vs) (sym is) (owned_longer owned new views client number used all next (of used refl) entered)
+
+  -- one view is changed by an operation that lets it go or has ended
+  pub owned_by_change : (owned new : List (HashSet ℕ S)) (views after : List (Option (Used T))) (number : ℕ) (owner : Option ℕ) (change : Change T) (stands : Bool) → AreOwned owned views → 1 ≤ number → owner ≡ owner_of (used_by views (Some number)) → after ≡ views_changed views (Some number) change →
+      stands ≡ is_some (used_by after (Some number)) → ((c n : ℕ) → owns new c n ≡ (owns owned c n && not (not stands && (is_id c owner && (number == n))))) → AreOwned new after
+  owned_by_change owned new views after number owner change stands all some who is there left =
+      let stays : is_some (changed (used_by views (Some number)) change) ≡ stands = sym (there ∙ ap is_some (ap (λ (vs : List (Option (Used T))). used_by vs (Some number)) is ∙ changed_there views number change some)) in
+      owned_changed owned new views after number owner (changed (used_by views (Some number)) change) (not stands) all some who is (changed_keeps (used_by views (Some number)) change) (stays ∙ twice stands) left
+    where
+      twice : (b : Bool) → b ≡ not (not b)
+      twice true = refl
+      twice false = refl
+
+  -- one view is used
+  pub owned_taken : (owned : List (HashSet ℕ S)) (views after : List (Option (Used T))) (view : Option ℕ) (op : ℕ) → AreOwned owned views → IsFromOne view → after ≡ views_taken views view op → AreOwned owned after
+  owned_taken owned views after None op all some is = λ c n. all c n ∙ ap (λ (vs : List (Option (Used T))). stands_for vs c n) (sym is)
+  owned_taken owned views after (Some number) op all some is =
+      let used = used_by views (Some number) in
+      owned_changed owned owned views after number (owner_of used) (option_map (with_busy (Some op)) used) (not (is_some used)) all (some number refl) refl is (taken_keeps op used) (stays used) (λ c n. none_left (owns owned c n) c (number == n) used)
+    where
+      stays : (used : Option (Used T)) → is_some (option_map (with_busy (Some op)) used) ≡ not (not (is_some used))
+      stays None = refl
+      stays (Some used) = refl
+
+      and_true : (b : Bool) → b ≡ (b && true)
+      and_true true = refl
+      and_true false = refl
+
+      none_left : (b : Bool) (c : ℕ) (d : Bool) (used : Option (Used T)) → b ≡ (b && not (not (is_some used) && (is_id c (owner_of used) && d)))
+      none_left b c d None = and_true b
+      none_left b c d (Some used) = and_true b
+
+  -- one view more, where an operation that used none makes one
+  pub owned_by_made : (owned new : List (HashSet ℕ S)) (views after : List (Option (Used T))) (client number : ℕ) (ending : Ending T) (made : Bool) → AreOwned owned views → number ≡ length views + 1 → after ≡ views ++ made_by client ending → made ≡ is_some (used_by after (Some number)) →
+      ((c n : ℕ) → owns new c n ≡ (owns owned c n || (made && ((client == c) && (number == n))))) → AreOwned new after
+  owned_by_made owned new views after client number ending made all next is there entered =
+      let one = one_made client ending in
+      let added : after ≡ views ++ as_made one.0 = is ∙ ap (λ (vs : List (Option (Used T))). views ++ vs) one.1 in
+      let stands : made ≡ is_some one.0 = there ∙ ap is_some (ap (λ (vs : List (Option (Used T))). used_by vs (Some number)) added ∙ (ap (λ (n : ℕ). used_by (views ++ as_made one.0) (Some n)) next ∙ made_stands views one.0)) in
+      owned_more owned new views after client number one.0 all next one.2 added (λ c n. entered c n ∙ ap (λ (b : Bool). owns owned c n || (b && ((client == c) && (number == n)))) stands)
 
   -- a client's crash
 

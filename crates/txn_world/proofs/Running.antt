@@ -2,7 +2,7 @@
 use Rattle.std.proofs.Common.{◌≡◌, ◌≢◌, ℕ, zero, suc, ◌+◌, ◌-◌, ◌<◌, ◌≤◌, ◌==◌, ◌&&◌, ◌||◌, nat_eq, nat_lt, List, [], ◌∷◌, ◌++◌, length, map, take, slice_get, get_or, not, Bool, true, false, cond, is_some, Option, Some, None, ◌⊎◌, inl, inr, refl, sym, ◌∙◌, ap, subst, arith}
 use Rattle.std.proofs.lemmas.List.{append_assoc, append-nil, take_more}
 use Rattle.std.proofs.lemmas.Bool.{eq-eqb, ne_eqb, eqb-true, both_ways, cases_lt, lt-ltb, le-ltb}
-use Rattle.std.proofs.lemmas.Option.{get_or_from_slice_get, same_Some, slice_get_within, slice_get_past, slice_get_read}
+use Rattle.std.proofs.lemmas.Option.{same_Some, slice_get_within}
 use Rattle.std.proofs.lemmas.Map.Keys.{sorted_head, sorted_tail}
 use Rattle.std.specs.Option.{option_map}
 use Rattle.std.specs.List.{list_any, AllByRecursion}
@@ -26,11 +26,13 @@ use Rattle.txn_any_machine.specs.Doing.{asked, ended}
 use Rattle.txn_any_machine.specs.Machine.{doing_next, with_doing, ended_by, seen_operations}
 use Rattle.txn_history.proofs.Lists.{numbered_last}
 use Rattle.txn_machine.proofs.Lists.{numbered_here, numbered_other}
-use Rattle.txn_world.specs.Running.{is_in_set, is_in, loose_of, asked_of, asked_by, runs_as, runs_for, left_of, ended_where}
+use Rattle.txn_clients.specs.Operations.{asked_of, asked_by, loose_of}
+use Rattle.txn_clients.proofs.Acting.{held_at, numbered_past}
+use Rattle.txn_world.specs.Running.{is_in_set, is_in, runs_as, runs_for, left_of, ended_where}
 
 -- what is left loose, operation by operation
 
-as_left : (op : ℕ) (ask : Option Ask) → as_loose op (loose_of ask) ≡ left_loose op ask
+pub as_left : (op : ℕ) (ask : Option Ask) → as_loose op (loose_of ask) ≡ left_loose op ask
 as_left op None = refl
 as_left op (Some ask) = refl
 
@@ -103,25 +105,8 @@ pub numbered_longer : {A : Type 0} (xs : List A) (x : A) (n : ℕ) → n ≢ len
 numbered_longer xs x zero ne = refl
 numbered_longer xs x (suc n) ne = get_longer xs x n (λ e. ne (omega (arith, e)))
 
-pub numbered_past : {A : Type 0} (xs : List A) (n : ℕ) → length xs < n → numbered xs n ≡ None
-numbered_past xs zero lt = refl
-numbered_past xs (suc n) lt = slice_get_past xs n (omega (arith, lt))
-
 pub numbered_end : {A : Type 0} (xs : List A) (x : A) → numbered (xs ++ x ∷ []) (length xs + 1) ≡ Some x
 numbered_end xs x = let next : length xs + 1 ≡ suc (length xs) = omega arith in ap (numbered (xs ++ x ∷ [])) next ∙ numbered_last xs x
-
--- what a place holds
-pub held_at : {A : Type 0} (xs : List A) (n : ℕ) (x : A) → 0 < n → n ≤ length xs → x ≡ get_or xs (n - 1) x → numbered xs n ≡ Some x
-held_at xs zero x some le e = absurd (omega (arith, some))
-held_at xs (suc n) x some le e =
-    let place : suc n - 1 ≡ n = omega arith in
-    slice_get_read xs (length xs) n x refl (omega (arith, le)) (e ∙ ap (λ k. get_or xs k x) place)
-
-pub found_same : {A : Type 0} (xs : List A) (n : ℕ) (x y : A) → numbered xs n ≡ Some x → y ≡ get_or xs (n - 1) y → y ≡ x
-found_same xs zero x y found e = cc
-found_same xs (suc n) x y found e =
-    let place : suc n - 1 ≡ n = omega arith in
-    e ∙ (ap (λ m. get_or xs m y) place ∙ get_or_from_slice_get xs n x y found)
 
 pub eq_cases : (m n : ℕ) → (m ≡ n) ⊎ (m ≢ n)
 eq_cases m n = by (m == n) refl

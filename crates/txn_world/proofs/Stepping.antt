@@ -21,6 +21,7 @@ use Rattle.txn_steps.specs.SeenSteps.{unchecked_turned as value_turned, seen_tur
 use Rattle.txn_steps.specs.Listings.{listing_turned}
 use Rattle.txn_steps.specs.Deletes.{delete_turned}
 use Rattle.txn_view_steps.specs.declared.outcome.Outcome.{Outcome}
+use Rattle.txn_view_steps.specs.declared.outcome.Outcome.TheVariants as outcomes
 use Rattle.txn_view_steps.specs.declared.op.ViewOp.{ViewOp}
 use Rattle.txn_view_steps.specs.ViewOps.{view_turned}
 use Rattle.txn_history.specs.declared.event.Answer.{Answer}
@@ -36,7 +37,8 @@ use Rattle.txn_view_history.specs.declared.event.AnyCall.{AnyCall}
 use Rattle.txn_view_history.specs.declared.event.AnyAnswer.{AnyAnswer}
 use Rattle.txn_view_history.specs.declared.event.AnyAnswer.TheVariants as any
 use Rattle.txn_view_history.specs.Seen.{view_of}
-use Rattle.txn_view_history.specs.Allowed.{is_busy}
+use Rattle.txn_view_history.specs.Allowed.{may_use, is_busy, id_seen, base_seen}
+use Rattle.txn_view_history.specs.OneHistory.{base_of}
 use Rattle.txn_view_history.specs.Trace.{AnyRow, AnyTold}
 use Rattle.txn_view_history.specs.Calls.{view_used}
 use Rattle.txn_view_machine.specs.Layer.{Used}
@@ -51,15 +53,16 @@ use Rattle.txn_any_machine.specs.declared.doing.AnyOperation.{AnyOperation}
 use Rattle.txn_any_machine.specs.declared.doing.Ending.{Ending}
 use Rattle.txn_any_machine.specs.declared.doing.Ending.TheVariants as endings
 use Rattle.txn_any_machine.specs.Doing.{Next, asked, ended, refused, plain_next, view_next, turned, started, caches_left, answer_in, is_claim_call, IsClaimReading, IsMadeSo, ReadsBack, FitsWord, MayLack}
-use Rattle.txn_any_machine.specs.Machine.{State, seen_operation, seen_operations, seen_view, seen_of, used_in, used_by, with_doing, answered, acted, effected, loosened, failing, given_up, let_go, views_changed, views_after, views_taken, next_op, begun_as, view_now, FailsFirst, FailsAfter, GivesUp, Lands, Looks, Served, Begins}
-use Rattle.txn_world.specs.declared.clients.Usage.{Usage}
-use Rattle.txn_world.specs.Owning.{is_used}
+use Rattle.txn_any_machine.specs.Machine.{State, seen_operation, seen_operations, seen_view, seen_of, used_in, used_by, with_doing, answer_of, answered, acted, effected, loosened, failing, given_up, let_go, views_changed, views_after, views_taken, next_op, begun_as, view_now, FailsFirst, FailsAfter, GivesUp, Lands, Looks, Served, Begins}
+use Rattle.txn_clients.specs.declared.operations.Usage.{Usage}
+use Rattle.txn_clients.specs.Operations.{request_of, loose_of, asked_of, asked_by, usage_of, TakesReply}
+use Rattle.txn_clients.specs.Views.{is_used, seen_with}
 use Rattle.txn_world.specs.Beside.{told_count, ending_count, AreIds, IsAfforded}
-use Rattle.txn_world.specs.Running.{loose_of, asked_of, asked_by}
-use Rattle.txn_world.specs.Acting.{usage_of, TakesReply, Ends, TakesTurn}
-use Rattle.txn_world.proofs.Running.{found_same, numbered_mapped}
+use Rattle.txn_world.specs.Acting.{EndsAmong, TurnsAmong}
+use Rattle.txn_world.specs.Answering.{IsAnswerable, ToldFailure}
+use Rattle.txn_world.proofs.Running.{as_left, numbered_mapped}
 use Rattle.txn_world.proofs.Owning.{seen_at}
-use Rattle.txn_world.specs.Answering.{IsAnswerable, ToldFailure, request_of}
+use Rattle.txn_world.proofs.Acting.{same_usage}
 
 module _ {T : Type 0} where
   -- states that are alike in each part
@@ -175,21 +178,27 @@ module _ {T : Type 0} (page : ℕ) (encode : T → List ℕ) (decode : List ℕ 
 
   -- a turn, where the growth for the ids of its answer may have been refused
   pub afforded_turn : (old : List (AnyOperation T)) (caches : List Caches) (op : ℕ) (reply : Option Reply) (new : List (AnyOperation T)) (left : List Caches) (ending said : Option (Ending T)) →
-      TakesTurn page encode decode get_epoch set_epoch old caches op reply new left ending → IsAfforded ending said → TakesTurn page encode decode get_epoch set_epoch old caches op reply new left said
-  afforded_turn old caches op reply new left ending said v (inl same) = subst (λ (e : Option (Ending T)). TakesTurn page encode decode get_epoch set_epoch old caches op reply new left e) (sym same) v
+      TurnsAmong page encode decode get_epoch set_epoch old caches op reply new left ending → IsAfforded ending said → TurnsAmong page encode decode get_epoch set_epoch old caches op reply new left said
+  afforded_turn old caches op reply new left ending said v (inl same) = subst (λ (e : Option (Ending T)). TurnsAmong page encode decode get_epoch set_epoch old caches op reply new left e) (sym same) v
   afforded_turn old caches op reply new left ending said v (inr lacks) =
-      let ids : AreIds (turned page encode decode get_epoch set_epoch v.turns.refused v.operation.doing v.keeps reply).1 = subst (λ (e : Option (Ending T)). AreIds e) (v.ends ∙ ap (λ (n : Next T). n.1) v.turns.turns) lacks.1 in
-      let m = may_end v.turns.refused v.operation.doing v.keeps reply ids in
+      let t = v.turn in
+      let o = t.operation in
+      let ids : AreIds (turned page encode decode get_epoch set_epoch t.turns.refused o.doing v.keeps reply).1 = subst (λ (e : Option (Ending T)). AreIds e) (t.ends ∙ ap (λ (n : Next T). n.1) t.turns.turns) lacks.1 in
+      let m = may_end t.turns.refused o.doing v.keeps reply ids in
       record {
-        operation = v.operation;
-        found = v.found;
         keeps = v.keeps;
+        rest = v.rest;
+        turn = record {
+          operation = o;
+          found = t.found;
+          next = (ended, Some (endings.Answers (answers.Refused 9)));
+          turns = record { refused = true; turns = m.refuses; may = m.may; made = λ reads. absurd (m.reads_no_claim reads) };
+          ends = lacks.0;
+          operations = t.operations ∙ ap (with_doing old op o) (ap (λ (n : Next T). n.0) t.turns.turns ∙ m.ends);
+          leaves = t.leaves ∙ (ap (λ (n : Next T). caches_left o.doing v.keeps n.1) t.turns.turns ∙ m.leaves);
+        };
         kept = v.kept;
-        next = (ended, Some (endings.Answers (answers.Refused 9)));
-        turns = record { refused = true; turns = m.refuses; may = m.may; made = λ reads. absurd (m.reads_no_claim reads) };
-        ends = lacks.0;
-        operations = v.operations ∙ ap (with_doing old op v.operation) (ap (λ (n : Next T). n.0) v.turns.turns ∙ m.ends);
-        leaves = v.leaves ∙ ap (set caches (v.operation.client - 1)) (ap (λ (n : Next T). caches_left v.operation.doing v.keeps n.1) v.turns.turns ∙ m.leaves);
+        leaves = v.leaves;
       }
 
 module _ {T : Type 0} where
@@ -205,10 +214,6 @@ module _ {T : Type 0} where
 
   pub takes_store : (s : State T) (op : ℕ) (request : Request) (reply : Reply) (new : StoreState) → IsAnswerable s → asked_by s.operations op ≡ Some (Store request) → Serves request s.store reply new → TakesReply s.operations op (Some reply)
   takes_store s op request reply new fit asks serves = let f = asked_found s.operations op (Store request) asks in record { operation = f.0; found = f.1; kind = fit.replies op f.0 f.1 request reply new f.2 serves; range = fit.range op f.0 f.1 }
-
-  -- who uses which view
-  same_usage : (operations : List (AnyOperation T)) (op : ℕ) (o : AnyOperation T) (of : Usage) → numbered operations op ≡ Some o → option_map usage_of (numbered operations op) ≡ Some of → of ≡ usage_of o
-  same_usage operations op o of found is = sym (same_Some (usage_of o) of (sym (ap (option_map usage_of) found) ∙ is))
 
   -- the answer of an operation, and the views after it, by how it ends
 
@@ -226,45 +231,51 @@ module _ {T : Type 0} where
 module _ {T : Type 0} (encode : T → List ℕ) (decode : List ℕ → Option T) (get_epoch : T → ℕ) (set_epoch : T → ℕ → T) where
   -- a look
   pub looked : (old new : State T) (op : ℕ) (of : Usage) (ending said : Option (Ending T)) (tells : AnyTold T) → asked_by old.operations op ≡ Some Look → option_map usage_of (numbered old.operations op) ≡ Some of →
-      TakesTurn old.page encode decode get_epoch set_epoch old.operations old.caches op None new.operations new.caches ending → IsAfforded ending said → tells ≡ told_of (told.Went op) op (answered (length old.views) of.view said) →
+      TurnsAmong old.page encode decode get_epoch set_epoch old.operations old.caches op None new.operations new.caches ending → IsAfforded ending said → tells ≡ told_of (told.Went op) op (answered (length old.views) of.view said) →
       new.clients ≡ old.clients → new.page ≡ old.page → new.store ≡ old.store → new.views ≡ views_after old.views of.client of.view of.claims said → new.loose ≡ old.loose → new.failed ≡ old.failed → new.trace ≡ old.trace ++ answer_rows op (answered (length old.views) of.view said) →
       Looks encode decode get_epoch set_epoch old op tells new
   looked old new op of ending said tells asks usage turn afforded is a b c e f g h =
       let v = afforded_turn old.page encode decode get_epoch set_epoch old.operations old.caches op None new.operations new.caches ending said turn afforded in
-      let same = same_usage old.operations op v.operation of v.found usage in
-      let answer = answered_as (length old.views) v.operation of said v.next.1 same v.ends in
+      let t = v.turn in
+      let o = t.operation in
+      let same = same_usage old.operations op o of t.found usage in
+      let answer = answered_as (length old.views) o of said t.next.1 same t.ends in
+      let left : new.caches ≡ set old.caches (o.client - 1) (caches_left o.doing v.keeps t.next.1) = v.leaves ∙ ap (set old.caches (o.client - 1)) t.leaves in
       record {
-        operation = v.operation;
+        operation = o;
         caches = v.keeps;
-        acts = record { found = v.found; asks = sym (ap asked_of v.found) ∙ asks; kept = v.kept };
-        next = v.next;
-        turns = v.turns;
+        acts = record { found = t.found; asks = sym (ap asked_of t.found) ∙ asks; kept = v.kept };
+        next = t.next;
+        turns = t.turns;
         tells = is ∙ ap (told_of (told.Went op) op) answer;
-        state = same_state new (acted old op v.operation v.next (caches_left v.operation.doing v.keeps v.next.1)) a b c v.leaves v.operations (e ∙ after_as old.views v.operation of said v.next.1 same v.ends) f g (h ∙ ap (λ o. old.trace ++ answer_rows op o) answer);
+        state = same_state new (acted old op o t.next (caches_left o.doing v.keeps t.next.1)) a b c left t.operations (e ∙ after_as old.views o of said t.next.1 same t.ends) f g (h ∙ ap (λ a. old.trace ++ answer_rows op a) answer);
       }
 
   -- a serve
   pub served : (old new : State T) (op : ℕ) (of : Usage) (request : Request) (reply : Reply) (ending said : Option (Ending T)) (tells : AnyTold T) → asked_by old.operations op ≡ Some (Store request) → option_map usage_of (numbered old.operations op) ≡ Some of →
-      Serves request old.store reply new.store → new.store.failures ≡ 0 → TakesTurn old.page encode decode get_epoch set_epoch old.operations old.caches op (Some reply) new.operations new.caches ending → IsAfforded ending said → tells ≡ told_of (told.Went op) op (answered (length old.views) of.view said) →
+      Serves request old.store reply new.store → new.store.failures ≡ 0 → TurnsAmong old.page encode decode get_epoch set_epoch old.operations old.caches op (Some reply) new.operations new.caches ending → IsAfforded ending said → tells ≡ told_of (told.Went op) op (answered (length old.views) of.view said) →
       new.clients ≡ old.clients → new.page ≡ old.page → new.views ≡ views_after old.views of.client of.view of.claims said → new.loose ≡ old.loose → new.failed ≡ old.failed → new.trace ≡ (old.trace ++ effect_rows op (effect_of old.store.files request reply)) ++ answer_rows op (answered (length old.views) of.view said) →
       Served encode decode get_epoch set_epoch old op tells new
   served old new op of request reply ending said tells asks usage serves honest turn afforded is a b e f g h =
       let v = afforded_turn old.page encode decode get_epoch set_epoch old.operations old.caches op (Some reply) new.operations new.caches ending said turn afforded in
-      let same = same_usage old.operations op v.operation of v.found usage in
-      let answer = answered_as (length old.views) v.operation of said v.next.1 same v.ends in
+      let t = v.turn in
+      let o = t.operation in
+      let same = same_usage old.operations op o of t.found usage in
+      let answer = answered_as (length old.views) o of said t.next.1 same t.ends in
+      let left : new.caches ≡ set old.caches (o.client - 1) (caches_left o.doing v.keeps t.next.1) = v.leaves ∙ ap (set old.caches (o.client - 1)) t.leaves in
       record {
-        operation = v.operation;
+        operation = o;
         request = request;
         caches = v.keeps;
-        acts = record { found = v.found; asks = sym (ap asked_of v.found) ∙ asks; kept = v.kept };
+        acts = record { found = t.found; asks = sym (ap asked_of t.found) ∙ asks; kept = v.kept };
         reply = reply;
         store = new.store;
         reaches = record { serves = serves; honest = honest };
-        next = v.next;
-        turns = v.turns;
+        next = t.next;
+        turns = t.turns;
         tells = is ∙ ap (told_of (told.Went op) op) answer;
-        state = same_state new (acted (effected old op request reply new.store) op v.operation v.next (caches_left v.operation.doing v.keeps v.next.1)) a b refl v.leaves v.operations (e ∙ after_as old.views v.operation of said v.next.1 same v.ends) f g
-            (h ∙ ap (λ o. (old.trace ++ effect_rows op (effect_of old.store.files request reply)) ++ answer_rows op o) answer);
+        state = same_state new (acted (effected old op request reply new.store) op o t.next (caches_left o.doing v.keeps t.next.1)) a b refl left t.operations (e ∙ after_as old.views o of said t.next.1 same t.ends) f g
+            (h ∙ ap (λ a. (old.trace ++ effect_rows op (effect_of old.store.files request reply)) ++ answer_rows op a) answer);
       }
 
   -- a begin, of an operation of this number, view and kind
@@ -307,10 +318,6 @@ ask_there : (ask : Option Ask) → is_some ask ≡ true → (a : Ask) × (ask �
 ask_there None h = cc
 ask_there (Some a) h = (a, refl)
 
-left_as : (op : ℕ) (ask : Option Ask) → as_loose op (loose_of ask) ≡ left_loose op ask
-left_as op None = refl
-left_as op (Some ask) = refl
-
 kept_caches : (caches : List Caches) (client : ℕ) (keeps : Caches) → numbered caches client ≡ Some keeps → caches ≡ set caches (client - 1) keeps
 kept_caches caches zero keeps e = cc
 kept_caches caches (suc n) keeps e =
@@ -320,35 +327,39 @@ kept_caches caches (suc n) keeps e =
 
 module _ {T : Type 0} where
   -- a failure that is told
-  pub told_failed : (old new : State T) (op : ℕ) (of : Usage) → option_map usage_of (numbered old.operations op) ≡ Some of → Ends old.operations old.caches op new.operations → new.clients ≡ old.clients → new.page ≡ old.page → new.store ≡ old.store → new.caches ≡ old.caches →
+  pub told_failed : (old new : State T) (op : ℕ) (of : Usage) → option_map usage_of (numbered old.operations op) ≡ Some of → EndsAmong old.operations old.caches op new.operations → new.clients ≡ old.clients → new.page ≡ old.page → new.store ≡ old.store → new.caches ≡ old.caches →
       new.views ≡ views_changed old.views of.view (let_go of.claims) → new.loose ≡ old.loose → new.failed ≡ old.failed ++ op ∷ [] → new.trace ≡ old.trace ++ Answered op (any.Plain (answers.Refused 2)) ∷ [] →
       ToldFailure old op (told.Answered op (any.Plain (answers.Refused 2))) new
   told_failed old new op of usage v a b c d e f g h =
-      let same = same_usage old.operations op v.operation of v.found usage in
+      let o = v.ends.operation in
+      let found = v.ends.found in
+      let same = same_usage old.operations op o of found usage in
       record {
-        operation = v.operation;
-        found = v.found;
+        operation = o;
+        found = found;
         caches = v.keeps;
         kept = v.kept;
         tells = refl;
-        state = same_state new (acted (failing old op) op v.operation (refused 2) v.keeps) a b c (d ∙ kept_caches old.caches v.operation.client v.keeps v.kept) v.operations
-            (e ∙ (ap (λ (u : Usage). views_changed old.views u.view (let_go u.claims)) same ∙ sym (let_go_after old.views v.operation.client v.operation.view v.operation.claims (answers.Refused 2)))) f g h;
+        state = same_state new (acted (failing old op) op o (refused 2) v.keeps) a b c (d ∙ kept_caches old.caches o.client v.keeps v.kept) v.ends.operations
+            (e ∙ (ap (λ (u : Usage). views_changed old.views u.view (let_go u.claims)) same ∙ sym (let_go_after old.views o.client o.view o.claims (answers.Refused 2)))) f g h;
       }
 
   -- a give-up
-  pub gave_up : (old new : State T) (op : ℕ) (of : Usage) (copy : Option Request) → is_some (asked_by old.operations op) ≡ true → option_map usage_of (numbered old.operations op) ≡ Some of → Ends old.operations old.caches op new.operations → copy ≡ loose_of (asked_by old.operations op) →
+  pub gave_up : (old new : State T) (op : ℕ) (of : Usage) (copy : Option Request) → is_some (asked_by old.operations op) ≡ true → option_map usage_of (numbered old.operations op) ≡ Some of → EndsAmong old.operations old.caches op new.operations → copy ≡ loose_of (asked_by old.operations op) →
       new.clients ≡ old.clients → new.page ≡ old.page → new.store ≡ old.store → new.caches ≡ old.caches → new.views ≡ views_changed old.views of.view (let_go of.claims) → new.loose ≡ old.loose ++ as_loose op copy → new.failed ≡ old.failed → new.trace ≡ old.trace → GivesUp old op (told.GaveUp op) new
   gave_up old new op of copy asks usage v is a b c d e f g h =
       let some = ask_there (asked_by old.operations op) asks in
-      let same = same_usage old.operations op v.operation of v.found usage in
+      let o = v.ends.operation in
+      let found = v.ends.found in
+      let same = same_usage old.operations op o of found usage in
       record {
-        operation = v.operation;
+        operation = o;
         ask = some.0;
-        found = v.found;
-        asks = sym (ap asked_of v.found) ∙ some.1;
+        found = found;
+        asks = sym (ap asked_of found) ∙ some.1;
         tells = refl;
-        state = same_state new (given_up (loosened old op some.0) op v.operation) a b c d v.operations (e ∙ ap (λ (u : Usage). views_changed old.views u.view (let_go u.claims)) same)
-            (f ∙ ap (λ (ls : List (ℕ × Request)). old.loose ++ ls) (ap (as_loose op) is ∙ (left_as op (asked_by old.operations op) ∙ ap (left_loose op) some.1))) g h;
+        state = same_state new (given_up (loosened old op some.0) op o) a b c d v.ends.operations (e ∙ ap (λ (u : Usage). views_changed old.views u.view (let_go u.claims)) same)
+            (f ∙ ap (λ (ls : List (ℕ × Request)). old.loose ++ ls) (ap (as_loose op) is ∙ (as_left op (asked_by old.operations op) ∙ ap (left_loose op) some.1))) g h;
       }
 
   -- a landing
@@ -377,7 +388,7 @@ module _ {T : Type 0} where
   pub failed_loose : (old middle new : State T) (op : ℕ) (copy : Option Request) (tells : AnyTold T) → is_some (request_of (asked_by old.operations op)) ≡ true → copy ≡ loose_of (asked_by old.operations op) → middle ≡ record old { loose = old.loose ++ as_loose op copy } → ToldFailure middle op tells new → FailsFirst old op tells true new
   failed_loose old middle new op copy tells asks is e v =
       let some = request_there (asked_by old.operations op) asks in
-      let loose : as_loose op copy ≡ left_loose op (Some (Store some.0)) = ap (as_loose op) is ∙ (left_as op (asked_by old.operations op) ∙ ap (left_loose op) some.1) in
+      let loose : as_loose op copy ≡ left_loose op (Some (Store some.0)) = ap (as_loose op) is ∙ (as_left op (asked_by old.operations op) ∙ ap (left_loose op) some.1) in
       let same : middle ≡ loosened old op (Store some.0) = e ∙ ap (λ (ls : List (ℕ × Request)). record old { loose = old.loose ++ ls }) loose in
       let w = subst (λ (s : State T). ToldFailure s op tells new) same v in
       record { operation = w.operation; request = some.0; caches = w.caches; acts = record { found = w.found; asks = sym (ap asked_of w.found) ∙ some.1; kept = w.kept }; tells = w.tells; state = w.state }
@@ -387,14 +398,6 @@ module _ {T : Type 0} where
   failed_after old middle new op request reply tells asks serves honest answered e v =
       let w = subst (λ (s : State T). ToldFailure s op tells new) e v in
       record { operation = w.operation; request = request; caches = w.caches; acts = record { found = w.found; asks = sym (ap asked_of w.found) ∙ asks; kept = w.kept }; reply = reply; store = middle.store; reaches = record { serves = serves; honest = honest }; answered = answered; tells = w.tells; state = w.state }
-
--- an element that is there, by its place
-pub there_at : {A : Type 0} (xs : List A) (n : ℕ) (x : A) → is_some (numbered xs n) ≡ true → x ≡ get_or xs (n - 1) x → numbered xs n ≡ Some x
-there_at {A = A} xs n x there is = by (numbered xs n) refl there
-  where
-    by : (found : Option A) → numbered xs n ≡ found → is_some found ≡ true → numbered xs n ≡ Some x
-    by None e h = cc
-    by (Some y) e h = e ∙ ap Some (sym (found_same xs n y x e is))
 
 -- what an operation asks for, as it is seen
 pub asks_seen : {T : Type 0} (operations : List (AnyOperation T)) (op : ℕ) → asked_by operations op ≡ asks_in (numbered (seen_operations operations) op)
@@ -418,8 +421,33 @@ busy_seen {T = T} s number fit stands = by (numbered s.views number) refl (sym (
     by (Some None) e h = absurd (both_ways (is_some (seen_view (used_in (numbered s.views number)))) (ap (λ f. is_some (seen_view (used_in f))) e) h)
     by (Some (Some used)) e h = ap (λ f. is_used (used_in f)) e ∙ sym (fit.busy number used e)
 
+-- an answer tells as many ids as its ending at most
+told_few : {T : Type 0} (count : ℕ) (view : Option ℕ) (ending : Ending T) → told_count (answer_of count view ending) ≤ ending_count ending
+told_few count view (endings.Answers answer) = omega arith
+told_few count None (endings.Comes (outcomes.Viewed id value)) = omega arith
+told_few count (Some number) (endings.Comes (outcomes.Viewed id value)) = omega arith
+told_few count None (endings.Comes (outcomes.Held id value epoch)) = omega arith
+told_few count (Some number) (endings.Comes (outcomes.Held id value epoch)) = omega arith
+told_few count view (endings.Comes (outcomes.Shut id value error)) = omega arith
+
 -- there is room for the ids of an answer
-pub told_within : {T : Type 0} (count room : ℕ) (view : Option ℕ) (ending : Option (Ending T)) (result : Option (AnyAnswer T × AnyAnswer T)) (pair : AnyAnswer T × AnyAnswer T) → result ≡ Some pair → plain.first_of result ≡ answered count view ending →
-    ForSome result (λ p. ForSome ending (λ e. told_count p.0 ≤ ending_count e)) → ForSome ending (λ e. ending_count e ≤ room) → told_count pair.0 ≤ room
-told_within count room view None result pair is answer ids fits = let clash = sym (ap plain.first_of is) ∙ answer in cc
-told_within count room view (Some e) result pair is answer ids fits = let few = ids pair is e refl in let most = fits e refl in omega (arith, few, most)
+pub told_within : {T : Type 0} (count room : ℕ) (view : Option ℕ) (ending : Option (Ending T)) (result : Option (AnyAnswer T × AnyAnswer T)) (pair : AnyAnswer T × AnyAnswer T) → result ≡ Some pair → plain.first_of result ≡ answered count view ending → ForSome ending (λ e. ending_count e ≤ room) → told_count pair.0 ≤ room
+told_within count room view None result pair is answer fits = let clash = sym (ap plain.first_of is) ∙ answer in cc
+told_within {T = T} count room view (Some e) result pair is answer fits =
+    let same : pair.0 ≡ answer_of count view e = same_Some pair.0 (answer_of count view e) (sym (ap plain.first_of is) ∙ answer) in
+    let few : told_count pair.0 ≤ ending_count e = subst (λ (a : AnyAnswer T). told_count a ≤ ending_count e) (sym same) (told_few count view e) in
+    let most = fits e refl in
+    omega (arith, few, most)
+
+-- why a begin is refused, as far as views tell
+
+pub may_use_seen : {T : Type 0} (s : State T) (client : ℕ) (holders : Bool) (view : Option ℕ) → may_use (seen_with s.views) client holders view ≡ may_use (seen_of s) client holders view
+may_use_seen s client holders None = refl
+may_use_seen s client holders (Some number) = refl
+
+pub base_as_seen : {T : Type 0} (s : State T) (call : AnyCall T) → base_seen (seen_with s.views) call ≡ base_seen (seen_of s) call
+base_as_seen s call = by (view_used call)
+  where
+    by : (view : Option ℕ) → base_of (id_seen (seen_with s.views) view) call ≡ base_of (id_seen (seen_of s) view) call
+    by None = refl
+    by (Some number) = refl

@@ -1,5 +1,5 @@
--- What a state has to keep so that its operations can be handed what they ask for, and what a request does to the store.
-use Rattle.std.specs.Prelude.{◌≡◌, ℕ, Option, Some, None, is_some}
+-- What a state has to keep so that its operations can be handed what they ask for, and what a failure that is told leaves.
+use Rattle.std.specs.Prelude.{◌≡◌, ℕ, Some, None, is_some}
 use Rattle.txn_store.specs.Store.{State as StoreState}
 use Rattle.txn_store.specs.Requests.{Serves}
 use Rattle.txn_store.specs.declared.request.Request.{Request}
@@ -8,7 +8,7 @@ use Rattle.txn_caches.specs.declared.caches.Caches.{Caches}
 use Rattle.txn_history.specs.declared.event.Answer.TheVariants as plain_answers
 use Rattle.txn_history.specs.declared.event.ToldOf.TheVariants as told
 use Rattle.txn_history.specs.Lists.{numbered}
-use Rattle.txn_history.specs.Seen.{Ask, Store, Look}
+use Rattle.txn_history.specs.Seen.{Store, Look}
 use Rattle.txn_view_history.specs.declared.event.AnyAnswer.TheVariants as answers
 use Rattle.txn_view_history.specs.Trace.{AnyTold}
 use Rattle.txn_view_history.specs.Allowed.{is_busy}
@@ -24,12 +24,6 @@ pub record IsAnswerable {T : Type 0} (s : State T) : Type 0 where
   pub looks : (op : ℕ) (o : AnyOperation T) → numbered s.operations op ≡ Some o → asked o.doing ≡ Some Look → IsReply o.doing None
   pub range : (op : ℕ) (o : AnyOperation T) → numbered s.operations op ≡ Some o → InRange o.doing
   pub busy : (number : ℕ) (used : Used T) → numbered s.views number ≡ Some (Some used) → is_busy (seen_of s) s.trace (Some number) ≡ is_some used.busy
-
--- the request of an ask for a store call
-abbrev pub request_of : Option Ask → Option Request
-request_of None = None
-request_of (Some (Store request)) = Some request
-request_of (Some Look) = None
 
 -- An operation was told that its store call failed: it has ended, and is one of those that failed.
 pub record ToldFailure {T : Type 0} (old : State T) (op : ℕ) (said : AnyTold T) (new : State T) : Type 0 where

@@ -1,7 +1,6 @@
 -- Which views stand, by client, and how a table of views changes.
-use Rattle.std.specs.Prelude.{◌≤◌, ◌==◌, ℕ, nat_eq, List, [], ◌∷◌, Bool, false, if◌then◌else◌, Option, Some, None, is_some}
+use Rattle.std.specs.Prelude.{◌==◌, ℕ, nat_eq, List, Bool, false, if◌then◌else◌, Option, Some, None}
 use Rattle.std.specs.HashSet.{HashSet, contains, spare}
-use Rattle.std.specs.Option.{ForSome}
 use Rattle.txn_history.specs.Lists.{numbered}
 use Rattle.txn_view_machine.specs.Layer.{Used}
 
@@ -24,10 +23,6 @@ module _ {S : Type 0} where
   abbrev pub room_of : List (HashSet ℕ S) → ℕ → ℕ
   room_of sets client = room_in (numbered sets client)
 
--- a number, where there is one, is counted from 1
-abbrev pub IsFromOne : Option ℕ → Type 0
-IsFromOne number = ForSome number (λ n. 1 ≤ n)
-
 module _ {T : Type 0} where
   -- a view stands, and is this client's
   abbrev pub is_own : ℕ → Option (Option (Used T)) → Bool
@@ -44,17 +39,7 @@ module _ {T : Type 0} where
   owner_of None = None
   owner_of (Some used) = Some used.view.client
 
-  -- an operation uses it
-  abbrev pub is_used : Option (Used T) → Bool
-  is_used None = false
-  is_used (Some used) = is_some used.busy
-
   -- a place of the table, with no view where this is so
   abbrev pub emptied_where : Bool → Option (Option (Used T)) → Option (Option (Used T))
   emptied_where ends None = None
   emptied_where ends (Some used) = Some (if ends then None else used)
-
-  -- the view that is made, as the views that are added
-  abbrev pub as_made : Option (Used T) → List (Option (Used T))
-  as_made None = []
-  as_made (Some used) = Some used ∷ []

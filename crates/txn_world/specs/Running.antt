@@ -4,11 +4,11 @@ use Rattle.std.specs.Ordering.{nat_cmp}
 use Rattle.std.specs.BTreeSet.{BTreeSet, contains}
 use Rattle.txn_store.specs.declared.request.Request.{Request}
 use Rattle.txn_history.specs.Lists.{numbered}
-use Rattle.txn_history.specs.Seen.{Ask}
-use Rattle.txn_history.specs.GoesOn.{may_be_loose, left_loose}
+use Rattle.txn_history.specs.GoesOn.{left_loose}
 use Rattle.txn_any_machine.specs.declared.doing.AnyOperation.{AnyOperation}
 use Rattle.txn_any_machine.specs.Doing.{asked, ended}
 use Rattle.txn_any_machine.specs.Machine.{doing_next}
+use Rattle.txn_clients.specs.Operations.{asked_by}
 
 -- a set, where there is one, has the number
 abbrev pub is_in_set : Option (BTreeSet ℕ) → ℕ → Bool
@@ -19,21 +19,7 @@ is_in_set (Some set) n = contains nat_cmp set n
 abbrev pub is_in : List (BTreeSet ℕ) → ℕ → ℕ → Bool
 is_in sets client n = is_in_set (numbered sets client) n
 
--- the put or the delete of an ask, where there is one
-abbrev pub loose_of : Option Ask → Option Request
-loose_of None = None
-loose_of (Some ask) = may_be_loose ask
-
 module _ {T : Type 0} where
-  -- what it asks for, if it is there
-  abbrev pub asked_of : Option (AnyOperation T) → Option Ask
-  asked_of None = None
-  asked_of (Some operation) = asked operation.doing
-
-  -- what an operation asks for: nothing where there is none, or it has ended
-  abbrev pub asked_by : List (AnyOperation T) → ℕ → Option Ask
-  asked_by operations op = asked_of (numbered operations op)
-
   -- it is there, is this client's, and has not ended
   abbrev pub runs_as : ℕ → Option (AnyOperation T) → Bool
   runs_as client None = false

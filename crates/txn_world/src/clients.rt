@@ -1,71 +1,24 @@
 //! What the clients keep: their caches, their operations, and which of those run.
-ghost use Rattle.std.specs.Prelude.{◌≡◌, ◌||◌, ◌&&◌, ◌==◌, ◌++◌, ◌∷◌, [], ◌<◌, ◌≤◌, ◌+◌, ◌-◌, ℕ, not, true, false, None, Some, IfOk, OnOk, OnErr, IsSome, IfSome, IsTrue, is_some, is_ok, if◌then◌else◌, length, map, replicate, nat_eq, vec_len, vec_capacity};
+ghost use Rattle.std.specs.Prelude.{◌≡◌, ◌||◌, ◌&&◌, ◌==◌, ◌++◌, ◌∷◌, [], ◌<◌, ◌≤◌, ◌+◌, ◌-◌, ℕ, not, true, false, Some, IfOk, OnOk, IsSome, is_ok, if◌then◌else◌, replicate, nat_eq, vec_len, vec_capacity};
 ghost use Rattle.std.specs.List.{list_any};
 ghost use Rattle.txn_history.specs.GoesOn.{as_loose};
-ghost use Rattle.txn_machine.specs.Doing.{asks_as};
 ghost use Rattle.txn_machine.specs.Machine.{no_caches};
 ghost use Rattle.txn_any_machine.specs.declared.doing.AnyOperation.{AnyOperation};
-ghost use Rattle.txn_any_machine.specs.Doing.{asked};
 ghost use Rattle.txn_history.specs.Lists.{numbered};
-ghost use Rattle.txn_world.specs.Running.{is_in, loose_of, asked_by, runs_for, left_of, ended_where};
-ghost use Rattle.txn_world.specs.Owning.{IsFromOne};
+ghost use Rattle.txn_clients.specs.Views.{IsFromOne};
+ghost use Rattle.txn_world.specs.Running.{is_in, runs_for, left_of, ended_where};
 
 use crate::sets::numbers_of;
 use std::alloc::{AllocError, Global};
 use std::collections::BTreeSet;
-use std::mem;
 use txn_any_machine::doing::{AnyDoing, AnyOperation, Ending};
-use txn_caches::ask::Ask;
 use txn_caches::caches::Caches;
-use txn_machine::doing::Doing;
+use txn_clients::operations::{self, Usage, asked, loose_copy, runs};
 use txn_store::request::{Reply, Request};
 use txn_types::codec::ObjectCodec;
 use txn_types::epoch::EpochField;
 use txn_types::layout::Layout;
 use txn_types::room::push_within;
-
-/// Whose an operation is, and the view that it uses.
-#[derive(Clone, Copy)]
-pub(crate) struct Usage {
-    pub client: u64,
-    pub view: Option<u64>,
-    /// Whether it is a claim, which ends its view unless it is held.
-    pub claims: bool,
-}
-
-/// What an operation asks for: nothing where it is not there, or has ended.
-pub(crate) fn asked<T: Drop>(operations: &[AnyOperation<T>], op: u64) -> Option<Ask<'_>>
-    ensures { asks_as result ≡ asked_by operations.now op }
-{
-    if op == 0 {
-        return None;
-    }
-    match operations.get((op - 1) as usize) {
-        Some(operation) => operation.doing.ask(),
-        None => None,
-    }
-}
-
-/// Whether an operation has not ended.
-fn runs<T>(doing: &AnyDoing<T>) -> bool
-    ensures { result ≡ is_some (asked doing.now) }
-{
-    !matches!(doing, AnyDoing::Plain(Doing::Ended))
-}
-
-/// A copy of the put or the delete that is asked for, where one is. The only error is want of memory.
-pub(crate) fn loose_copy(ask: Option<Ask<'_>>) -> Result<Option<Request>, AllocError>
-    ensures { IfOk result (λ copy. copy ≡ loose_of (asks_as ask.entry)) }
-{
-    match ask {
-        Some(Ask::Store(request)) => match request {
-            Request::Put { .. } | Request::Delete { .. } => Ok(Some(request.try_clone()?)),
-            _ => Ok(None),
-        },
-        Some(Ask::Look) => Ok(None),
-        None => Ok(None),
-    }
-}
 
 /// Adds a request as a loose one, where there is one, where there is room.
 pub(crate) fn push_loose(loose: &mut Vec<(u64, Request)>, op: u64, copy: Option<Request>)
@@ -99,8 +52,7 @@ fn end_one<T: Drop>(operations: &mut Vec<AnyOperation<T>>, op: u64)
     requires { IsSome (numbered operations.old.items op) }
     ensures { (n : ℕ) → numbered operations.new.items n ≡ ended_where (nat_eq n op) (numbered operations.old.items n) }
 {
-    let operation = &mut operations[(op - 1) as usize];
-    drop(mem::replace(&mut operation.doing, AnyDoing::Plain(Doing::Ended)));
+    operations::end(operations, op);
 }
 
 /// Ends these operations, which are there.
@@ -227,7 +179,7 @@ pub(crate) struct Clients<T> {
 }
 
 impl<T: Clone> Clients<T> {
-    ghost use Rattle.std.specs.Prelude.{◌≡◌, ◌≤◌, ◌-◌, ◌++◌, ◌∷◌, [], map, replicate, slice_set, Some, IfOk, OnOk, OnErr, IfSome, IsSome};
+    ghost use Rattle.std.specs.Prelude.{◌≡◌, ◌≤◌, ◌-◌, ◌++◌, ◌∷◌, [], map, replicate, slice_set, Some, IfOk, OnOk, OnErr, IsSome};
     ghost use Rattle.std.specs.Option.{option_map};
     ghost use Rattle.txn_history.specs.Lists.{numbered};
     ghost use Rattle.txn_history.specs.GoesOn.{all_left_loose};
@@ -235,9 +187,9 @@ impl<T: Clone> Clients<T> {
     ghost use Rattle.txn_types.specs.Clones.{IsExactClone};
     ghost use Rattle.txn_machine.specs.Machine.{no_caches};
     ghost use Rattle.txn_any_machine.specs.Machine.{ended_by, seen_operations};
-    ghost use Rattle.txn_world.specs.Running.{asked_by};
-    ghost use Rattle.txn_world.specs.Owning.{IsFromOne};
-    ghost use Rattle.txn_world.specs.Acting.{usage_of, TakesReply, Ends, TakesTurn};
+    ghost use Rattle.txn_clients.specs.Operations.{asked_by, usage_of, TakesReply};
+    ghost use Rattle.txn_clients.specs.Views.{IsFromOne};
+    ghost use Rattle.txn_world.specs.Acting.{EndsAmong, TurnsAmong};
 
     pub fn new(alloc: Global, count: u64) -> Result<Clients<T>, AllocError>
         ensures count { IfOk result (λ clients. clients.count ≡ count) }
@@ -260,12 +212,7 @@ impl<T: Clone> Clients<T> {
         ensures some { 1 ≤ result.client }
         ensures within { result.client ≤ self.now.count }
     {
-        let operation = &self.operations[(op - 1) as usize];
-        Usage {
-            client: operation.client,
-            view: operation.view,
-            claims: operation.claims,
-        }
+        operations::usage_at(&self.operations, op)
     }
 
     /// Adds an operation. The only error is want of memory, and then nothing changes.
@@ -307,12 +254,19 @@ impl<T: Clone> Clients<T> {
         requires boundary { layout.now.boundary ≡ world_boundary }
         requires takes { TakesReply self.old.operations.items op reply }
         ensures count { self.new.count ≡ self.old.count }
-        ensures turned { TakesTurn layout.now.page (C.encoded layout.now.codec) (C.decoded layout.now.codec) (E.epoch_of epochs.now) (E.with_epoch epochs.now) self.old.operations.items self.old.caches.items op reply self.new.operations.items self.new.caches.items result }
+        ensures turned { TurnsAmong layout.now.page (C.encoded layout.now.codec) (C.decoded layout.now.codec) (E.epoch_of epochs.now) (E.with_epoch epochs.now) self.old.operations.items self.old.caches.items op reply self.new.operations.items self.new.caches.items result }
     {
-        let operation = &mut self.operations[(op - 1) as usize];
-        let client = operation.client;
+        let client = self.usage(op).client;
         let caches = &mut self.caches[(client - 1) as usize];
-        let ending = operation.doing.take(alloc, layout, epochs, caches, reply);
+        let ending = operations::turn(
+            alloc,
+            layout,
+            epochs,
+            &mut self.operations,
+            caches,
+            op,
+            reply,
+        );
         delist(&mut self.running, client, op, ending.is_some());
         ending
     }
@@ -322,11 +276,10 @@ impl<T: Clone> Clients<T> {
         requires { IsSome (asked_by self.old.operations.items op) }
         ensures count { self.new.count ≡ self.old.count }
         ensures caches { self.new.caches.items ≡ self.old.caches.items }
-        ensures ended { Ends self.old.operations.items self.old.caches.items op self.new.operations.items }
+        ensures ended { EndsAmong self.old.operations.items self.old.caches.items op self.new.operations.items }
     {
-        let operation = &mut self.operations[(op - 1) as usize];
-        let client = operation.client;
-        drop(mem::replace(&mut operation.doing, AnyDoing::Plain(Doing::Ended)));
+        let client = self.usage(op).client;
+        operations::end(&mut self.operations, op);
         delist(&mut self.running, client, op, true);
     }
 

@@ -7,13 +7,14 @@ ghost use Rattle.txn_history.specs.declared.trace.RowOf.TheVariants.{Answered};
 ghost use Rattle.txn_history.specs.Added.{told_of, answer_rows};
 ghost use Rattle.txn_any_machine.specs.Doing.{refusal_in};
 ghost use Rattle.txn_any_machine.specs.Machine.{answered, let_go, views_changed, views_after};
+ghost use Rattle.txn_clients.specs.Views.{IsFromOne};
 ghost use Rattle.txn_world.specs.Beside.{ending_count};
-ghost use Rattle.txn_world.specs.Owning.{room_of, IsFromOne};
+ghost use Rattle.txn_world.specs.Owning.{room_of};
 
-use crate::clients::Usage;
 use crate::trace::Trace;
 use crate::views::Views;
 use txn_any_machine::doing::Ending;
+use txn_clients::operations::Usage;
 use txn_history::event::Answer;
 use txn_types::codec::ObjectCodec;
 use txn_types::epoch::EpochField;

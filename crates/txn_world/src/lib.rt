@@ -1,8 +1,6 @@
 //! Clients over one store of versions, one event at a time.
 #![tactic(auto)]
 
-mod calls;
-mod changes;
 mod clients;
 mod ends;
 mod entries;

@@ -1,41 +1,12 @@
 //! Why an event is refused.
-ghost use Rattle.std.specs.Prelude.{◌≡◌, None, Some, is_some, if◌then◌else◌};
-ghost use Rattle.txn_history.specs.Allowed.{ask_fault};
-ghost use Rattle.txn_history.specs.declared.event.EventFault.TheVariants.{UnknownNumber};
-ghost use Rattle.txn_machine.specs.Doing.{asks_as};
-
-use crate::calls::{is_holders, value_written, view_used};
 use crate::tables::Tables;
-use txn_caches::ask::Ask;
+use txn_clients::calls::{is_holders, value_written, view_used};
+use txn_clients::refusals::{self, ask_refusal, end_refusal};
 use txn_history::event::{Call, EventFault};
 use txn_types::codec::ObjectCodec;
 use txn_types::epoch::EpochField;
-use txn_view_history::event::{AnyCall, AnyEvent, ViewCall};
+use txn_view_history::event::{AnyCall, AnyEvent};
 use txn_view_history::view::View;
-
-/// Why an operation that asks for this is refused a look, or a store call.
-fn ask_refusal(store: bool, ask: Option<Ask<'_>>) -> Option<EventFault>
-    ensures { result ≡ ask_fault store (asks_as ask.entry) }
-{
-    match ask {
-        None => Some(EventFault::UnknownNumber),
-        Some(Ask::Store(_)) if store => None,
-        Some(Ask::Look) if !store => None,
-        Some(Ask::Store(_)) => Some(EventFault::NotAsked),
-        Some(Ask::Look) => Some(EventFault::NotAsked),
-    }
-}
-
-/// Why what asks for this is refused to be given up.
-fn end_refusal(ask: Option<Ask<'_>>) -> Option<EventFault>
-    ensures { result ≡ (if is_some (asks_as ask.entry) then None else Some UnknownNumber) }
-{
-    match ask {
-        None => Some(EventFault::UnknownNumber),
-        Some(Ask::Store(_)) => None,
-        Some(Ask::Look) => None,
-    }
-}
 
 impl<T: Clone, C: ObjectCodec<T> + Drop, E: EpochField<T>> Tables<T, C, E> {
     ghost use Rattle.std.specs.Prelude.{◌≡◌, Some, IsSome, is_some};
@@ -71,13 +42,7 @@ impl<T: Clone, C: ObjectCodec<T> + Drop, E: EpochField<T>> Tables<T, C, E> {
     fn may_use(&self, client: u64, holders: bool, view: Option<u64>) -> bool
         ensures { result ≡ may_use (seen_of (shown self.now)) client holders view }
     {
-        let Some(number) = view else {
-            return true;
-        };
-        match self.view(number) {
-            Some(view) => view.client == client && holders == view.epoch.is_some(),
-            None => false,
-        }
+        refusals::may_use(&self.views.used, client, holders, view)
     }
 
     /// Whether an operation runs on the view of a call, if it has one, which stands.
@@ -96,13 +61,7 @@ impl<T: Clone, C: ObjectCodec<T> + Drop, E: EpochField<T>> Tables<T, C, E> {
     fn base(&self, call: &AnyCall<T>) -> Option<u64>
         ensures { result ≡ base_seen (seen_of (shown self.now)) call.now }
     {
-        match call {
-            AnyCall::Plain(Call::Write(base, _)) => *base,
-            AnyCall::Plain(Call::WriteUnchecked(base, _)) => *base,
-            AnyCall::View(ViewCall::Update(view, _)) => Some(self.view(*view)?.id),
-            AnyCall::View(ViewCall::HolderUpdate(view, _)) => Some(self.view(*view)?.id),
-            _ => None,
-        }
+        refusals::base(&self.views.used, call)
     }
 
     /// Whether a base is none, or an id that some call answered.

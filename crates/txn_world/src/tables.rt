@@ -1,12 +1,7 @@
 //! All that a world keeps, and its step.
-ghost use Rattle.std.specs.Prelude.{◌≡◌, IfOk};
-ghost use Rattle.std.specs.Option.{option_copied};
-ghost use Rattle.txn_history.specs.Names.{world_names, world_boundary};
-ghost use Rattle.txn_machine.specs.Doing.{asks_as};
-ghost use Rattle.txn_world.specs.Answering.{request_of};
+ghost use Rattle.std.specs.Prelude.{◌≡◌};
 
-use crate::calls::view_used;
-use crate::clients::{Clients, Usage, asked, loose_copy, push_loose};
+use crate::clients::{Clients, push_loose};
 use crate::ends::{refuse, tell, tell_begin};
 use crate::reach::{Taker, reach};
 use crate::sets::ascending;
@@ -15,50 +10,17 @@ use crate::views::Views;
 use std::alloc::{AllocError, Global};
 use txn_any_machine::doing::{is_claim, start};
 use txn_caches::ask::Ask;
+use txn_clients::calls::view_used;
+use txn_clients::layout::world_layout;
+use txn_clients::operations::{Usage, asked, loose_copy, request_of};
 use txn_history::event::{EventFault, Failure};
 use txn_store::in_memory::InMemory;
-use txn_store::path::{Path, PathFault};
 use txn_store::request::Request;
 use txn_types::codec::ObjectCodec;
 use txn_types::epoch::EpochField;
-use txn_types::layout::Layout;
 use txn_types::room::push_within;
 use txn_view_history::event::{AnyCall, AnyEvent, AnyTold};
 use txn_view_history::trace::AnyRow;
-
-/// The request that is asked for, where a store call is.
-fn request_of(ask: Option<Ask<'_>>) -> Option<&Request>
-    ensures { option_copied result ≡ request_of (asks_as ask.entry) }
-{
-    match ask {
-        None => None,
-        Some(Ask::Store(request)) => Some(request),
-        Some(Ask::Look) => None,
-    }
-}
-
-/// Versions are the files root/test/<n>.val, and the boundary is the file root/gc/test.boundary. A page of a listing
-/// has at most so many files.
-fn world_layout<C: Drop>(alloc: Global, codec: C, page: u64) -> Result<Layout<C>, AllocError>
-    ensures names { IfOk result (λ layout. layout.names ≡ world_names) }
-    ensures boundary { IfOk result (λ layout. layout.boundary ≡ world_boundary) }
-    ensures codec { IfOk result (λ layout. layout.codec ≡ codec) }
-    ensures page { IfOk result (λ layout. layout.page ≡ page) }
-{
-    let root = match Path::root(alloc).join("root") {
-        Ok(root) => root,
-        Err(PathFault::NoMemory) => return Err(AllocError),
-        Err(PathFault::BadSegment) => unreachable!(),
-    };
-    match Layout::new(alloc, &root, "test", "val", codec) {
-        Ok(mut layout) => {
-            layout.page = page;
-            Ok(layout)
-        }
-        Err(PathFault::NoMemory) => Err(AllocError),
-        Err(PathFault::BadSegment) => unreachable!(),
-    }
-}
 
 /// All that a world keeps.
 #[derive(Drop)]
@@ -87,9 +49,9 @@ impl<T: Clone, C: ObjectCodec<T> + Drop, E: EpochField<T>> Tables<T, C, E> {
     ghost use Rattle.txn_machine.specs.Machine.{fault_met};
     ghost use Rattle.txn_types.specs.Clones.{IsExactClone};
     ghost use Rattle.txn_any_machine.specs.Machine.{opening, seen_calls, seen_of, Begins, Looks, Served, FailsFirst, FailsAfter, GivesUp, Lands, Crashes, Steps, Takes};
-    ghost use Rattle.txn_world.specs.Running.{asked_by};
-    ghost use Rattle.txn_world.specs.Owning.{IsFromOne};
-    ghost use Rattle.txn_world.specs.Answering.{IsAnswerable, ToldFailure, request_of};
+    ghost use Rattle.txn_clients.specs.Operations.{asked_by, request_of};
+    ghost use Rattle.txn_clients.specs.Views.{IsFromOne};
+    ghost use Rattle.txn_world.specs.Answering.{IsAnswerable, ToldFailure};
     ghost use Rattle.txn_world.specs.Shown.{shown};
 
     pub fn new(

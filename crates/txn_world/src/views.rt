@@ -1,42 +1,33 @@
 //! The views of all clients, as they stand.
-ghost use Rattle.std.specs.Prelude.{◌≡◌, ◌||◌, ◌&&◌, ◌==◌, ◌++◌, ◌<◌, ◌≤◌, ℕ, not, true, false, is_some, None, Some, IfOk, OnOk, IsSome, nat_eq, vec_len, vec_capacity};
+ghost use Rattle.std.specs.Prelude.{◌≡◌, ◌||◌, ◌&&◌, ◌==◌, ◌≤◌, ℕ, not, true, false, is_some, Some, IfOk, OnOk, IsSome, nat_eq, vec_len};
 ghost use Rattle.std.specs.HashSet.{contains};
 ghost use Rattle.std.specs.Option.{ForSome};
 ghost use Rattle.txn_history.specs.Lists.{numbered};
 ghost use Rattle.txn_history.specs.History.{is_id};
-ghost use Rattle.txn_any_machine.specs.Machine.{used_by, with_used};
-ghost use Rattle.txn_world.specs.Owning.{owns, room_of, stands_for, emptied_where, as_made};
+ghost use Rattle.txn_any_machine.specs.Machine.{used_by};
+ghost use Rattle.txn_world.specs.Owning.{owns, owner_of, room_of, stands_for, emptied_where};
 
-use crate::changes::{Answers, comes_to, left, makes, owner, taken};
-use crate::clients::Usage;
 use crate::sets::insert_id;
 use std::alloc::{AllocError, Global};
 use std::collections::HashSet;
 use txn_any_machine::doing::Ending;
-use txn_types::room::push_within;
+use txn_clients::operations::Usage;
+use txn_clients::views::{self, Answers};
 use txn_view_history::view::View;
 use txn_view_machine::used::Used;
 
-/// Takes a view out of its place, where it stands.
-fn take_out<T: Drop>(used: &mut Vec<Option<Used<T>>>, number: u64) -> Option<Used<T>>
-    requires { 1 ≤ number }
-    ensures used { result ≡ used_by used.old.items (Some number) }
-    ensures rest { used.new.items ≡ with_used used.old.items (Some number) None }
+/// The client of the view of this number, where it stands.
+fn owner<T>(used: &[Option<Used<T>>], number: u64) -> Option<u64>
+    ensures { result ≡ owner_of (used_by used.now (Some number)) }
 {
-    if number > used.len() as u64 {
-        return None;
-    }
-    used[(number - 1) as usize].take()
+    Some(views::get(used, number)?.client)
 }
 
-/// Puts this into the place of a view, where there is one.
-fn put_back<T: Drop>(used: &mut Vec<Option<Used<T>>>, number: u64, view: Option<Used<T>>)
-    requires { 1 ≤ number }
-    ensures { used.new.items ≡ with_used used.old.items (Some number) view }
+/// Whether the view of this number stands.
+fn stands<T>(used: &[Option<Used<T>>], number: u64) -> bool
+    ensures { result ≡ is_some (used_by used.now (Some number)) }
 {
-    if number <= used.len() as u64 {
-        used[(number - 1) as usize] = view;
-    }
+    views::get(used, number).is_some()
 }
 
 /// Takes a view from its client's, where it ends.
@@ -65,15 +56,17 @@ fn make_room(owned: &mut Vec<HashSet<u64>>, client: u64) -> Result<(), AllocErro
     owned[(client - 1) as usize].reserve(1)
 }
 
-/// Adds a number to those of a client, where there is room.
-fn own(owned: &mut Vec<HashSet<u64>>, client: u64, number: u64)
+/// Adds a view to its client's, where it was made, where there is room.
+fn own(owned: &mut Vec<HashSet<u64>>, client: u64, number: u64, made: bool)
     requires some { 1 ≤ client }
     requires within { client ≤ vec_len owned.old }
     requires room { 1 ≤ room_of owned.old.items client }
-    ensures entered { (c n : ℕ) → owns owned.new.items c n ≡ (owns owned.old.items c n || ((client == c) && (number == n))) }
+    ensures entered { (c n : ℕ) → owns owned.new.items c n ≡ (owns owned.old.items c n || (made && ((client == c) && (number == n)))) }
     ensures len { vec_len owned.new ≡ vec_len owned.old }
 {
-    insert_id(&mut owned[(client - 1) as usize], number);
+    if made {
+        insert_id(&mut owned[(client - 1) as usize], number);
+    }
 }
 
 /// Takes all numbers from those of a client.
@@ -86,35 +79,13 @@ fn disown_all(owned: &mut Vec<HashSet<u64>>, client: u64)
     owned[(client - 1) as usize].clear();
 }
 
-/// Adds a view that is made, where one is, where there is room.
-fn add<T: Drop>(
-    used: &mut Vec<Option<Used<T>>>,
-    owned: &mut Vec<HashSet<u64>>,
-    client: u64,
-    number: u64,
-    made: Option<Used<T>>,
-)
-    requires some { 1 ≤ client }
-    requires within { client ≤ vec_len owned.old }
-    requires room { vec_len used.old < vec_capacity used.old }
-    requires room_owned { 1 ≤ room_of owned.old.items client }
-    ensures used { used.new.items ≡ used.old.items ++ as_made made }
-    ensures entered { (c n : ℕ) → owns owned.new.items c n ≡ (owns owned.old.items c n || (is_some made && ((client == c) && (number == n)))) }
-    ensures len { vec_len owned.new ≡ vec_len owned.old }
-{
-    if let Some(view) = made {
-        push_within(used, Some(view));
-        own(owned, client, number);
-    }
-}
-
 /// Ends the views of these numbers, which are there.
 fn end_views<T: Drop>(used: &mut Vec<Option<Used<T>>>, numbers: &HashSet<u64>)
     requires { (n : ℕ) → contains nat_eq numbers.now n ≡ true → IsSome (numbered used.old.items n) }
     ensures { (n : ℕ) → numbered used.new.items n ≡ emptied_where (contains nat_eq numbers.now n) (numbered used.old.items n) }
 {
     for number in numbers {
-        put_back(used, *number, None);
+        views::put(used, *number, None);
     }
 }
 
@@ -147,9 +118,9 @@ impl<T: Drop> Views<T> {
     ghost use Rattle.std.specs.Option.{option_copied, ForSome};
     ghost use Rattle.txn_view_machine.specs.Steps.{view_without};
     ghost use Rattle.txn_machine.specs.Doing.{first_of};
-    ghost use Rattle.txn_any_machine.specs.Machine.{seen_view, used_by, let_go, change_of, made_by, answer_of, answered, views_changed, views_after, views_taken};
-    ghost use Rattle.txn_world.specs.Beside.{told_count, ending_count};
-    ghost use Rattle.txn_world.specs.Owning.{room_of, is_used, IsFromOne};
+    ghost use Rattle.txn_any_machine.specs.Machine.{seen_view, used_by, let_go, answered, views_changed, views_after, views_taken};
+    ghost use Rattle.txn_clients.specs.Views.{is_used, IsFromOne};
+    ghost use Rattle.txn_world.specs.Owning.{room_of};
 
     pub fn new(alloc: Global, count: u64) -> Result<Views<T>, AllocError>
         ensures count { IfOk result (λ views. views.count ≡ count) }
@@ -173,33 +144,21 @@ impl<T: Drop> Views<T> {
     pub fn get(&self, number: u64) -> Option<&View<T>>
         ensures { option_copied result ≡ seen_view (used_by self.now.used.items (Some number)) }
     {
-        if number == 0 {
-            return None;
-        }
-        match self.used.get((number - 1) as usize)? {
-            Some(used) => Some(&used.view),
-            None => None,
-        }
+        views::get(&self.used, number)
     }
 
     /// The view that a call uses, where it uses one and that stands.
     pub fn find(&self, view: Option<u64>) -> Option<&View<T>>
         ensures { option_copied result ≡ seen_view (used_by self.now.used.items view) }
     {
-        self.get(view?)
+        views::find(&self.used, view)
     }
 
     /// Whether an operation uses the view of this number.
     pub fn is_used(&self, number: u64) -> bool
         ensures { result ≡ is_used (used_by self.now.used.items (Some number)) }
     {
-        if number == 0 {
-            return false;
-        }
-        match self.used.get((number - 1) as usize) {
-            Some(Some(used)) => used.busy.is_some(),
-            _ => false,
-        }
+        views::is_used(&self.used, number)
     }
 
     /// Makes room for a view of this client. The only error is want of memory.
@@ -221,11 +180,7 @@ impl<T: Drop> Views<T> {
         ensures count { self.new.count ≡ self.old.count }
         ensures used { self.new.used.items ≡ views_taken self.old.used.items view op }
     {
-        let Some(number) = view else {
-            return;
-        };
-        let used = taken(take_out(&mut self.used, number), op);
-        put_back(&mut self.used, number, used);
+        views::take(&mut self.used, view, op);
     }
 
     /// An operation lets its view go and does not come to it: the view of a claim ends.
@@ -237,45 +192,45 @@ impl<T: Drop> Views<T> {
         let Some(number) = view else {
             return;
         };
-        let used = take_out(&mut self.used, number);
-        let owner = owner(&used);
-        let used = left(used, claims);
-        disown(&mut self.owned, owner, number, used.is_none());
-        put_back(&mut self.used, number, used);
+        let owner = owner(&self.used, number);
+        views::let_go(&mut self.used, view, claims);
+        let stands = stands(&self.used, number);
+        disown(&mut self.owned, owner, number, !stands);
     }
 
-    /// An operation that uses this view has ended: what becomes of the view, and the answer.
-    fn change(&mut self, number: u64, claims: bool, ending: Ending<T>) -> Answers<T>
-        requires { 1 ≤ number }
+    /// An operation that uses this view has ended: what becomes of the view, and its answer twice.
+    fn change(&mut self, number: u64, of: Usage, ending: Ending<T>) -> Option<Answers<T>>
+        requires uses { of.view ≡ Some number }
+        requires view { 1 ≤ number }
+        requires room { vec_len self.old.used < vec_capacity self.old.used }
         ensures count { self.new.count ≡ self.old.count }
-        ensures used { self.new.used.items ≡ views_changed self.old.used.items (Some number) (change_of claims ending) }
-        ensures answer { result.0 ≡ answer_of (length self.old.used.items) (Some number) ending }
-        ensures twice { result.1 ≡ result.0 }
-        ensures ids { told_count result.0 ≤ ending_count ending }
+        ensures used { self.new.used.items ≡ views_after self.old.used.items of.client of.view of.claims (Some ending) }
+        ensures answer { first_of result ≡ answered (length self.old.used.items) of.view (Some ending) }
+        ensures twice { ForSome result (λ pair. pair.1 ≡ pair.0) }
     {
-        let used = take_out(&mut self.used, number);
-        let owner = owner(&used);
-        let (used, answers) = comes_to(used, number, claims, ending);
-        disown(&mut self.owned, owner, number, used.is_none());
-        put_back(&mut self.used, number, used);
+        let owner = owner(&self.used, number);
+        let answers = views::settle(&mut self.used, of, Some(ending));
+        let stands = stands(&self.used, number);
+        disown(&mut self.owned, owner, number, !stands);
         answers
     }
 
-    /// An operation that used no view has ended: the view that it makes, where it makes one, and the answer.
-    fn make(&mut self, client: u64, ending: Ending<T>) -> Answers<T>
-        requires some { 1 ≤ client }
-        requires within { client ≤ self.old.count }
+    /// An operation that used no view has ended: the view that it makes, where it makes one, and its answer twice.
+    fn make(&mut self, of: Usage, ending: Ending<T>) -> Option<Answers<T>>
+        requires uses { of.view ≡ None }
+        requires some { 1 ≤ of.client }
+        requires within { of.client ≤ self.old.count }
         requires room { vec_len self.old.used < vec_capacity self.old.used }
-        requires room_owned { 1 ≤ room_of self.old.owned.items client }
+        requires room_owned { 1 ≤ room_of self.old.owned.items of.client }
         ensures count { self.new.count ≡ self.old.count }
-        ensures used { self.new.used.items ≡ self.old.used.items ++ made_by client ending }
-        ensures answer { result.0 ≡ answer_of (length self.old.used.items) None ending }
-        ensures twice { result.1 ≡ result.0 }
-        ensures ids { told_count result.0 ≤ ending_count ending }
+        ensures used { self.new.used.items ≡ views_after self.old.used.items of.client of.view of.claims (Some ending) }
+        ensures answer { first_of result ≡ answered (length self.old.used.items) of.view (Some ending) }
+        ensures twice { ForSome result (λ pair. pair.1 ≡ pair.0) }
     {
         let number = self.len() + 1;
-        let (made, answers) = makes(client, number, ending);
-        add(&mut self.used, &mut self.owned, client, number, made);
+        let answers = views::settle(&mut self.used, of, Some(ending));
+        let made = stands(&self.used, number);
+        own(&mut self.owned, of.client, number, made);
         answers
     }
 
@@ -290,13 +245,12 @@ impl<T: Drop> Views<T> {
         ensures used { self.new.used.items ≡ views_after self.old.used.items of.client of.view of.claims ending }
         ensures answer { first_of result ≡ answered (length self.old.used.items) of.view ending }
         ensures twice { ForSome result (λ pair. pair.1 ≡ pair.0) }
-        ensures ids { ForSome result (λ pair. ForSome ending (λ e. told_count pair.0 ≤ ending_count e)) }
     {
         let ending = ending?;
-        Some(match of.view {
-            Some(number) => self.change(number, of.claims, ending),
-            None => self.make(of.client, ending),
-        })
+        match of.view {
+            Some(number) => self.change(number, of, ending),
+            None => self.make(of, ending),
+        }
     }
 
     /// A client loses its views. It takes time by how many of them stand.

@@ -1,6 +1,7 @@
 use Rattle.std.proofs.Common.{ap, ◌∙◌, arith}
 use Rattle.std.proofs.lemmas.List.{take_all}
-use Rattle.txn_world.specs.Running.{loose_of, left_of}
+use Rattle.txn_clients.specs.Operations.{loose_of}
+use Rattle.txn_world.specs.Running.{left_of}
 use Rattle.txn_world.proofs.Running.{one_left}
 use Rattle.txn_world.proofs.clients.left_of.Goals as goal
 

@@ -1,8 +1,7 @@
 use Rattle.std.proofs.Common.{refl, ap, ◌∙◌}
 use Rattle.txn_store.specs.Memory.{searched_state}
 use Rattle.txn_any_machine.specs.Machine.{effected}
-use Rattle.txn_world.specs.Running.{asked_by}
-use Rattle.txn_world.specs.Answering.{request_of}
+use Rattle.txn_clients.specs.Operations.{asked_by, request_of}
 use Rattle.txn_world.specs.Shown.{shown}
 use Rattle.txn_world.proofs.Stepping.{request_asked, asks_some, same_state, failed_after}
 use Rattle.txn_world.proofs.tables.Tables.fail_after.Goals as goal

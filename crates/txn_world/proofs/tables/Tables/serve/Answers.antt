@@ -4,8 +4,7 @@ use Rattle.txn_history.specs.declared.event.ToldOf.TheVariants as told
 use Rattle.txn_history.specs.Added.{told_of, answer_rows}
 use Rattle.txn_view_machine.specs.Layer.{Used}
 use Rattle.txn_any_machine.specs.Machine.{answered, views_after}
-use Rattle.txn_world.specs.Running.{asked_by}
-use Rattle.txn_world.specs.Answering.{request_of}
+use Rattle.txn_clients.specs.Operations.{asked_by, request_of}
 use Rattle.txn_world.specs.Shown.{shown}
 use Rattle.txn_world.proofs.Stepping.{request_asked, takes_store, served}
 use Rattle.txn_world.proofs.tables.Tables.serve.Goals as goal

@@ -1,32 +1,26 @@
-use Rattle.std.proofs.Common.{◌∙◌, Some, ap, arith}
-use Rattle.txn_any_machine.specs.Machine.{used_by, with_used, let_go}
-use Rattle.txn_view_machine.specs.Layer.{changed}
+use Rattle.std.proofs.Common.{◌∙◌, Some, is_some, ap, arith}
+use Rattle.txn_any_machine.specs.Machine.{used_by, let_go}
 use Rattle.txn_world.specs.Owning.{owner_of}
-use Rattle.txn_world.proofs.Owning.{put_in, changed_keeps, owned_changed, owners_there}
+use Rattle.txn_world.proofs.Owning.{owned_by_change, owners_there}
 use Rattle.txn_world.proofs.views.Views.let_go.Goals as goal
 
 pub disown-requires-clause-some : goal.disown-requires-clause-some
 disown-requires-clause-some g c = λ client is.
     let t = c.args.self.now in
-    (owners_there t.owned.items t.used.items c.in-Some.number c.owner-owner.result t.all_owned (c.owner-owner.ensures ∙ ap owner_of c.take_out-used.ensures.used) client is).0
+    (owners_there t.owned.items t.used.items c.in-Some.number c.owner-owner.result t.all_owned (c.owner-owner.ensures ∙ ap (λ us. owner_of (used_by us (Some c.in-Some.number))) c.deref.ensures.value) client is).0
 
 pub disown-requires-clause-within : goal.disown-requires-clause-within
 disown-requires-clause-within g c = λ client is.
     let t = c.args.self.now in
-    let there = (owners_there t.owned.items t.used.items c.in-Some.number c.owner-owner.result t.all_owned (c.owner-owner.ensures ∙ ap owner_of c.take_out-used.ensures.used) client is).1 in
+    let there = (owners_there t.owned.items t.used.items c.in-Some.number c.owner-owner.result t.all_owned (c.owner-owner.ensures ∙ ap (λ us. owner_of (used_by us (Some c.in-Some.number))) c.deref.ensures.value) client is).1 in
     omega (arith, there, t.owned.ok.0)
 
 pub invariant_of-self : goal.invariant_of-self
 invariant_of-self g c =
     let t = c.args.self.now in
-    let is = put_in t.used.items c.take_out-used.new.used.items c.put_back.new.used.items c.in-Some.number c.left-used.result c.take_out-used.ensures.rest c.put_back.ensures in
+    let number = c.in-Some.number in
     record {
       each = c.disown.ensures.len ∙ t.each;
-      all_owned = owned_changed t.owned.items c.disown.new.owned.items t.used.items c.put_back.new.used.items c.in-Some.number c.owner-owner.result c.left-used.result c.is_none.result t.all_owned (c.requires c.in-Some.number c.in-Some.is) (c.owner-owner.ensures ∙ ap owner_of c.take_out-used.ensures.used) is (rw (c.left-used.ensures, c.take_out-used.ensures.used) (changed_keeps (used_by t.used.items (Some c.in-Some.number)) (let_go c.args.claims))) c.is_none.ensures c.disown.ensures.left;
+      all_owned = owned_by_change t.owned.items c.disown.new.owned.items t.used.items c.let_go.new.views.items number c.owner-owner.result (let_go c.args.claims) c.stands-stands.result t.all_owned (c.requires number c.in-Some.is)
+          (c.owner-owner.ensures ∙ ap (λ us. owner_of (used_by us (Some number))) c.deref.ensures.value) c.let_go.ensures.used (c.stands-stands.ensures ∙ ap (λ us. is_some (used_by us (Some number))) c.deref-2.ensures.value) c.disown.ensures.left;
     }
-
-pub returns-clause-used : goal.returns-clause-used
-returns-clause-used g c =
-    let t = c.args.self.now in
-    let is = put_in t.used.items c.take_out-used.new.used.items c.put_back.new.used.items c.in-Some.number c.left-used.result c.take_out-used.ensures.rest c.put_back.ensures in
-    rw c.in-Some.is (is ∙ ap (with_used t.used.items (Some c.in-Some.number)) (c.left-used.ensures ∙ ap (λ u. changed u (let_go c.args.claims)) c.take_out-used.ensures.used))

@@ -1,11 +1,14 @@
-use Rattle.std.proofs.Common.{◌∙◌, ◌+◌, ap}
-use Rattle.txn_world.proofs.Owning.{owned_more}
+use Rattle.std.proofs.Common.{◌∙◌, ◌+◌, Some, is_some, ap}
+use Rattle.txn_any_machine.specs.Machine.{used_by, views_after}
+use Rattle.txn_world.proofs.Owning.{owned_by_made}
 use Rattle.txn_world.proofs.views.Views.make.Goals as goal
 
 pub invariant_of-self : goal.invariant_of-self
 invariant_of-self g c =
     let t = c.args.self.now in
+    let number = c.len-number.result + 1 in
     record {
-      each = c.add.ensures.len ∙ t.each;
-      all_owned = owned_more t.owned.items c.add.new.owned.items t.used.items c.add.new.used.items c.args.client (c.len-number.result + 1) c.makes-made.result.0 t.all_owned (ap (λ n. n + 1) c.len-number.ensures) c.makes-made.ensures.client c.add.ensures.used c.add.ensures.entered;
+      each = c.own.ensures.len ∙ t.each;
+      all_owned = owned_by_made t.owned.items c.own.new.owned.items t.used.items c.settle-answers.new.views.items c.args.of.client number c.args.ending c.stands-made.result t.all_owned (ap (λ n. n + 1) c.len-number.ensures)
+          (c.settle-answers.ensures.used ∙ ap (λ v. views_after t.used.items c.args.of.client v c.args.of.claims (Some c.args.ending)) c.requires.uses) (c.stands-made.ensures ∙ ap (λ us. is_some (used_by us (Some number))) c.deref.ensures.value) c.own.ensures.entered;
     }
