@@ -27,6 +27,7 @@ SCRIPTS = (
 # The tests that hold whichever growth is refused, by the crate whose tests they are.
 TESTS = {
     "txn_store_tests": ("many::a_refused_growth_leaves_the_store",),
+    "txn_objects_tests": ("refused::a_refused_growth_leaves_what_was",),
     "txn_tests": ("refused::a_refused_event_is_taken_again",),
 }
 # How the name of a build of tests ends, after its crate's.
