@@ -1,4 +1,4 @@
-//! A holder over a store of which one call fails, before or after its effect.
+//! Views and holders over a store of which one call fails, before or after its effect.
 use crate::game::{a_game, a_store, mended, other_in, play};
 use crate::steps::Seat::{A, B};
 use crate::steps::Step::{Claim, Holds, Init, List, Load, Newest, Update};
