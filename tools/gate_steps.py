@@ -13,6 +13,8 @@ import time
 from dataclasses import dataclass
 
 from crate_copies import all_below, crates_listed, lines_of_crates
+from refuse_growths import TESTS as SWEPT
+from refuse_growths import TESTS_ENDING
 
 # How the names of the two builds of a program end that `rt ci` leaves in its out/: LLVM's, and Rattle's own compiler's.
 BUILDS = ("", ".by-rattle")
@@ -22,6 +24,7 @@ PROGRAM_OF_CASES = "txnworld_cli"
 TESTS = "_tests"
 LAST_LINE = re.compile(r"(\d+) passed, (\d+) failed")
 TESTS_LINE = re.compile(r"^test result: \w+\. (\d+) passed; (\d+) failed", re.M)
+REFUSALS_LINE = re.compile(r"(\d+) refusals, (\d+) odd")
 
 
 @dataclass
@@ -65,10 +68,20 @@ def run_and_show(words, folder):
     return process.returncode, "".join(lines), time.monotonic() - started, used.ru_utime + used.ru_stime
 
 
+def last_line_of(text):
+    return text.rstrip("\n").split("\n")[-1]
+
+
 def count_of_last_line(text):
     """What a last line 'N passed, M failed' counts, or one failure where the text has no such last line."""
-    found = LAST_LINE.fullmatch((text.rstrip("\n").split("\n") or [""])[-1])
+    found = LAST_LINE.fullmatch(last_line_of(text))
     return (int(found[1]), int(found[2])) if found else (0, 1)
+
+
+def count_of_refusals(text):
+    """How many refused growths a last line 'N refusals, M odd' counts as ended well, and how many as odd."""
+    found = REFUSALS_LINE.fullmatch(last_line_of(text))
+    return (max(0, int(found[1]) - int(found[2])), int(found[2])) if found else (0, 1)
 
 
 def count_of_unittest(text):
@@ -76,8 +89,7 @@ def count_of_unittest(text):
     ran = re.findall(r"^Ran (\d+) tests? in ", text, re.M)
     if not ran or not int(ran[-1]):
         return 0, 1
-    last_line = text.rstrip("\n").split("\n")[-1]
-    bad = sum(map(int, re.findall(r"(?:failures|errors|unexpected successes)=(\d+)", last_line)))
+    bad = sum(map(int, re.findall(r"(?:failures|errors|unexpected successes)=(\d+)", last_line_of(text))))
     return max(0, int(ran[-1]) - bad), bad
 
 
@@ -143,6 +155,15 @@ def case_steps(root, programs):
             yield step("cases", [f"{root}/tools/replay-cases", *made], root)
 
 
+def refusal_steps(root, programs):
+    """Refuses each growth of what these programs and the crates of this folder leave to be swept, where they leave some."""
+    builds = builds_of(root, PROGRAM_OF_CASES) if PROGRAM_OF_CASES in programs else []
+    tests = [it for it in SWEPT if os.path.isdir(f"{root}/crates/{it}")]
+    builds += [f"{root}/crates/{it}/out/{it}{TESTS_ENDING}" for it in tests]
+    if builds:
+        yield step("refused growths", [f"{root}/tools/refuse-growths", *builds], root, count_of_refusals)
+
+
 def table(steps):
     """The steps as lines: counts, real time and processor time."""
     width = max(len(it.name) for it in steps)
@@ -180,8 +201,9 @@ def steps_of(root, top, given):
     with_edits = [it for it in given.crates if os.path.isdir(f"{top}/crates/{it}/wrong-bodies")]
     if with_edits or not given.crates:
         yield step("wrong bodies", [f"{top}/tools/wrong-bodies", *with_edits, "--after-ci", *every, *anew], top)
-    programs = programs_in(top)
-    yield from case_steps(top, programs if given.crates else sorted({*programs, PROGRAM_OF_CASES}))
+    programs = programs_in(top) if given.crates else sorted({*programs_in(top), PROGRAM_OF_CASES})
+    yield from case_steps(top, programs)
+    yield from refusal_steps(top, programs)
 
 
 def arguments_of(words, usage):

@@ -11,8 +11,8 @@ sys.dont_write_bytecode = True
 sys.path.insert(0, os.path.dirname(os.path.dirname(os.path.realpath(__file__))))
 
 import gate_steps  # noqa: E402
-from gate_steps import Step, case_steps, count_of_ci, count_of_last_line, count_of_unittest  # noqa: E402
-from gate_steps import date_builds, part_of, step, table  # noqa: E402
+from gate_steps import Step, case_steps, count_of_ci, count_of_last_line, count_of_refusals  # noqa: E402
+from gate_steps import count_of_unittest, date_builds, part_of, refusal_steps, step, table  # noqa: E402
 
 PROGRAM = "txnworld_cli"
 CI = """\
@@ -44,6 +44,12 @@ class Counts(unittest.TestCase):
         self.assertEqual(count_of_last_line("12 passed, 3 failed\nbroken off\n"), (0, 1))
         self.assertEqual(count_of_last_line("rt: 12 passed, 3 failed\n"), (0, 1))
         self.assertEqual(count_of_last_line(""), (0, 1))
+
+    def test_refusals(self):
+        self.assertEqual(count_of_refusals("it: 2 refused, 0 odd\n314 refusals, 0 odd\n"), (314, 0))
+        self.assertEqual(count_of_refusals("314 refusals, 2 odd\n"), (312, 2))
+        self.assertEqual(count_of_refusals("0 refusals, 1 odd\n"), (0, 1))
+        self.assertEqual(count_of_refusals("314 refusals, 0 odd\nbroken off\n"), (0, 1))
 
     def test_unittest(self):
         self.assertEqual(count_of_unittest("....\n---\nRan 34 tests in 0.3s\n\nOK\n"), (34, 0))
@@ -112,6 +118,15 @@ class Steps(unittest.TestCase):
         steps = silently(lambda: list(case_steps(self.room, ["app", PROGRAM])))
         self.assertEqual([it.name for it in steps], ["cases"])
 
+    def test_what_is_swept(self):
+        self.file("tools/refuse-growths", "#!/bin/sh\necho \"$# refusals, 0 odd\"\n", 0o755)
+        self.assertEqual(silently(lambda: list(refusal_steps(self.room, ["app"]))), [])
+        self.file("crates/txn_tests/src/lib.rt")
+        steps = silently(lambda: list(refusal_steps(self.room, ["app"])))
+        self.assertEqual([(it.name, it.passed, it.failed) for it in steps], [("refused growths", 1, 0)])
+        steps = silently(lambda: list(refusal_steps(self.room, ["app", PROGRAM])))
+        self.assertEqual([(it.passed, it.failed) for it in steps], [(3, 0)])
+
     def test_a_part(self):
         uses = {"base": [], "low": ["base"], "high": ["low"], "side": [], "some_tests": ["high", "low", "side"], "app": ["high"]}
         self.assertEqual(part_of(uses, ["base"]), {"base"})
@@ -131,6 +146,7 @@ class Steps(unittest.TestCase):
         self.file("repository/tools/tests/test_one.py", "import unittest\nclass One(unittest.TestCase):\n  def test(self): pass\n")
         self.file("repository/tools/wrong-bodies", '#!/bin/sh\necho "edits of $*"\necho "4 passed, 0 failed"\n', 0o755)
         self.file("repository/tools/replay-cases", "#!/bin/sh\necho '8 passed, 0 failed'\n", 0o755)
+        self.file("repository/tools/refuse-growths", "#!/bin/sh\necho \"swept $*\"\necho '9 refusals, 0 odd'\n", 0o755)
         says = '#!/bin/sh\necho "rt $*:" $(ls crates) $(find . -name made)\ngrep -v "#" crates.txt\necho "2 passed, 0 failed"\n'
         self.file("bin/rt", says, 0o755)
         said = io.StringIO()
@@ -155,9 +171,10 @@ class Steps(unittest.TestCase):
 
     def test_all_crates_where_they_are(self):
         status, said = self.run_command()
-        self.assertEqual((status, said.split("\n")[-2]), (1, "7 passed, 2 failed"))
+        self.assertEqual((status, said.split("\n")[-2]), (1, "16 passed, 2 failed"))
         self.assertIn("FAILED: rt ci built no txnworld_cli and no txnworld_cli.by-rattle", said)
         self.assertIn("edits of --after-ci\n", said)
+        self.assertRegex(said, "swept \\S+/out/txnworld_cli \\S+/out/txnworld_cli.by-rattle\n")
         self.assertEqual(said.count("/out/made"), 5)
 
     def test_table(self):

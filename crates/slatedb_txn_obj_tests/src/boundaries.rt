@@ -1,5 +1,5 @@
 //! The boundary object, call by call.
-use crate::played::Call::{Advance, AdvanceIn, Check, Erase, Knows, Put, Says};
+use crate::played::Call::{Advance, AdvanceIn, Check, Erase, Knows, Learns, Put, Says};
 use crate::played::Client::{A, B};
 use crate::played::Said::{Did, Fails, Is};
 use crate::played::{Played, Row, a_world, other, other_in};
@@ -61,6 +61,14 @@ fn test_boundary_check_reuses_cache_on_not_modified(rt: HostRuntime) -> Result<(
     const ROWS: &[Row] = &[
         (A, Advance(2), Did, 1, 1, 1),
         (A, Check(3), Did, 0, 1, 0),
+        (A, Knows(Some((2, 1))), Is(true), 0, 0, 0),
+        // Its get names the token that it knows, so that the text of the file is not read again.
+        (A, Learns(1, 1), Did, 0, 0, 0),
+        (A, Check(2), Did, 0, 1, 0),
+        (A, Knows(Some((1, 1))), Is(true), 0, 0, 0),
+        // No file has this token.
+        (A, Learns(1, 9), Did, 0, 0, 0),
+        (A, Check(2), Fails(5), 0, 1, 0),
         (A, Knows(Some((2, 1))), Is(true), 0, 0, 0),
     ];
     assert_eq!(rt; other(rt.alloc(), ROWS)?, None);
@@ -156,11 +164,90 @@ const TEXTS: &[(&str, &[Row])] = &[
         ],
     ),
     (
+        "zeros before it",
+        &[
+            (A, Put(b"007"), Is(true), 1, 0, 0),
+            (A, Check(8), Did, 0, 1, 0),
+            (A, Knows(Some((7, 1))), Is(true), 0, 0, 0),
+            (A, Check(7), Fails(5), 0, 0, 0),
+        ],
+    ),
+    (
+        "a plus",
+        &[
+            (A, Put(b"+7"), Is(true), 1, 0, 0),
+            (A, Check(8), Did, 0, 1, 0),
+            (A, Knows(Some((7, 1))), Is(true), 0, 0, 0),
+            (A, Check(7), Fails(5), 0, 0, 0),
+        ],
+    ),
+    (
+        "a space that is no ASCII text",
+        &[
+            (A, Put(b"\xc2\xa07"), Is(true), 1, 0, 0),
+            (A, Check(8), Did, 0, 1, 0),
+            (A, Knows(Some((7, 1))), Is(true), 0, 0, 0),
+            (A, Check(7), Fails(5), 0, 0, 0),
+        ],
+    ),
+    (
         "the greatest",
         &[
             (A, Put(b"18446744073709551615"), Is(true), 1, 0, 0),
             (A, Check(18446744073709551615), Fails(5), 0, 1, 0),
             (A, Advance(18446744073709551615), Did, 0, 0, 0),
+        ],
+    ),
+    (
+        "an advance to less than the greatest",
+        &[
+            (A, Put(b"18446744073709551615"), Is(true), 1, 0, 0),
+            (A, Advance(5), Did, 0, 1, 0),
+        ],
+    ),
+    (
+        "a plus alone",
+        &[
+            (A, Put(b"+"), Is(true), 1, 0, 0),
+            (A, Check(1), Fails(7), 0, 1, 0),
+            (A, Advance(1), Fails(7), 0, 1, 0),
+            (A, Knows(None), Is(true), 0, 0, 0),
+        ],
+    ),
+    (
+        "a minus",
+        &[
+            (A, Put(b"-0"), Is(true), 1, 0, 0),
+            (A, Check(1), Fails(7), 0, 1, 0),
+            (A, Advance(1), Fails(7), 0, 1, 0),
+            (A, Knows(None), Is(true), 0, 0, 0),
+        ],
+    ),
+    (
+        "two numbers",
+        &[
+            (A, Put(b"7 8"), Is(true), 1, 0, 0),
+            (A, Check(1), Fails(7), 0, 1, 0),
+            (A, Advance(1), Fails(7), 0, 1, 0),
+            (A, Knows(None), Is(true), 0, 0, 0),
+        ],
+    ),
+    (
+        "two pluses",
+        &[
+            (A, Put(b"++7"), Is(true), 1, 0, 0),
+            (A, Check(1), Fails(7), 0, 1, 0),
+            (A, Advance(1), Fails(7), 0, 1, 0),
+            (A, Knows(None), Is(true), 0, 0, 0),
+        ],
+    ),
+    (
+        "no UTF-8",
+        &[
+            (A, Put(b"\xff"), Is(true), 1, 0, 0),
+            (A, Check(1), Fails(7), 0, 1, 0),
+            (A, Advance(1), Fails(7), 0, 1, 0),
+            (A, Knows(None), Is(true), 0, 0, 0),
         ],
     ),
     (

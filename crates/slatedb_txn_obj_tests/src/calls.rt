@@ -54,8 +54,12 @@ pub(crate) enum Op {
     DeleteUnchecked(u64),
     /// The file of a version is put by hand.
     Put(u64, u64),
+    /// The same, as bytes that are no value.
+    Damaged(u64),
     /// A file of this name is put beside the versions.
     Beside(&'static str),
+    /// Whether the file of this name holds these bytes.
+    Holds(&'static str, &'static [u8]),
 }
 
 /// What a call says, an error as its number.
@@ -222,11 +226,42 @@ pub(crate) fn perform<S: ObjectStore, P: SequencedStorageProtocol<u64, S>>(
 }
 
 /// A put by hand.
+fn put_bytes(setting: &mut Setting, path: &Path, bytes: &Bytes) -> Told {
+    match setting.store.put(path, bytes, &PutMode::Overwrite) {
+        Ok(_) => Told::Did,
+        Err(_) => Told::Nothing,
+    }
+}
+
+/// A put of a value by hand.
 fn put(setting: &mut Setting, path: &Path, number: u64) -> Result<Told, Fail> {
     let bytes = Bytes::copy_from_slice(setting.alloc, number.to_be_bytes().as_slice())?;
-    match setting.store.put(path, &bytes, &PutMode::Overwrite) {
-        Ok(_) => Ok(Told::Did),
-        Err(_) => Ok(Told::Nothing),
+    Ok(put_bytes(setting, path, &bytes))
+}
+
+fn holds(setting: &mut Setting, path: &Path, bytes: &[u8]) -> Told {
+    let is_held = match setting.store.get(path, None) {
+        Ok(got) => got.bytes.as_slice() == bytes,
+        Err(_) => false,
+    };
+    if is_held { Told::Did } else { Told::Nothing }
+}
+
+/// Something that is done at the path of a version.
+fn at_version(setting: &mut Setting, id: u64, op: Op) -> Result<Told, Fail> {
+    let path = setting.names.path_for(setting.alloc, id)?;
+    match op {
+        Op::Put(_, number) => put(setting, &path, number),
+        _ => Ok(put_bytes(setting, &path, &Bytes::from_static(b"abc"))),
+    }
+}
+
+/// Something that is done at a path.
+fn at_path(setting: &mut Setting, name: &str, op: Op) -> Result<Told, Fail> {
+    let path = Path::from_text(setting.alloc, name)?;
+    match op {
+        Op::Holds(_, bytes) => Ok(holds(setting, &path, bytes)),
+        _ => put(setting, &path, 9),
     }
 }
 
@@ -240,14 +275,8 @@ fn turns_of(op: Op) -> u64 {
 
 fn said(setting: &mut Setting, client: Client, op: Op, turns: &mut Turns) -> Result<Told, Fail> {
     match op {
-        Op::Put(id, number) => {
-            let path = setting.names.path_for(setting.alloc, id)?;
-            put(setting, &path, number)
-        }
-        Op::Beside(name) => {
-            let path = Path::from_text(setting.alloc, name)?;
-            put(setting, &path, 9)
-        }
+        Op::Put(id, _) | Op::Damaged(id) => at_version(setting, id, op),
+        Op::Beside(name) | Op::Holds(name, _) => at_path(setting, name, op),
         _ => match client {
             Client::A => Ok(perform(&mut setting.a, &mut setting.store, op, turns)),
             Client::B => Ok(perform(&mut setting.b, &mut setting.store, op, turns)),

@@ -4,11 +4,12 @@ use slatedb_txn_obj::boundary::BoundaryObject;
 use slatedb_txn_obj::object_store::boundary::ObjectStoreBoundaryObject;
 use std::alloc::Global;
 use std::test::Fail;
+use txn_caches::caches::CachedBoundary;
 use txn_drivers::turns::Turns;
 use txn_store::failing::{FailingStore, When};
 use txn_store::in_memory::InMemory;
 use txn_store::path::Path;
-use txn_store::store::{ObjectStore, PutMode};
+use txn_store::store::{ObjectStore, PutMode, Token};
 use txn_types::error::TransactionalObjectError;
 use txn_types::id::MonotonicId;
 
@@ -29,6 +30,8 @@ pub(crate) enum Call {
     AdvanceIn(u64, u64),
     /// Whether this boundary is cached, with this token.
     Knows(Option<(u64, u64)>),
+    /// This boundary is cached from here on, with this token.
+    Learns(u64, u64),
     /// Whether the file says this text, with this token.
     Says(&'static [u8], u64),
     /// The file is put by hand, in place of any other.
@@ -110,6 +113,12 @@ fn knows(object: &ObjectStoreBoundaryObject, known: Option<(u64, u64)>) -> bool 
     }
 }
 
+fn learns(object: &mut ObjectStoreBoundaryObject, number: u64, token: u64) -> Said {
+    let token = Token::new(token);
+    object.cached = Some(CachedBoundary { number, token });
+    Said::Did
+}
+
 fn says(store: &mut FailingStore<InMemory>, file: &Path, text: &[u8], token: u64) -> bool {
     match store.get(file, None) {
         Ok(got) => got.bytes.as_slice() == text && got.token.number() == token,
@@ -130,6 +139,7 @@ fn perform(
         Call::Advance(target) => advance(object, store, target, turns),
         Call::AdvanceIn(_, target) => advance(object, store, target, turns),
         Call::Knows(known) => Said::Is(knows(object, known)),
+        Call::Learns(number, token) => learns(object, number, token),
         Call::Says(text, token) => Said::Is(says(store, file, text, token)),
         Call::Put(text) => Said::Is(
             store

@@ -75,7 +75,8 @@ fn refused(alloc: Global, error: &anyhow::Error) -> Told {
     }
 }
 
-fn updated(alloc: Global, answer: Result<(), TransactionalObjectError>) -> Told {
+/// What an update tells.
+pub(crate) fn updated(alloc: Global, answer: Result<(), TransactionalObjectError>) -> Told {
     match answer {
         Err(TransactionalObjectError::CallbackError(error)) => refused(alloc, &error),
         answer => did(answer),
@@ -96,7 +97,7 @@ fn fences<S: ObjectStore, P: TransactionalStorageProtocol<Record, MonotonicId, S
     }
 }
 
-/// A write of a record, by its epoch and payload, on a base.
+/// A write of a record, by its epoch and payload, on a base, 0 for none.
 pub(crate) fn write<S: ObjectStore, P: SequencedStorageProtocol<Record, S>>(
     protocol: &mut P,
     store: &mut S,
@@ -105,7 +106,8 @@ pub(crate) fn write<S: ObjectStore, P: SequencedStorageProtocol<Record, S>>(
     payload: u64,
 ) -> Told {
     let value = Record { epoch, payload };
-    wrote(protocol.write(store, Some(MonotonicId::new(base)), &value))
+    let base = (base != 0).then_some(MonotonicId::new(base));
+    wrote(protocol.write(store, base, &value))
 }
 
 /// A call of the protocol.

@@ -18,7 +18,11 @@ use uses_of_protocol::ticking::TickingClock;
 
 type Store = FailingStore<InMemory>;
 
-type Protocol = ObjectStoreSequencedStorageProtocol<Record, RecordCodec, ObjectStoreBoundaryObject>;
+pub(crate) type Protocol = ObjectStoreSequencedStorageProtocol<
+    Record,
+    RecordCodec,
+    ObjectStoreBoundaryObject,
+>;
 
 /// A store with a protocol over it, turns and a clock.
 #[derive(Drop)]
@@ -54,7 +58,7 @@ const TURNS: u64 = 20;
 /// A time that is more than enough.
 const AMPLE: u64 = 100;
 
-fn a_protocol(alloc: Global) -> Result<Protocol, PathFault> {
+pub(crate) fn a_protocol(alloc: Global) -> Result<Protocol, PathFault> {
     let root = Path::from_text(alloc, "/root")?;
     ObjectStoreSequencedStorageProtocol::new(alloc, &root, "test", "val", RecordCodec)
 }

@@ -7,6 +7,8 @@ mod calls;
 #[cfg(test)]
 mod clock;
 #[cfg(test)]
+mod counted;
+#[cfg(test)]
 mod failing;
 #[cfg(test)]
 mod game;
@@ -16,8 +18,12 @@ pub mod invariants;
 #[cfg(test)]
 mod looks;
 #[cfg(test)]
+mod refused;
+#[cfg(test)]
 mod register;
 #[cfg(test)]
 mod steps;
+#[cfg(test)]
+mod swept;
 #[cfg(test)]
 mod views;

@@ -11,7 +11,7 @@ pub(crate) enum Seat {
 /// A call of an object, or something done beside it.
 #[derive(Clone, Copy)]
 pub(crate) enum Step {
-    /// The protocol writes a record, by its epoch and payload, on a base.
+    /// The protocol writes a record, by its epoch and payload, on a base, 0 for none.
     Write(u64, u64, u64),
     /// Another protocol over the store makes this call.
     Elsewhere(&'static Step),

@@ -1,4 +1,5 @@
 //! Views: writes by compare and swap, invariants, and updates that are applied after a conflict.
+use crate::counted::tested;
 use crate::game::other;
 use crate::invariants::Ceiling;
 use crate::steps::Seat::{A, B};
@@ -79,20 +80,18 @@ fn test_maybe_apply_update_retries_write_behind_boundary(rt: HostRuntime) -> Res
 
 #[test]
 fn test_update_runs_invariants_and_allows_passing_write(rt: HostRuntime) -> Result<(), Fail> {
+    const ONLY: &[Ceiling] = &[Ceiling {
+        is_first: true,
+        ceiling: 100,
+    }];
     const ROWS: &[Row] = &[
         (A, Init(0, 1), Did),
-        (
-            A,
-            Keep(&[Ceiling {
-                is_first: true,
-                ceiling: 100,
-            }]),
-            Did,
-        ),
+        (A, Keep(ONLY), Did),
         (A, Update(42), Did),
         (A, Newest, At(2, 0, 42)),
     ];
     assert_eq!(rt; other(rt.alloc(), ROWS)?, None);
+    assert_eq!(rt; tested(rt.alloc(), ONLY, 42)?, (Did, 1, 0));
     Ok(())
 }
 
@@ -107,7 +106,7 @@ fn test_update_invariant_failure_aborts_write_and_short_circuits(
         },
         Ceiling {
             is_first: false,
-            ceiling: 5,
+            ceiling: 1000,
         },
     ];
     const ROWS: &[Row] = &[
@@ -120,6 +119,7 @@ fn test_update_invariant_failure_aborts_write_and_short_circuits(
         (A, Newest, At(1, 0, 1)),
     ];
     assert_eq!(rt; other(rt.alloc(), ROWS)?, None);
+    assert_eq!(rt; tested(rt.alloc(), BOTH, 10)?, (RefusedByFirst, 1, 0));
     Ok(())
 }
 

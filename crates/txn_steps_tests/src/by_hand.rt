@@ -1,6 +1,8 @@
 //! Calls of a client to which a hand made the replies, and what others leave in its caches meanwhile.
-use crate::calls::Call::{Advance, Check, Holds, Knows, Latest, Read, ReadSeen, WriteUnchecked};
-use crate::calls::{Call, perform};
+use crate::calls::Call::{
+    Advance, Check, Holds, Knows, KnowsBy, Latest, Read, ReadSeen, WriteUnchecked,
+};
+use crate::calls::{Call, known, perform};
 use crate::driven::Said::{Did, Fails, Found, Is, Value, Wrote};
 use crate::driven::{Played, Replies, Said, a_layout};
 use bytes::Bytes;
@@ -41,7 +43,7 @@ struct Script {
     next: usize,
 }
 
-/// A token that nothing depends on.
+/// The token of whatever is made up.
 fn a_token() -> Token {
     Token::new(9)
 }
@@ -177,7 +179,7 @@ const SCENARIOS: &[(&str, &[Row])] = &[
         "a boundary that became known meanwhile",
         &[
             (Check(1), &[Learns(2), Refuses(NotFound)], Did, 1, 2),
-            (Knows(Some(2)), &[], Is(true), 0, 0),
+            (KnowsBy(2, 9), &[], Is(true), 0, 0),
         ],
     ),
     (
@@ -353,13 +355,6 @@ impl Replies for Unchanged {
             _ => Err("it is no get of the boundary's file")?,
         }
     }
-}
-
-/// The cached boundary and its token.
-fn known(caches: &Caches) -> Option<(u64, u64)> {
-    caches
-        .boundary
-        .map(|known| (known.number, known.token.number()))
 }
 
 /// The token that the get of a check names, what the check says and takes, and the cached boundary and its token then.

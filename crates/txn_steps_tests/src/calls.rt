@@ -47,6 +47,8 @@ pub(crate) enum Call {
     Holds(&'static [u64]),
     /// Whether this boundary is cached.
     Knows(Option<u64>),
+    /// Whether this boundary is cached, with this token.
+    KnowsBy(u64, u64),
     /// A file that is put by hand, in place of any other.
     Put(&'static str, &'static [u8]),
 }
@@ -111,6 +113,13 @@ pub(crate) fn holds(window: &Window, ids: &[u64]) -> bool {
         }
     }
     true
+}
+
+/// The cached boundary and its token.
+pub(crate) fn known(caches: &Caches) -> Option<(u64, u64)> {
+    caches
+        .boundary
+        .map(|known| (known.number, known.token.number()))
 }
 
 fn knows(caches: &Caches) -> Option<u64> {
@@ -280,6 +289,9 @@ pub(crate) fn perform<R: Replies>(
         Call::DeleteUnchecked(id) => delete_unchecked(alloc, store, layout, caches, id),
         Call::Holds(ids) => Ok((Said::Is(holds(&caches.latest, ids)), 0, 0)),
         Call::Knows(number) => Ok((Said::Is(knows(caches) == number), 0, 0)),
+        Call::KnowsBy(number, token) => {
+            Ok((Said::Is(known(caches) == Some((number, token))), 0, 0))
+        }
         Call::Put(path, bytes) => put(alloc, store, path, bytes),
     }
 }

@@ -1,5 +1,6 @@
-//! Growths that are refused. Run it with each allocation failing in turn: an event that is refused for want of memory is
-//! taken again, and is told what it is told with ample memory, but where its operation was answered 9.
+//! Growths that are refused: an event that is refused for want of memory is taken again, and is told what it is told with
+//! ample memory, but where its operation was answered 9. Such an event changes no file, and leaves each view as it was, but
+//! for that of a claim.
 use crate::schedules::are;
 use crate::workers::{Records, kept_by};
 use std::alloc::{AllocError, Global};
@@ -9,6 +10,8 @@ use txn_lines::line::{Line, read_line};
 use txn_lines::printed::{BoundaryLine, EntryLine, ErasedLine, ViewLine};
 use txn_lines::record::{Record, RecordCodec, RecordEpoch};
 use txn_threads::kept::Share;
+use txn_view_history::trace::AnyRow;
+use txn_view_history::view::View;
 use txn_world::world::World;
 
 /// A step: the event of a line, the operation that goes on after it until it is answered, 0 for none, and what is told last.
@@ -211,7 +214,7 @@ const ROWS: &[Row] = &[
 enum Outcome {
     /// What the row says.
     AsWanted,
-    /// An operation was answered 9, and the row went no further.
+    /// An operation was answered 9, which left what it may, and the row went no further.
     Lacked,
     /// Something else at the step of this number, from 0, or in the end lines.
     Other(usize),
@@ -269,22 +272,60 @@ fn goes_on(kept: &Records, op: u64) -> bool {
     }
 }
 
-/// What is told last in a step. An event that is refused for want of memory is taken again.
+/// A view: its id, its value, and the epoch of a holder.
+type Seen = (u64, Record, Option<u64>);
+
+/// How many requests changed the store, and the views 1 and 2.
+type Left = (usize, Option<Seen>, Option<Seen>);
+
+fn seen(view: Option<&View<Record>>) -> Option<Seen> {
+    match view {
+        Some(view) => Some((view.id, view.object, view.epoch)),
+        None => None,
+    }
+}
+
+/// What events left. It takes no memory.
+fn left(kept: &Records) -> Left {
+    let world = kept.world();
+    let mut effects = 0usize;
+    for row in world.trace() {
+        if let AnyRow::Effect(..) = row {
+            effects = effects.saturating_add(1);
+        }
+    }
+    (effects, seen(world.view(1)), seen(world.view(2)))
+}
+
+/// Whether an event that answered 9 may leave this, where it found that before: a claim has ended its view.
+fn may_leave(line: &str, before: Left, after: Left) -> bool {
+    if !line.contains(" claim") {
+        return before == after;
+    }
+    let ends_first = after.1.is_none() && after.2 == before.2;
+    let ends_second = after.2.is_none() && after.1 == before.1;
+    after.0 == before.0 && (ends_first || ends_second)
+}
+
+/// What is told last in a step, and whether an answer 9 left what it may. An event that is refused for want of memory is
+/// taken again.
 fn told_last(
     alloc: Global,
     kept: &mut Records,
     share: &mut Share,
     step: &Step,
-) -> Result<String, AllocError> {
+) -> Result<(String, bool), AllocError> {
     let (line, op, _) = *step;
     let mut text = told_again(alloc, kept, share, line)?;
+    let mut before = left(kept);
     for _turn in 0..64 {
         if !goes_on(kept, op) {
-            return Ok(text);
+            break;
         }
+        before = left(kept);
         text = told_next(alloc, kept, share, op)?;
     }
-    Ok(text)
+    Ok((text, may_leave(line, before, left(kept))))
 }
 
 /// What comes of steps, one after another.
@@ -295,11 +336,11 @@ fn outcome_of(
     steps: &[Step],
 ) -> Result<Outcome, AllocError> {
     for (at, step) in steps.iter().enumerate() {
-        let text = told_last(alloc, kept, share, step)?;
+        let (text, is_left) = told_last(alloc, kept, share, step)?;
         if text.as_str() == step.2 {
             continue;
         }
-        if text.as_str().ends_with("Plain(Refused(9)))") {
+        if is_left && text.as_str().ends_with("Plain(Refused(9)))") {
             return Ok(Outcome::Lacked);
         }
         return Ok(Outcome::Other(at));
