@@ -468,10 +468,10 @@ impl<T: Clone, C: ObjectCodec<T> + Drop, E: EpochField<T>> Audited<T> for Diary<
     ghost diary = { λ d. record { client = d.client; rows = d.rows; part = d.part } };
 
     fn client(&self) -> u64 {
-        self.tables.client
+        Diary::client(self)
     }
 
     fn rows(&self) -> &[JournalRow<T>] {
-        self.rows.as_slice()
+        Diary::rows(self)
     }
 }

@@ -1,0 +1,6 @@
+//! Tests of clients that share only a store: what an audit finds of their diaries and the store's log, and that each call
+//! succeeds with ample memory.
+#![tactic(auto)]
+
+#[cfg(test)]
+mod audits;
