@@ -7,9 +7,9 @@ ghost use Rattle.txn_history.specs.GoesOn.{may_be_loose};
 ghost use Rattle.txn_journals.specs.Journals.{left_by, left_among, left_in};
 ghost use Rattle.txn_journals.specs.Verdict.{Diary, journal_of, stops_at, left_at, WasLeft, WereLeft};
 
-use crate::same::same_request;
 use txn_journals::audited::Audited;
 use txn_journals::rows::{Act, JournalRow, Left, LogRow, Step};
+use txn_journals::same::same_request;
 use txn_store::request::{Reply, Request};
 use txn_store::store::StoreError;
 

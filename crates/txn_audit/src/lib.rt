@@ -7,4 +7,3 @@
 pub mod audit;
 mod landings;
 mod receipts;
-pub mod same;

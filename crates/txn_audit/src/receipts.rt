@@ -5,8 +5,8 @@ ghost use Rattle.txn_journals.specs.declared.rows.Receipt.{Receipt};
 ghost use Rattle.txn_journals.specs.Verdict.{received_by, receipts_in, receipt_at, is_taken, rows_of};
 ghost use Rattle.txn_audit.specs.Receipts.{IsNext};
 
-use crate::same::{same_reply, same_request};
 use txn_journals::rows::{Act, JournalRow, LogRow, Receipt, Step};
+use txn_journals::same::{same_reply, same_request};
 
 /// Whether a receipt is of this row, at this place.
 fn is_row(receipt: &Receipt, place: u64, row: &LogRow) -> bool

@@ -8,7 +8,7 @@ ghost use Rattle.txn_diary.specs.Diaries.{IsReceiptFault};
 ghost use Rattle.txn_logged.specs.Logged.{IsOfKind};
 ghost use Rattle.std.specs.Prelude.{Decides};
 
-use txn_audit::same::same_request;
+use txn_journals::same::same_request;
 use txn_caches::ask::Ask;
 use txn_clients::views::Answers;
 use txn_history::event::EventFault;

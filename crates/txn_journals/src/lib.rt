@@ -9,3 +9,4 @@ pub mod audited;
 pub mod fault;
 pub mod laws;
 pub mod rows;
+pub mod same;

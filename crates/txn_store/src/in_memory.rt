@@ -3,14 +3,14 @@ ghost use Rattle.std.specs.Prelude.{◌≡◌, ◌≤◌, ◌*◌, false, is_som
 ghost use Rattle.std.specs.Option.{option_copied};
 ghost use Rattle.std.specs.FinMap as finmap;
 ghost use Rattle.txn_store.specs.MemoryServes.{lacks_memory};
-ghost use Rattle.txn_store.specs.Store.{put_fault, known_fault, listing, page_of};
+ghost use Rattle.txn_store.specs.Store.{put_fault, listing, page_of};
 
 use crate::count::Count;
 use crate::page::Page;
 use crate::path::Path;
 use crate::request::{Reply, Request};
 use crate::sorted::SortedFiles;
-use crate::store::{Got, ObjectStore, PutMode, StoreError, Token};
+use crate::store::{Got, ObjectStore, PutMode, StoreError, Token, fault_of_get, fault_of_put};
 use bytes::Bytes;
 use std::alloc::{AllocError, Global};
 use std::marker::Model;
@@ -155,28 +155,6 @@ fn lacks_memory(reply: &Reply) -> bool
             | Reply::List(Err(StoreError::NoMemory))
             | Reply::Delete(Err(StoreError::NoMemory))
     )
-}
-
-/// Why a put is refused by the file that stands under its path.
-fn fault_of_put(mode: &PutMode, now: Option<&Got>) -> Option<StoreError>
-    ensures { result ≡ put_fault mode.now (option_copied now.entry) }
-{
-    match (mode, now) {
-        (PutMode::Create, Some(_)) => Some(StoreError::AlreadyExists),
-        (PutMode::Update(token), Some(got)) if got.token == *token => None,
-        (PutMode::Update(_), _) => Some(StoreError::Precondition),
-        _ => None,
-    }
-}
-
-/// Why a get is refused by the file that stands under its path.
-fn fault_of_get(known: Option<Token>, got: &Got) -> Option<StoreError>
-    ensures { result ≡ known_fault known got.now }
-{
-    match known {
-        Some(token) if got.token == token => Some(StoreError::NotModified),
-        _ => None,
-    }
 }
 
 impl ObjectStore for InMemory {

@@ -1,5 +1,5 @@
 //! A store of files under paths: the paths, the names of versions, the store's trait and its meaning, a store
-//! in memory, requests as values, and a store that fails on command.
+//! in memory and how it keeps its files, requests as values, and a store that fails on command.
 #![tactic(auto)]
 
 mod count;
@@ -9,6 +9,6 @@ pub mod in_memory;
 pub mod page;
 pub mod path;
 pub mod request;
-mod sorted;
+pub mod sorted;
 pub mod store;
 pub mod version_names;

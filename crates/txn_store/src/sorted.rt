@@ -15,9 +15,9 @@ use std::cmp::Ordering;
 use std::collections::VecDeque;
 use std::marker::Model;
 
-/// What is searched for.
+/// What is searched for. Clauses alone name it.
 #[derive(Clone, Copy, Debug, PartialEq, Eq)]
-enum Mark {
+pub enum Mark {
     /// The path itself.
     Path,
     /// The end of the paths strictly below it.
@@ -49,11 +49,12 @@ fn further<'a>(prefix: &'a Path, after: Option<&'a Path>) -> &'a Path
 }
 
 /// An index among sorted files: `Ok` where a path stands, `Err` where it would.
-pub(crate) type Place = Result<usize, usize>;
+pub type Place = Result<usize, usize>;
 
-/// Files in the order of their paths. A clause sees them as a finite map.
+/// Files in the order of their paths. A clause sees them as a finite map. A search adds to `compared` how many stored paths
+/// it compared with the asked one.
 #[derive(Drop)]
-pub(crate) struct SortedFiles {
+pub struct SortedFiles {
     entries: VecDeque<(Path, Got)>,
 }
 
@@ -74,7 +75,8 @@ impl Model for SortedFiles {
 }
 
 impl SortedFiles {
-    pub(crate) fn new(alloc: Global) -> SortedFiles
+    /// No files. It takes no memory.
+    pub fn new(alloc: Global) -> SortedFiles
         ensures { result ≡ finmap.empty }
     {
         SortedFiles {
@@ -102,8 +104,8 @@ impl SortedFiles {
         Err(low)
     }
 
-    /// Where a path stands, or would.
-    pub(crate) fn place(&self, path: &Path, compared: &mut u64) -> Place
+    /// Where a path stands, or would. It is the place of that path as long as the files stay.
+    pub fn place(&self, path: &Path, compared: &mut u64) -> Place
         ensures place { IsPlace Mark.Path path.now (finmap.entries self.now) result }
         ensures few { compared.new ≤ compared.old + binary_digits (length (finmap.entries self.now)) }
     {
@@ -111,7 +113,7 @@ impl SortedFiles {
     }
 
     /// What stands under the path of a place.
-    pub(crate) fn at(&self, path: &Path, place: Place) -> Option<&Got>
+    pub fn at(&self, path: &Path, place: Place) -> Option<&Got>
         requires { IsPlace Mark.Path path.now (finmap.entries self.now) place }
         ensures { option_copied result ≡ finmap.get self.now path.now }
     {
@@ -122,7 +124,7 @@ impl SortedFiles {
     }
 
     /// What stands under a path.
-    pub(crate) fn get(&self, path: &Path, compared: &mut u64) -> Option<&Got>
+    pub fn get(&self, path: &Path, compared: &mut u64) -> Option<&Got>
         ensures got { option_copied result ≡ finmap.get self.now path.now }
         ensures few { compared.new ≤ compared.old + binary_digits (length (finmap.entries self.now)) }
     {
@@ -130,8 +132,8 @@ impl SortedFiles {
         self.at(path, place)
     }
 
-    /// Puts a file under the path of a place. Where a growth is refused nothing changed.
-    pub(crate) fn set(&mut self, path: &Path, place: Place, got: Got) -> Result<(), AllocError>
+    /// Puts a file under the path of a place. The only error is want of memory: then nothing changed.
+    pub fn set(&mut self, path: &Path, place: Place, got: Got) -> Result<(), AllocError>
         requires { IsPlace Mark.Path path.now (finmap.entries self.old) place }
         ensures ok { OnOk result (self.new ≡ finmap.insert self.old path.now got) }
         ensures err { OnErr result (self.new ≡ self.old) }
@@ -144,7 +146,7 @@ impl SortedFiles {
     }
 
     /// Removes the file under the path of a place. It takes no memory.
-    pub(crate) fn remove(&mut self, path: &Path, place: Place)
+    pub fn remove(&mut self, path: &Path, place: Place)
         requires { IsPlace Mark.Path path.now (finmap.entries self.old) place }
         ensures { self.new ≡ finmap.remove self.old path.now }
     {
@@ -181,8 +183,9 @@ impl SortedFiles {
         }
     }
 
-    /// A page of the files below a prefix and above a path. It looks at no file before its first.
-    pub(crate) fn page(
+    /// A page of the files below a prefix and above a path: the first `limit` of them. It looks at no file before its first.
+    /// The only error is want of memory.
+    pub fn page(
         &self,
         alloc: Global,
         prefix: &Path,

@@ -1,6 +1,7 @@
 //! A store as its callers see it: files of bytes under paths, each with the token of the put that wrote it.
 ghost use Rattle.std.specs.Prelude.{◌≡◌, ◌≤◌, IfOk};
 ghost use Rattle.std.specs.Option.{option_copied};
+ghost use Rattle.txn_store.specs.Store.{put_fault, known_fault};
 ghost use Rattle.txn_store.specs.declared.store.StoreError.TheVariants.{NoMemory};
 
 use crate::page::Page;
@@ -128,6 +129,28 @@ impl<T: Drop> From<AllocFailed<T>> for StoreError {
 
     fn from(_e: AllocFailed<T>) -> StoreError {
         StoreError::NoMemory
+    }
+}
+
+/// Why a put is refused by the file that stands under its path.
+pub fn fault_of_put(mode: &PutMode, now: Option<&Got>) -> Option<StoreError>
+    ensures { result ≡ put_fault mode.now (option_copied now.entry) }
+{
+    match (mode, now) {
+        (PutMode::Create, Some(_)) => Some(StoreError::AlreadyExists),
+        (PutMode::Update(token), Some(got)) if got.token == *token => None,
+        (PutMode::Update(_), _) => Some(StoreError::Precondition),
+        _ => None,
+    }
+}
+
+/// Why a get is refused by the file that stands under its path.
+pub fn fault_of_get(known: Option<Token>, got: &Got) -> Option<StoreError>
+    ensures { result ≡ known_fault known got.now }
+{
+    match known {
+        Some(token) if got.token == token => Some(StoreError::NotModified),
+        _ => None,
     }
 }
 
