@@ -12,7 +12,7 @@ use Rattle.txn_any_machine.specs.declared.doing.AnyOperation.{AnyOperation}
 use Rattle.txn_any_machine.specs.declared.doing.Ending.TheVariants as endings
 use Rattle.txn_any_machine.specs.Doing.{refusal_in, started, is_claim_call, ReadsBack, FitsWord, IsMadeSo}
 use Rattle.txn_any_machine.specs.Machine.{seen_view, used_by, let_go, views_changed, views_after, views_taken, new_operation, answered}
-use Rattle.txn_journals.specs.Parts.{Part, begin_fault, epoch_written, begun}
+use Rattle.txn_journals.specs.Parts.{Part, begin_fault, epoch_written}
 use Rattle.txn_journals.specs.Journals.{Begins}
 
 module _ {T : Type 0} where

@@ -1,5 +1,5 @@
 -- A diary after a step.
-use Rattle.std.proofs.Common.{◌≡◌, ℕ, ◌≤◌, List, [], ◌∷◌, ◌++◌, reverse, Bool, true, false, if◌then◌else◌, Option, Some, None, Err, refl, sym, ◌∙◌, ap, subst}
+use Rattle.std.proofs.Common.{◌≡◌, ℕ, ◌≤◌, List, reverse, Bool, true, false, if◌then◌else◌, Option, Some, None, Err, refl, sym, ◌∙◌, ap, subst}
 use Rattle.std.proofs.lemmas.Option.{same_Some}
 use Rattle.txn_store.specs.declared.request.Request.{Request}
 use Rattle.txn_history.specs.Seen.{Ask, Store, Look}
@@ -12,7 +12,7 @@ use Rattle.txn_clients.specs.Operations.{asked_by}
 use Rattle.txn_journals.specs.declared.rows.Step.{Step}
 use Rattle.txn_journals.specs.declared.rows.JournalRow.{JournalRow}
 use Rattle.txn_journals.specs.Parts.{Part}
-use Rattle.txn_journals.specs.Journals.{goes_on, Follows, Replays}
+use Rattle.txn_journals.specs.Journals.{goes_on, Replays}
 use Rattle.txn_diary.specs.Diaries.{DiaryState, lives, asked_in, end_fault, fault_if, IsReceiptFault, AreSound, Adds}
 use Rattle.txn_logged.specs.Logged.{IsOfKind}
 use Rattle.txn_journals.specs.declared.rows.Receipt.{Receipt}

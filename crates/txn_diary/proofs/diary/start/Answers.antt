@@ -1,4 +1,4 @@
-use Rattle.std.proofs.Common.{◌∙◌, sym, ap, length}
+use Rattle.std.proofs.Common.{length}
 use Rattle.txn_view_history.specs.Calls.{view_used}
 use Rattle.txn_diary.proofs.diary.start.Goals as goal
 

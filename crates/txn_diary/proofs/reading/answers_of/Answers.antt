@@ -2,8 +2,7 @@ use Rattle.std.proofs.Common.{◌∙◌, ap, arith, map, ℕ, List, ◌++◌}
 use Rattle.std.specs.Borrow.{Bor}
 use Rattle.std.specs.Option.{option_copied}
 use Rattle.txn_view_history.specs.declared.event.AnyAnswer.{AnyAnswer}
-use Rattle.txn_journals.specs.declared.rows.Step.{Step}
-use Rattle.txn_diary.specs.Reading.{answers_from, with_answer, begun_by}
+use Rattle.txn_diary.specs.Reading.{answers_from, with_answer}
 use Rattle.txn_diary.proofs.Listing.{answers_more, answers_all, begun_below}
 use Rattle.txn_diary.proofs.reading.answers_of.Goals as goal
 

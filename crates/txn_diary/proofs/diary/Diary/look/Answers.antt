@@ -1,5 +1,5 @@
-use Rattle.std.proofs.Common.{◌∙◌, sym, ap, subst, refl, None, Some, true, false}
-use Rattle.txn_history.specs.Seen.{Look, Store}
+use Rattle.std.proofs.Common.{◌∙◌, sym, ap, subst, refl, None, false}
+use Rattle.txn_history.specs.Seen.{Look}
 use Rattle.txn_history.specs.Allowed.{ask_fault}
 use Rattle.txn_machine.specs.Doing.{first_of}
 use Rattle.txn_clients.specs.Operations.{asked_by}
@@ -8,7 +8,7 @@ use Rattle.txn_journals.specs.declared.rows.Step.TheVariants as steps
 use Rattle.txn_diary.specs.Diaries.{asked_in}
 use Rattle.txn_diary.specs.Shown.{shown}
 use Rattle.txn_diary.proofs.Acting.{takes_so}
-use Rattle.txn_diary.proofs.Stepping.{met_ask, met_end, looks_so, stores_so, asks_so, asks_alive, state_of, same_state, sound_of, stepped, IsKept}
+use Rattle.txn_diary.proofs.Stepping.{met_ask, looks_so, asks_alive, state_of, same_state, sound_of, stepped, IsKept}
 use Rattle.txn_diary.proofs.diary.Diary.look.Goals as goal
 
 pub returns-in-Some-clause-refused : goal.returns-in-Some-clause-refused

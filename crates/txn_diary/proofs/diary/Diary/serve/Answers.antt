@@ -1,19 +1,17 @@
-use Rattle.std.proofs.Common.{◌∙◌, ◌≡◌, sym, ap, subst, refl, None, Some, true, false, is_some}
+use Rattle.std.proofs.Common.{◌∙◌, ◌≡◌, sym, ap, subst, refl, None, Some, is_some}
 use Rattle.std.proofs.lemmas.Option.{same_Some}
 use Rattle.txn_store.specs.declared.request.Reply.{Reply}
-use Rattle.txn_history.specs.Seen.{Look, Store}
-use Rattle.txn_history.specs.Allowed.{ask_fault}
+use Rattle.txn_history.specs.Seen.{Store}
 use Rattle.txn_machine.specs.Doing.{first_of}
 use Rattle.txn_clients.specs.Operations.{asked_by, request_of}
 use Rattle.txn_journals.specs.declared.rows.Act.TheVariants as acts
 use Rattle.txn_journals.specs.declared.rows.Step.TheVariants as steps
-use Rattle.txn_journals.specs.Parts.{begin_fault}
 use Rattle.txn_journals.specs.Journals.{TakesTurn}
 use Rattle.txn_logged.specs.Logged.{IsOfKind}
-use Rattle.txn_diary.specs.Diaries.{asked_in, lives, end_fault, fault_if, refusal_of, IsReceiptFault}
+use Rattle.txn_diary.specs.Diaries.{asked_in}
 use Rattle.txn_diary.specs.Shown.{shown}
-use Rattle.txn_diary.proofs.Acting.{takes_so, fails_so, lacks_so}
-use Rattle.txn_diary.proofs.Stepping.{met_ask, met_end, met_receipt, looks_so, stores_so, receives_so, asks_so, alive_so, asks_alive, state_of, same_state, sound_of, stepped, kept_more, IsKept}
+use Rattle.txn_diary.proofs.Acting.{takes_so, lacks_so}
+use Rattle.txn_diary.proofs.Stepping.{stores_so, asks_alive, state_of, same_state, sound_of, stepped, IsKept}
 use Rattle.txn_diary.proofs.diary.Diary.serve.Goals as goal
 
 pub unreachable-requires : goal.unreachable-requires

@@ -1,4 +1,4 @@
-use Rattle.std.proofs.Common.{◌∙◌, sym, ap, reverse}
+use Rattle.std.proofs.Common.{◌∙◌, ap, reverse}
 use Rattle.txn_diary.proofs.Noting.{epoch_in, epoch_by}
 use Rattle.txn_diary.proofs.notes.Notes.epoch_of.Goals as goal
 

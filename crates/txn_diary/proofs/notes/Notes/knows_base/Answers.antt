@@ -1,5 +1,4 @@
-use Rattle.std.proofs.Common.{◌∙◌, sym, ap, reverse, is_some, Some}
-use Rattle.txn_journals.specs.Parts.{knows_base}
+use Rattle.std.proofs.Common.{◌∙◌, ap, reverse, is_some}
 use Rattle.txn_diary.proofs.Noting.{known_by}
 use Rattle.txn_diary.proofs.notes.Notes.knows_base.Goals as goal
 

@@ -1,7 +1,5 @@
-use Rattle.std.proofs.Common.{◌∙◌, sym, ap, ◌≡◌, is_some, true}
-use Rattle.std.specs.Option.{option_map}
-use Rattle.txn_history.specs.Lists.{numbered}
-use Rattle.txn_clients.specs.Operations.{usage_of, asked_by, loose_of}
+use Rattle.std.proofs.Common.{◌∙◌, ap}
+use Rattle.txn_clients.specs.Operations.{asked_by, loose_of}
 use Rattle.txn_diary.specs.Shown.{shown}
 use Rattle.txn_diary.proofs.Acting.{asks_there, used_from_one, gives_up_so}
 use Rattle.txn_diary.proofs.tables.Tables.give_up.Goals as goal
