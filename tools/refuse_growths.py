@@ -29,6 +29,7 @@ TESTS = {
     "txn_store_tests": ("many::a_refused_growth_leaves_the_store",),
     "txn_objects_tests": ("refused::a_refused_growth_leaves_what_was",),
     "txn_tests": ("refused::a_refused_event_is_taken_again",),
+    "txn_diary_tests": ("refused::audits_agree_whichever_growth_is_refused",),
 }
 # How the name of a build of tests ends, after its crate's.
 TESTS_ENDING = "_tests"

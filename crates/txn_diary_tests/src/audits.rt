@@ -13,15 +13,15 @@ use txn_store::request::Request;
 use txn_types::layout::PAGE;
 use txn_view_history::event::{AnyAnswer, AnyCall, AnyTold};
 
-type Records = Diary<Record, RecordCodec, RecordEpoch>;
+pub(crate) type Records = Diary<Record, RecordCodec, RecordEpoch>;
 
-const ONE: Record = Record {
+pub(crate) const ONE: Record = Record {
     epoch: 0,
     payload: 1,
 };
 
 /// The number of the fault that an audit finds, 0 where it agrees.
-fn verdict(store: &LoggedStore, diaries: &[Records]) -> u8 {
+pub(crate) fn verdict(store: &LoggedStore, diaries: &[Records]) -> u8 {
     match audit(store, diaries) {
         Ok(()) => 0,
         Err(fault) => fault.number(),
@@ -29,7 +29,7 @@ fn verdict(store: &LoggedStore, diaries: &[Records]) -> u8 {
 }
 
 /// A client that has done nothing.
-fn client(alloc: Global, number: u64) -> Result<Records, AllocError>
+pub(crate) fn client(alloc: Global, number: u64) -> Result<Records, AllocError>
     requires { 1 ≤ number }
 {
     Diary::new(alloc, number, RecordCodec, RecordEpoch, PAGE)

@@ -4,3 +4,5 @@
 
 #[cfg(test)]
 mod audits;
+#[cfg(test)]
+mod refused;
