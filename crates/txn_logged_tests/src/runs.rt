@@ -69,18 +69,18 @@ fn row_of(client: u64, receipt: &Receipt) -> Result<LogRow, AllocError> {
     })
 }
 
-/// The store serves what a client asks for, the log takes the row, and the client notes its receipt. Whether the log took it.
+/// The store serves what a client asks for, and the client notes its receipt: the row of the log.
 fn serves(
     alloc: Global,
     store: &mut LoggedStore,
-    log: &mut HonestLog,
     noted: &mut Noted,
     asked: Asked,
-) -> Result<bool, Fail> {
-    let receipt = store.serve_logged(alloc, noted.client, &request(alloc, asked)?)?;
-    let taken = log.push(alloc, row_of(noted.client, &receipt)?).is_ok();
+) -> Result<LogRow, Fail> {
+    let request = request(alloc, asked)?;
+    let receipt = store.serve_logged(alloc, noted.client, &request)?;
+    let row = row_of(noted.client, &receipt)?;
     note(noted, receipt)?;
-    Ok(taken)
+    Ok(row)
 }
 
 /// The run, and whether the log took each row.
@@ -88,27 +88,23 @@ fn plays(
     alloc: Global,
     store: &mut LoggedStore,
     log: &mut HonestLog,
-    one: &mut Noted,
-    other: &mut Noted,
+    diaries: &mut [Noted; 2],
 ) -> Result<bool, Fail> {
     for (client, asked) in RUN {
-        let taken = if *client == 1 {
-            serves(alloc, store, log, one, *asked)?
-        } else {
-            serves(alloc, store, log, other, *asked)?
-        };
-        if !taken {
+        let at = if *client == 1 { 0 } else { 1 };
+        let row = serves(alloc, store, &mut diaries[at], *asked)?;
+        if log.push(alloc, row).is_err() {
             return Ok(false);
         }
     }
     Ok(true)
 }
 
-fn both(alloc: Global, one: Noted, other: Noted) -> Result<Vec<Noted>, AllocError> {
-    let mut diaries = Vec::with_capacity(alloc, 2)?;
-    diaries.push(one)?;
-    diaries.push(other)?;
-    Ok(diaries)
+/// Whether both logs agree with what the clients noted, and not where the second client is missing.
+fn agree(store: &LoggedStore, log: &HonestLog, diaries: &[Noted; 2]) -> bool {
+    audit(store, &diaries[..]).is_ok()
+        && audit(log, &diaries[..]).is_ok()
+        && audit(log, &diaries[..1]) == Err(AuditFault::ClientMissing)
 }
 
 #[test]
@@ -116,16 +112,8 @@ fn an_honest_run_agrees(rt: HostRuntime) -> Result<(), Fail> {
     let alloc = rt.alloc();
     let mut store = LoggedStore::new(alloc);
     let mut log = HonestLog::new(alloc);
-    let mut one = no_rows(alloc, 1);
-    let mut other = no_rows(alloc, 2);
-    assert!(rt; plays(alloc, &mut store, &mut log, &mut one, &mut other)?);
-    let mut diaries = both(alloc, one, other)?;
-    assert_eq!(rt; audit(&store, diaries.as_slice()), Ok(()));
-    assert_eq!(rt; audit(&log, diaries.as_slice()), Ok(()));
-    diaries.pop();
-    assert_eq!(rt;
-        audit(&log, diaries.as_slice()),
-        Err(AuditFault::ClientMissing)
-    );
+    let mut diaries = [no_rows(alloc, 1), no_rows(alloc, 2)];
+    let taken = plays(alloc, &mut store, &mut log, &mut diaries)?;
+    assert!(rt; taken && agree(&store, &log, &diaries));
     Ok(())
 }
