@@ -1,21 +1,19 @@
 //! What a client notes of a step, and what it is told.
-ghost use Rattle.std.specs.Prelude.{◌≡◌, ◌<◌, ◌++◌, ◌∷◌, [], vec_len, vec_capacity};
+ghost use Rattle.std.specs.Prelude.{◌≡◌, ◌<◌, ◌++◌, ◌∷◌, [], Decides, vec_len, vec_capacity};
 ghost use Rattle.std.specs.Option.{ForSome};
-ghost use Rattle.txn_store.specs.declared.request.Request.TheVariants as requests;
 ghost use Rattle.txn_history.specs.Added.{told_of};
 ghost use Rattle.txn_machine.specs.Doing.{asks_as, first_of};
 ghost use Rattle.txn_diary.specs.Diaries.{IsReceiptFault};
 ghost use Rattle.txn_logged.specs.Logged.{IsOfKind};
-ghost use Rattle.std.specs.Prelude.{Decides};
 
-use txn_journals::same::same_request;
 use txn_caches::ask::Ask;
 use txn_clients::views::Answers;
 use txn_history::event::EventFault;
 use txn_journals::rows::{JournalRow, Receipt, Step};
+use txn_journals::same::same_request;
 use txn_store::request::{Reply, Request};
 use txn_types::room::push_within;
-use txn_view_history::event::{AnyAnswer, AnyTold};
+use txn_view_history::event::AnyTold;
 
 /// Whether a reply is of the request's kind.
 fn is_of_kind(request: &Request, reply: &Reply) -> bool

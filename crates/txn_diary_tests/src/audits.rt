@@ -69,7 +69,12 @@ fn writer(
     requires { 1 ≤ number }
 {
     let mut diary = client(rt.alloc(), number)?;
-    let wrote = calls(rt, store, &mut diary, AnyCall::Plain(Call::Write(None, ONE)));
+    let wrote = calls(
+        rt,
+        store,
+        &mut diary,
+        AnyCall::Plain(Call::Write(None, ONE)),
+    );
     let read = calls(rt, store, &mut diary, AnyCall::Plain(Call::Read));
     Ok((diary, wrote && read))
 }
@@ -90,7 +95,12 @@ fn verdicts(rt: &(impl Wait + AllocGlobal)) -> Result<([u8; 6], bool), AllocErro
     let store = Mutex::new(LoggedStore::new(rt.alloc()));
     let (first, one) = writer(rt, &store, 1)?;
     let (second, two) = writer(rt, &store, 2)?;
-    let diaries = vec![in rt.alloc(); first, second, client(rt.alloc(), 3)?, client(rt.alloc(), 1)?]?;
+    let diaries = vec![in rt.alloc();
+        first,
+        second,
+        client(rt.alloc(), 3)?,
+        client(rt.alloc(), 1)?,
+    ]?;
     let alone = verdict(&store.lock(rt), &diaries[0..1]);
     let both = verdict(&store.lock(rt), &diaries[0..2]);
     let three = verdict(&store.lock(rt), &diaries[0..3]);
@@ -164,7 +174,11 @@ fn ways(rt: &(impl Wait + AllocGlobal)) -> Result<([bool; 5], [usize; 2], u8), A
     let receipts = diary.receipts(rt.alloc())?.len();
     let diaries = vec![in rt.alloc(); diary]?;
     let found = verdict(&store.lock(rt), &diaries);
-    Ok(([gave_up, wrote, failed, killed, refused], [answers, receipts], found))
+    Ok((
+        [gave_up, wrote, failed, killed, refused],
+        [answers, receipts],
+        found,
+    ))
 }
 
 #[test]
