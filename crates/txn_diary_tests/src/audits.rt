@@ -1,4 +1,6 @@
 //! What an audit finds.
+ghost use Rattle.std.specs.Prelude.{◌≤◌};
+
 use std::alloc::{AllocError, AllocGlobal, Global};
 use std::sync::{Mutex, Wait};
 use std::test::Fail;

@@ -1,4 +1,6 @@
 //! Growths that are refused: whatever a client, or the store's log, could not make room for, an audit agrees.
+ghost use Rattle.std.specs.Prelude.{◌≤◌};
+
 use crate::audits::{ONE, Records, client, verdict};
 use std::alloc::{AllocError, AllocGlobal, Global};
 use std::sync::{Mutex, Wait};
