@@ -131,12 +131,20 @@ def step(name, words, root, count=count_of_last_line):
     return Step(name, *count(text), status, real, processor)
 
 
-def ci_steps(root, options=()):
+def words_of_ci(anew):
+    """The command that proves all, also what the kit kept of earlier runs where it is `anew`. A kit whose help has no
+    such flag keeps none."""
+    how = {"stdin": subprocess.DEVNULL, "stdout": subprocess.PIPE, "stderr": subprocess.STDOUT}
+    keeps = anew and b"--anew" in subprocess.run(["rt", "help"], check=False, **how).stdout
+    return ["rt", "ci", *["--anew"] * keeps]
+
+
+def ci_steps(root, anew=False):
     """Runs `rt ci`, as the step of its proofs, and the tests that it ran as one without a time of its own."""
     say("== rt ci")
     remove_builds(root)
     began = time.time()
-    status, text, real, processor = run_and_show(["rt", "ci", *options], root)
+    status, text, real, processor = run_and_show(words_of_ci(anew), root)
     date_builds(root, began)
     proofs, tests = count_of_ci(text)
     return [Step("proofs and programs", *proofs, status, real, processor), Step("tests (within rt ci)", *tests)]
@@ -197,7 +205,7 @@ def steps_of(root, top, given):
     anew, every = ["--anew"] * given.anew, ["--all"] * given.all
     unit_tests = [sys.executable, "-m", "unittest", "discover", "-s", "tools/tests"]
     yield step("tests of the tools", unit_tests, root, count_of_unittest)
-    yield from ci_steps(top, anew)
+    yield from ci_steps(top, given.anew)
     with_edits = [it for it in given.crates if os.path.isdir(f"{top}/crates/{it}/wrong-bodies")]
     if with_edits or not given.crates:
         yield step("wrong bodies", [f"{top}/tools/wrong-bodies", *with_edits, "--after-ci", *every, *anew], top)

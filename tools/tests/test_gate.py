@@ -133,8 +133,9 @@ class Steps(unittest.TestCase):
         self.assertEqual(part_of(uses, ["low"]), {"base", "low", "high", "side", "some_tests"})
         self.assertEqual(part_of(uses, ["app"]), {"base", "low", "high", "app"})
 
-    def run_command(self, *words):
-        """The status and the lines of the command in a small repository, in which each step says where it runs."""
+    def run_command(self, *words, help="rt ci [--anew]"):
+        """The status and the lines of the command in a small repository, in which each step says where it runs. `help`
+        is the kit's."""
         self.file("repository/crates.txt", "# The crates.\nlow: bytes\nhigh: low\nother_tests: other\nother:\nhigh_tests: high\n")
         for name in ("low", "high", "other", "other_tests", "high_tests"):
             self.file(f"repository/crates/{name}/src/lib.rt")
@@ -147,8 +148,8 @@ class Steps(unittest.TestCase):
         self.file("repository/tools/wrong-bodies", '#!/bin/sh\necho "edits of $*"\necho "4 passed, 0 failed"\n', 0o755)
         self.file("repository/tools/replay-cases", "#!/bin/sh\necho '8 passed, 0 failed'\n", 0o755)
         self.file("repository/tools/refuse-growths", "#!/bin/sh\necho \"swept $*\"\necho '9 refusals, 0 odd'\n", 0o755)
-        says = '#!/bin/sh\necho "rt $*:" $(ls crates) $(find . -name made)\ngrep -v "#" crates.txt\necho "2 passed, 0 failed"\n'
-        self.file("bin/rt", says, 0o755)
+        says = 'echo "rt $*:" $(ls crates) $(find . -name made)\ngrep -v "#" crates.txt\necho "2 passed, 0 failed"\n'
+        self.file("bin/rt", f'#!/bin/sh\n[ "$1" = help ] && echo "{help}" && exit\n{says}', 0o755)
         said = io.StringIO()
         said.buffer = io.BytesIO()
         path = f"{self.room}/bin{os.pathsep}{os.environ['PATH']}"
@@ -164,6 +165,8 @@ class Steps(unittest.TestCase):
         status, said = self.run_command("high", "--all", "--anew")
         self.assertIn("rt ci --anew: high high_tests low\nlow: bytes\nhigh: low\nhigh_tests: high\n2 passed", said)
         self.assertIn("edits of high --after-ci --all --anew\n", said)
+        status, said = self.run_command("high", "--anew", help="rt ci")
+        self.assertIn("rt ci: high high_tests low\n", said)
         status, said = self.run_command("high_tests", "low")
         self.assertIn("edits of low --after-ci\n", said)
         self.assertNotIn("edits of", self.run_command("high_tests")[1])
