@@ -1,2 +1,4 @@
 pub mod Doing
 pub mod Machine
+pub mod CallsLeft
+pub mod Refusals
