@@ -46,3 +46,5 @@ pub mod ViewsGoOn
 mod FailedTurns
 mod Refusing
 mod Spending
+mod Windowed
+mod Mirroring

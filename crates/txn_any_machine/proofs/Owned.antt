@@ -18,6 +18,8 @@ use Rattle.txn_view_steps.specs.declared.outcome.Outcome.TheVariants as outcomes
 use Rattle.txn_view_history.specs.declared.event.AnyCall.{AnyCall}
 use Rattle.txn_view_history.specs.Trace.{AnyEvent, AnyTold}
 use Rattle.txn_view_history.specs.Calls.{view_used, is_holders}
+use Rattle.txn_view_history.specs.Seen.{view_of}
+use Rattle.txn_view_history.specs.Views.{View}
 use Rattle.txn_view_history.specs.Allowed.{may_use, is_busy, base_seen}
 use Rattle.txn_view_history.specs.OneHistory.{is_known_base, has_low_boundary, keeps_epoch}
 use Rattle.txn_view_machine.specs.Layer.{Used, Change, Keeps, Puts, Makes, Closes, with_busy, changed, new_view}
@@ -26,7 +28,8 @@ use Rattle.txn_any_machine.specs.declared.doing.AnyOperation.{AnyOperation}
 use Rattle.txn_any_machine.specs.declared.doing.Ending.{Ending}
 use Rattle.txn_any_machine.specs.declared.doing.Ending.TheVariants as endings
 use Rattle.txn_any_machine.specs.Doing.{Next, ended, refused, caches_left, is_claim_call}
-use Rattle.txn_any_machine.specs.Machine.{State, opening, refusal_of, seen_of, used_in, used_by, views_changed, let_go, change_of, made_by, views_after, views_taken, doing_next, acted, effected, loosened, failing, given_up, ended_by, crashed, next_op, new_operation, begun_as, Fails, TakesOrLacks, RunsOrLacks}
+use Rattle.txn_any_machine.specs.Machine.{State, opening, refusal_of, seen_of, seen_views, used_in, used_by, views_changed, let_go, change_of, made_by, views_after, views_taken, doing_next, acted, effected, loosened, failing, given_up, ended_by, crashed, next_op, new_operation, begun_as, Fails, TakesOrLacks, RunsOrLacks}
+use Rattle.txn_any_machine.proofs.Busy.{view_there}
 use Rattle.txn_any_machine.proofs.Runs.{takes_same_or_lacking, runs_keep}
 
 -- one of so many clients
@@ -196,3 +199,9 @@ module _ {T : Type 0} (encode : T → List ℕ) (decode : List ℕ → Option T)
       none_numbered : {A : Type 0} {P : Type 0} (n : ℕ) (x : A) → numbered {A = A} [] n ≡ Some x → P
       none_numbered zero x e = absurd (cc)
       none_numbered (suc n) x e = absurd (cc)
+
+  -- in each state that is reached, of each view as it is seen
+  pub reached_owned : (s : State T) → IsReached encode decode get_epoch set_epoch s → (number : ℕ) (view : View T) → view_of (seen_of s) number ≡ Some view → (1 ≤ view.client) × (view.client ≤ s.clients)
+  reached_owned s r number view e =
+      let there = view_there s.views number view (numbered (seen_views s.views) number) refl e in
+      subst (λ (v : View T). IsOf s.clients v.client) there.2 (run_owned s.clients s.page r.0 s r.1 number there.0 there.1)

@@ -2,3 +2,4 @@ pub mod Doing
 pub mod Machine
 pub mod CallsLeft
 pub mod Refusals
+pub mod Alone

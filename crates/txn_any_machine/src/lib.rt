@@ -2,6 +2,7 @@
 //! each call on a view as one of `txn_view_steps`; and the theorem on it.
 #![tactic(auto)]
 
+pub mod alone;
 pub mod counts;
 pub mod doing;
 pub mod laws;
