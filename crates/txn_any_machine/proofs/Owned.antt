@@ -1,5 +1,5 @@
 -- Each operation and each view is of one of the clients, of which there are always as many.
-use Rattle.std.proofs.Common.{◌≡◌, ℕ, zero, suc, ◌-◌, ◌≤◌, ◌==◌, ◌&&◌, List, [], ◌∷◌, set, slice_get, Bool, true, false, not, if◌then◌else◌, Option, Some, None, inl, inr, refl, sym, ◌∙◌, ap, subst, arith}
+use Rattle.std.proofs.Common.{◌≡◌, ℕ, zero, suc, ◌-◌, ◌<◌, ◌≤◌, ◌==◌, ◌&&◌, List, [], ◌∷◌, set, slice_get, Bool, true, false, not, if◌then◌else◌, Option, Some, None, inl, inr, refl, sym, ◌∙◌, ap, subst, arith}
 use Rattle.std.specs.Option.{option_map}
 use Rattle.std.proofs.lemmas.Bool.{and_parts}
 use Rattle.std.proofs.lemmas.Option.{same_Some}
@@ -28,7 +28,7 @@ use Rattle.txn_any_machine.specs.declared.doing.AnyOperation.{AnyOperation}
 use Rattle.txn_any_machine.specs.declared.doing.Ending.{Ending}
 use Rattle.txn_any_machine.specs.declared.doing.Ending.TheVariants as endings
 use Rattle.txn_any_machine.specs.Doing.{Next, ended, refused, caches_left, is_claim_call}
-use Rattle.txn_any_machine.specs.Machine.{State, opening, refusal_of, seen_of, seen_views, used_in, used_by, views_changed, let_go, change_of, made_by, views_after, views_taken, doing_next, acted, effected, loosened, failing, given_up, ended_by, crashed, next_op, new_operation, begun_as, Fails, TakesOrLacks, RunsOrLacks}
+use Rattle.txn_any_machine.specs.Machine.{State, opening, refusal_of, seen_of, seen_views, used_in, used_by, views_changed, let_go, change_of, made_by, views_after, views_taken, doing_next, acted, effected, loosened, failing, given_up, ended_by, crashed, next_op, new_operation, begun_as, Fails, TakesOrLacks, RunsOrLacks, IsReached}
 use Rattle.txn_any_machine.proofs.Busy.{view_there}
 use Rattle.txn_any_machine.proofs.Runs.{takes_same_or_lacking, runs_keep}
 
@@ -162,7 +162,8 @@ module _ {T : Type 0} (encode : T → List ℕ) (decode : List ℕ → Option T)
       let may = may_use (seen_of s) client (is_holders call) (view_used call) in
       let later = (not (is_busy (seen_of s) s.trace (view_used call)), faults.ViewBusy) ∷ (is_known_base s.trace (base_seen (seen_of s) call), faults.UnknownBase) ∷ (has_low_boundary s.trace call, faults.BoundaryTooHigh) ∷ (keeps_epoch decode get_epoch s.trace (base_seen (seen_of s) call) call, faults.EpochLowered) ∷ [] in
       let within = client_within s.clients client (and_parts known may (first_true (known && may) faults.UnknownNumber later allowed)).0 in
-      (let some = within.0 in omega (arith, some), within.1)
+      let some : 0 < client = within.0 in
+      (omega (arith, some), within.1)
 
   takes_owned : (old : State T) (event : AnyEvent T) (said : AnyTold T) (new : State T) → Owned old → TakesOrLacks encode decode get_epoch set_epoch old event said new → Owned new
   takes_owned old (events.Begin client call) said new h t = subst Owned (sym t.step.state) (begun_owned old client call t.step.next h (begins_own old client call t.allowed))
