@@ -47,4 +47,4 @@ mod FailedTurns
 mod Refusing
 mod Spending
 mod Windowed
-mod Mirroring
+pub mod Mirroring
