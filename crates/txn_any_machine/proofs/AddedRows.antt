@@ -58,18 +58,20 @@ module _ {T : Type 0} where
       }
 
   fail_adds : (failure : Failure) (old : State T) (op : ℕ) (said : AnyTold T) (new : State T) → Fails old op failure said new → AllGiven old.store → AddsRows (seen_calls old) old.trace old.store.files (events.Fail op failure) said new.trace new.store.files
-  fail_adds failures.Before old op said new v given = first_adds false old op said new v
-  fail_adds failures.Loose old op said new v given = first_adds true old op said new v
+  fail_adds failures.Before old op said new v given = ((answers.Plain (plain_answers.Refused 2), v.tells), first_adds false old op said new v)
+  fail_adds failures.Loose old op said new v given = ((answers.Plain (plain_answers.Refused 2), v.tells), first_adds true old op said new v)
   fail_adds failures.After old op said new v given =
-      let rows = effect_rows op (effect_of old.store.files v.request v.reply) in
-      record {
-        request = v.request;
-        asked = seen_asks old.operations op v.operation v.acts.found ∙ v.acts.asks;
-        rows = rows;
-        effect = subst (λ (s : State T). IsEffectRow {C = AnyCall T} {A = AnyAnswer T} op v.request old.store.files s.store.files rows) (sym v.state) (served_row (AnyCall T) (AnyAnswer T) op old.store v.store v.request v.reply given v.reaches.serves v.reaches.honest);
-        told = inr (answers.Plain (plain_answers.Refused 2), v.tells);
-        added = ap (λ (s : State T). s.trace) v.state ∙ ap (λ (t : AnyTold T). (old.trace ++ rows) ++ answer_row t) (sym v.tells);
-      }
+      let rows = effect_rows op (effect_of old.store.files v.request v.reply) in (
+        (answers.Plain (plain_answers.Refused 2), v.tells),
+        record {
+          request = v.request;
+          asked = seen_asks old.operations op v.operation v.acts.found ∙ v.acts.asks;
+          rows = rows;
+          effect = subst (λ (s : State T). IsEffectRow {C = AnyCall T} {A = AnyAnswer T} op v.request old.store.files s.store.files rows) (sym v.state) (served_row (AnyCall T) (AnyAnswer T) op old.store v.store v.request v.reply given v.reaches.serves v.reaches.honest);
+          told = inr (answers.Plain (plain_answers.Refused 2), v.tells);
+          added = ap (λ (s : State T). s.trace) v.state ∙ ap (λ (t : AnyTold T). (old.trace ++ rows) ++ answer_row t) (sym v.tells);
+        },
+      )
 
   land_adds : (old : State T) (k : ℕ) (said : AnyTold T) (new : State T) → Lands old k said new → AllGiven old.store → AddsRows (seen_calls old) old.trace old.store.files (events.Land k) said new.trace new.store.files
   land_adds old k said new v given =

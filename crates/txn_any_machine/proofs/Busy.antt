@@ -99,6 +99,31 @@ module _ {T : Type 0} (s : State T) (h : Busies s.operations s.views s.trace) (n
   pub busy_as_shown : is_busy (seen_of s) s.trace (Some number) ≡ is_some used.busy
   busy_as_shown = busy_by used.busy (list_any (keeps_busy (seen_of s) number) s.trace) refl refl
 
+module _ {T : Type 0} (s : State T) (h : Busies s.operations s.views s.trace) (number : ℕ) where
+  -- a view on which an operation runs is there
+  begun_has_view : (k : ℕ) (row : AnyRow T) → slice_get s.trace k ≡ Some row → keeps_busy (seen_of s) number row ≡ true → (used : Used T) × (numbered s.views number ≡ Some (Some used))
+  begun_has_view k (Begun op call) e keeps =
+      let both = and_parts (is_id number (view_used call)) (is_some (asks_of (seen_of s).calls op)) keeps in
+      let on : view_used call ≡ Some number = is_id_some number (view_used call) both.0 in
+      let of = h.begun k op call e in
+      let runs : IsRunning of.operation = ap is_some (sym (seen_asks s.operations op of.operation of.found)) ∙ both.1 in
+      let held = h.holds op number of.operation of.found runs (of.uses ∙ on) in
+      (held.used, held.there)
+  begun_has_view k (Effect op request) e keeps = absurd (cc)
+  begun_has_view k (Answered op answer) e keeps = absurd (cc)
+
+  -- no operation runs on a view that is not there
+  pub idle_where_none : used_by s.views (Some number) ≡ None → is_busy (seen_of s) s.trace (Some number) ≡ false
+  idle_where_none none = by (list_any (keeps_busy (seen_of s) number) s.trace) refl
+    where
+      by : (found : Bool) → list_any (keeps_busy (seen_of s) number) s.trace ≡ found → list_any (keeps_busy (seen_of s) number) s.trace ≡ false
+      by true some =
+          let row = place_of_any (keeps_busy (seen_of s) number) s.trace some in
+          let used = begun_has_view row.0 row.1 row.2 row.3 in
+          let clash : None ≡ Some used.0 = sym none ∙ ap used_in used.1 in
+          absurd (cc)
+      by false idle = idle
+
 module _ {T : Type 0} where
   -- what an ending leaves of the views
 
@@ -329,3 +354,6 @@ module _ {T : Type 0} (encode : T → List ℕ) (decode : List ℕ → Option T)
   -- The rows show that a view is busy just where it is.
   pub reached_busy : (s : State T) → IsReached encode decode get_epoch set_epoch s → (number : ℕ) (used : Used T) → numbered s.views number ≡ Some (Some used) → is_busy (seen_of s) s.trace (Some number) ≡ is_some used.busy
   reached_busy s r number used there = busy_as_shown s (reached_busied s r) number used there
+
+  pub reached_idle : (s : State T) → IsReached encode decode get_epoch set_epoch s → (number : ℕ) → used_by s.views (Some number) ≡ None → is_busy (seen_of s) s.trace (Some number) ≡ false
+  reached_idle s r number none = idle_where_none s (reached_busied s r) number none

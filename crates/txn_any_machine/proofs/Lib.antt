@@ -37,8 +37,14 @@ pub mod Beginning
 pub mod CallsGoOn
 mod TokensGiven
 pub mod AddedRows
+pub mod Owned
 pub mod Joining
 pub mod Reached
 mod Claims
 mod Claimed
 pub mod ViewsGoOn
+mod FailedTurns
+mod Refusing
+mod Spending
+mod Windowed
+pub mod Mirroring

@@ -2,5 +2,8 @@
 //! each call on a view as one of `txn_view_steps`; and the theorem on it.
 #![tactic(auto)]
 
+pub mod alone;
+pub mod counts;
 pub mod doing;
 pub mod laws;
+pub mod refusals;

@@ -33,6 +33,10 @@ module _ {A : Type 0} where
   abbrev pub Tells : ToldOf A → ℕ → ToldOf A → Type 0
   Tells otherwise op t = (t ≡ otherwise) ⊎ ((answer : A) × (t ≡ told.Answered op answer))
 
+  -- what is told of an operation: its answer
+  abbrev pub TellsAnswer : ℕ → ToldOf A → Type 0
+  TellsAnswer op t = (answer : A) × (t ≡ told.Answered op answer)
+
   -- what is told: the answer where there is one
   abbrev pub told_of : ToldOf A → ℕ → Option A → ToldOf A
   told_of otherwise op None = otherwise
@@ -87,15 +91,15 @@ module _ {C A : Type 0} where
   abbrev pub AddsNone : ToldOf A → List (RowOf C A) → Files → ToldOf A → List (RowOf C A) → Files → Type 0
   AddsNone only old before t new after = (t ≡ only) × (new ≡ old) × (after ≡ before)
 
-  -- The rows that an event adds, and what it tells. A begin adds that of its call, and of its answer, where one is told.
+  -- The rows that an event adds, and what it tells. A begin adds that of its call, and of its answer, where one is told. A failure tells an answer.
   abbrev pub AddsRows : Seen → List (RowOf C A) → Files → EventOf C → ToldOf A → List (RowOf C A) → Files → Type 0
   AddsRows seen old before (events.Begin client call) t new after =
       Tells (told.Began (begun_count old + 1)) (begun_count old + 1) t × (new ≡ (old ++ Begun (begun_count old + 1) call ∷ []) ++ answer_row t) × (after ≡ before)
   AddsRows seen old before (events.Look op) t new after = AddsAnswer op old before t new after
   AddsRows seen old before (events.Serve op) t new after = AddsEffect seen op old before t new after
-  AddsRows seen old before (events.Fail op failures.Before) t new after = AddsAnswer op old before t new after
-  AddsRows seen old before (events.Fail op failures.After) t new after = AddsEffect seen op old before t new after
-  AddsRows seen old before (events.Fail op failures.Loose) t new after = AddsAnswer op old before t new after
+  AddsRows seen old before (events.Fail op failures.Before) t new after = TellsAnswer op t × AddsAnswer op old before t new after
+  AddsRows seen old before (events.Fail op failures.After) t new after = TellsAnswer op t × AddsEffect seen op old before t new after
+  AddsRows seen old before (events.Fail op failures.Loose) t new after = TellsAnswer op t × AddsAnswer op old before t new after
   AddsRows seen old before (events.GiveUp op) t new after = AddsNone (told.GaveUp op) old before t new after
   AddsRows seen old before (events.Land k) t new after = AddsLanding seen k old before t new after
   AddsRows seen old before (events.Crash client) t new after = AddsNone (told.Crashed client) old before t new after

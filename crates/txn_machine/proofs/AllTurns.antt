@@ -172,10 +172,10 @@ module _ {T : Type 0} (encode : T → List ℕ) (decode : List ℕ → Option T)
       ]
 
 module _ {T : Type 0} (encode : T → List ℕ) (decode : List ℕ → Option T) (get_epoch : T → ℕ) where
-  pub turns_at_rest : (s : State T) (client more : ℕ) (states : List (State T)) → IsReached encode decode get_epoch s → ReadsAlone encode decode get_epoch s client states → HasPages s.store.files s.page more → turns (next_op s) s states ≤ 2 * (more + 1)
-  turns_at_rest s client more [] reached a p = omega arith
-  turns_at_rest s client more (first ∷ states) reached a p =
-      let h = reached_standing encode decode get_epoch s reached in
+  -- from a state that stands
+  pub turns_from : (s : State T) (client more : ℕ) (states : List (State T)) → Standing encode decode get_epoch s → ReadsAlone encode decode get_epoch s client states → HasPages s.store.files s.page more → turns (next_op s) s states ≤ 2 * (more + 1)
+  turns_from s client more [] h a p = omega arith
+  turns_from s client more (first ∷ states) h a p =
       let began = begins encode decode get_epoch s client a.0.0 first a.0.1 h in
       let h' = takes_standing encode decode get_epoch s _ a.0.0 first a.0.1 h in
       let state = a.0.1.step.state in
@@ -183,3 +183,6 @@ module _ {T : Type 0} (encode : T → List ℕ) (decode : List ℕ → Option T)
       let one = at_most_one (is_turn (doing_in s (next_op s)) (doing_in first (next_op s))) in
       let rest = first_turns encode decode get_epoch (next_op s) more states first (read_started world_boundary) began.0 (more + (more + 1)) h' began.1 (inl tt) p' (omega arith) a.1 in
       omega (arith, one, rest)
+
+  pub turns_at_rest : (s : State T) (client more : ℕ) (states : List (State T)) → IsReached encode decode get_epoch s → ReadsAlone encode decode get_epoch s client states → HasPages s.store.files s.page more → turns (next_op s) s states ≤ 2 * (more + 1)
+  turns_at_rest s client more states reached a p = turns_from s client more states (reached_standing encode decode get_epoch s reached) a p

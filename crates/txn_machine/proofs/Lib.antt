@@ -40,3 +40,4 @@ pub mod Moving
 pub mod Passes
 pub mod RestTurns
 pub mod AllTurns
+pub mod FewProbes

@@ -83,12 +83,15 @@ module _ {T : Type 0} (encode : T → List ℕ) (decode : List ℕ → Option T)
       ]
 
 module _ {T : Type 0} (encode : T → List ℕ) (decode : List ℕ → Option T) (get_epoch : T → ℕ) where
-  pub two_passes : (s : State T) (client : ℕ) (states : List (State T)) → IsReached encode decode get_epoch s → ReadsAlone encode decode get_epoch s client states → passes (next_op s) states ≤ 2
-  two_passes s client [] reached a = omega arith
-  two_passes s client (first ∷ states) reached a =
-      let h = reached_standing encode decode get_epoch s reached in
+  -- from a state that stands
+  pub two_passes_from : (s : State T) (client : ℕ) (states : List (State T)) → Standing encode decode get_epoch s → ReadsAlone encode decode get_epoch s client states → passes (next_op s) states ≤ 2
+  two_passes_from s client [] h a = omega arith
+  two_passes_from s client (first ∷ states) h a =
       let began = begins encode decode get_epoch s client a.0.0 first a.0.1 h in
       let h' = takes_standing encode decode get_epoch s _ a.0.0 first a.0.1 h in
       let one = at_most_one (begins_pass (doing_in first (next_op s))) in
       let rest = first_passes encode decode get_epoch (next_op s) states first (read_started world_boundary) began.0 h' began.1 (inl tt) a.1 in
       omega (arith, one, rest)
+
+  pub two_passes : (s : State T) (client : ℕ) (states : List (State T)) → IsReached encode decode get_epoch s → ReadsAlone encode decode get_epoch s client states → passes (next_op s) states ≤ 2
+  two_passes s client states reached a = two_passes_from s client states (reached_standing encode decode get_epoch s reached) a

@@ -101,18 +101,20 @@ module _ {T : Type 0} (encode : T → List ℕ) (decode : List ℕ → Option T)
   )
 
   fail_adds : (failure : Failure) (old : State T) (op : ℕ) (said : Told T) (new : State T) → Fails old op failure said new → Stands decode get_epoch old → AddsRows (seen_of old) old.trace old.store.files (events.Fail op failure) said new.trace new.store.files
-  fail_adds failures.Before old op said new v st = first_adds false old op said new v
-  fail_adds failures.Loose old op said new v st = first_adds true old op said new v
+  fail_adds failures.Before old op said new v st = ((answers.Refused 2, v.tells), first_adds false old op said new v)
+  fail_adds failures.Loose old op said new v st = ((answers.Refused 2, v.tells), first_adds true old op said new v)
   fail_adds failures.After old op said new v st =
-      let rows = effect_rows op (effect_of old.store.files v.request v.reply) in
-      record {
-        request = v.request;
-        asked = seen_at old op v.operation v.acts.found ∙ v.acts.asks;
-        rows = rows;
-        effect = subst (λ (s : State T). IsEffectRow {C = Call T} {A = Answer T} op v.request old.store.files s.store.files rows) (sym v.state) (served_row (Call T) (Answer T) op old.store v.store v.request v.reply st.know.files.given v.reaches.serves v.reaches.honest);
-        told = inr (answers.Refused 2, v.tells);
-        added = ap (λ (s : State T). s.trace) v.state ∙ ap (λ (t : Told T). (old.trace ++ rows) ++ answer_row t) (sym v.tells);
-      }
+      let rows = effect_rows op (effect_of old.store.files v.request v.reply) in (
+        (answers.Refused 2, v.tells),
+        record {
+          request = v.request;
+          asked = seen_at old op v.operation v.acts.found ∙ v.acts.asks;
+          rows = rows;
+          effect = subst (λ (s : State T). IsEffectRow {C = Call T} {A = Answer T} op v.request old.store.files s.store.files rows) (sym v.state) (served_row (Call T) (Answer T) op old.store v.store v.request v.reply st.know.files.given v.reaches.serves v.reaches.honest);
+          told = inr (answers.Refused 2, v.tells);
+          added = ap (λ (s : State T). s.trace) v.state ∙ ap (λ (t : Told T). (old.trace ++ rows) ++ answer_row t) (sym v.tells);
+        },
+      )
 
   land_adds : (old : State T) (k : ℕ) (said : Told T) (new : State T) → Lands old k said new → Stands decode get_epoch old → AddsRows (seen_of old) old.trace old.store.files (events.Land k) said new.trace new.store.files
   land_adds old k said new v st =

@@ -98,7 +98,7 @@ unchecked_window (unchecked.Puts version request) versions w = w
 unchecked_window (unchecked.Keeps version) versions w = kept_window version versions w
 unchecked_window unchecked.Ended versions w = w
 
-write_window : (step : WriteStep) (write : WriteOp) (caches : Caches) → IsWindow caches.latest → IsWindow (write_caches_at step write caches).latest
+pub write_window : (step : WriteStep) (write : WriteOp) (caches : Caches) → IsWindow caches.latest → IsWindow (write_caches_at step write caches).latest
 write_window writes.Writes write caches w = unchecked_window write.write caches.latest w
 write_window writes.Checks write caches w = check_window write.check caches w
 
@@ -127,7 +127,7 @@ module _ {T : Type 0} where
   latest_window (latest.Drops id) versions said w = above_window id versions w
   latest_window latest.Ended versions said w = w
 
-  read_window : (read : ReadOp T) (caches : Caches) (said : Turned (ReadAnswer T)) → IsWindow caches.latest → IsWindow (read_left read caches said).latest
+  pub read_window : (read : ReadOp T) (caches : Caches) (said : Turned (ReadAnswer T)) → IsWindow caches.latest → IsWindow (read_left read caches said).latest
   read_window (reads.Reads latest boundary) caches said w = latest_window latest caches.latest said w
   read_window (reads.Checks id value check) caches said w = check_window check caches w
   read_window reads.Ended caches said w = w
@@ -138,7 +138,7 @@ module _ {T : Type 0} where
   seen_window (seen.Keeps version value) versions w = kept_window version versions w
   seen_window seen.Ended versions w = w
 
-  left_window : (doing : Doing T) (caches : Caches) (answer : Option (Answer T)) → IsWindow caches.latest → IsWindow (caches_left doing caches answer).latest
+  pub left_window : (doing : Doing T) (caches : Caches) (answer : Option (Answer T)) → IsWindow caches.latest → IsWindow (caches_left doing caches answer).latest
   left_window (Write write) caches answer w = write_window write.step write caches w
   left_window (WriteUnchecked write) caches answer w = unchecked_window write caches.latest w
   left_window (Read read) caches answer w = read_window read caches (said_of answer) w
@@ -156,7 +156,7 @@ abbrev pub AllWindows : List Caches → Type 0
 AllWindows [] = Unit {0}
 AllWindows (caches ∷ rest) = IsWindow caches.latest × AllWindows rest
 
-set_windows : (all : List Caches) (k : ℕ) (caches : Caches) → AllWindows all → IsWindow caches.latest → AllWindows (set all k caches)
+pub set_windows : (all : List Caches) (k : ℕ) (caches : Caches) → AllWindows all → IsWindow caches.latest → AllWindows (set all k caches)
 set_windows [] k caches h w = h
 set_windows (first ∷ rest) zero caches h w = (w, h.1)
 set_windows (first ∷ rest) (suc k) caches h w = (h.0, set_windows rest k caches h.1 w)
@@ -170,10 +170,10 @@ pub numbered_window : (all : List Caches) (client : ℕ) (caches : Caches) → n
 numbered_window all zero caches e h = cc
 numbered_window all (suc client) caches e h = get_window all client caches e h
 
-no_window : IsWindow []
+pub no_window : IsWindow []
 no_window = record { few = omega arith; ascending = tt }
 
-empty_windows : (clients : ℕ) → AllWindows (replicate clients no_caches)
+pub empty_windows : (clients : ℕ) → AllWindows (replicate clients no_caches)
 empty_windows zero = tt
 empty_windows (suc clients) = (no_window, empty_windows clients)
 
@@ -185,7 +185,7 @@ module _ {T : Type 0} (encode : T → List ℕ) (decode : List ℕ → Option T)
   windowed_as old new is h = subst Windowed (sym is) h
 
   -- an operation's client keeps these caches now
-  left_windows : (all : List Caches) (client : ℕ) (caches after : Caches) → numbered all client ≡ Some caches → AllWindows all → (IsWindow caches.latest → IsWindow after.latest) → AllWindows (set all (client - 1) after)
+  pub left_windows : (all : List Caches) (client : ℕ) (caches after : Caches) → numbered all client ≡ Some caches → AllWindows all → (IsWindow caches.latest → IsWindow after.latest) → AllWindows (set all (client - 1) after)
   left_windows all client caches after e h w = set_windows all (client - 1) after h (w (numbered_window all client caches e h))
 
   first_windowed : (looses : Bool) (old : State T) (op : ℕ) (said : Told T) (new : State T) → FailsFirst old op said looses new → Windowed old → Windowed new

@@ -1,3 +1,4 @@
 pub mod Doing
 pub mod Machine
 pub mod Alone
+pub mod Probing

@@ -5,3 +5,4 @@
 pub mod alone;
 pub mod doing;
 pub mod laws;
+pub mod probes;

@@ -3,7 +3,10 @@ ghost use Rattle.txn_types.specs.Clones.{IsExactClone};
 
 use std::alloc::{AllocError, Global};
 use std::test::Fail;
-use txn_any_machine::laws::{one_history, views_go_on};
+use txn_any_machine::alone::{turns_at_rest, two_passes};
+use txn_any_machine::counts::calls_are_bounded;
+use txn_any_machine::laws::{one_history, rows_go_on, views_go_on};
+use txn_any_machine::refusals::{claims_are_refused_by_their_base, failures_are_taken};
 use txn_caches::ask::Ask;
 use txn_history::event::{Answer, Call};
 use txn_lines::line::{Line, read_line};
@@ -410,8 +413,15 @@ fn calls_run_to_their_answers(rt: HostRuntime) -> Result<(), Fail> {
     let entries = world.entries(rt.alloc())?;
     assert_eq!(rt; entries.as_slice(), [7, 8, u64::MAX].as_slice());
     assert_eq!(rt; world.views(), 0);
+    assert_eq!(rt; world.clients(), 2);
     one_history::<u64, NumberCodec, NumberEpoch>(&NumberCodec, &NumberEpoch);
     views_go_on::<u64, NumberCodec, NumberEpoch>(&NumberCodec, &NumberEpoch);
+    rows_go_on::<u64, NumberCodec, NumberEpoch>(&NumberCodec, &NumberEpoch);
+    calls_are_bounded::<u64, NumberCodec, NumberEpoch>(&NumberCodec, &NumberEpoch);
+    two_passes::<u64, NumberCodec, NumberEpoch>(&NumberCodec, &NumberEpoch);
+    turns_at_rest::<u64, NumberCodec, NumberEpoch>(&NumberCodec, &NumberEpoch);
+    failures_are_taken::<u64, NumberCodec, NumberEpoch>(&NumberCodec, &NumberEpoch);
+    claims_are_refused_by_their_base::<u64, NumberCodec, NumberEpoch>(&NumberCodec, &NumberEpoch);
     boundary_never_falls(&7u64);
     above_boundary_is_not_removed(&7u64);
     one_writer_per_id(&7u64);
@@ -452,6 +462,29 @@ fn calls_on_views_run_to_their_answers(rt: HostRuntime) -> Result<(), Fail> {
     // An ended view keeps its number.
     assert_eq!(rt; world.views(), 2);
     assert!(rt; world.view(1).is_none());
+    Ok(())
+}
+
+/// Which of views 0 to 3 are busy.
+fn busy(world: &Numbers) -> [bool; 4] {
+    [
+        world.is_busy(0),
+        world.is_busy(1),
+        world.is_busy(2),
+        world.is_busy(3),
+    ]
+}
+
+#[test]
+fn a_view_is_busy_while_a_call_on_it_runs(rt: HostRuntime) -> Result<(), Fail> {
+    let (mut world, other) = answered_on_views(rt.alloc())?;
+    assert_eq!(rt; other, None);
+    assert_eq!(rt; busy(&world), [false, false, false, false]);
+    let call = AnyCall::View(ViewCall::HolderRefresh(2));
+    assert!(rt; world.take(AnyEvent::Begin(2, call)).is_ok());
+    assert_eq!(rt; busy(&world), [false, false, true, false]);
+    assert!(rt; world.take(AnyEvent::Crash(2)).is_ok());
+    assert_eq!(rt; busy(&world), [false, false, false, false]);
     Ok(())
 }
 

@@ -1,0 +1,70 @@
+-- A read alone: from the begin of its call on, nothing happens but its own looks and its own serves.
+use Rattle.std.specs.Prelude.{◌⊎◌, ℕ, ◌+◌, if◌then◌else◌, List, [], ◌∷◌, Option, Some, None}
+use Rattle.txn_history.specs.declared.event.Call.TheVariants as calls
+use Rattle.txn_history.specs.declared.event.EventOf.TheVariants as events
+use Rattle.txn_history.specs.Lists.{numbered}
+use Rattle.txn_machine.specs.declared.doing.Doing.{Doing}
+use Rattle.txn_machine.specs.declared.doing.Doing.TheVariants as doings
+use Rattle.txn_machine.specs.Alone.{begins_pass, is_turn}
+use Rattle.txn_view_steps.specs.declared.op.ViewOp.TheVariants.{Init, Load, Refresh, Update, Claim, ClaimAt, HolderRefresh, HolderUpdate}
+use Rattle.txn_view_history.specs.declared.event.ViewCall.TheVariants as view_calls
+use Rattle.txn_view_history.specs.declared.event.AnyCall.{AnyCall}
+use Rattle.txn_view_history.specs.declared.event.AnyCall.TheVariants as any
+use Rattle.txn_view_history.specs.Trace.{AnyTold}
+use Rattle.txn_any_machine.specs.declared.doing.AnyDoing.{AnyDoing}
+use Rattle.txn_any_machine.specs.declared.doing.AnyDoing.TheVariants as does
+use Rattle.txn_any_machine.specs.declared.doing.AnyOperation.{AnyOperation}
+use Rattle.txn_any_machine.specs.Machine.{State, next_op, Takes}
+
+module _ {T : Type 0} where
+  -- the call is one read of the newest version: a read, a load, a refresh, or that of a holder
+  abbrev pub IsReading : AnyCall T → Type 0
+  IsReading (any.Plain calls.Read) = Unit {0}
+  IsReading (any.View view_calls.Load) = Unit {0}
+  IsReading (any.View (view_calls.Refresh view)) = Unit {0}
+  IsReading (any.View (view_calls.HolderRefresh view)) = Unit {0}
+  IsReading call = ⊥
+
+  -- the read that its operation makes, as an operation of the nine calls
+  abbrev pub read_of : AnyDoing T → Doing T
+  read_of (does.Plain doing) = doing
+  read_of (does.View (Load op)) = doings.Read op.read
+  read_of (does.View (Refresh op)) = doings.Read op.read
+  read_of (does.View (HolderRefresh op)) = doings.Read op.read
+  read_of (does.View (Init op)) = doings.Ended
+  read_of (does.View (Update op)) = doings.Ended
+  read_of (does.View (Claim op)) = doings.Ended
+  read_of (does.View (ClaimAt op)) = doings.Ended
+  read_of (does.View (HolderUpdate op)) = doings.Ended
+
+  abbrev pub read_by : Option (AnyOperation T) → Doing T
+  read_by None = doings.Ended
+  read_by (Some operation) = read_of operation.doing
+
+  abbrev pub read_in : State T → ℕ → Doing T
+  read_in s op = read_by (numbered s.operations op)
+
+  -- how many passes begin in these states
+  abbrev pub passes : ℕ → List (State T) → ℕ
+  passes op [] = 0
+  passes op (s ∷ states) = (if begins_pass (read_in s op) then 1 else 0) + passes op states
+
+  -- how many turns it takes through these states
+  abbrev pub turns : ℕ → State T → List (State T) → ℕ
+  turns op before [] = 0
+  turns op before (s ∷ states) = (if is_turn (read_in before op) (read_in s op) then 1 else 0) + turns op s states
+
+module _ {T : Type 0} (encode : T → List ℕ) (decode : List ℕ → Option T) (get_epoch : T → ℕ) (set_epoch : T → ℕ → T) where
+  -- the operation looks, or its request is served
+  abbrev pub Moves : ℕ → State T → State T → Type 0
+  Moves op old new = (said : AnyTold T) × (Takes encode decode get_epoch set_epoch old (events.Look op) said new ⊎ Takes encode decode get_epoch set_epoch old (events.Serve op) said new)
+
+  -- states that follow one another while the operation alone moves
+  abbrev pub MovesAlone : ℕ → State T → List (State T) → Type 0
+  MovesAlone op s [] = Unit {0}
+  MovesAlone op s (next ∷ states) = Moves op s next × MovesAlone op next states
+
+  -- The states of a call of a client from its begin on, where it alone moves.
+  abbrev pub ReadsAlone : State T → ℕ → AnyCall T → List (State T) → Type 0
+  ReadsAlone s client call [] = Unit {0}
+  ReadsAlone s client call (first ∷ states) = ((said : AnyTold T) × Takes encode decode get_epoch set_epoch s (events.Begin client call) said first) × MovesAlone (next_op s) first states

@@ -1,0 +1,21 @@
+//! The laws of a read that nothing disturbs, of whatever call: how often it starts again, and how many turns it takes.
+ghost use Rattle.std.specs.Prelude.{◌≡◌, ◌+◌, ◌*◌, ◌≤◌, ℕ, List};
+ghost use Rattle.txn_machine.specs.Alone.{HasPages};
+ghost use Rattle.txn_view_history.specs.declared.event.AnyCall.{AnyCall};
+ghost use Rattle.txn_view_history.specs.Trace.{AnyEvent, AnyTold};
+ghost use Rattle.txn_any_machine.specs.Alone.{IsReading, ReadsAlone, passes, turns};
+ghost use Rattle.txn_any_machine.specs.Machine.{State, opening, next_op, Runs};
+
+use txn_types::codec::ObjectCodec;
+use txn_types::epoch::EpochField;
+
+/// A read, a load, a refresh and a holder's refresh begin at most two passes where nothing else happens from their begin on,
+/// whatever happened before and whatever their client holds.
+pub fn two_passes<T: Drop, C: ObjectCodec<T>, E: EpochField<T>>(_codec: &C, _epochs: &E)
+    ensures { (clients page : _) (before : List (AnyEvent T × AnyTold T)) (state : State T) (client : ℕ) (call : AnyCall T) (states : List (State T)) → 1 ≤ page → Runs (C.encoded _codec.now) (C.decoded _codec.now) (E.epoch_of _epochs.now) (E.with_epoch _epochs.now) (opening clients page) before state → IsReading call → ReadsAlone (C.encoded _codec.now) (C.decoded _codec.now) (E.epoch_of _epochs.now) (E.with_epoch _epochs.now) state client call states → passes (next_op state) states ≤ 2 }
+{}
+
+/// Such a read takes at most two turns, that of its begin among them, for each page that a listing of the versions has.
+pub fn turns_at_rest<T: Drop, C: ObjectCodec<T>, E: EpochField<T>>(_codec: &C, _epochs: &E)
+    ensures { (clients page : _) (before : List (AnyEvent T × AnyTold T)) (state : State T) (client : ℕ) (call : AnyCall T) (more : ℕ) (states : List (State T)) → 1 ≤ page → Runs (C.encoded _codec.now) (C.decoded _codec.now) (E.epoch_of _epochs.now) (E.with_epoch _epochs.now) (opening clients page) before state → IsReading call → ReadsAlone (C.encoded _codec.now) (C.decoded _codec.now) (E.epoch_of _epochs.now) (E.with_epoch _epochs.now) state client call states → HasPages state.store.files state.page more → turns (next_op state) state states ≤ 2 * (more + 1) }
+{}
