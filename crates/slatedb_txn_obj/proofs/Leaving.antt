@@ -11,7 +11,7 @@ use Rattle.txn_types.specs.declared.error.TransactionalObjectError.TheVariants a
 use Rattle.txn_caches.specs.declared.caches.Cached.{Cached}
 use Rattle.txn_drivers.specs.WriteRuns.{Creates, WriteLeaves, Written}
 use Rattle.txn_drivers.specs.RemovalRuns.{DeleteLeaves, Deleted}
-use Rattle.slatedb_txn_obj.specs.Leaves.{KeepsTokens, SameFiles, CreatesFile, RemovesFile, MayCreate, MayRemove, LeavesOthers}
+use Rattle.slatedb_txn_obj.specs.Leaves.{KeepsTokens, SameFiles, CreatesFile, RemovesFile, MayCreate, MayRemove, LeavesOthers, SameOwn, AreApart}
 use Rattle.slatedb_txn_obj.specs.Protocol.{base_number}
 use Rattle.slatedb_txn_obj.proofs.Wholes.{base_is}
 
@@ -58,6 +58,10 @@ module _ {own : Segments → Type 0} where
     others = λ at other. ap (λ (files : Files). map.get files at) removed.files ∙ get-remove_other a.files path at (λ is. other (subst own (sym is) its));
     given = removed.given;
   }
+
+-- so another's files are as they were, where the two have none in common
+pub own-apart : {own own' : Segments → Type 0} {a b : State} → AreApart own own' → LeavesOthers own a b → SameOwn own' a b
+own-apart apart leaves = record { same = λ path its. leaves.others path (λ mine. apart path mine its); given = leaves.given }
 
 -- what a write and a delete of a version do to its file
 module _ (path : Segments) (old new : State) (latest latest' : List Cached) (given : KeepsTokens old new) where

@@ -12,7 +12,7 @@ use txn_types::error::TransactionalObjectError;
 /// common, the write leaves the other what it stood for, so that the read answers its newest entry.
 pub fn write_beside<
     T,
-    Id,
+    Id: Drop,
     U: Drop,
     Jd: Drop,
     S: ObjectStore,
