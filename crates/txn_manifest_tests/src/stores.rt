@@ -52,7 +52,7 @@ fn opened(
     protocol: &mut Versions,
     store: &mut InMemory,
     turns: &mut Turns,
-) -> Result<ManifestStore, TransactionalObjectError> {
+) -> Result<ManifestStore<NoInvariant>, TransactionalObjectError> {
     let first = Manifest {
         epoch: 0,
         payload: 1,
@@ -104,7 +104,7 @@ fn told<T: Debug + Drop>(
 /// What a manifest store answers.
 fn answer(
     alloc: Global,
-    manifests: &mut ManifestStore,
+    manifests: &mut ManifestStore<NoInvariant>,
     protocol: &mut Versions,
     store: &mut InMemory,
     asked: Asked,
@@ -121,7 +121,7 @@ fn answer(
 /// The first row of which something else is told, or which leaves something else stored, if there is one.
 fn first_other(
     alloc: Global,
-    manifests: &mut ManifestStore,
+    manifests: &mut ManifestStore<NoInvariant>,
     protocol: &mut Versions,
     store: &mut InMemory,
 ) -> Result<Option<usize>, Fail> {
@@ -136,7 +136,7 @@ fn first_other(
 }
 
 /// The manifest that a store's holder is at, as text.
-fn held(alloc: Global, manifests: &ManifestStore) -> Result<String, Fail> {
+fn held(alloc: Global, manifests: &ManifestStore<NoInvariant>) -> Result<String, Fail> {
     let holder = manifests.holder();
     let id = holder.id().id();
     let object = holder.object();
