@@ -1,3 +1,5 @@
+pub mod Leaves
+pub mod Checked
 pub mod Protocol
 pub mod Whole
 pub mod Boundaries

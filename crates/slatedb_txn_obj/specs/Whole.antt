@@ -1,5 +1,5 @@
 -- When a protocol over an object store and its store stand for a history and a boundary.
-use Rattle.std.specs.Prelude.{◌≡◌, ℕ, ◌+◌, ◌^◌, ◌<◌, ◌==◌, not, List, Option, Some, None, Result, Ok, Err}
+use Rattle.std.specs.Prelude.{◌≡◌, ◌⊎◌, ℕ, ◌+◌, ◌^◌, ◌<◌, ◌==◌, not, List, Option, Some, None, Result, Ok, Err}
 use Rattle.std.specs.FinMap as map
 use Rattle.txn_store.specs.Paths.{Segments}
 use Rattle.txn_store.specs.VersionName.{Names, version_path}
@@ -17,6 +17,18 @@ pub record Protocol (C B : Type 0) : Type 0 where
   pub layout : Layout C
   pub latest : List Cached
   pub boundary : B
+
+-- where the files of a protocol lie: those of its versions, and the boundary's
+pub record Laid (C : Type 0) : Type 0 where
+  pub layout : Layout C
+  pub boundary : Segments
+
+abbrev pub laid : {C B : Type 0} → Protocol C B → Segments → Laid C
+laid p file = record { layout = p.layout; boundary = file }
+
+-- the boundary's file, or that of a version
+abbrev pub Owned : {C : Type 0} → Laid C → Segments → Type 0
+Owned at path = (path ≡ at.boundary) ⊎ ((n : ℕ) × (path ≡ version_path at.layout.names n))
 
 -- The boundary stands, by a file that is no version's, and the files of the versions and the held versions stand.
 pub record Whole {T : Type 0} (bounds : ℕ → Type 0) (file : Segments) (names : Names) (decode : List ℕ → Option T) (latest : List Cached) (files : Files) (h : List T) (b : ℕ) : Type 0 where

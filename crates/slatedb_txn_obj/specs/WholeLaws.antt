@@ -1,20 +1,22 @@
 -- What a check and an advance make of what a protocol over an object store stands for.
 use Rattle.std.specs.Prelude.{◌≡◌, ◌⊎◌, ℕ, ◌+◌, ◌^◌, ◌<◌, ◌≤◌, ◌==◌, Bool, true, false, not, List, [], length, Option, Result, Ok, Err}
-use Rattle.std.proofs.Common.{refl, ◌∙◌, arith}
+use Rattle.std.proofs.Common.{refl, ◌∙◌, inl, inr, arith}
 use Rattle.txn_store.specs.Paths.{Segments}
 use Rattle.txn_store.specs.VersionName.{version_path}
 use Rattle.txn_store.specs.Store.{Files, State}
 use Rattle.txn_types.specs.declared.error.TransactionalObjectError.{TransactionalObjectError}
 use Rattle.txn_types.specs.declared.error.TransactionalObjectError.TheVariants as kinds
 use Rattle.txn_caches.specs.declared.caches.Cached.{Cached}
-use Rattle.txn_drivers.specs.Calls.{one_if, SameBut}
+use Rattle.txn_drivers.specs.Calls.{one_if, SameAt, SameBut}
 use Rattle.txn_drivers.specs.LatestReads.{UpTo}
 use Rattle.txn_drivers.specs.PageCount.{pages_below}
 use Rattle.txn_drivers.specs.Standing.{WindowFits}
 use Rattle.txn_drivers.proofs.Effects.{raised_window}
+use Rattle.txn_drivers.proofs.Frames.{FilesStand-frame}
 use Rattle.txn_drivers.proofs.Standings.{files_same, files_raised, none_above}
 use Rattle.txn_drivers.proofs.Windows.{above_fits}
-use Rattle.slatedb_txn_obj.specs.Whole.{Protocol, Whole, probe_calls, after_check, after_advance, Checks, Advances}
+use Rattle.slatedb_txn_obj.specs.Leaves.{SameOwn}
+use Rattle.slatedb_txn_obj.specs.Whole.{Protocol, Owned, laid, Whole, probe_calls, after_check, after_advance, Checks, Advances}
 
 module _ {T : Type 0} (decode : List ℕ → Option T) (h : List T) (b : ℕ) where
   checked_fits : (id : ℕ) (result : Result (Unit {0}) TransactionalObjectError) (latest : List Cached) → WindowFits decode h b latest → WindowFits decode h b (after_check id result latest)
@@ -48,6 +50,19 @@ module _ {T C B : Type 0} (decoded : C → List ℕ → Option T) (p q : Protoco
           window_fits = advanced_fits (decoded p.layout.codec) h c id result p.latest (raised_window p.layout.names (decoded p.layout.codec) h b c c p.latest le whole.versions.window_fits);
         };
       })
+
+-- whoever leaves its files leaves what a protocol stands for
+pub whole-frame : {T C B : Type 0} (decoded : C → List ℕ → Option T) (p : Protocol C B) (old new : State) (h : List T) (b : ℕ) (bounds bounds' : ℕ → Type 0) (file : Segments) → (SameAt file old new → bounds b → bounds' b) → SameOwn (Owned (laid p file)) old new
+    → Whole bounds file p.layout.names (decoded p.layout.codec) p.latest old.files h b → Whole bounds' file p.layout.names (decoded p.layout.codec) p.latest new.files h b
+whole-frame decoded p old new h b bounds bounds' file keeps own whole = record {
+  bounded = keeps (record { same = own.same file (inl refl); given = own.given }) whole.bounded;
+  apart = whole.apart;
+  versions = record { files_stand = FilesStand-frame p.layout.names (decoded p.layout.codec) h b old.files new.files (λ n. own.same (version_path p.layout.names n) (inr (n, refl))) whole.versions.files_stand; window_fits = whole.versions.window_fits };
+}
+
+-- the files lie where they lay
+pub laid-same : {C B : Type 0} (p q : Protocol C B) (file file' : Segments) → q.layout ≡ p.layout → file' ≡ file → laid q file' ≡ laid p file
+laid-same p q file file' same same_file = rw (same, same_file) refl
 
 -- a check that refuses an id leaves nothing held that is not above it
 pub refused-fresh : {C B : Type 0} (inner : Type 0) (id : ℕ) (p q : Protocol C B) → Checks inner id (Err kinds.ObjectVersionExists) p q → UpTo id p.latest → q.latest ≡ []

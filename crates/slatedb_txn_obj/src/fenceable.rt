@@ -5,6 +5,7 @@ ghost use Rattle.txn_types.specs.Clones.{IsExactClone};
 ghost use Rattle.txn_types.specs.Epochs.{IsEpochError, NextEpoch};
 ghost use Rattle.txn_drivers.specs.Calls.{Spends, SpendsTurns};
 ghost use Rattle.slatedb_txn_obj.specs.Claims.{IsUnlike, ReadsOne, HasCauseOfAttempt, MayClaim, ClaimEnds};
+ghost use Rattle.slatedb_txn_obj.specs.Leaves.{MayCreate};
 ghost use Rattle.slatedb_txn_obj.specs.Protocol.{Overtaken, MayAppend, UnheldAt};
 ghost use Rattle.slatedb_txn_obj.specs.Views.{IsVersion, Updated, IsTestFailure, HasCauseOfUpdate};
 
@@ -139,6 +140,8 @@ fn attempt<
     ensures cause { IfErr result (HasCauseOfAttempt asked (X.epoch_of epochs.now view.old.object) deadline.now.timeout (P.number view.old.id) (ReadsOne (λ r. deadline.now.timeout ≤ r - deadline.now.start) (K.readings clock.old) (K.readings clock.new)) (λ error. (e : ℕ) × NextEpoch asked (X.epoch_of epochs.now view.old.object) e × IsTestFailure (λ i. I.holds i (X.with_epoch epochs.now view.old.object e) view.old.object) (λ i. I.fails i (X.with_epoch epochs.now view.old.object e) view.old.object) view.old.invariants.items error) (UnheldAt (P.stands protocol.old store.old) (P.number view.old.id)) (S.state store.old) (S.state store.new)) }
     ensures spends { Spends 2 1 (S.state store.old) (S.state store.new) }
     ensures paged { (h : List T) (b : ℕ) → P.stands protocol.old store.old h b → P.number view.old.id ≤ length h → P.pages protocol.new store.new ≤ P.pages protocol.old store.old + 1 }
+    ensures placed { P.place protocol.new ≡ P.place protocol.old }
+    ensures creates { MayCreate (P.version_file (P.place protocol.old) (P.number view.old.id + 1)) (S.state store.old) (S.state store.new) }
 {
     let epoch = next_epoch(asked, epochs.get_epoch(view.object()))?;
     let mut dirty = view.prepare_dirty()?;
@@ -257,6 +260,8 @@ impl<T: Clone, I: Invariant<T> + Drop, X: EpochField<T>> TransactionalObject<T, 
         ensures cause { IfErr result (HasCauseOfUpdate (λ e. IsEpochError self.old.local_epoch (X.epoch_of self.old.epochs self.old.delegate.object) e ⊎ (IsUnlike self.old.local_epoch (X.epoch_of self.old.epochs dirty.value) e ⊎ IsTestFailure (λ i. I.holds i dirty.value self.old.delegate.object) (λ i. I.fails i dirty.value self.old.delegate.object) self.old.delegate.invariants.items e)) (UnheldAt (P.stands protocol.old store.old) (P.number self.old.delegate.id)) (P.number self.old.delegate.id) (S.state store.old) (S.state store.new)) }
         ensures spends { Spends 2 1 (S.state store.old) (S.state store.new) }
         ensures paged { (h : List T) (b : ℕ) → P.stands protocol.old store.old h b → P.number self.old.delegate.id ≤ length h → P.pages protocol.new store.new ≤ P.pages protocol.old store.old + 1 }
+        ensures placed { P.place protocol.new ≡ P.place protocol.old }
+        ensures creates { MayCreate (P.version_file (P.place protocol.old) (P.number self.old.delegate.id + 1)) (S.state store.old) (S.state store.new) }
     {
         self.check_epoch()?;
         if self.epochs.get_epoch(&dirty.value) != self.local_epoch {

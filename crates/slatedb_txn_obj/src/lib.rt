@@ -59,13 +59,15 @@ pub mod fenceable;
 pub mod object;
 pub mod object_store;
 pub mod protocol;
+pub mod sequenced;
 pub mod simple;
 
 pub use boundary::BoundaryObject;
 pub use clock::{Readings, SystemClock};
 pub use fenceable::FenceableTransactionalObject;
 pub use object::TransactionalObject;
-pub use protocol::{SequencedStorageProtocol, TransactionalStorageProtocol};
+pub use protocol::TransactionalStorageProtocol;
+pub use sequenced::SequencedStorageProtocol;
 pub use simple::SimpleTransactionalObject;
 pub use txn_drivers::turns::Turns;
 pub use txn_types::callback::CallbackFault;

@@ -21,6 +21,7 @@ pub trait TransactionalObject<T: Clone, Id: Copy + Eq> {
     ghost use Rattle.txn_types.specs.Clones.{IsExactClone};
     ghost use Rattle.txn_types.specs.declared.error.TransactionalObjectError.{TransactionalObjectError};
     ghost use Rattle.txn_drivers.specs.Calls.{Spends, SpendsTurns};
+    ghost use Rattle.slatedb_txn_obj.specs.Leaves.{SameFiles, MayCreate};
     ghost use Rattle.slatedb_txn_obj.specs.Protocol.{Overtaken, MayAppend, Stays, UnheldAt};
     ghost use Rattle.slatedb_txn_obj.specs.Views.{IsVersion, Updated, ShowsLatest, IsShutting, HasCauseOfUpdate, HasCauseOfRefresh, Applied, NotApplied, DecidedBy, KeepsIds, HasCauseOfApply};
 
@@ -64,7 +65,7 @@ pub trait TransactionalObject<T: Clone, Id: Copy + Eq> {
     /// first that it lists; where one is due and none is left, it is `TurnsExhausted`. Where nothing is stored, it is
     /// `InvalidObjectState`. Where the version that it read shuts it, it is that error, as `Fenced`, and the object is at that
     /// version. Its other errors are those of the read, `CallbackError`, `ObjectStoreError` and `NoMemory`, and after them the
-    /// object is as it was.
+    /// object is as it was. It changes no file.
     fn refresh<S: ObjectStore, P: TransactionalStorageProtocol<T, Id, S>>(
         &mut self,
         protocol: &mut P,
@@ -79,14 +80,17 @@ pub trait TransactionalObject<T: Clone, Id: Copy + Eq> {
         ensures few { (h : List T) (b : ℕ) → P.stands protocol.old store.old h b → turns.old ≤ turns.new + 2 * P.pages protocol.old store.old }
         ensures enough { (h : List T) (b : ℕ) → P.stands protocol.old store.old h b → 2 * P.pages protocol.old store.old ≤ turns.old → IsErrOf result TransactionalObjectError.TurnsExhausted → ⊥ }
         ensures spends { SpendsTurns 7 0 0 turns.old turns.new (S.state store.old) (S.state store.new) }
-        ensures paged { (h : List T) (b : ℕ) → P.stands protocol.old store.old h b → P.pages protocol.new store.new ≡ P.pages protocol.old store.old };
+        ensures paged { (h : List T) (b : ℕ) → P.stands protocol.old store.old h b → P.pages protocol.new store.new ≡ P.pages protocol.old store.old }
+        ensures placed { P.place protocol.new ≡ P.place protocol.old }
+        ensures files { SameFiles (S.state store.old) (S.state store.new) };
 
     /// Writes the candidate's value on the version that the object is at, and is at the new version then. A candidate of
     /// another id, and a version that isn't the newest, is `ObjectVersionExists`. A candidate that the object refuses, as one
     /// that an invariant fails for, is that error, and nothing is written. Its other errors are those of the write:
     /// `IdExhausted` where the version has the greatest id, `InvalidObjectState` where the boundary file says no number,
     /// `ObjectStoreError` and `NoMemory`. After an error the object is as it was; the value may have been written, unless the
-    /// error is a refusal before the write. It makes at most two calls of the store and takes at most one token.
+    /// error is a refusal before the write. It makes at most two calls of the store, takes at most one token, and creates at
+    /// most the file of the version above that which the object is at.
     fn update<S: ObjectStore, P: TransactionalStorageProtocol<T, Id, S>>(
         &mut self,
         protocol: &mut P,
@@ -103,7 +107,9 @@ pub trait TransactionalObject<T: Clone, Id: Copy + Eq> {
         ensures err { IfErr result (λ _. MayAppend (P.stands protocol.old store.old) (P.stands protocol.new store.new) (P.number (at self.old)) dirty.value) }
         ensures cause { IfErr result (HasCauseOfUpdate (refuses self.old dirty.value) (UnheldAt (P.stands protocol.old store.old) (P.number (at self.old))) (P.number (at self.old)) (S.state store.old) (S.state store.new)) }
         ensures spends { Spends 2 1 (S.state store.old) (S.state store.new) }
-        ensures paged { (h : List T) (b : ℕ) → P.stands protocol.old store.old h b → P.number (at self.old) ≤ length h → P.pages protocol.new store.new ≤ P.pages protocol.old store.old + 1 };
+        ensures paged { (h : List T) (b : ℕ) → P.stands protocol.old store.old h b → P.number (at self.old) ≤ length h → P.pages protocol.new store.new ≤ P.pages protocol.old store.old + 1 }
+        ensures placed { P.place protocol.new ≡ P.place protocol.old }
+        ensures creates { MayCreate (P.version_file (P.place protocol.old) (P.number (at self.old) + 1)) (S.state store.old) (S.state store.new) };
 
     /// Asks the mutator for a candidate made of the object, and updates by it. After a conflict it refreshes, and asks once
     /// more. Nothing asked for is Ok, and the mutator's refusal is `CallbackError`, or `NoMemory`, and writes nothing. Each

@@ -3,6 +3,7 @@ ghost use Rattle.std.specs.Prelude.{ℕ, List, length, true, false, ◌≡◌, �
 ghost use Rattle.txn_types.specs.Callbacks.{IsCallback, OnRefusal};
 ghost use Rattle.txn_types.specs.Clones.{IsExactClone};
 ghost use Rattle.txn_drivers.specs.Calls.{Spends, SpendsTurns};
+ghost use Rattle.slatedb_txn_obj.specs.Leaves.{SameFiles, MayCreate};
 ghost use Rattle.slatedb_txn_obj.specs.Protocol.{Appended, Overtaken, MayAppend, Unheld, UnheldAt, HasCauseOfWrite, HasCauseOfLatest, Stays};
 ghost use Rattle.slatedb_txn_obj.specs.Views.{Updated, ShowsLatest, IsEmpty, Tested, IsTestFailure, HasCauseOfUpdate, HasCauseOfLoad};
 
@@ -39,6 +40,8 @@ impl<T: Drop, Id: Drop, I> SimpleTransactionalObject<T, Id, I> {
         ensures err { IfErr result (λ _. MayAppend (P.stands protocol.old store.old) (P.stands protocol.new store.new) 0 value) }
         ensures cause { IfErr result (HasCauseOfWrite (UnheldAt (P.stands protocol.old store.old) 0) 0 (S.state store.old) (S.state store.new)) }
         ensures spends { Spends 2 1 (S.state store.old) (S.state store.new) }
+        ensures placed { P.place protocol.new ≡ P.place protocol.old }
+        ensures creates { MayCreate (P.version_file (P.place protocol.old) 1) (S.state store.old) (S.state store.new) }
     {
         let id = protocol.write(store, None, &value)?;
         Ok(SimpleTransactionalObject {
@@ -62,6 +65,8 @@ impl<T: Drop, Id: Drop, I> SimpleTransactionalObject<T, Id, I> {
         ensures enough { (h : List T) (b : ℕ) → P.stands protocol.old store.old h b → 2 * P.pages protocol.old store.old ≤ turns.old → IsErrOf result TransactionalObjectError.TurnsExhausted → ⊥ }
         ensures spends { SpendsTurns 7 0 0 turns.old turns.new (S.state store.old) (S.state store.new) }
         ensures cause { IfErr result (HasCauseOfLatest (Unheld (P.stands protocol.old store.old)) turns.new (S.state store.old) (S.state store.new)) }
+        ensures placed { P.place protocol.new ≡ P.place protocol.old }
+        ensures files { SameFiles (S.state store.old) (S.state store.new) }
     {
         match protocol.try_read_latest(store, turns)? {
             None => Ok(None),
@@ -87,6 +92,8 @@ impl<T: Drop, Id: Drop, I> SimpleTransactionalObject<T, Id, I> {
         ensures enough { (h : List T) (b : ℕ) → P.stands protocol.old store.old h b → 2 * P.pages protocol.old store.old ≤ turns.old → IsErrOf result TransactionalObjectError.TurnsExhausted → ⊥ }
         ensures spends { SpendsTurns 7 0 0 turns.old turns.new (S.state store.old) (S.state store.new) }
         ensures cause { IfErr result (HasCauseOfLoad (Unheld (P.stands protocol.old store.old)) turns.new (S.state store.old) (S.state store.new)) }
+        ensures placed { P.place protocol.new ≡ P.place protocol.old }
+        ensures files { SameFiles (S.state store.old) (S.state store.new) }
     {
         match SimpleTransactionalObject::try_load(alloc, protocol, store, turns)? {
             Some(view) => Ok(view),
@@ -200,6 +207,8 @@ impl<T: Clone, Id: Copy + Eq, I: Invariant<T> + Drop> TransactionalObject<T, Id>
         ensures cause { IfErr result (HasCauseOfUpdate (IsTestFailure (λ i. I.holds i dirty.value self.old.object) (λ i. I.fails i dirty.value self.old.object) self.old.invariants.items) (UnheldAt (P.stands protocol.old store.old) (P.number self.old.id)) (P.number self.old.id) (S.state store.old) (S.state store.new)) }
         ensures spends { Spends 2 1 (S.state store.old) (S.state store.new) }
         ensures paged { (h : List T) (b : ℕ) → P.stands protocol.old store.old h b → P.number self.old.id ≤ length h → P.pages protocol.new store.new ≤ P.pages protocol.old store.old + 1 }
+        ensures placed { P.place protocol.new ≡ P.place protocol.old }
+        ensures creates { MayCreate (P.version_file (P.place protocol.old) (P.number self.old.id + 1)) (S.state store.old) (S.state store.new) }
     {
         if dirty.id != self.id {
             return Err(TransactionalObjectError::ObjectVersionExists);

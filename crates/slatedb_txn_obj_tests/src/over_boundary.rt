@@ -2,7 +2,8 @@
 use crate::scripted::TestBoundary;
 use slatedb_txn_obj::boundary::BoundaryObject;
 use slatedb_txn_obj::object_store::protocol::ObjectStoreSequencedStorageProtocol;
-use slatedb_txn_obj::protocol::{SequencedStorageProtocol, TransactionalStorageProtocol};
+use slatedb_txn_obj::protocol::TransactionalStorageProtocol;
+use slatedb_txn_obj::sequenced::SequencedStorageProtocol;
 use slatedb_txn_obj::test_utils::NumberCodec;
 use std::alloc::Global;
 use std::test::Fail;

@@ -3,7 +3,7 @@ ghost use Rattle.std.specs.Prelude.{◌≡◌, IfErr};
 ghost use Rattle.txn_types.specs.declared.error.TransactionalObjectError.TheVariants.{ObjectVersionExists};
 
 use slatedb_txn_obj::boundary::BoundaryObject;
-use slatedb_txn_obj::protocol::SequencedStorageProtocol;
+use slatedb_txn_obj::sequenced::SequencedStorageProtocol;
 use std::alloc::Global;
 use std::ops::Bound;
 use txn_drivers::turns::Turns;
@@ -197,10 +197,22 @@ impl<S: ObjectStore> BoundaryObject<S> for ScriptedReadLatestStore {
 }
 
 impl<S: ObjectStore> SequencedStorageProtocol<u64, S> for ScriptedReadLatestStore {
-    ghost use Rattle.std.proofs.Common.{refl};
+    ghost use Rattle.std.proofs.Common.{refl, [], ◌≡◌};
     ghost use Rattle.std.proofs.Math.Nat.{le_refl, le-add_right};
 
     ghost stands = { λ _ _ _ _. ⊥ };
+
+    ghost Place = { Unit {0} };
+
+    ghost place = { λ _. tt };
+
+    ghost owns = { λ _ path. path ≡ [] };
+
+    ghost version_file = { λ _ _. [] };
+
+    ghost writes_to = { λ _ s _ _ _ _ t. S.state t ≡ S.state s };
+
+    ghost deletes_to = { λ _ s _ _ _ t. S.state t ≡ S.state s };
 
     ghost is_fresh = { λ _. Unit {0} };
 
@@ -223,6 +235,16 @@ impl<S: ObjectStore> SequencedStorageProtocol<u64, S> for ScriptedReadLatestStor
     ghost stands_above = { λ _ _ _ _ h _. absurd h };
 
     ghost stands_checked = { λ _ _ _ _ _ _ _ _ _ h. h };
+
+    ghost stands_frame = { λ _ _ _ _ _ _ h. h };
+
+    ghost owns_version = { λ _ _. refl };
+
+    ghost owns_boundary = { λ _. refl };
+
+    ghost place_checked = { λ _ _ _ _ _ _ _. refl };
+
+    ghost place_advanced = { λ _ _ _ _ _ _ _. refl };
 
     ghost pages_some = { λ _ _. le_refl 1 };
 

@@ -8,7 +8,8 @@ ghost use Rattle.txn_workloads.specs.declared.fault.Fault.TheVariants as faults;
 
 use crate::clock::StoppedClock;
 use crate::fault::Fault;
-use slatedb_txn_obj::protocol::{SequencedStorageProtocol, TransactionalStorageProtocol};
+use slatedb_txn_obj::protocol::TransactionalStorageProtocol;
+use slatedb_txn_obj::sequenced::SequencedStorageProtocol;
 use slatedb_txn_obj::{
     FenceableTransactionalObject, SimpleTransactionalObject, TransactionalObject,
 };

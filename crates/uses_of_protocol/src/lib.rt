@@ -2,6 +2,7 @@
 //! through the traits.
 #![tactic(auto)]
 
+pub mod beside;
 pub mod holders;
 pub mod list_store;
 mod listed;

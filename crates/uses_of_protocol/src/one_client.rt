@@ -2,7 +2,8 @@
 ghost use Rattle.std.specs.Prelude.{◌≡◌, ℕ, List, length, IfOk, OnErr};
 ghost use Rattle.uses_of_protocol.specs.OneClient.{IsAllowed, Moves, Runs};
 
-use slatedb_txn_obj::protocol::{SequencedStorageProtocol, TransactionalStorageProtocol};
+use slatedb_txn_obj::protocol::TransactionalStorageProtocol;
+use slatedb_txn_obj::sequenced::SequencedStorageProtocol;
 use std::alloc::{AllocError, Global};
 use txn_drivers::turns::Turns;
 use txn_store::store::ObjectStore;

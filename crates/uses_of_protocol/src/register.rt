@@ -1,6 +1,7 @@
 //! A protocol that is not sequenced, with ids of its own.
 ghost use Rattle.std.specs.Prelude.{◌≡◌, ℕ, List, [], length, ◌+◌, ◌≤◌, IfOk, IfErr, IsErrOf};
 ghost use Rattle.txn_drivers.specs.Calls.{Spends};
+ghost use Rattle.slatedb_txn_obj.specs.Leaves.{MayCreate};
 ghost use Rattle.slatedb_txn_obj.specs.Protocol.{base_number, Appended, Overtaken, MayAppend, UnheldAt, HasCauseOfWrite};
 ghost use Rattle.uses_of_protocol.specs.Registered.{Registered};
 
@@ -32,10 +33,20 @@ impl Register {
 }
 
 impl<S: ObjectStore> TransactionalStorageProtocol<u64, Revision, S> for Register {
-    ghost use Rattle.std.specs.Prelude.{◌≡◌, ℕ, refl};
+    ghost use Rattle.std.specs.Prelude.{◌≡◌, ℕ, [], refl};
     ghost use Rattle.std.proofs.Math.Nat.{le_refl, le-add_right};
 
     ghost stands = { λ p _ h b. Registered p.values.items h b };
+
+    ghost Place = { Unit {0} };
+
+    ghost place = { λ _. tt };
+
+    ghost owns = { λ _ path. path ≡ [] };
+
+    ghost version_file = { λ _ _. [] };
+
+    ghost writes_to = { λ _ s _ _ _ _ t. S.state t ≡ S.state s };
 
     ghost number = { λ r. r.0 };
 
@@ -51,6 +62,10 @@ impl<S: ObjectStore> TransactionalStorageProtocol<u64, Revision, S> for Register
 
     ghost one_number = { λ a b is i. record { 0 = is i } };
 
+    ghost stands_frame = { λ _ _ _ _ _ _ stands. stands };
+
+    ghost owns_version = { λ _ _. refl };
+
     fn write(
         &mut self,
         _store: &mut S,
@@ -63,6 +78,8 @@ impl<S: ObjectStore> TransactionalStorageProtocol<u64, Revision, S> for Register
         ensures cause { IfErr result (HasCauseOfWrite (UnheldAt (Registered self.old.values.items) (base_number (λ r. r.0) base)) (base_number (λ r. r.0) base) (S.state _store.old) (S.state _store.new)) }
         ensures spends { Spends 2 1 (S.state _store.old) (S.state _store.new) }
         ensures paged { (h : List ℕ) (b : ℕ) → Registered self.old.values.items h b → base_number (λ r. r.0) base ≤ length h → 1 ≤ 1 + 1 }
+        ensures creates { MayCreate [] (S.state _store.old) (S.state _store.new) }
+        ensures moved { S.state _store.new ≡ S.state _store.old }
     {
         let newest = self.values.len() as u64;
         let base = match base {

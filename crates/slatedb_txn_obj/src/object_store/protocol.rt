@@ -6,7 +6,7 @@ ghost use Rattle.txn_types.specs.BoundaryText.{boundary_path};
 
 use crate::boundary::BoundaryObject;
 use crate::object_store::boundary::ObjectStoreBoundaryObject;
-use crate::protocol::SequencedStorageProtocol;
+use crate::sequenced::SequencedStorageProtocol;
 use std::alloc::Global;
 use std::marker::{Model, PhantomData};
 use std::ops::Bound;
@@ -193,12 +193,27 @@ impl<T: Drop, S: ObjectStore, C: ObjectCodec<T>, B: BoundaryObject<S>> Sequenced
     ghost use Rattle.txn_drivers.specs.VersionReads.{SeenRead, VersionRead};
     ghost use Rattle.txn_drivers.specs.WriteRuns.{Written};
     ghost use Rattle.txn_drivers.specs.PageCount.{pages_below};
-    ghost use Rattle.slatedb_txn_obj.specs.Whole.{Whole, StandsFor, IsGreatestHeld, IsMissing, probe_calls};
+    ghost use Rattle.slatedb_txn_obj.specs.Leaves.{SameFiles, MayCreate, MayRemove};
+    ghost use Rattle.slatedb_txn_obj.specs.Whole.{Whole, StandsFor, IsGreatestHeld, IsMissing, Laid, Owned, laid, probe_calls};
     ghost use Rattle.slatedb_txn_obj.specs.Protocol.{base_number, LatestOrFenced, IsEntry, AreListed, Entered, Overtaken, MayAppend, Stays, IsWarmRead, Unheld, HasCauseOfLatestUnchecked, HasCauseOfVersion};
-    ghost use Rattle.slatedb_txn_obj.specs.WholeLaws.{whole-checked, whole-advanced, refused-fresh, pages-checked, probe_few};
+    ghost use Rattle.slatedb_txn_obj.specs.WholeLaws.{whole-checked, whole-advanced, whole-frame, refused-fresh, pages-checked, laid-same, probe_few};
+    ghost use Rattle.std.proofs.Common.{refl, inl, inr};
+    ghost use Rattle.txn_store.specs.VersionName.{version_path};
     ghost use Rattle.txn_drivers.proofs.Standings.{some_page};
 
     ghost stands = { λ p s h b. Whole (B.bounds p.boundary s) (B.file p.boundary) p.layout.names (C.decoded p.layout.codec) p.latest (S.state s).files h b };
+
+    ghost Place = { Laid C };
+
+    ghost place = { λ p. laid p (B.file p.boundary) };
+
+    ghost owns = { Owned };
+
+    ghost version_file = { λ at n. version_path at.layout.names n };
+
+    ghost writes_to = { λ p s base value r q t. Written p.layout.names (C.decoded p.layout.codec) base (C.encoded p.layout.codec value) value (S.state s) (S.state t) p.latest q.latest r × (q ≡ record { layout = p.layout; latest = q.latest; boundary = p.boundary }) };
+
+    ghost deletes_to = { λ p s id r q t. Deleted p.layout.names (C.decoded p.layout.codec) id (S.state s) (S.state t) p.latest q.latest r × (q ≡ record { layout = p.layout; latest = q.latest; boundary = p.boundary }) };
 
     ghost is_fresh = { λ p. p.latest ≡ [] };
 
@@ -229,6 +244,16 @@ impl<T: Drop, S: ObjectStore, C: ObjectCodec<T>, B: BoundaryObject<S>> Sequenced
 
     ghost refused_fresh = { λ p q s t id checks up. refused-fresh (B.checks_to p.boundary s id (Err ObjectVersionExists) q.boundary t) id p q checks up };
 
+    ghost stands_frame = { λ p s t h b same whole. whole-frame C.decoded p (S.state s) (S.state t) h b (B.bounds p.boundary s) (B.bounds p.boundary t) (B.file p.boundary) (λ at bounds. B.bounds_frame p.boundary s t b at bounds) same whole };
+
+    ghost owns_version = { λ at n. inr (n, refl) };
+
+    ghost owns_boundary = { λ p. inl refl };
+
+    ghost place_checked = { λ p q s t id r checks. laid-same p q (B.file p.boundary) (B.file q.boundary) checks.same_layout (B.check_file p.boundary q.boundary s t id r checks.boundary) };
+
+    ghost place_advanced = { λ p q s t id r advances. laid-same p q (B.file p.boundary) (B.file q.boundary) advances.same_layout (B.advance_file p.boundary q.boundary s t id r advances.boundary) };
+
     ghost stands_advanced = { λ p q s t h id b c r advances whole up newest now. whole-advanced C.decoded p q (S.state s) (S.state t) h b c (B.bounds p.boundary s) (B.bounds q.boundary t) (B.file p.boundary) (B.file q.boundary) (B.advances_to p.boundary s id r q.boundary t) id r
         (B.advance_file p.boundary q.boundary s t id r advances.boundary) (B.advance_frame p.boundary q.boundary s t id r advances.boundary) up newest now advances whole };
 
@@ -248,6 +273,8 @@ impl<T: Drop, S: ObjectStore, C: ObjectCodec<T>, B: BoundaryObject<S>> Sequenced
         ensures paged { pages_below self.new.layout.names self.new.layout.page (S.state store.new).files ≤ pages_below self.old.layout.names self.old.layout.page (S.state store.old).files + 1 }
         ensures exact { Written self.old.layout.names (C.decoded self.old.layout.codec) base (C.encoded self.old.layout.codec value.now) value.now (S.state store.old) (S.state store.new) self.old.latest self.new.latest result }
         ensures unmoved { self.new ≡ record { layout = self.old.layout; latest = self.new.latest; boundary = self.old.boundary } }
+        ensures placed { laid self.new (B.file self.new.boundary) ≡ laid self.old (B.file self.old.boundary) }
+        ensures creates { MayCreate (version_path self.old.layout.names (base_number (λ n. n) base + 1)) (S.state store.old) (S.state store.new) }
     {
         write_version(
             self.alloc,
@@ -275,6 +302,8 @@ impl<T: Drop, S: ObjectStore, C: ObjectCodec<T>, B: BoundaryObject<S>> Sequenced
         ensures cause { IfErr result (HasCauseOfLatestUnchecked (Unheld (StandsFor (B.bounds self.old.boundary store.old) (B.file self.old.boundary) C.decoded self.old (S.state store.old).files)) turns.new (S.state store.old) (S.state store.new)) }
         ensures exact { Ended self.old.layout.names self.old.layout.page (C.decoded self.old.layout.codec) (S.state store.old) (S.state store.new) turns.old turns.new self.old.latest self.new.latest result }
         ensures unmoved { self.new ≡ record { layout = self.old.layout; latest = self.new.latest; boundary = self.old.boundary } }
+        ensures placed { laid self.new (B.file self.new.boundary) ≡ laid self.old (B.file self.old.boundary) }
+        ensures files { SameFiles (S.state store.old) (S.state store.new) }
     {
         read_latest(self.alloc, &self.layout, &mut self.latest, store, turns)
     }
@@ -292,6 +321,8 @@ impl<T: Drop, S: ObjectStore, C: ObjectCodec<T>, B: BoundaryObject<S>> Sequenced
         ensures cause { IfErr result (HasCauseOfVersion (Unheld (StandsFor (B.bounds self.old.boundary store.old) (B.file self.old.boundary) C.decoded self.old (S.state store.old).files)) (S.state store.old) (S.state store.new)) }
         ensures exact { VersionRead self.old.layout.names (C.decoded self.old.layout.codec) (S.state store.old) (S.state store.new) id result }
         ensures same { self.new ≡ self.old }
+        ensures placed { laid self.new (B.file self.new.boundary) ≡ laid self.old (B.file self.old.boundary) }
+        ensures files { SameFiles (S.state store.old) (S.state store.new) }
     {
         number_fits(id);
         read_version(self.alloc, &self.layout, store, id)
@@ -310,6 +341,8 @@ impl<T: Drop, S: ObjectStore, C: ObjectCodec<T>, B: BoundaryObject<S>> Sequenced
         ensures cause { IfErr result (HasCauseOfVersion (Unheld (StandsFor (B.bounds self.old.boundary store.old) (B.file self.old.boundary) C.decoded self.old (S.state store.old).files)) (S.state store.old) (S.state store.new)) }
         ensures exact { SeenRead self.old.layout.names (C.decoded self.old.layout.codec) (S.state store.old) (S.state store.new) self.old.latest self.new.latest id result }
         ensures unmoved { self.new ≡ record { layout = self.old.layout; latest = self.new.latest; boundary = self.old.boundary } }
+        ensures placed { laid self.new (B.file self.new.boundary) ≡ laid self.old (B.file self.old.boundary) }
+        ensures files { SameFiles (S.state store.old) (S.state store.new) }
     {
         read_seen(self.alloc, &self.layout, &mut self.latest, store, id)
     }
@@ -329,6 +362,8 @@ impl<T: Drop, S: ObjectStore, C: ObjectCodec<T>, B: BoundaryObject<S>> Sequenced
         ensures exact { IfOk result (λ r. VersionsListed self.old.layout.names self.old.layout.page (C.decoded self.old.layout.codec) from to (S.state store.old) (S.state store.new) (Ok r.items)) }
         ensures exact_err { IfErr result (λ error. VersionsListed self.old.layout.names self.old.layout.page (C.decoded self.old.layout.codec) from to (S.state store.old) (S.state store.new) (Err error)) }
         ensures same { self.new ≡ self.old }
+        ensures placed { laid self.new (B.file self.new.boundary) ≡ laid self.old (B.file self.old.boundary) }
+        ensures files { SameFiles (S.state store.old) (S.state store.new) }
     {
         let versions = list_versions(self.alloc, &self.layout, store, from, to)?;
         Ok(versions.into_vec())
@@ -347,6 +382,8 @@ impl<T: Drop, S: ObjectStore, C: ObjectCodec<T>, B: BoundaryObject<S>> Sequenced
         ensures cause { IfErr result (HasCause (S.state store.old) (S.state store.new)) }
         ensures exact { Deleted self.old.layout.names (C.decoded self.old.layout.codec) id (S.state store.old) (S.state store.new) self.old.latest self.new.latest result }
         ensures unmoved { self.new ≡ record { layout = self.old.layout; latest = self.new.latest; boundary = self.old.boundary } }
+        ensures placed { laid self.new (B.file self.new.boundary) ≡ laid self.old (B.file self.old.boundary) }
+        ensures removes { MayRemove (version_path self.old.layout.names id) (S.state store.old) (S.state store.new) }
     {
         number_fits(id);
         delete_version(self.alloc, &self.layout, &mut self.latest, store, id)

@@ -1,6 +1,7 @@
 -- A pass that goes on read a version which the check refused: none that began fresh, or with the newest at hand, does.
 use Rattle.std.proofs.Common.{rules, arith, ◌≡◌, ℕ, ◌<◌, ◌≤◌, List, length, Err, ap, sym, subst, ◌∙◌, inl, inr}
 use Rattle.txn_drivers.specs.LatestReads.{IsLatest}
+use Rattle.slatedb_txn_obj.proofs.Leaving.{same-trans}
 use Rattle.slatedb_txn_obj.proofs.protocol.AnyTransactionalStorageProtocolMonotonicId.try_read_latest.Goals as goal
 
 -- the boundary is below the newest entry
@@ -20,6 +21,11 @@ passes-preserved g c =
     record {
       stays = λ h b stands. protocol.stands_checked _ _ _ _ _ _ h b check.moved (read.kept h b (inv.stays h b stands));
       spends = search rules;
+      placed = protocol.place_checked _ _ _ _ _ _ check.moved ∙ read.placed ∙ inv.placed;
+      files = same-trans (same-trans inv.files read.files) (record {
+        files = g.met.P.BoundaryObject.check_frame _ _ _ _ _ _ check.moved;
+        given = λ token. g.met.P.BoundaryObject.check_given _ _ _ _ _ token _ check.moved;
+      });
       paged = λ h b stands. protocol.pages_checked _ _ _ _ _ _ h b check.moved (read.kept h b (inv.stays h b stands)) ∙ read.paged ∙ inv.paged h b stands;
       passes = λ h b stands.
           let here = inv.stays h b stands in
@@ -39,3 +45,15 @@ passes-preserved g c =
             )
           ];
     }
+
+pub returns-in-Ok-clause-files : goal.returns-in-Ok-clause-files
+returns-in-Ok-clause-files g c = same-trans (same-trans c.passes.invariant.files c.in_ok-id.ensures.files) (record {
+  files = g.met.P.BoundaryObject.check_frame _ _ _ _ _ _ c.check.ensures.moved;
+  given = λ token. g.met.P.BoundaryObject.check_given _ _ _ _ _ token _ c.check.ensures.moved;
+})
+
+pub returns-in-Err-clause-files : goal.returns-in-Err-clause-files
+returns-in-Err-clause-files g c = same-trans (same-trans c.passes.invariant.files c.in_ok-id.ensures.files) (record {
+  files = g.met.P.BoundaryObject.check_frame _ _ _ _ _ _ c.check.ensures.moved;
+  given = λ token. g.met.P.BoundaryObject.check_given _ _ _ _ _ token _ c.check.ensures.moved;
+})

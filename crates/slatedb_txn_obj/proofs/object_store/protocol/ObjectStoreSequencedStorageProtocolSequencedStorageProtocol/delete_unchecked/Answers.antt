@@ -1,4 +1,5 @@
 -- A delete leaves the file of the boundary.
+use Rattle.slatedb_txn_obj.proofs.Leaving.{deleted-removes}
 use Rattle.slatedb_txn_obj.proofs.Wholes.{whole-deleted, whole-removed}
 use Rattle.slatedb_txn_obj.proofs.object_store.protocol.ObjectStoreSequencedStorageProtocolSequencedStorageProtocol.delete_unchecked.Goals as goal
 
@@ -7,3 +8,6 @@ returns-clause-kept g c = rw (← c.self.view_is) (whole-deleted _ _ _ _ _ _ _ _
 
 pub returns-clause-removed : goal.returns-clause-removed
 returns-clause-removed g c = whole-removed _ _ c.args.id _ _ _ _ c.delete_version.result c.delete_version.ensures
+
+pub returns-clause-removes : goal.returns-clause-removes
+returns-clause-removes g c = rw (← c.self.view_is) (deleted-removes c.args.id c.delete_version.result c.delete_version.ensures)

@@ -1,4 +1,5 @@
 -- A read leaves the file of the boundary.
+use Rattle.slatedb_txn_obj.proofs.Leaving.{same-kept}
 use Rattle.slatedb_txn_obj.proofs.Wholes.{whole-found, whole-read, whole-warm, whole-latest_cause, turns_few, turns_enough}
 use Rattle.slatedb_txn_obj.proofs.object_store.protocol.ObjectStoreSequencedStorageProtocolSequencedStorageProtocol.try_read_latest_unchecked.Goals as goal
 
@@ -19,3 +20,6 @@ returns-clause-warm g c = rw (← c.self.view_is) (whole-warm _ _ _ _ _ _ _ _ _ 
 
 pub returns-clause-cause : goal.returns-clause-cause
 returns-clause-cause g c = rw (← c.self.view_is) (whole-latest_cause _ _ _ _ _ _ _ _ _ _ _ c.read_latest.result c.read_latest.ensures)
+
+pub returns-clause-files : goal.returns-clause-files
+returns-clause-files g c = same-kept c.read_latest.ensures.kept

@@ -1,4 +1,5 @@
 -- A read leaves the file of the boundary.
+use Rattle.slatedb_txn_obj.proofs.Leaving.{same-kept}
 use Rattle.slatedb_txn_obj.proofs.Wholes.{whole-seen, whole-seen_kept, whole-seen_cause}
 use Rattle.slatedb_txn_obj.proofs.object_store.protocol.ObjectStoreSequencedStorageProtocolSequencedStorageProtocol.try_read_seen.Goals as goal
 
@@ -10,3 +11,6 @@ returns-clause-kept g c = rw (← c.self.view_is) (whole-seen_kept _ _ _ _ _ _ _
 
 pub returns-clause-cause : goal.returns-clause-cause
 returns-clause-cause g c = rw (← c.self.view_is) (whole-seen_cause _ _ _ _ _ _ _ _ _ c.read_seen.result c.read_seen.ensures)
+
+pub returns-clause-files : goal.returns-clause-files
+returns-clause-files g c = same-kept c.read_seen.ensures.kept

@@ -1,3 +1,4 @@
+use Rattle.slatedb_txn_obj.proofs.Leaving.{same-kept}
 use Rattle.slatedb_txn_obj.proofs.Wholes.{whole-version, whole-version_cause}
 use Rattle.slatedb_txn_obj.proofs.object_store.protocol.ObjectStoreSequencedStorageProtocolSequencedStorageProtocol.try_read_unchecked.Goals as goal
 
@@ -6,3 +7,6 @@ returns-clause-found g c = rw (← c.self.view_is) (whole-version _ _ _ _ _ _ c.
 
 pub returns-clause-cause : goal.returns-clause-cause
 returns-clause-cause g c = rw (← c.self.view_is) (whole-version_cause _ _ _ _ _ _ c.self.inside.latest c.args.id c.read_version.result c.number_fits.ensures c.read_version.ensures)
+
+pub returns-clause-files : goal.returns-clause-files
+returns-clause-files g c = same-kept c.read_version.ensures.kept

@@ -1,5 +1,6 @@
 -- A write leaves the file of the boundary.
 use Rattle.txn_drivers.proofs.PageCounts.{pages_written}
+use Rattle.slatedb_txn_obj.proofs.Leaving.{written-creates}
 use Rattle.slatedb_txn_obj.proofs.Wholes.{whole-answered, whole-conflict, whole-refused}
 use Rattle.slatedb_txn_obj.proofs.object_store.protocol.ObjectStoreSequencedStorageProtocolSequencedStorageProtocol.write_unchecked.Goals as goal
 
@@ -14,3 +15,6 @@ returns-clause-err g c = rw (← c.self.view_is) (whole-refused _ _ _ _ _ _ _ _ 
 
 pub returns-clause-paged : goal.returns-clause-paged
 returns-clause-paged g c = rw (← c.self.view_is) (pages_written _ c.self.inside.layout.page _ _ _ _ _ _ _ _ _ c.self.invariant c.write_version.ensures)
+
+pub returns-clause-creates : goal.returns-clause-creates
+returns-clause-creates g c = rw (← c.self.view_is) (written-creates c.args.base c.write_version.result c.write_version.ensures)
