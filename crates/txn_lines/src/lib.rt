@@ -3,7 +3,7 @@
 
 pub mod line;
 pub mod lines;
-mod numerals;
+pub mod numerals;
 pub mod printed;
 pub mod record;
 pub mod stop;

@@ -1,0 +1,293 @@
+//! Clients over one store of manifests, one event at a time.
+ghost use Rattle.std.specs.Prelude.{◌≡◌, ◌≤◌, ℕ, [], true, nat_eq, Some, is_some, IfOk, OnErr};
+ghost use Rattle.std.specs.Option.{option_copied};
+ghost use Rattle.txn_any_machine.specs.Machine.{opening, seen_calls, seen_of};
+ghost use Rattle.std.specs.List.{list_any};
+ghost use Rattle.txn_history.specs.History.{newest, IsEntry};
+ghost use Rattle.txn_history.specs.Seen.{asks_of};
+ghost use Rattle.txn_view_history.specs.Allowed.{keeps_busy, is_busy};
+ghost use Rattle.txn_manifest.specs.declared.manifest.Manifest.{Manifest};
+ghost use Rattle.txn_manifest.specs.declared.event.ManifestEvent.TheVariants.{Checkpoint, Release, SetPayload, Fence, Sweep};
+ghost use Rattle.txn_manifest.specs.declared.event.ManifestEvent.TheVariants as made;
+ghost use Rattle.txn_manifest.specs.Text.{manifest_text, manifest_read};
+ghost use Rattle.txn_manifest.specs.Events.{manifest_fault, IsRefusedAs};
+ghost use Rattle.txn_manifest.specs.Runs.{ManifestTakes, IsMadeAs, IsOwnView};
+ghost use Rattle.txn_manifest.specs.Laws.{PinsAreOlder, PinnedAreKept, IsKept};
+
+use crate::begins::{checkpoint, is_manifest_call, release, set_payload};
+use crate::event::{ManifestEvent, ManifestFault};
+use crate::manifest::{Manifest, ManifestCodec, ManifestEpoch};
+use crate::pins::Pins;
+use std::alloc::{AllocError, Global};
+use std::marker::Model;
+use txn_caches::ask::Ask;
+use txn_clients::calls::view_used;
+use txn_history::event::{Call, EventFault};
+use txn_view_history::event::{AnyCall, AnyEvent, AnyTold};
+use txn_view_history::trace::AnyRow;
+use txn_view_history::view::View;
+use txn_world::world::World;
+
+/// The world of manifests below.
+type Manifests = World<Manifest, ManifestCodec, ManifestEpoch>;
+
+/// Whether an operation runs.
+fn is_running(world: &Manifests, op: u64) -> bool
+    ensures { result ≡ is_some (asks_of (seen_calls world.now.state) op) }
+{
+    match world.asks(op) {
+        Some(Ask::Look) => true,
+        Some(Ask::Store(_)) => true,
+        None => false,
+    }
+}
+
+/// Whether a row is the begin of an operation that runs, on this view.
+fn keeps_busy(world: &Manifests, number: u64, row: &AnyRow<Manifest>) -> bool
+    ensures { result ≡ keeps_busy (seen_of world.now.state) number row.now }
+{
+    match row {
+        AnyRow::Begun(op, call) => match view_used(call) {
+            Some(view) => view == number && is_running(world, *op),
+            None => false,
+        },
+        _ => false,
+    }
+}
+
+/// Whether an operation runs on this view.
+fn is_busy(world: &Manifests, number: u64) -> bool
+    ensures { result ≡ is_busy (seen_of world.now.state) world.now.state.trace (Some number) }
+{
+    for row in world.trace() {
+        if keeps_busy(world, number, row) {
+            return true;
+        }
+    }
+    false
+}
+
+/// The client's view of this number, where it is there.
+fn own_view(world: &Manifests, client: u64, number: u64) -> Option<&View<Manifest>>
+    ensures { IsOwnView world.now.state client number (option_copied result) }
+{
+    match world.view(number) {
+        Some(view) if view.client == client => Some(view),
+        _ => None,
+    }
+}
+
+/// An event of the world, unless it is the begin of a call that is not of manifests.
+fn make_plain(
+    world: &Manifests,
+    event: AnyEvent<Manifest>,
+) -> Result<AnyEvent<Manifest>, ManifestFault>
+    ensures { IsMadeAs world.now.state (made.World event) result }
+{
+    if let AnyEvent::Begin(_, call) = &event {
+        if !is_manifest_call(call) {
+            return Err(ManifestFault::NotOfManifest);
+        }
+    }
+    Ok(event)
+}
+
+fn make_checkpoint(
+    alloc: Global,
+    world: &Manifests,
+    client: u64,
+    number: u64,
+) -> Result<AnyEvent<Manifest>, ManifestFault>
+    ensures { IsMadeAs world.now.state (Checkpoint client number) result }
+{
+    let Some(view) = own_view(world, client, number) else {
+        return Err(ManifestFault::World(EventFault::UnknownNumber));
+    };
+    match checkpoint(alloc, view, client, number) {
+        Ok(event) => Ok(event),
+        Err(_) => Err(ManifestFault::World(EventFault::NoMemory)),
+    }
+}
+
+fn make_release(
+    alloc: Global,
+    world: &Manifests,
+    client: u64,
+    number: u64,
+    id: u64,
+) -> Result<AnyEvent<Manifest>, ManifestFault>
+    ensures { IsMadeAs world.now.state (Release client number id) result }
+{
+    let Some(view) = own_view(world, client, number) else {
+        return Err(ManifestFault::World(EventFault::UnknownNumber));
+    };
+    let pinned = view.object.pins.contains(id);
+    if !pinned && !is_busy(world, number) {
+        return Err(ManifestFault::NotPinned);
+    }
+    match release(alloc, view, client, number, id) {
+        Ok(event) => Ok(event),
+        Err(_) => Err(ManifestFault::World(EventFault::NoMemory)),
+    }
+}
+
+fn make_payload(
+    world: &Manifests,
+    client: u64,
+    number: u64,
+    payload: u64,
+) -> Result<AnyEvent<Manifest>, ManifestFault>
+    ensures { IsMadeAs world.now.state (SetPayload client number payload) result }
+{
+    let Some(view) = own_view(world, client, number) else {
+        return Err(ManifestFault::World(EventFault::UnknownNumber));
+    };
+    match set_payload(view, client, number, payload) {
+        Ok(event) => Ok(event),
+        Err(_) => Err(ManifestFault::World(EventFault::NoMemory)),
+    }
+}
+
+fn make_fence(
+    world: &Manifests,
+    client: u64,
+    number: u64,
+) -> Result<AnyEvent<Manifest>, ManifestFault>
+    ensures { IsMadeAs world.now.state (Fence client number) result }
+{
+    let Some(view) = own_view(world, client, number) else {
+        return Err(ManifestFault::World(EventFault::UnknownNumber));
+    };
+    let to = view.id.saturating_sub(1);
+    Ok(AnyEvent::Begin(client, AnyCall::Plain(Call::Advance(to))))
+}
+
+fn make_sweep(
+    world: &Manifests,
+    client: u64,
+    number: u64,
+    id: u64,
+) -> Result<AnyEvent<Manifest>, ManifestFault>
+    ensures { IsMadeAs world.now.state (Sweep client number id) result }
+{
+    let Some(view) = own_view(world, client, number) else {
+        return Err(ManifestFault::World(EventFault::UnknownNumber));
+    };
+    if id >= view.id || view.object.pins.contains(id) {
+        return Err(ManifestFault::Needed);
+    }
+    Ok(AnyEvent::Begin(client, AnyCall::Plain(Call::Delete(id))))
+}
+
+/// The event of the world that an event of manifests is.
+fn make(
+    alloc: Global,
+    world: &Manifests,
+    event: ManifestEvent,
+) -> Result<AnyEvent<Manifest>, ManifestFault>
+    ensures { IsMadeAs world.now.state event result }
+{
+    match event {
+        ManifestEvent::World(event) => make_plain(world, event),
+        ManifestEvent::Checkpoint(client, number) => make_checkpoint(alloc, world, client, number),
+        ManifestEvent::Release(client, number, id) => make_release(
+            alloc, world, client, number, id,
+        ),
+        ManifestEvent::SetPayload(client, number, payload) => {
+            make_payload(world, client, number, payload)
+        }
+        ManifestEvent::Fence(client, number) => make_fence(world, client, number),
+        ManifestEvent::Sweep(client, number, id) => make_sweep(world, client, number, id),
+    }
+}
+
+/// A world of manifests, in which the newest manifest says which old versions are still needed. Its type keeps that only
+/// events of manifests led to it.
+#[derive(Drop)]
+pub struct ManifestWorld {
+    world: World<Manifest, ManifestCodec, ManifestEpoch>,
+    alloc: Global,
+}
+
+impl Model for ManifestWorld {
+    ghost use Rattle.txn_any_machine.specs.Machine.{WorldState};
+    ghost use Rattle.txn_manifest.specs.declared.manifest.Manifest.{Manifest};
+    ghost use Rattle.txn_manifest.specs.declared.manifest.ManifestCodec.{ManifestCodec};
+    ghost use Rattle.txn_manifest.specs.declared.manifest.ManifestEpoch.{ManifestEpoch};
+
+    ghost Value = { WorldState Manifest ManifestCodec ManifestEpoch };
+
+    ghost use Rattle.std.specs.Coded.{codes};
+    ghost use Rattle.txn_store.specs.Memory.{files_code};
+
+    ghost coded = { Prim.hlevel (codes, files_code) };
+
+    ghost use Rattle.txn_manifest.specs.Text.{manifest_text, manifest_read};
+    ghost use Rattle.txn_manifest.specs.Runs.{IsManifestReached};
+
+    ghost view = { λ kept. kept.world };
+
+    ghost invariant = { λ kept. IsManifestReached manifest_text manifest_read kept.world.state };
+}
+
+impl ManifestWorld {
+    /// A world of manifests in which nothing has happened, with clients 1 to `clients`, of which there are 1 to 64. A
+    /// listing has pages of at most `page` files, at least 1. The only error is want of memory, and then there is no
+    /// world.
+    pub fn new(alloc: Global, clients: u64, page: u64) -> Result<ManifestWorld, AllocError>
+        requires some { 1 ≤ clients }
+        requires few { clients ≤ 64 }
+        requires paged { 1 ≤ page }
+        ensures { IfOk result (λ made. made.state ≡ opening clients page) }
+    {
+        Ok(ManifestWorld {
+            world: World::new(alloc, ManifestCodec, ManifestEpoch, clients, page)?,
+            alloc,
+        })
+    }
+
+    /// Takes one event of manifests, and tells what it led to. A refused event changes nothing. It is refused exactly where
+    /// the rows and what stands beside them say so, by the first of these tests that fails: it is of manifests
+    /// ([`ManifestFault::NotOfManifest`]); the view is there and is the client's (`UnknownNumber`); no operation uses a view
+    /// that is updated (`ViewBusy`); the id of a release is pinned ([`ManifestFault::NotPinned`]); the id of a sweep is
+    /// below that of the view and not pinned ([`ManifestFault::Needed`]); and then those of the world. `NoMemory` comes only
+    /// where a growth was refused, and may stand in the place of another fault.
+    pub fn take(&mut self, event: ManifestEvent) -> Result<AnyTold<Manifest>, ManifestFault>
+        ensures refused { IsRefusedAs (manifest_fault manifest_read (seen_of self.old.state) self.old.state.trace event) result }
+        ensures err { OnErr result (self.new ≡ self.old) }
+        // The step, by that of the world.
+        ensures ok { IfOk result (λ told. ManifestTakes manifest_text manifest_read self.old.state event told self.new.state) }
+    {
+        let made = make(self.alloc, &self.world, event)?;
+        match self.world.take(made) {
+            Ok(told) => Ok(told),
+            Err(fault) => Err(ManifestFault::World(fault)),
+        }
+    }
+
+    /// The world, lent. Whatever events of manifests came, the pins of each entry are among those of the entry before and
+    /// that entry's id, and each id that the newest entry pins is stored with bytes that decode to its entry. It takes no
+    /// memory.
+    pub fn world(&self) -> &World<Manifest, ManifestCodec, ManifestEpoch>
+        ensures world { result.now ≡ self.now }
+        ensures pins_older { PinsAreOlder manifest_read self.now.state.trace }
+        ensures pinned_kept { PinnedAreKept manifest_read self.now.state.trace }
+    {
+        &self.world
+    }
+
+    /// The ids that the newest manifest pins, each of which is stored; none where there is no manifest. It goes over the rows
+    /// once. The only error is want of memory; the world is as it was.
+    pub fn pinned(&self, alloc: Global) -> Result<Pins, AllocError>
+        ensures none { IfOk result (λ pins. newest self.now.state.trace ≡ 0 → pins ≡ []) }
+        ensures newest { IfOk result (λ pins. (entry : Manifest) → IsEntry manifest_read self.now.state.trace (newest self.now.state.trace) entry → pins ≡ entry.pins) }
+        // Each is stored, with bytes that decode to its entry.
+        ensures kept { IfOk result (λ pins. (id : ℕ) → list_any (nat_eq id) pins ≡ true → IsKept manifest_read self.now.state.trace id) }
+    {
+        let mut entries = self.world.entries(alloc)?;
+        match entries.pop() {
+            Some(entry) => Ok(entry.pins),
+            None => Ok(Pins::none(alloc)),
+        }
+    }
+}
