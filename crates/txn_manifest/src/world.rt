@@ -1,11 +1,9 @@
 //! Clients over one store of manifests, one event at a time.
-ghost use Rattle.std.specs.Prelude.{◌≡◌, ◌≤◌, ℕ, [], true, nat_eq, Some, is_some, IfOk, OnErr};
+ghost use Rattle.std.specs.Prelude.{◌≡◌, ◌≤◌, ℕ, [], true, nat_eq, Some, IfOk, OnErr};
 ghost use Rattle.std.specs.Option.{option_copied};
-ghost use Rattle.txn_any_machine.specs.Machine.{opening, seen_calls, seen_of};
+ghost use Rattle.txn_any_machine.specs.Machine.{opening, seen_of};
 ghost use Rattle.std.specs.List.{list_any};
 ghost use Rattle.txn_history.specs.History.{newest, IsEntry};
-ghost use Rattle.txn_history.specs.Seen.{asks_of};
-ghost use Rattle.txn_view_history.specs.Allowed.{keeps_busy, is_busy};
 ghost use Rattle.txn_manifest.specs.declared.manifest.Manifest.{Manifest};
 ghost use Rattle.txn_manifest.specs.declared.event.ManifestEvent.TheVariants.{Checkpoint, Release, SetPayload, Fence, Sweep};
 ghost use Rattle.txn_manifest.specs.declared.event.ManifestEvent.TheVariants as made;
@@ -20,52 +18,13 @@ use crate::manifest::{Manifest, ManifestCodec, ManifestEpoch};
 use crate::pins::Pins;
 use std::alloc::{AllocError, Global};
 use std::marker::Model;
-use txn_caches::ask::Ask;
-use txn_clients::calls::view_used;
 use txn_history::event::{Call, EventFault};
 use txn_view_history::event::{AnyCall, AnyEvent, AnyTold};
-use txn_view_history::trace::AnyRow;
 use txn_view_history::view::View;
 use txn_world::world::World;
 
 /// The world of manifests below.
 type Manifests = World<Manifest, ManifestCodec, ManifestEpoch>;
-
-/// Whether an operation runs.
-fn is_running(world: &Manifests, op: u64) -> bool
-    ensures { result ≡ is_some (asks_of (seen_calls world.now.state) op) }
-{
-    match world.asks(op) {
-        Some(Ask::Look) => true,
-        Some(Ask::Store(_)) => true,
-        None => false,
-    }
-}
-
-/// Whether a row is the begin of an operation that runs, on this view.
-fn keeps_busy(world: &Manifests, number: u64, row: &AnyRow<Manifest>) -> bool
-    ensures { result ≡ keeps_busy (seen_of world.now.state) number row.now }
-{
-    match row {
-        AnyRow::Begun(op, call) => match view_used(call) {
-            Some(view) => view == number && is_running(world, *op),
-            None => false,
-        },
-        _ => false,
-    }
-}
-
-/// Whether an operation runs on this view.
-fn is_busy(world: &Manifests, number: u64) -> bool
-    ensures { result ≡ is_busy (seen_of world.now.state) world.now.state.trace (Some number) }
-{
-    for row in world.trace() {
-        if keeps_busy(world, number, row) {
-            return true;
-        }
-    }
-    false
-}
 
 /// The client's view of this number, where it is there.
 fn own_view(world: &Manifests, client: u64, number: u64) -> Option<&View<Manifest>>
@@ -122,7 +81,7 @@ fn make_release(
         return Err(ManifestFault::World(EventFault::UnknownNumber));
     };
     let pinned = view.object.pins.contains(id);
-    if !pinned && !is_busy(world, number) {
+    if !pinned && !world.is_busy(number) {
         return Err(ManifestFault::NotPinned);
     }
     match release(alloc, view, client, number, id) {
