@@ -30,6 +30,7 @@ TESTS = {
     "txn_objects_tests": ("refused::a_refused_growth_leaves_what_was",),
     "txn_tests": ("refused::a_refused_event_is_taken_again",),
     "txn_diary_tests": ("refused::audits_agree_whichever_growth_is_refused",),
+    "txn_manifest_tests": ("stores::what_is_pinned_stays_whichever_growth_is_refused",),
 }
 # How the name of a build of tests ends, after its crate's.
 TESTS_ENDING = "_tests"

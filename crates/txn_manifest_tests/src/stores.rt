@@ -164,3 +164,72 @@ fn a_collection_spares_what_is_pinned(rt: HostRuntime) -> Result<(), Fail> {
     );
     Ok(())
 }
+
+/// A holder pins its version, goes on, and collects.
+fn collected(
+    manifests: &mut ManifestStore<NoInvariant>,
+    protocol: &mut Versions,
+    store: &mut InMemory,
+) -> Result<u64, TransactionalObjectError> {
+    let mut turns = Turns::new(20);
+    manifests.checkpoint(protocol, store)?;
+    manifests.set_payload(protocol, store, 5)?;
+    manifests.collect(protocol, store, &mut turns)
+}
+
+/// Whether a version is stored. The read is made once more where it fails.
+fn is_stored(protocol: &mut Versions, store: &mut InMemory, id: u64) -> bool {
+    for _ in 0..2 {
+        if let Ok(found) = protocol.try_read_unchecked(store, MonotonicId::new(id)) {
+            return found.is_some();
+        }
+    }
+    false
+}
+
+/// Whether every version that a holder pins is stored.
+fn keeps_its_pins(
+    manifests: &ManifestStore<NoInvariant>,
+    protocol: &mut Versions,
+    store: &mut InMemory,
+) -> bool {
+    for id in manifests.holder().object().pins.as_slice() {
+        if !is_stored(protocol, store, *id) {
+            return false;
+        }
+    }
+    true
+}
+
+/// Whether a run ends as it is to: with two versions removed, or for want of memory; and what is pinned is stored.
+fn ends_well(
+    alloc: Global,
+    protocol: &mut Versions,
+    store: &mut InMemory,
+) -> Result<bool, TransactionalObjectError> {
+    let mut turns = Turns::new(20);
+    let mut manifests = opened(alloc, protocol, store, &mut turns)?;
+    let is_well = match collected(&mut manifests, protocol, store) {
+        Ok(count) => count == 2,
+        Err(error) => error.number() == 9,
+    };
+    Ok(is_well && keeps_its_pins(&manifests, protocol, store))
+}
+
+/// The same, of a store of its own. A store that is not opened lacks memory.
+fn ends_well_from_nothing(alloc: Global) -> bool {
+    let mut store = InMemory::new(alloc);
+    let Ok(mut protocol) = a_protocol(alloc) else {
+        return true;
+    };
+    match ends_well(alloc, &mut protocol, &mut store) {
+        Ok(is_well) => is_well,
+        Err(error) => error.number() == 9,
+    }
+}
+
+#[test]
+fn what_is_pinned_stays_whichever_growth_is_refused(rt: HostRuntime) -> Result<(), Fail> {
+    assert!(rt; ends_well_from_nothing(rt.alloc()));
+    Ok(())
+}
