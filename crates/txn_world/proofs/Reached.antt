@@ -1,16 +1,24 @@
 -- What the calls of a world owe, by what the machine proves of reached states.
-use Rattle.std.proofs.Common.{◌≡◌, ℕ, ◌+◌, List, [], ◌∷◌, ◌++◌, Bool, true, false, cond, is_ok, Option, Result, Ok, Err, OnErr, IfOk, refl, sym, ◌∙◌, ap, subst, arith}
+use Rattle.std.proofs.Common.{◌≡◌, ℕ, ◌+◌, ◌≤◌, List, [], ◌∷◌, ◌++◌, Bool, true, false, cond, is_ok, Option, Some, None, Result, Ok, Err, OnErr, IfOk, refl, sym, ◌∙◌, ap, subst, arith}
+use Rattle.std.specs.Option.{ForSome}
 use Rattle.std.proofs.lemmas.List.{map-append}
 use Rattle.txn_history.specs.declared.event.EventFault.{EventFault}
 use Rattle.txn_history.specs.Added.{AddsRows}
+use Rattle.txn_history.specs.Lists.{numbered}
 use Rattle.txn_view_history.specs.Trace.{AnyEvent, AnyTold}
+use Rattle.txn_view_history.specs.Allowed.{is_busy}
 use Rattle.txn_view_history.specs.GoesOn.{GoesOn}
+use Rattle.txn_view_history.specs.Seen.{view_of}
+use Rattle.txn_view_history.specs.Views.{View}
+use Rattle.txn_view_machine.specs.Layer.{Used}
 use Rattle.txn_machine.specs.Machine.{fault_met, taken_count}
-use Rattle.txn_any_machine.specs.Machine.{State, WorldState, seen_calls, seen_of, refusal_of, Takes, Meets, Outcomes, RunsPast, IsReached}
+use Rattle.txn_any_machine.specs.Machine.{State, WorldState, seen_calls, seen_of, used_in, refusal_of, Takes, Meets, Outcomes, RunsPast, IsReached}
 use Rattle.txn_any_machine.proofs.Runs.{taken_reached}
 use Rattle.txn_any_machine.proofs.AddedRows.{added_rows}
-use Rattle.txn_any_machine.proofs.Busy.{reached_busy}
+use Rattle.txn_any_machine.proofs.Owned.{reached_owned}
+use Rattle.txn_any_machine.proofs.Busy.{reached_busy, reached_idle}
 use Rattle.txn_any_machine.proofs.Reached.{reached_replies, reached_looks, reached_range, reached_goes_on}
+use Rattle.txn_clients.specs.Views.{is_used}
 use Rattle.txn_world.specs.Answering.{IsAnswerable}
 
 module _ {T : Type 0} (encode : T → List ℕ) (decode : List ℕ → Option T) (get_epoch : T → ℕ) (set_epoch : T → ℕ → T) where
@@ -21,8 +29,17 @@ module _ {T : Type 0} (encode : T → List ℕ) (decode : List ℕ → Option T)
         replies = λ op o found request reply new asks serves. reached_replies encode decode get_epoch set_epoch s r op o found request reply new asks serves;
         looks = λ op o found asks. reached_looks encode decode get_epoch set_epoch s r op o found asks;
         range = λ op o found. reached_range encode decode get_epoch set_epoch s r op o found;
-        busy = λ number used there. reached_busy encode decode get_epoch set_epoch s r number used there;
+        busy = λ number. by number (numbered s.views number) refl;
       }
+    where
+      by : (number : ℕ) (found : Option (Option (Used T))) → numbered s.views number ≡ found → is_busy (seen_of s) s.trace (Some number) ≡ is_used (used_in (numbered s.views number))
+      by number None there = reached_idle encode decode get_epoch set_epoch s r number (ap used_in there) ∙ ap (λ found. is_used (used_in found)) (sym there)
+      by number (Some None) there = reached_idle encode decode get_epoch set_epoch s r number (ap used_in there) ∙ ap (λ found. is_used (used_in found)) (sym there)
+      by number (Some (Some used)) there = reached_busy encode decode get_epoch set_epoch s r number used there ∙ ap (λ found. is_used (used_in found)) (sym there)
+
+  -- a view that is seen is of one of the clients
+  pub client_within : (s : State T) → IsReached encode decode get_epoch set_epoch s → (number : ℕ) (seen : Option (View T)) → seen ≡ view_of (seen_of s) number → ForSome seen (λ view. (1 ≤ view.client) × (view.client ≤ s.clients))
+  client_within s r number seen e view is = reached_owned encode decode get_epoch set_epoch s r number view (sym e ∙ is)
 
   pub reached_after : (r : Result (AnyTold T) EventFault) (old : State T) (event : AnyEvent T) (new : State T) → IsReached encode decode get_epoch set_epoch old → OnErr r (new ≡ old) → IfOk r (λ said. Takes encode decode get_epoch set_epoch old event said new) → IsReached encode decode get_epoch set_epoch new
   reached_after (Ok said) old event new reached err ok = taken_reached encode decode get_epoch set_epoch old event said new reached ok

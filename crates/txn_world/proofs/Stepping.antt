@@ -3,7 +3,6 @@ use Rattle.std.proofs.Common.{◌≡◌, ℕ, zero, suc, ◌-◌, ◌≤◌, Lis
 use Rattle.std.proofs.lemmas.List.{append-nil, set-get_or}
 use Rattle.std.proofs.lemmas.Option.{same_Some, get_or_from_slice_get}
 use Rattle.std.specs.Option.{option_map, ForSome}
-use Rattle.std.proofs.lemmas.Bool.{both_ways}
 use Rattle.txn_store.specs.Store.{State as StoreState}
 use Rattle.txn_store.specs.MemoryServes.{lacks_memory}
 use Rattle.txn_store.specs.Requests.{Serves}
@@ -36,8 +35,7 @@ use Rattle.txn_history.specs.Added.{told_of, answer_rows, effect_rows}
 use Rattle.txn_view_history.specs.declared.event.AnyCall.{AnyCall}
 use Rattle.txn_view_history.specs.declared.event.AnyAnswer.{AnyAnswer}
 use Rattle.txn_view_history.specs.declared.event.AnyAnswer.TheVariants as any
-use Rattle.txn_view_history.specs.Seen.{view_of}
-use Rattle.txn_view_history.specs.Allowed.{may_use, is_busy, id_seen, base_seen}
+use Rattle.txn_view_history.specs.Allowed.{may_use, id_seen, base_seen}
 use Rattle.txn_view_history.specs.OneHistory.{base_of}
 use Rattle.txn_view_history.specs.Trace.{AnyRow, AnyTold}
 use Rattle.txn_view_history.specs.Calls.{view_used}
@@ -53,15 +51,14 @@ use Rattle.txn_any_machine.specs.declared.doing.AnyOperation.{AnyOperation}
 use Rattle.txn_any_machine.specs.declared.doing.Ending.{Ending}
 use Rattle.txn_any_machine.specs.declared.doing.Ending.TheVariants as endings
 use Rattle.txn_any_machine.specs.Doing.{Next, asked, ended, refused, plain_next, view_next, turned, started, caches_left, answer_in, is_claim_call, IsClaimReading, IsMadeSo, ReadsBack, FitsWord, MayLack}
-use Rattle.txn_any_machine.specs.Machine.{State, seen_operation, seen_operations, seen_view, seen_of, used_in, used_by, with_doing, answer_of, answered, acted, effected, loosened, failing, given_up, let_go, views_changed, views_after, views_taken, next_op, begun_as, view_now, FailsFirst, FailsAfter, GivesUp, Lands, Looks, Served, Begins}
+use Rattle.txn_any_machine.specs.Machine.{State, seen_operation, seen_operations, seen_of, with_doing, answer_of, answered, acted, effected, loosened, failing, given_up, let_go, views_changed, views_after, views_taken, next_op, begun_as, view_now, FailsFirst, FailsAfter, GivesUp, Lands, Looks, Served, Begins}
 use Rattle.txn_clients.specs.declared.operations.Usage.{Usage}
 use Rattle.txn_clients.specs.Operations.{request_of, loose_of, asked_of, asked_by, usage_of, TakesReply}
-use Rattle.txn_clients.specs.Views.{is_used, seen_with}
+use Rattle.txn_clients.specs.Views.{seen_with}
 use Rattle.txn_world.specs.Beside.{told_count, ending_count, AreIds, IsAfforded}
 use Rattle.txn_world.specs.Acting.{EndsAmong, TurnsAmong}
 use Rattle.txn_world.specs.Answering.{IsAnswerable, ToldFailure}
 use Rattle.txn_world.proofs.Running.{as_left, numbered_mapped}
-use Rattle.txn_world.proofs.Owning.{seen_at}
 use Rattle.txn_world.proofs.Acting.{same_usage}
 
 module _ {T : Type 0} where
@@ -411,15 +408,6 @@ asks_seen {T = T} operations op = by (numbered operations op) ∙ sym (ap asks_i
 pub asks_some : (ask : Option Ask) → is_some (request_of ask) ≡ true → is_some ask ≡ true
 asks_some None h = cc
 asks_some (Some ask) h = refl
-
--- whether an operation runs on a view that stands
-pub busy_seen : {T : Type 0} (s : State T) (number : ℕ) → IsAnswerable s → is_some (view_of (seen_of s) number) ≡ true → is_used (used_by s.views (Some number)) ≡ is_busy (seen_of s) s.trace (Some number)
-busy_seen {T = T} s number fit stands = by (numbered s.views number) refl (sym (ap is_some (seen_at s.views number)) ∙ stands)
-  where
-    by : (found : Option (Option (Used T))) → numbered s.views number ≡ found → is_some (seen_view (used_in (numbered s.views number))) ≡ true → is_used (used_in (numbered s.views number)) ≡ is_busy (seen_of s) s.trace (Some number)
-    by None e h = absurd (both_ways (is_some (seen_view (used_in (numbered s.views number)))) (ap (λ f. is_some (seen_view (used_in f))) e) h)
-    by (Some None) e h = absurd (both_ways (is_some (seen_view (used_in (numbered s.views number)))) (ap (λ f. is_some (seen_view (used_in f))) e) h)
-    by (Some (Some used)) e h = ap (λ f. is_used (used_in f)) e ∙ sym (fit.busy number used e)
 
 -- an answer tells as many ids as its ending at most
 told_few : {T : Type 0} (count : ℕ) (view : Option ℕ) (ending : Ending T) → told_count (answer_of count view ending) ≤ ending_count ending

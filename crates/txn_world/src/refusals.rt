@@ -9,8 +9,8 @@ use txn_view_history::event::{AnyCall, AnyEvent};
 use txn_view_history::view::View;
 
 impl<T: Clone, C: ObjectCodec<T> + Drop, E: EpochField<T>> Tables<T, C, E> {
-    ghost use Rattle.std.specs.Prelude.{◌≡◌, Some, IsSome, is_some};
-    ghost use Rattle.std.specs.Option.{option_copied, ForSome};
+    ghost use Rattle.std.specs.Prelude.{◌≡◌, Some, is_some};
+    ghost use Rattle.std.specs.Option.{option_copied};
     ghost use Rattle.txn_history.specs.Lists.{numbered};
     ghost use Rattle.txn_types.specs.Numbers.{number_of};
     ghost use Rattle.txn_history.specs.History.{epoch_at};
@@ -45,10 +45,9 @@ impl<T: Clone, C: ObjectCodec<T> + Drop, E: EpochField<T>> Tables<T, C, E> {
         refusals::may_use(&self.views.used, client, holders, view)
     }
 
-    /// Whether an operation runs on the view of a call, if it has one, which stands.
-    fn is_busy(&self, view: Option<u64>) -> bool
+    /// Whether an operation runs on the view of a call, if it has one.
+    pub fn is_busy(&self, view: Option<u64>) -> bool
         requires fit { IsAnswerable (shown self.now) }
-        requires stands { ForSome view (λ number. IsSome (view_of (seen_of (shown self.now)) number)) }
         ensures { result ≡ is_busy (seen_of (shown self.now)) (shown self.now).trace view }
     {
         match view {

@@ -1,6 +1,6 @@
 //! Clients over one store, one event at a time.
 ghost use Rattle.std.specs.Prelude.{◌≡◌, ◌≤◌, map, length, IfOk, OnErr, Some};
-ghost use Rattle.std.specs.Option.{option_copied};
+ghost use Rattle.std.specs.Option.{option_copied, ForSome};
 ghost use Rattle.txn_history.specs.History.{history, stored, boundary, AreErased};
 ghost use Rattle.txn_history.specs.Seen.{asks_of};
 ghost use Rattle.txn_history.specs.Added.{AddsRows};
@@ -8,7 +8,7 @@ ghost use Rattle.txn_view_history.specs.OneHistory.{IsOneHistory};
 ghost use Rattle.txn_view_history.specs.Views.{ViewsFit};
 ghost use Rattle.txn_view_history.specs.Laws.{HasOneClaimer};
 ghost use Rattle.txn_view_history.specs.Seen.{view_of};
-ghost use Rattle.txn_view_history.specs.Allowed.{fault_of};
+ghost use Rattle.txn_view_history.specs.Allowed.{is_busy, fault_of};
 ghost use Rattle.txn_view_history.specs.GoesOn.{GoesOn};
 ghost use Rattle.txn_machine.specs.Doing.{asks_as};
 ghost use Rattle.txn_types.specs.Clones.{IsExactClone};
@@ -164,9 +164,26 @@ impl<T: Clone, C: ObjectCodec<T> + Drop, E: EpochField<T>> World<T, C, E> {
     /// view of this number was made, or where it has ended: by its client's crash, or by a claim on it that was not held. It
     /// takes no memory.
     pub fn view(&self, number: u64) -> Option<&View<T>>
-        ensures { option_copied result ≡ view_of (seen_of self.now.state) number }
+        ensures view { option_copied result ≡ view_of (seen_of self.now.state) number }
+        // Its client is one of the clients.
+        ensures client { ForSome (option_copied result) (λ view. (1 ≤ view.client) × (view.client ≤ self.now.state.clients)) }
     {
         self.tables.view(number)
+    }
+
+    /// Whether an operation runs on the view of this number. None does where no view of this number was made, or where it has
+    /// ended. It looks at that view alone, and takes no memory.
+    pub fn is_busy(&self, view: u64) -> bool
+        ensures { result ≡ is_busy (seen_of self.now.state) self.now.state.trace (Some view) }
+    {
+        self.tables.is_busy(Some(view))
+    }
+
+    /// How many clients there are, numbered from 1. It takes no memory.
+    pub fn clients(&self) -> u64
+        ensures { result ≡ self.now.state.clients }
+    {
+        self.tables.clients.count
     }
 
     /// The history: the values of the versions, in the order of their first creation. It goes over the rows once. The only

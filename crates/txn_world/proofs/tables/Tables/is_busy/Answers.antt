@@ -1,7 +1,5 @@
-use Rattle.std.proofs.Common.{◌∙◌}
-use Rattle.txn_world.specs.Shown.{shown}
-use Rattle.txn_world.proofs.Stepping.{busy_seen}
+use Rattle.std.proofs.Common.{◌∙◌, sym}
 use Rattle.txn_world.proofs.tables.Tables.is_busy.Goals as goal
 
 pub returns-in-Some : goal.returns-in-Some
-returns-in-Some g c = rw c.in-Some.is (c.is_used.ensures ∙ busy_seen (shown c.args.self.now) c.in-Some.number c.requires.fit (c.requires.stands c.in-Some.number c.in-Some.is))
+returns-in-Some g c = rw c.in-Some.is (c.is_used.ensures ∙ sym (c.requires.fit.busy c.in-Some.number))
