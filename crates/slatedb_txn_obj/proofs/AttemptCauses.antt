@@ -1,32 +1,80 @@
 -- Why an attempt of an update by a mutator, or of a claim, failed, by the part that did.
-use Rattle.std.proofs.Common.{sym, subst, inl, inr, ℕ, ◌≤◌, List, Option, Some, None}
+use Rattle.std.proofs.Common.{refl, sym, subst, ◌∙◌, inl, inr, ◌≡◌, ℕ, ◌+◌, ◌^◌, ◌≤◌, List, Option, Some, None}
 use Rattle.txn_store.specs.Store.{State}
 use Rattle.txn_types.specs.Callbacks.{error_of_callback}
-use Rattle.txn_types.specs.Epochs.{HasNoEpoch}
+use Rattle.txn_types.specs.Epochs.{NextEpoch, HasNoEpoch}
 use Rattle.txn_types.specs.declared.callback.CallbackFault.{CallbackFault}
 use Rattle.txn_types.specs.declared.callback.CallbackFault.TheVariants.{Refused}
 use Rattle.txn_types.specs.declared.callback.CallbackFault.TheVariants as callback
 use Rattle.txn_types.specs.declared.error.TransactionalObjectError.{TransactionalObjectError}
 use Rattle.txn_types.specs.declared.error.TransactionalObjectError.TheVariants.{ObjectStoreError, ObjectVersionExists, Fenced, InvalidObjectState, CallbackError, NoMemory, IdExhausted, TurnsExhausted}
-use Rattle.slatedb_txn_obj.specs.Claims.{HasCauseOfAttempt}
+use Rattle.slatedb_txn_obj.specs.Claims.{HasCauseOfAttempt, HasCauseOfClaim, IsBlocking}
+use Rattle.slatedb_txn_obj.specs.Protocol.{Unheld}
 use Rattle.slatedb_txn_obj.specs.Views.{IsTestFailure, IsEmpty, IsShutting, HasCauseOfUpdate, HasCauseOfRefresh, HasCauseOfApply}
 use Rattle.slatedb_txn_obj.proofs.Causes.{HasCause-later}
 
-module _ (shut : TransactionalObjectError → Type 0) (full unheld : Type 0) (left : ℕ) (old middle new : State) where
+module _ (stopped : TransactionalObjectError → Type 0) (full unheld : Type 0) (left : ℕ) (old middle new : State) where
   -- the version that a refresh read shuts the object
-  pub apply-shut : (error : TransactionalObjectError) → IsShutting error → shut error → HasCauseOfApply shut full unheld left old new error
+  pub apply-shut : (error : TransactionalObjectError) → IsShutting error → stopped error → HasCauseOfApply stopped full unheld left old new error
   apply-shut Fenced shuts cause = cause
   apply-shut InvalidObjectState shuts cause = inl cause
   apply-shut error shuts cause = absurd shuts
 
+  -- the mutator refused
+  pub apply-mutator : (fault : CallbackFault) → stopped (error_of_callback fault) → HasCauseOfApply stopped full unheld left old new (error_of_callback fault)
+  apply-mutator (Refused error) cause = inl cause
+  apply-mutator callback.NoMemory cause = tt
+
   -- a refresh failed
-  pub apply-refresh : {T : Type 0} (before : List T → ℕ → Type 0) → old.failures ≤ middle.failures → (IsEmpty before → unheld) → (error : TransactionalObjectError) → HasCauseOfRefresh before left middle new error → HasCauseOfApply shut full unheld left old new error
-  apply-refresh before failures empty TurnsExhausted cause = cause
-  apply-refresh before failures empty (CallbackError error) cause = tt
-  apply-refresh before failures empty InvalidObjectState cause = inr (empty cause)
-  apply-refresh before failures empty (ObjectStoreError error) cause = HasCause-later old middle new failures (ObjectStoreError error) cause
-  apply-refresh before failures empty NoMemory cause = tt
-  apply-refresh before failures empty error cause = absurd cause
+  pub apply-refresh : {T : Type 0} (before : List T → ℕ → Type 0) → old.failures ≤ middle.failures → (IsEmpty before → unheld) → (Unheld before → unheld) → (error : TransactionalObjectError) → HasCauseOfRefresh before left middle new error → HasCauseOfApply stopped full unheld left old new error
+  apply-refresh before failures empty none TurnsExhausted cause = cause
+  apply-refresh before failures empty none (CallbackError error) cause = inr (none cause)
+  apply-refresh before failures empty none InvalidObjectState cause = inr (empty cause)
+  apply-refresh before failures empty none (ObjectStoreError error) cause = HasCause-later old middle new failures (ObjectStoreError error) cause
+  apply-refresh before failures empty none NoMemory cause = tt
+  apply-refresh before failures empty none error cause = absurd cause
+
+  -- an update failed, and not as a conflict
+  pub apply-update : (refuses : TransactionalObjectError → Type 0) (unheld' : Type 0) (number : ℕ) → old.failures ≤ middle.failures → ((error : TransactionalObjectError) → refuses error → stopped error) → (number + 1 ≡ 2 ^ 64 → full) → (unheld' → unheld)
+      → (error : TransactionalObjectError) → (error ≡ ObjectVersionExists → ⊥) → HasCauseOfUpdate refuses unheld' number middle new error → HasCauseOfApply stopped full unheld left old new error
+  apply-update refuses unheld' number failures stops fills holds (CallbackError error) other cause = inl (stops (CallbackError error) cause)
+  apply-update refuses unheld' number failures stops fills holds Fenced other cause = stops Fenced cause
+  apply-update refuses unheld' number failures stops fills holds InvalidObjectState other (inl cause) = inl (stops InvalidObjectState cause)
+  apply-update refuses unheld' number failures stops fills holds InvalidObjectState other (inr cause) = inr (holds cause)
+  apply-update refuses unheld' number failures stops fills holds ObjectVersionExists other cause = absurd (other refl)
+  apply-update refuses unheld' number failures stops fills holds IdExhausted other cause = fills cause
+  apply-update refuses unheld' number failures stops fills holds (ObjectStoreError error) other cause = HasCause-later old middle new failures (ObjectStoreError error) cause
+  apply-update refuses unheld' number failures stops fills holds NoMemory other cause = tt
+  apply-update refuses unheld' number failures stops fills holds error other cause = absurd cause
+
+-- a refresh of a claim failed
+module _ (timeout : ℕ) (late : Type 0) (fails blocked : TransactionalObjectError → Type 0) (full unheld : Type 0) (left : ℕ) (old middle new : State) where
+  pub claim-refresh : {T : Type 0} (before : List T → ℕ → Type 0) → old.failures ≤ middle.failures → (IsEmpty before → unheld) → (Unheld before → unheld) → (error : TransactionalObjectError) → HasCauseOfRefresh before left middle new error → HasCauseOfClaim timeout late fails blocked full unheld left old new error
+  claim-refresh before failures empty none TurnsExhausted cause = cause
+  claim-refresh before failures empty none (CallbackError error) cause = inr (none cause)
+  claim-refresh before failures empty none InvalidObjectState cause = empty cause
+  claim-refresh before failures empty none (ObjectStoreError error) cause = HasCause-later old middle new failures (ObjectStoreError error) cause
+  claim-refresh before failures empty none NoMemory cause = tt
+  claim-refresh before failures empty none error cause = absurd cause
+
+-- it is no want of an epoch or an id
+pub refresh-not_blocking : {T : Type 0} (before : List T → ℕ → Type 0) (left : ℕ) (old new : State) (error : TransactionalObjectError) → IsBlocking error → HasCauseOfRefresh before left old new error → ⊥
+refresh-not_blocking before left old new Fenced blocks cause = cause
+refresh-not_blocking before left old new IdExhausted blocks cause = cause
+refresh-not_blocking before left old new error blocks cause = absurd blocks
+
+-- there is one next epoch at most
+pub one_epoch : (asked : Option ℕ) (stored e e' : ℕ) → NextEpoch asked stored e → NextEpoch asked stored e' → e ≡ e'
+one_epoch None stored e e' next next' = next ∙ sym next'
+one_epoch (Some asked) stored e e' next next' = next.0 ∙ sym next'.0
+
+-- an epoch that there is not is no conflict
+pub blocked-no_conflict : (asked : Option ℕ) (stored : ℕ) (error : TransactionalObjectError) → HasNoEpoch asked stored error → error ≡ ObjectVersionExists → ⊥
+blocked-no_conflict asked stored error none is = no_epoch asked (subst (HasNoEpoch asked stored) is none)
+  where
+    no_epoch : (asked : Option ℕ) → HasNoEpoch asked stored ObjectVersionExists → ⊥
+    no_epoch None none = none
+    no_epoch (Some asked) none = none
 
 -- there is no next epoch
 pub attempt-blocked : (asked : Option ℕ) (stored timeout number : ℕ) (late : Type 0) (fails : TransactionalObjectError → Type 0) (unheld : Type 0) (old new : State) (error : TransactionalObjectError) → HasNoEpoch asked stored error → HasCauseOfAttempt asked stored timeout number late fails unheld old new error
@@ -48,6 +96,10 @@ of_callback callback.NoMemory = tt
 module _ {I : Type 0} (holds : I → Type 0) (tests : I → CallbackFault → Type 0) (invariants : List I) where
   of_test : {error : TransactionalObjectError} → IsTestFailure holds tests invariants error → IsOfCallback error
   of_test failure = subst IsOfCallback (sym failure.1) (of_callback failure.0)
+
+  -- a test that fails is no conflict
+  pub test-no_conflict : {error : TransactionalObjectError} → IsTestFailure holds tests invariants error → error ≡ ObjectVersionExists → ⊥
+  test-no_conflict failure is = subst IsOfCallback is (of_test failure)
 
   pub attempt-update : (asked : Option ℕ) (stored timeout number : ℕ) (late : Type 0) (fails : TransactionalObjectError → Type 0) (unheld : Type 0) (old new : State) → ((error : TransactionalObjectError) → IsTestFailure holds tests invariants error → fails error) → (error : TransactionalObjectError) → HasCauseOfUpdate (IsTestFailure holds tests invariants) unheld number old new error → HasCauseOfAttempt asked stored timeout number late fails unheld old new error
   attempt-update asked stored timeout number late fails unheld old new gives (CallbackError error) cause = gives (CallbackError error) cause

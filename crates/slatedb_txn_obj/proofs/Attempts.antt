@@ -1,5 +1,5 @@
 -- What attempts of an update spend and fail for.
-use Rattle.std.proofs.Common.{Bool, true, false, List, length, Option, Some, Result, Ok, inl, inr, arith, refl, subst, ◌≡◌, ◌⊎◌, ℕ, ◌+◌, ◌-◌, ◌*◌, ◌≤◌}
+use Rattle.std.proofs.Common.{Bool, true, false, List, length, Option, Some, Result, Ok, inl, inr, arith, refl, subst, ◌∙◌, ◌≡◌, ◌⊎◌, ℕ, ◌+◌, ◌-◌, ◌*◌, ◌≤◌}
 use Rattle.txn_store.specs.Store.{State}
 use Rattle.txn_types.specs.declared.callback.CallbackFault.{CallbackFault}
 use Rattle.txn_types.specs.declared.dirty.DirtyObject.{DirtyObject}
@@ -53,3 +53,15 @@ module _ {T Id View : Type 0} (answers : View → Result (Option (DirtyObject T 
 -- what a first attempt has spent after a conflict and its refresh, by turns, pages and tokens left
 pub first-spent : (t0 t t1 t2 p0 p p1 l0 l l1 l2 : ℕ) → (t ≡ t0) × (p ≡ p0) × (l0 ≤ l) → t ≡ t1 + 1 → p1 ≤ p + 1 → t1 ≤ t2 + 2 * p1 → l ≤ l1 + 1 → l1 ≤ l2 + 0 → (t0 ≤ t2 + 3 + 2 * p0) × (l0 ≤ l2 + 1)
 first-spent t0 t t1 t2 p0 p p1 l0 l l1 l2 first spent paged few took took' = (omega (arith, first.0, first.1, spent, paged, few), omega (arith, first.2, took, took'))
+
+-- The pages after an attempt that was a conflict, and its refresh. So far there were as many as at first, or one more at most and the attempt was made on the newest version.
+pub paged-after : (same : Bool) (p0 p p1 p2 : ℕ) (Latest Newest : Type 0) → (same ≡ false → p1 ≡ p) → (same ≡ true → Latest → ⊥) → p1 ≤ p + 1 → p2 ≡ p1 → Newest → (p ≡ p0) ⊎ ((p ≤ p0 + 1) × Latest) → (p2 ≡ p0) ⊎ ((p2 ≤ p0 + 1) × Newest)
+paged-after false p0 p p1 p2 Latest Newest other over most read newest (inl first) = inl (read ∙ other refl ∙ first)
+paged-after false p0 p p1 p2 Latest Newest other over most read newest (inr second) = let kept = other refl in inr (omega (arith, read, kept, second.0), newest)
+paged-after true p0 p p1 p2 Latest Newest other over most read newest (inl first) = inr (omega (arith, read, most, first), newest)
+paged-after true p0 p p1 p2 Latest Newest other over most read newest (inr second) = absurd (over refl second.1)
+
+-- and with the write of one attempt more
+pub pages-most : (p0 p p1 : ℕ) (Latest : Type 0) → p1 ≤ p + 1 → (p ≡ p0) ⊎ ((p ≤ p0 + 1) × Latest) → p1 ≤ p0 + 2
+pages-most p0 p p1 Latest most (inl first) = omega (arith, most, first)
+pages-most p0 p p1 Latest most (inr second) = let before = second.0 in omega (arith, most, before)

@@ -21,14 +21,14 @@ pub reads-late : (start timeout : ℕ) (later old middle new : List ℕ) → Rea
 reads-late start timeout later old middle new reads one =
     (start, later, one.0, one.1 ∙ ap (λ xs. xs ++ one.0 ∷ []) reads.0, one.2)
 
-module _ (asked : Option ℕ) (stored timeout number : ℕ) (late : Type 0) (fails : TransactionalObjectError → Type 0) (unheld : Type 0) (old middle new : State) (late' : Type 0) (blocked : TransactionalObjectError → Type 0) (full unheld' : Type 0) (left : ℕ)
-    (failures : old.failures ≤ middle.failures) (lates : late → late') (blocks : (error : TransactionalObjectError) → HasNoEpoch asked stored error → blocked error) (fills : number + 1 ≡ 2 ^ 64 → full) (holds : unheld → unheld') where
-  pub claim-cause : (error : TransactionalObjectError) → (error ≡ ObjectVersionExists → ⊥) → HasCauseOfAttempt asked stored timeout number late fails unheld middle new error → HasCauseOfClaim timeout late' blocked full unheld' left old new error
+module _ (asked : Option ℕ) (stored timeout number : ℕ) (late : Type 0) (fails : TransactionalObjectError → Type 0) (unheld : Type 0) (old middle new : State) (late' : Type 0) (fails' blocked : TransactionalObjectError → Type 0) (full unheld' : Type 0) (left : ℕ)
+    (failures : old.failures ≤ middle.failures) (lates : late → late') (tests : (error : TransactionalObjectError) → fails error → fails' error) (blocks : (error : TransactionalObjectError) → HasNoEpoch asked stored error → blocked error) (fills : number + 1 ≡ 2 ^ 64 → full) (holds : unheld → unheld') where
+  pub claim-cause : (error : TransactionalObjectError) → (error ≡ ObjectVersionExists → ⊥) → HasCauseOfAttempt asked stored timeout number late fails unheld middle new error → HasCauseOfClaim timeout late' fails' blocked full unheld' left old new error
   claim-cause (ObjectUpdateTimeout t) other cause = (cause.0, lates cause.1)
   claim-cause Fenced other cause = blocks Fenced cause
   claim-cause IdExhausted other (inl cause) = inl (blocks IdExhausted cause)
   claim-cause IdExhausted other (inr cause) = inr (fills cause)
-  claim-cause (CallbackError error) other cause = tt
+  claim-cause (CallbackError error) other cause = inl (tests (CallbackError error) cause)
   claim-cause InvalidObjectState other cause = holds cause
   claim-cause ObjectVersionExists other cause = absurd (other refl)
   claim-cause (ObjectStoreError error) other cause = HasCause-later old middle new failures (ObjectStoreError error) cause

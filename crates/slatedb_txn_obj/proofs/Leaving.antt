@@ -59,6 +59,10 @@ module _ {own : Segments → Type 0} where
     given = removed.given;
   }
 
+-- a write by a protocol whose files lie where they lay
+pub others-placed : {Place : Type 0} (owns : Place → Segments → Type 0) (file : Place → ℕ → Segments) → ((at : Place) (n : ℕ) → owns at (file at n)) → {at at' : Place} {a b c : State} (n : ℕ) → at' ≡ at → LeavesOthers (owns at) a b → MayCreate (file at' n) b c → LeavesOthers (owns at) a c
+others-placed owns file its {at' = at'} n same before creates = others-trans before (others-create (file at' n) (subst (λ p. owns p (file at' n)) same (its at' n)) creates)
+
 -- so another's files are as they were, where the two have none in common
 pub own-apart : {own own' : Segments → Type 0} {a b : State} → AreApart own own' → LeavesOthers own a b → SameOwn own' a b
 own-apart apart leaves = record { same = λ path its. leaves.others path (λ mine. apart path mine its); given = leaves.given }

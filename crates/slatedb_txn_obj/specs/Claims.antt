@@ -1,12 +1,16 @@
 -- The claims of holders.
-use Rattle.std.specs.Prelude.{◌≡◌, ◌⊎◌, ℕ, ◌+◌, ◌-◌, ◌*◌, ◌^◌, ◌<◌, ◌≤◌, List, [], ◌∷◌, ◌++◌, All, length, Option, Result, IfOk, IfErr, IsErrOf}
+use Rattle.std.specs.Prelude.{◌≡◌, ◌⊎◌, ℕ, ◌+◌, ◌-◌, ◌*◌, ◌^◌, ◌<◌, ◌≤◌, List, [], ◌∷◌, ◌++◌, All, length, Option, Result, IfOk, IfErr, IsErr, IsErrOf}
 use Rattle.txn_types.specs.declared.error.TransactionalObjectError.{TransactionalObjectError}
 use Rattle.txn_types.specs.declared.error.TransactionalObjectError.TheVariants.{Fenced, InvalidObjectState, ObjectVersionExists, ObjectUpdateTimeout, CallbackError, IdExhausted, TurnsExhausted}
+use Rattle.txn_types.specs.Callbacks.{IsCallback}
+use Rattle.txn_types.specs.declared.callback.CallbackFault.{CallbackFault}
 use Rattle.txn_types.specs.Epochs.{NextEpoch, HasNoEpoch}
+use Rattle.txn_store.specs.Paths.{Segments}
 use Rattle.txn_store.specs.Store.{State}
 use Rattle.txn_drivers.specs.Calls.{HasCause, SpendsTurns}
 use Rattle.txn_drivers.specs.LatestReads.{IsLatest}
-use Rattle.slatedb_txn_obj.specs.Views.{IsVersion}
+use Rattle.slatedb_txn_obj.specs.Leaves.{LeavesOthers}
+use Rattle.slatedb_txn_obj.specs.Views.{IsVersion, IsTestFailure}
 use Rattle.slatedb_txn_obj.specs.declared.fenceable.FenceableTransactionalObject.{FenceableTransactionalObject}
 use Rattle.slatedb_txn_obj.specs.declared.simple.SimpleTransactionalObject.{SimpleTransactionalObject}
 
@@ -41,15 +45,21 @@ HasCauseOfAttempt asked stored timeout number late fails unheld old new InvalidO
 HasCauseOfAttempt asked stored timeout number late fails unheld old new ObjectVersionExists = Unit {0}
 HasCauseOfAttempt asked stored timeout number late fails unheld old new error = HasCause old new error
 
--- Why a claim failed. `blocked` says that a version has no next epoch, `full` that none has a next number. It is never a conflict.
-abbrev pub HasCauseOfClaim : (timeout : ℕ) (late : Type 0) (blocked : TransactionalObjectError → Type 0) (full unheld : Type 0) (left : ℕ) → State → State → TransactionalObjectError → Type 0
-HasCauseOfClaim timeout late blocked full unheld left old new (ObjectUpdateTimeout t) = (t ≡ timeout) × late
-HasCauseOfClaim timeout late blocked full unheld left old new Fenced = blocked Fenced
-HasCauseOfClaim timeout late blocked full unheld left old new IdExhausted = blocked IdExhausted ⊎ full
-HasCauseOfClaim timeout late blocked full unheld left old new (CallbackError error) = Unit {0}
-HasCauseOfClaim timeout late blocked full unheld left old new InvalidObjectState = unheld
-HasCauseOfClaim timeout late blocked full unheld left old new TurnsExhausted = left ≡ 0
-HasCauseOfClaim timeout late blocked full unheld left old new error = HasCause old new error
+-- Why a claim failed. `fails` says why an invariant did, `blocked` that a version has no next epoch, `full` that it has no next number. It is never a conflict.
+abbrev pub HasCauseOfClaim : (timeout : ℕ) (late : Type 0) (fails blocked : TransactionalObjectError → Type 0) (full unheld : Type 0) (left : ℕ) → State → State → TransactionalObjectError → Type 0
+HasCauseOfClaim timeout late fails blocked full unheld left old new (ObjectUpdateTimeout t) = (t ≡ timeout) × late
+HasCauseOfClaim timeout late fails blocked full unheld left old new Fenced = blocked Fenced
+HasCauseOfClaim timeout late fails blocked full unheld left old new IdExhausted = blocked IdExhausted ⊎ full
+HasCauseOfClaim timeout late fails blocked full unheld left old new (CallbackError error) = fails (CallbackError error) ⊎ unheld
+HasCauseOfClaim timeout late fails blocked full unheld left old new InvalidObjectState = unheld
+HasCauseOfClaim timeout late fails blocked full unheld left old new TurnsExhausted = left ≡ 0
+HasCauseOfClaim timeout late fails blocked full unheld left old new error = HasCause old new error
+
+-- an error by which an attempt ends before it writes: there is no next epoch, or no next number
+abbrev pub IsBlocking : TransactionalObjectError → Type 0
+IsBlocking Fenced = Unit {0}
+IsBlocking IdExhausted = Unit {0}
+IsBlocking error = ⊥
 
 -- `epoch_of` and `with_epoch` read and set the epoch of a value.
 module _ {T : Type 0} (epoch_of : T → ℕ) (with_epoch : T → ℕ → T) where
@@ -72,18 +82,30 @@ module _ {T : Type 0} (epoch_of : T → ℕ) (with_epoch : T → ℕ → T) wher
   abbrev pub NotClaimed : (h : List T) (b : ℕ) (after : List T → ℕ → Type 0) (asked : Option ℕ) → Type 0
   NotClaimed h b after asked = after h b ⊎ ((number : ℕ) × (value : T) × (epoch : ℕ) × IsVersion h number value × NextEpoch asked (epoch_of value) epoch × after (h ++ with_epoch value epoch ∷ []) b)
 
-  -- a version of the history has no next epoch
-  abbrev pub IsBlocked : (h : List T) (asked : Option ℕ) → TransactionalObjectError → Type 0
-  IsBlocked h asked error = (number : ℕ) × (value : T) × IsVersion h number value × HasNoEpoch asked (epoch_of value) error
-
--- A claim on a view: `number_of` is the number of an id, and `before` and `after` say for which histories and boundaries the protocol and the store stand, before it and after it.
-module _ {T I X : Type 0} (epoch_of : X → T → ℕ) (with_epoch : X → T → ℕ → T) (holds : I → T → T → Type 0) (number_of : ℕ → ℕ) (epochs : X) (view : SimpleTransactionalObject T ℕ I) (before after : List T → ℕ → Type 0) where
+-- A claim on a view: `number_of` is the number of an id, and `before` and `after` say for which histories and boundaries the protocol and the store stand, before it and after it. `own` says which files are the protocol's, and `place` and `place'` where they lie, before it and after it.
+module _ {T I X Place : Type 0} (epoch_of : X → T → ℕ) (with_epoch : X → T → ℕ → T) (holds : I → T → T → Type 0) (fails : I → T → T → CallbackFault → Type 0) (number_of : ℕ → ℕ) (epochs : X) (view : SimpleTransactionalObject T ℕ I) (before after : List T → ℕ → Type 0) (own : Segments → Type 0) (place place' : Place) where
   -- a fact of each history and boundary that stood with the view in it
   abbrev pub WhereItStood : (List T → ℕ → Type 0) → Type 0
   WhereItStood fact = (h : List T) (b : ℕ) → before h b → IsVersion h (number_of view.id) view.object → fact h b
 
-  -- What it answers and leaves, by the epoch that is asked for, if any, the `pages` of a listing, and the turns, the store and the readings of the clock, each before it and after it.
-  pub record ClaimEnds (asked : Option ℕ) (timeout pages turns left : ℕ) (old new : State) (readings readings' : List ℕ) (result : Result (FenceableTransactionalObject T I X) TransactionalObjectError) : Type 0 where
+  -- A version that an attempt was made on: the view's own, or the newest, which a refresh read.
+  abbrev pub IsMet : ℕ → T → Type 0
+  IsMet number value = ((number ≡ number_of view.id) × (value ≡ view.object)) ⊎ WhereItStood (λ h b. IsLatest h number value)
+
+  -- such a version has no next epoch
+  abbrev pub MetBlocked : Option ℕ → TransactionalObjectError → Type 0
+  MetBlocked asked error = (number : ℕ) × (value : T) × IsMet number value × HasNoEpoch asked (epoch_of epochs value) error
+
+  -- such a version has no next number
+  abbrev pub MetFull : Type 0
+  MetFull = (number : ℕ) × (value : T) × IsMet number value × (number + 1 ≡ 2 ^ 64)
+
+  -- an invariant failed for such a version with its next epoch, the first that did
+  abbrev pub MetFailing : Option ℕ → TransactionalObjectError → Type 0
+  MetFailing asked error = (number : ℕ) × (value : T) × IsMet number value × ((epoch : ℕ) × NextEpoch asked (epoch_of epochs value) epoch × IsTestFailure (λ i. holds i (with_epoch epochs value epoch) value) (λ i. fails i (with_epoch epochs value epoch) value) view.invariants.items error)
+
+  -- What it answers and leaves, by the epoch that is asked for, if any, the pages of a listing, and the turns, the store and the readings of the clock, each before it and after it.
+  pub record ClaimEnds (asked : Option ℕ) (timeout pages pages' turns left : ℕ) (old new : State) (readings readings' : List ℕ) (result : Result (FenceableTransactionalObject T I X) TransactionalObjectError) : Type 0 where
     -- the newest value, with the holder's epoch in it, stands straight on it, and the holder is at that
     pub claimed : IfOk result (λ holder. WhereItStood (λ h b. Claimed (epoch_of epochs) (with_epoch epochs) (λ v c. All (λ i. holds i v c) view.invariants.items) h b after asked (number_of holder.delegate.id) holder.delegate.object holder.local_epoch))
     -- it has the view's invariants, and what reads and sets epochs
@@ -96,5 +118,16 @@ module _ {T I X : Type 0} (epoch_of : X → T → ℕ) (with_epoch : X → T →
     -- two attempts are enough
     pub few : WhereItStood (λ h b. (turns ≤ left + 4 + 2 * pages) × (old.left ≤ new.left + 2))
     pub enough : WhereItStood (λ h b. 4 + 2 * pages ≤ turns → IsErrOf result TurnsExhausted → ⊥)
-    -- what it says of a next epoch, a next number and the boundary is said where it stood
-    pub cause : IfErr result (HasCauseOfClaim timeout (ReadsLate timeout readings readings') (λ e. WhereItStood (λ h b. IsBlocked (epoch_of epochs) (with_epoch epochs) h asked e)) (WhereItStood (λ h b. 2 ^ 64 ≤ length h + 1)) (WhereItStood (λ h b. ⊥)) left old new)
+    pub cause : IfErr result (HasCauseOfClaim timeout (ReadsLate timeout readings readings') (MetFailing asked) (MetBlocked asked) MetFull (WhereItStood (λ h b. ⊥)) left old new)
+    -- an invariant that fails ends it without a move
+    pub refused : IfErr result (λ e. IsCallback e → WhereItStood after)
+    -- where the view's own version has no next epoch, that is the answer, and where an invariant fails for it, an error is; the store is not called
+    pub blocked : (e : TransactionalObjectError) → HasNoEpoch asked (epoch_of epochs view.object) e → 1 ≤ turns → IsErrOf result e × (new ≡ old)
+    pub barred : (e : ℕ) → NextEpoch asked (epoch_of epochs view.object) e → (All (λ i. holds i (with_epoch epochs view.object e) view.object) view.invariants.items → ⊥) → IsErr result × (new ≡ old)
+    -- the attempt that has no next epoch, or no next number, makes no call: its turn has none
+    pub idle : IfErr result (λ e. IsBlocking e → new.calls + 7 * left + 7 ≤ old.calls + 7 * turns)
+    -- two versions at most were created
+    pub paged : WhereItStood (λ h b. pages' ≤ pages + 2)
+    -- the files lie where they lay, and no other was changed
+    pub placed : place' ≡ place
+    pub others : LeavesOthers own old new

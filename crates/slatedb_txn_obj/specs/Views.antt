@@ -95,11 +95,17 @@ DecidedBy (Err fault) same result = (result ≡ Err (error_of_callback fault)) �
 DecidedBy (Ok None) same result = (result ≡ Ok tt) × same
 DecidedBy (Ok (Some dirty)) same result = Unit {0}
 
--- Turns that were spent, a mutator, an invariant or a codec that refused, an object that was shut, no number above a version, or a failure with its cause. It is never a conflict.
+-- What stopped an update by a mutator: the version that is viewed shuts its holder out, the mutator refused it, or it refused the mutator's candidate.
+pub data Stopped {T Id View : Type 0} (answers : View → Result (Option (DirtyObject T Id)) CallbackFault → Type 0) (shut : View → TransactionalObjectError → Type 0) (refuses : View → T → TransactionalObjectError → Type 0) (now : View) (error : TransactionalObjectError) : Type 0 where
+  ByVersion : shut now error → Stopped answers shut refuses now error
+  ByMutator : (fault : CallbackFault) → answers now (Err fault) → error ≡ error_of_callback fault → Stopped answers shut refuses now error
+  ByObject : (dirty : DirtyObject T Id) → answers now (Ok (Some dirty)) → refuses now dirty.value error → Stopped answers shut refuses now error
+
+-- Turns that were spent, a mutator, an invariant or an object that stopped it, a codec or a boundary file that says nothing where nothing stood, no number above the version, or a failure with its cause. It is never a conflict.
 abbrev pub HasCauseOfApply : (TransactionalObjectError → Type 0) → Type 0 → Type 0 → ℕ → State → State → TransactionalObjectError → Type 0
-HasCauseOfApply shut full unheld left old new TurnsExhausted = left ≡ 0
-HasCauseOfApply shut full unheld left old new (CallbackError error) = Unit {0}
-HasCauseOfApply shut full unheld left old new Fenced = shut Fenced
-HasCauseOfApply shut full unheld left old new InvalidObjectState = shut InvalidObjectState ⊎ unheld
-HasCauseOfApply shut full unheld left old new IdExhausted = full
-HasCauseOfApply shut full unheld left old new error = HasCause old new error
+HasCauseOfApply stopped full unheld left old new TurnsExhausted = left ≡ 0
+HasCauseOfApply stopped full unheld left old new (CallbackError error) = stopped (CallbackError error) ⊎ unheld
+HasCauseOfApply stopped full unheld left old new Fenced = stopped Fenced
+HasCauseOfApply stopped full unheld left old new InvalidObjectState = stopped InvalidObjectState ⊎ unheld
+HasCauseOfApply stopped full unheld left old new IdExhausted = full
+HasCauseOfApply stopped full unheld left old new error = HasCause old new error

@@ -2,9 +2,10 @@
 ghost use Rattle.std.specs.Prelude.{ℕ, List, length, true, false, nat_eq, None, Some, ◌≡◌, ◌⊎◌, ◌+◌, ◌-◌, ◌*◌, ◌^◌, ◌<◌, ◌≤◌, [], ◌∷◌, ◌++◌, All, OnOk, OnErr, IfOk, IfErr, IsErr, IsErrOf};
 ghost use Rattle.txn_types.specs.Callbacks.{IsCallback};
 ghost use Rattle.txn_types.specs.Clones.{IsExactClone};
-ghost use Rattle.txn_types.specs.Epochs.{IsEpochError, NextEpoch};
+ghost use Rattle.txn_types.specs.Epochs.{IsEpochError, NextEpoch, HasNoEpoch};
+ghost use Rattle.txn_types.specs.declared.error.TransactionalObjectError.{TransactionalObjectError};
 ghost use Rattle.txn_drivers.specs.Calls.{Spends, SpendsTurns};
-ghost use Rattle.slatedb_txn_obj.specs.Claims.{IsUnlike, ReadsOne, HasCauseOfAttempt, MayClaim, ClaimEnds};
+ghost use Rattle.slatedb_txn_obj.specs.Claims.{IsUnlike, ReadsOne, HasCauseOfAttempt, IsBlocking, MayClaim, ClaimEnds};
 ghost use Rattle.slatedb_txn_obj.specs.Leaves.{MayCreate};
 ghost use Rattle.slatedb_txn_obj.specs.Protocol.{Overtaken, MayAppend, UnheldAt};
 ghost use Rattle.slatedb_txn_obj.specs.Views.{IsVersion, Updated, IsTestFailure, HasCauseOfUpdate};
@@ -55,7 +56,7 @@ impl<T: Clone, I: Invariant<T> + Drop, X: EpochField<T>> FenceableTransactionalO
         epochs: X,
     ) -> Result<FenceableTransactionalObject<T, I, X>, TransactionalObjectError>
         requires { IsExactClone T.is_clone }
-        ensures { ClaimEnds X.epoch_of X.with_epoch I.holds P.number epochs delegate (P.stands protocol.old store.old) (P.stands protocol.new store.new) None object_update_timeout (P.pages protocol.old store.old) turns.old turns.new (S.state store.old) (S.state store.new) (K.readings system_clock.old) (K.readings system_clock.new) result }
+        ensures { ClaimEnds X.epoch_of X.with_epoch I.holds I.fails P.number epochs delegate (P.stands protocol.old store.old) (P.stands protocol.new store.new) (P.owns (P.place protocol.old)) (P.place protocol.old) (P.place protocol.new) None object_update_timeout (P.pages protocol.old store.old) (P.pages protocol.new store.new) turns.old turns.new (S.state store.old) (S.state store.new) (K.readings system_clock.old) (K.readings system_clock.new) result }
     {
         claim(
             delegate,
@@ -86,7 +87,7 @@ impl<T: Clone, I: Invariant<T> + Drop, X: EpochField<T>> FenceableTransactionalO
         epochs: X,
     ) -> Result<FenceableTransactionalObject<T, I, X>, TransactionalObjectError>
         requires { IsExactClone T.is_clone }
-        ensures { ClaimEnds X.epoch_of X.with_epoch I.holds P.number epochs delegate (P.stands protocol.old store.old) (P.stands protocol.new store.new) (Some epoch) object_update_timeout (P.pages protocol.old store.old) turns.old turns.new (S.state store.old) (S.state store.new) (K.readings system_clock.old) (K.readings system_clock.new) result }
+        ensures { ClaimEnds X.epoch_of X.with_epoch I.holds I.fails P.number epochs delegate (P.stands protocol.old store.old) (P.stands protocol.new store.new) (P.owns (P.place protocol.old)) (P.place protocol.old) (P.place protocol.new) (Some epoch) object_update_timeout (P.pages protocol.old store.old) (P.pages protocol.new store.new) turns.old turns.new (S.state store.old) (S.state store.new) (K.readings system_clock.old) (K.readings system_clock.new) result }
     {
         claim(
             delegate,
@@ -142,6 +143,10 @@ fn attempt<
     ensures paged { (h : List T) (b : ℕ) → P.stands protocol.old store.old h b → P.number view.old.id ≤ length h → P.pages protocol.new store.new ≤ P.pages protocol.old store.old + 1 }
     ensures placed { P.place protocol.new ≡ P.place protocol.old }
     ensures creates { MayCreate (P.version_file (P.place protocol.old) (P.number view.old.id + 1)) (S.state store.old) (S.state store.new) }
+    ensures blocked { (e : TransactionalObjectError) → HasNoEpoch asked (X.epoch_of epochs.now view.old.object) e → IsErrOf result e × (S.state store.new ≡ S.state store.old) }
+    ensures idle { IfErr result (λ e. IsBlocking e → S.state store.new ≡ S.state store.old) }
+    ensures refused { IfErr result (λ e. IsCallback e → (protocol.new ≡ protocol.old) × (store.new ≡ store.old)) }
+    ensures barred { (e : ℕ) → NextEpoch asked (X.epoch_of epochs.now view.old.object) e → (All (λ i. I.holds i (X.with_epoch epochs.now view.old.object e) view.old.object) view.old.invariants.items → ⊥) → IsErr result × (S.state store.new ≡ S.state store.old) × (IsErrOf result TransactionalObjectError.ObjectVersionExists → ⊥) }
 {
     let epoch = next_epoch(asked, epochs.get_epoch(view.object()))?;
     let mut dirty = view.prepare_dirty()?;
@@ -170,7 +175,7 @@ fn claim<
     asked: Option<u64>,
 ) -> Result<FenceableTransactionalObject<T, I, X>, TransactionalObjectError>
     requires { IsExactClone T.is_clone }
-    ensures { ClaimEnds X.epoch_of X.with_epoch I.holds P.number epochs view (P.stands protocol.old store.old) (P.stands protocol.new store.new) asked timeout (P.pages protocol.old store.old) turns.old turns.new (S.state store.old) (S.state store.new) (K.readings clock.old) (K.readings clock.new) result }
+    ensures { ClaimEnds X.epoch_of X.with_epoch I.holds I.fails P.number epochs view (P.stands protocol.old store.old) (P.stands protocol.new store.new) (P.owns (P.place protocol.old)) (P.place protocol.old) (P.place protocol.new) asked timeout (P.pages protocol.old store.old) (P.pages protocol.new store.new) turns.old turns.new (S.state store.old) (S.state store.new) (K.readings clock.old) (K.readings clock.new) result }
 {
     let deadline = Deadline::starting(clock, timeout);
     while turns.spend() {
@@ -192,7 +197,7 @@ fn claim<
 
 impl<T: Clone, I: Invariant<T> + Drop, X: EpochField<T>> TransactionalObject<T, MonotonicId>
     for FenceableTransactionalObject<T, I, X> {
-    ghost use Rattle.std.specs.Prelude.{◌≡◌, ◌⊎◌, All};
+    ghost use Rattle.std.specs.Prelude.{refl, ◌≡◌, ◌⊎◌, All};
     ghost use Rattle.txn_types.specs.Epochs.{IsEpochError};
     ghost use Rattle.slatedb_txn_obj.specs.Claims.{IsUnlike};
     ghost use Rattle.slatedb_txn_obj.specs.Views.{IsTestFailure};
@@ -255,6 +260,7 @@ impl<T: Clone, I: Invariant<T> + Drop, X: EpochField<T>> TransactionalObject<T, 
         ensures refused { IfErr result (λ e. IsCallback e → (protocol.new ≡ protocol.old) × (store.new ≡ store.old)) }
         ensures other { nat_eq dirty.id self.old.delegate.id ≡ false → IsErr result × (protocol.new ≡ protocol.old) × (store.new ≡ store.old) }
         ensures barred { ((X.epoch_of self.old.epochs self.old.delegate.object ≡ self.old.local_epoch) × (X.epoch_of self.old.epochs dirty.value ≡ self.old.local_epoch) × All (λ i. I.holds i dirty.value self.old.delegate.object) self.old.delegate.invariants.items → ⊥) → IsErr result × (protocol.new ≡ protocol.old) × (store.new ≡ store.old) }
+        ensures answered { ((X.epoch_of self.old.epochs self.old.delegate.object ≡ self.old.local_epoch) × (X.epoch_of self.old.epochs dirty.value ≡ self.old.local_epoch) × All (λ i. I.holds i dirty.value self.old.delegate.object) self.old.delegate.invariants.items → ⊥) → nat_eq dirty.id self.old.delegate.id ≡ true → IfErr result (λ e. IsEpochError self.old.local_epoch (X.epoch_of self.old.epochs self.old.delegate.object) e ⊎ (IsUnlike self.old.local_epoch (X.epoch_of self.old.epochs dirty.value) e ⊎ IsTestFailure (λ i. I.holds i dirty.value self.old.delegate.object) (λ i. I.fails i dirty.value self.old.delegate.object) self.old.delegate.invariants.items e)) }
         ensures conflict { IsErrOf result TransactionalObjectError.ObjectVersionExists → nat_eq dirty.id self.old.delegate.id ≡ true → Overtaken (P.stands protocol.old store.old) (P.stands protocol.new store.new) (P.number self.old.delegate.id) }
         ensures err { IfErr result (λ _. MayAppend (P.stands protocol.old store.old) (P.stands protocol.new store.new) (P.number self.old.delegate.id) dirty.value) }
         ensures cause { IfErr result (HasCauseOfUpdate (λ e. IsEpochError self.old.local_epoch (X.epoch_of self.old.epochs self.old.delegate.object) e ⊎ (IsUnlike self.old.local_epoch (X.epoch_of self.old.epochs dirty.value) e ⊎ IsTestFailure (λ i. I.holds i dirty.value self.old.delegate.object) (λ i. I.fails i dirty.value self.old.delegate.object) self.old.delegate.invariants.items e)) (UnheldAt (P.stands protocol.old store.old) (P.number self.old.delegate.id)) (P.number self.old.delegate.id) (S.state store.old) (S.state store.new)) }
@@ -262,6 +268,7 @@ impl<T: Clone, I: Invariant<T> + Drop, X: EpochField<T>> TransactionalObject<T, 
         ensures paged { (h : List T) (b : ℕ) → P.stands protocol.old store.old h b → P.number self.old.delegate.id ≤ length h → P.pages protocol.new store.new ≤ P.pages protocol.old store.old + 1 }
         ensures placed { P.place protocol.new ≡ P.place protocol.old }
         ensures creates { MayCreate (P.version_file (P.place protocol.old) (P.number self.old.delegate.id + 1)) (S.state store.old) (S.state store.new) }
+        ensures exhausted { IsErrOf result TransactionalObjectError.IdExhausted → S.state store.new ≡ S.state store.old }
     {
         self.check_epoch()?;
         if self.epochs.get_epoch(&dirty.value) != self.local_epoch {
@@ -269,4 +276,8 @@ impl<T: Clone, I: Invariant<T> + Drop, X: EpochField<T>> TransactionalObject<T, 
         }
         self.delegate.update(protocol, store, dirty)
     }
+
+    ghost moved_here = { λ _. refl };
+
+    ghost moved_again = { λ _ _ _ _ _. refl };
 }

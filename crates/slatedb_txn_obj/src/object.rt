@@ -18,12 +18,13 @@ pub trait TransactionalObject<T: Clone, Id: Copy + Eq> {
     ghost use Rattle.std.specs.Fn.{FnReturnsAt};
     ghost use denote.Follow.{follows_so};
     ghost use mathlib.Core.Option.{none};
+    ghost use Rattle.txn_types.specs.Callbacks.{IsCallback};
     ghost use Rattle.txn_types.specs.Clones.{IsExactClone};
     ghost use Rattle.txn_types.specs.declared.error.TransactionalObjectError.{TransactionalObjectError};
     ghost use Rattle.txn_drivers.specs.Calls.{Spends, SpendsTurns};
-    ghost use Rattle.slatedb_txn_obj.specs.Leaves.{SameFiles, MayCreate};
+    ghost use Rattle.slatedb_txn_obj.specs.Leaves.{SameFiles, MayCreate, LeavesOthers};
     ghost use Rattle.slatedb_txn_obj.specs.Protocol.{Overtaken, MayAppend, Stays, UnheldAt};
-    ghost use Rattle.slatedb_txn_obj.specs.Views.{IsVersion, Updated, ShowsLatest, IsShutting, HasCauseOfUpdate, HasCauseOfRefresh, Applied, NotApplied, DecidedBy, KeepsIds, HasCauseOfApply};
+    ghost use Rattle.slatedb_txn_obj.specs.Views.{IsVersion, Updated, ShowsLatest, IsShutting, HasCauseOfUpdate, HasCauseOfRefresh, Applied, NotApplied, DecidedBy, KeepsIds, Stopped, HasCauseOfApply};
 
     /// The id that the object is at.
     ghost at: { Self → Id };
@@ -103,13 +104,16 @@ pub trait TransactionalObject<T: Clone, Id: Copy + Eq> {
         ensures left { OnErr result (self.new ≡ self.old) }
         ensures other { Id.eq dirty.id (at self.old) ≡ false → IsErr result × (protocol.new ≡ protocol.old) × (store.new ≡ store.old) }
         ensures barred { (allows self.old dirty.value → ⊥) → IsErr result × (protocol.new ≡ protocol.old) × (store.new ≡ store.old) }
+        ensures answered { (allows self.old dirty.value → ⊥) → Id.eq dirty.id (at self.old) ≡ true → IfErr result (refuses self.old dirty.value) }
+        ensures refused { IfErr result (λ e. IsCallback e → (protocol.new ≡ protocol.old) × (store.new ≡ store.old)) }
         ensures conflict { IsErrOf result TransactionalObjectError.ObjectVersionExists → Id.eq dirty.id (at self.old) ≡ true → Overtaken (P.stands protocol.old store.old) (P.stands protocol.new store.new) (P.number (at self.old)) }
         ensures err { IfErr result (λ _. MayAppend (P.stands protocol.old store.old) (P.stands protocol.new store.new) (P.number (at self.old)) dirty.value) }
         ensures cause { IfErr result (HasCauseOfUpdate (refuses self.old dirty.value) (UnheldAt (P.stands protocol.old store.old) (P.number (at self.old))) (P.number (at self.old)) (S.state store.old) (S.state store.new)) }
         ensures spends { Spends 2 1 (S.state store.old) (S.state store.new) }
         ensures paged { (h : List T) (b : ℕ) → P.stands protocol.old store.old h b → P.number (at self.old) ≤ length h → P.pages protocol.new store.new ≤ P.pages protocol.old store.old + 1 }
         ensures placed { P.place protocol.new ≡ P.place protocol.old }
-        ensures creates { MayCreate (P.version_file (P.place protocol.old) (P.number (at self.old) + 1)) (S.state store.old) (S.state store.new) };
+        ensures creates { MayCreate (P.version_file (P.place protocol.old) (P.number (at self.old) + 1)) (S.state store.old) (S.state store.new) }
+        ensures exhausted { IsErrOf result TransactionalObjectError.IdExhausted → S.state store.new ≡ S.state store.old };
 
     /// Asks the mutator for a candidate made of the object, and updates by it. After a conflict it refreshes, and asks once
     /// more. Nothing asked for is Ok, and the mutator's refusal is `CallbackError`, or `NoMemory`, and writes nothing. Each
@@ -139,7 +143,11 @@ pub trait TransactionalObject<T: Clone, Id: Copy + Eq> {
         ensures enough { (h : List T) (b : ℕ) → P.stands protocol.old store.old h b → IsVersion h (P.number (at self.old)) (value self.old)
             → KeepsIds (λ v r. FnReturnsAt F.Fn mutator.now v r) (λ v. P.number (at v)) value at Id.eq
             → 4 + 2 * P.pages protocol.old store.old ≤ turns.old → IsErrOf result TransactionalObjectError.TurnsExhausted → ⊥ }
-        ensures cause { IfErr result (HasCauseOfApply (λ e. (v : Self) × (is_shut v e ⊎ ((d : T) × refuses v d e))) ((v : Self) × (P.number (at v) + 1 ≡ 2 ^ 64)) ((h : List T) (b : ℕ) → P.stands protocol.old store.old h b → IsVersion h (P.number (at self.old)) (value self.old) → ⊥) turns.new (S.state store.old) (S.state store.new)) }
+        ensures cause { IfErr result (HasCauseOfApply (Stopped (λ v r. FnReturnsAt F.Fn mutator.now v r) is_shut refuses self.new) (P.number (at self.new) + 1 ≡ 2 ^ 64) ((h : List T) (b : ℕ) → P.stands protocol.old store.old h b → IsVersion h (P.number (at self.old)) (value self.old) → ⊥) turns.new (S.state store.old) (S.state store.new)) }
+        ensures same_object { self.new ≡ moved self.old (at self.new) (value self.new) }
+        ensures paged { (h : List T) (b : ℕ) → P.stands protocol.old store.old h b → IsVersion h (P.number (at self.old)) (value self.old) → P.pages protocol.new store.new ≤ P.pages protocol.old store.old + 2 }
+        ensures placed { P.place protocol.new ≡ P.place protocol.old }
+        ensures others { LeavesOthers (P.owns (P.place protocol.old)) (S.state store.old) (S.state store.new) }
     {
         while turns.spend() {
             match mutator(self) {
@@ -156,4 +164,10 @@ pub trait TransactionalObject<T: Clone, Id: Copy + Eq> {
         }
         Err(TransactionalObjectError::TurnsExhausted)
     }
+
+    /// An object at the version that it is at is as it was.
+    ghost moved_here: { (v : Self) → moved v (at v) (value v) ≡ v };
+
+    /// Where an object was before doesn't matter.
+    ghost moved_again: { (v : Self) (i j : Id) (x y : T) → moved (moved v i x) j y ≡ moved v j y };
 }

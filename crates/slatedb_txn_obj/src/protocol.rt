@@ -70,6 +70,7 @@ pub trait TransactionalStorageProtocol<T, Id, S: ObjectStore> {
         ensures paged { (h : List T) (b : ℕ) → stands self.old store.old h b → base_number number base ≤ length h → pages self.new store.new ≤ pages self.old store.old + 1 }
         ensures placed { place self.new ≡ place self.old }
         ensures creates { MayCreate (version_file (place self.old) (base_number number base + 1)) (S.state store.old) (S.state store.new) }
+        ensures exhausted { IsErrOf result TransactionalObjectError.IdExhausted → S.state store.new ≡ S.state store.old }
         ensures moved { writes_to self.old store.old base value.now result self.new store.new };
 
     /// The newest version and its value, or nothing where there is none. Each pass, and each page after the first that a pass
@@ -167,6 +168,7 @@ impl<T: Drop, S: ObjectStore, P: SequencedStorageProtocol<T, S>> TransactionalSt
         ensures paged { (h : List T) (b : ℕ) → P.stands self.old store.old h b → base_number (λ n. n) base ≤ length h → P.pages self.new store.new ≤ P.pages self.old store.old + 1 }
         ensures placed { P.place self.new ≡ P.place self.old }
         ensures creates { MayCreate (P.version_file (P.place self.old) (base_number (λ n. n) base + 1)) (S.state store.old) (S.state store.new) }
+        ensures exhausted { IsErrOf result TransactionalObjectError.IdExhausted → S.state store.new ≡ S.state store.old }
         ensures moved { CheckedWrite result self.new store.new (λ answer p s. P.writes_to self.old store.old base value.now answer p s) (λ p s id answer q t. P.checks_to p s id answer q t) }
     {
         let id = self.write_unchecked(store, base, value)?;

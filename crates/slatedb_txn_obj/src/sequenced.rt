@@ -89,6 +89,7 @@ pub trait SequencedStorageProtocol<T, S: ObjectStore>: BoundaryObject<S> {
         ensures paged { pages self.new store.new ≤ pages self.old store.old + 1 }
         ensures placed { place self.new ≡ place self.old }
         ensures creates { MayCreate (version_file (place self.old) (base_number (λ n. n) base + 1)) (S.state store.old) (S.state store.new) }
+        ensures exhausted { IsErrOf result TransactionalObjectError.IdExhausted → S.state store.new ≡ S.state store.old }
         ensures moved { writes_to self.old store.old base value.now result self.new store.new };
 
     /// The version of the greatest id, and its value, or nothing where there is none. It may be fenced. Each page after the

@@ -42,6 +42,7 @@ impl<T: Drop, Id: Drop, I> SimpleTransactionalObject<T, Id, I> {
         ensures spends { Spends 2 1 (S.state store.old) (S.state store.new) }
         ensures placed { P.place protocol.new ≡ P.place protocol.old }
         ensures creates { MayCreate (P.version_file (P.place protocol.old) 1) (S.state store.old) (S.state store.new) }
+        ensures paged { (h : List T) (b : ℕ) → P.stands protocol.old store.old h b → P.pages protocol.new store.new ≤ P.pages protocol.old store.old + 1 }
     {
         let id = protocol.write(store, None, &value)?;
         Ok(SimpleTransactionalObject {
@@ -67,6 +68,7 @@ impl<T: Drop, Id: Drop, I> SimpleTransactionalObject<T, Id, I> {
         ensures cause { IfErr result (HasCauseOfLatest (Unheld (P.stands protocol.old store.old)) turns.new (S.state store.old) (S.state store.new)) }
         ensures placed { P.place protocol.new ≡ P.place protocol.old }
         ensures files { SameFiles (S.state store.old) (S.state store.new) }
+        ensures paged { (h : List T) (b : ℕ) → P.stands protocol.old store.old h b → P.pages protocol.new store.new ≡ P.pages protocol.old store.old }
     {
         match protocol.try_read_latest(store, turns)? {
             None => Ok(None),
@@ -94,6 +96,7 @@ impl<T: Drop, Id: Drop, I> SimpleTransactionalObject<T, Id, I> {
         ensures cause { IfErr result (HasCauseOfLoad (Unheld (P.stands protocol.old store.old)) turns.new (S.state store.old) (S.state store.new)) }
         ensures placed { P.place protocol.new ≡ P.place protocol.old }
         ensures files { SameFiles (S.state store.old) (S.state store.new) }
+        ensures paged { (h : List T) (b : ℕ) → P.stands protocol.old store.old h b → P.pages protocol.new store.new ≡ P.pages protocol.old store.old }
     {
         match SimpleTransactionalObject::try_load(alloc, protocol, store, turns)? {
             Some(view) => Ok(view),
@@ -144,7 +147,7 @@ fn test_all<T, I: Invariant<T>>(
 
 impl<T: Clone, Id: Copy + Eq, I: Invariant<T> + Drop> TransactionalObject<T, Id>
     for SimpleTransactionalObject<T, Id, I> {
-    ghost use Rattle.std.specs.Prelude.{ℕ, List, ◌≡◌, ◌⊎◌, All};
+    ghost use Rattle.std.specs.Prelude.{ℕ, List, refl, ◌≡◌, ◌⊎◌, All};
 
     ghost at = { λ v. v.id };
 
@@ -202,6 +205,7 @@ impl<T: Clone, Id: Copy + Eq, I: Invariant<T> + Drop> TransactionalObject<T, Id>
         ensures other { Id.eq dirty.id self.old.id ≡ false → IsErrOf result TransactionalObjectError.ObjectVersionExists × (protocol.new ≡ protocol.old) × (store.new ≡ store.old) }
         ensures refused { IfErr result (λ e. IsCallback e → (protocol.new ≡ protocol.old) × (store.new ≡ store.old)) }
         ensures barred { (All (λ i. I.holds i dirty.value self.old.object) self.old.invariants.items → ⊥) → IsErr result × (protocol.new ≡ protocol.old) × (store.new ≡ store.old) }
+        ensures answered { (All (λ i. I.holds i dirty.value self.old.object) self.old.invariants.items → ⊥) → Id.eq dirty.id self.old.id ≡ true → IfErr result (IsTestFailure (λ i. I.holds i dirty.value self.old.object) (λ i. I.fails i dirty.value self.old.object) self.old.invariants.items) }
         ensures conflict { IsErrOf result TransactionalObjectError.ObjectVersionExists → Id.eq dirty.id self.old.id ≡ true → Overtaken (P.stands protocol.old store.old) (P.stands protocol.new store.new) (P.number self.old.id) }
         ensures err { IfErr result (λ _. MayAppend (P.stands protocol.old store.old) (P.stands protocol.new store.new) (P.number self.old.id) dirty.value) }
         ensures cause { IfErr result (HasCauseOfUpdate (IsTestFailure (λ i. I.holds i dirty.value self.old.object) (λ i. I.fails i dirty.value self.old.object) self.old.invariants.items) (UnheldAt (P.stands protocol.old store.old) (P.number self.old.id)) (P.number self.old.id) (S.state store.old) (S.state store.new)) }
@@ -209,6 +213,7 @@ impl<T: Clone, Id: Copy + Eq, I: Invariant<T> + Drop> TransactionalObject<T, Id>
         ensures paged { (h : List T) (b : ℕ) → P.stands protocol.old store.old h b → P.number self.old.id ≤ length h → P.pages protocol.new store.new ≤ P.pages protocol.old store.old + 1 }
         ensures placed { P.place protocol.new ≡ P.place protocol.old }
         ensures creates { MayCreate (P.version_file (P.place protocol.old) (P.number self.old.id + 1)) (S.state store.old) (S.state store.new) }
+        ensures exhausted { IsErrOf result TransactionalObjectError.IdExhausted → S.state store.new ≡ S.state store.old }
     {
         if dirty.id != self.id {
             return Err(TransactionalObjectError::ObjectVersionExists);
@@ -219,4 +224,8 @@ impl<T: Clone, Id: Copy + Eq, I: Invariant<T> + Drop> TransactionalObject<T, Id>
         self.object = dirty.value;
         Ok(())
     }
+
+    ghost moved_here = { λ _. refl };
+
+    ghost moved_again = { λ _ _ _ _ _. refl };
 }

@@ -275,6 +275,7 @@ impl<T: Drop, S: ObjectStore, C: ObjectCodec<T>, B: BoundaryObject<S>> Sequenced
         ensures unmoved { self.new ≡ record { layout = self.old.layout; latest = self.new.latest; boundary = self.old.boundary } }
         ensures placed { laid self.new (B.file self.new.boundary) ≡ laid self.old (B.file self.old.boundary) }
         ensures creates { MayCreate (version_path self.old.layout.names (base_number (λ n. n) base + 1)) (S.state store.old) (S.state store.new) }
+        ensures exhausted { IsErrOf result TransactionalObjectError.IdExhausted → S.state store.new ≡ S.state store.old }
     {
         write_version(
             self.alloc,

@@ -1,11 +1,11 @@
 -- Why an attempt failed.
-use Rattle.std.proofs.Common.{refl, subst, ap, ◌∙◌, inl, inr, ◌++◌, ◌∷◌, [], ℕ, ◌-◌, ◌≤◌}
-use Rattle.std.proofs.lemmas.Result.{err_from_is_err_and}
+use Rattle.std.proofs.Common.{rules, All, Err, sym, ◌≡◌, refl, subst, ap, ◌∙◌, inl, inr, ◌++◌, ◌∷◌, [], ℕ, ◌-◌, ◌≤◌}
+use Rattle.std.proofs.lemmas.Result.{err_from_is_err_and, IfErr-at_err}
 use Rattle.txn_types.specs.Epochs.{NextEpoch}
 use Rattle.slatedb_txn_obj.specs.Claims.{ReadsOne}
 use Rattle.slatedb_txn_obj.specs.Protocol.{UnheldAt}
 use Rattle.slatedb_txn_obj.specs.Views.{IsTestFailure}
-use Rattle.slatedb_txn_obj.proofs.AttemptCauses.{attempt-blocked, attempt-update}
+use Rattle.slatedb_txn_obj.proofs.AttemptCauses.{attempt-blocked, attempt-update, one_epoch, test-no_conflict}
 use Rattle.slatedb_txn_obj.proofs.fenceable.attempt.Goals as goal
 
 pub returns-in_err-epoch-clause-cause : goal.returns-in_err-epoch-clause-cause
@@ -53,3 +53,18 @@ returns-in_err-update-clause-err g c =
       | inl after ↦ inl after
       | inr written ↦ inr (c.in_ok-epoch.epoch, next, subst (λ v. g.P.TransactionalStorageProtocol.stands c.update.new.protocol c.update.new.store (h ++ v ∷ []) b) set written)
     ])
+
+pub returns-in_err-update-clause-barred : goal.returns-in_err-update-clause-barred
+returns-in_err-update-clause-barred g c e next fails =
+    let p = err_from_is_err_and c.from_residual-in_err-update.result c.from_residual-in_err-update.ensures.1 in
+    let set = c.set_epoch.ensures.set ∙ ap (λ v. g.X.EpochField.with_epoch c.args.epochs.now v c.in_ok-epoch.epoch) c.in_ok-dirty.ensures.dirty.1 in
+    let took = rw c.object.ensures at (rw c.get_epoch.ensures at c.in_ok-epoch.ensures.next) in
+    let one = one_epoch c.args.asked _ c.in_ok-epoch.epoch e took next in
+    let value = set ∙ ap (λ n. g.X.EpochField.with_epoch c.args.epochs.now c.args.view.now.object n) one in
+    let not_all : (All (λ i. g.I.Invariant.holds i c.set_epoch.new.value c.args.view.now.object) c.args.view.now.invariants.items → ⊥) = λ all. fails (subst (λ v. All (λ i. g.I.Invariant.holds i v c.args.view.now.object) c.args.view.now.invariants.items) value all) in
+    let barred = c.in_err-update.ensures.barred not_all in
+    let failure = c.in_err-update.ensures.answered not_all (search rules) in (
+      rw p.1 refl,
+      ap (λ s. g.S.ObjectStore.state s) barred.2,
+      λ is. test-no_conflict (λ i. g.I.Invariant.holds i c.set_epoch.new.value c.args.view.now.object) (λ i. g.I.Invariant.fails i c.set_epoch.new.value c.args.view.now.object) c.args.view.now.invariants.items failure (IfErr-at_err (λ error. c.in_err-update.field-0.0 ≡ error) (ap Err (sym p.2) ∙ sym p.1 ∙ is) refl),
+    )

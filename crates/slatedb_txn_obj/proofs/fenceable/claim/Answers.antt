@@ -1,14 +1,19 @@
 -- What a refused attempt leaves, and what the one that succeeded has read of the clock.
-use Rattle.std.proofs.Common.{rules, arith, true≢false, sym, subst, ap, ◌∙◌, Err, inl, inr, ℕ, ◌+◌, ◌-◌, ◌^◌, ◌≤◌, List, [], ◌∷◌, ◌++◌, length}
+use Rattle.std.proofs.Common.{rules, arith, true, true≢false, refl, sym, subst, ap, ◌∙◌, ◌≡◌, ◌⊎◌, All, Err, inl, inr, ℕ, ◌+◌, ◌-◌, ◌^◌, ◌≤◌, List, [], ◌∷◌, ◌++◌, length}
 use Rattle.std.proofs.lemmas.List.{length_push}
+use Rattle.std.proofs.lemmas.Result.{err_from_is_err_and, IfErr-at_err}
 use Rattle.txn_types.specs.declared.error.TransactionalObjectError.{TransactionalObjectError}
-use Rattle.txn_types.specs.Epochs.{NextEpoch}
-use Rattle.slatedb_txn_obj.specs.Claims.{ReadsOne, ReadsInTime, ReadsLate, IsBlocked, HasCauseOfClaim}
+use Rattle.txn_types.specs.Epochs.{NextEpoch, HasNoEpoch}
+use Rattle.txn_store.specs.Store.{State}
+use Rattle.txn_drivers.specs.LatestReads.{IsLatest}
+use Rattle.slatedb_txn_obj.specs.Claims.{ReadsOne, ReadsInTime, ReadsLate, HasCauseOfClaim}
 use Rattle.slatedb_txn_obj.specs.Protocol.{UnheldAt}
 use Rattle.slatedb_txn_obj.specs.Views.{IsVersion, IsTestFailure}
-use Rattle.slatedb_txn_obj.proofs.Attempts.{spends-update, spends-refresh, first-spent, latest-not_overtaken}
+use Rattle.slatedb_txn_obj.proofs.AttemptCauses.{blocked-no_conflict, claim-refresh, refresh-not_blocking}
+use Rattle.slatedb_txn_obj.proofs.Leaving.{others-trans, others-same, others-placed}
+use Rattle.slatedb_txn_obj.proofs.Attempts.{paged-after, pages-most, spends-update, spends-refresh, first-spent, latest-not_overtaken}
 use Rattle.slatedb_txn_obj.proofs.Claiming.{reads-more, reads-late, claim-cause}
-use Rattle.slatedb_txn_obj.proofs.Views.{version-of_latest}
+use Rattle.slatedb_txn_obj.proofs.Views.{version-of_latest, none-empty}
 use Rattle.slatedb_txn_obj.proofs.fenceable.claim.Goals as goal
 
 pub loop-asked-preserved : goal.loop-asked-preserved
@@ -28,6 +33,24 @@ loop-asked-preserved g c =
           let here = inv.unmoved h b stands version in
           let after = overtaken.stands h b here.0 here.1.within in
           (refresh.kept h b after, version-of_latest (shown.2 h b after));
+      met = inr (λ h b stands version.
+          let here = inv.unmoved h b stands version in
+          shown.2 h b (overtaken.stands h b here.0 here.1.within));
+      placed = refresh.placed ∙ conflict.placed ∙ inv.placed;
+      others = others-trans (others-placed (λ at. g.P.TransactionalStorageProtocol.owns at) (λ at n. g.P.TransactionalStorageProtocol.version_file at n) (λ at n. g.met.P.TransactionalStorageProtocol.owns_version at n) (g.P.TransactionalStorageProtocol.number c.loop-asked.view.id + 1) inv.placed inv.others conflict.creates) (others-same refresh.files);
+      first = elim inv.first [
+        | inl same ↦ inr (
+          (λ e none.
+              let blocked = (rw same.0 at conflict.blocked) e none in
+              blocked-no_conflict _ _ e none (sym (IfErr-at_err (λ error. c.in-Err.error ≡ error) blocked.0 refl) ∙ c.is_sequenced_write_conflict.ensures.kind.0 c.if-is_sequenced_write_conflict.true)),
+          (λ e next fails. ((rw same.0 at conflict.barred) e next fails).2 exists),
+        )
+        | inr began ↦ inr began
+      ];
+      paged = λ h b stands version.
+          let here = inv.unmoved h b stands version in
+          let after = overtaken.stands h b here.0 here.1.within in
+          paged-after true _ _ _ _ _ _ (λ no. absurd (true≢false no)) (λ yes latest. latest-not_overtaken _ _ _ h b _ overtaken here.0 here.1 latest) (conflict.paged h b here.0 here.1.within) (refresh.paged h b after) (shown.2 h b after) (inv.paged h b stands version);
       spends = spends-refresh _ _ _ _ _ _ (spends-update _ _ _ _ _ _ c.loop-asked-test.ensures.spent inv.spends conflict.spends) refresh.spends;
       timed = (
         (inv.timed.0 ++ one.0 ∷ []) ++ two.0 ∷ [],
@@ -43,62 +66,190 @@ loop-asked-preserved g c =
       );
     }
 
+pub returns-in_err-check-in-Err : goal.returns-in_err-check-in-Err
+returns-in_err-check-in-Err g c =
+    let inv = c.loop-asked.invariant in
+    let conflict = c.in-Err.ensures in
+    let is_conflict = c.is_sequenced_write_conflict.ensures.kind.0 c.if-is_sequenced_write_conflict.true in
+    let none : (e : TransactionalObjectError) → HasNoEpoch c.args.asked (g.X.EpochField.epoch_of c.args.epochs c.args.view.object) e → ⊥ = λ e no. elim inv.first [
+      | inl same ↦ blocked-no_conflict _ _ e no (sym (IfErr-at_err (λ error. c.in-Err.error ≡ error) ((rw same.0 at conflict.blocked) e no).0 refl) ∙ is_conflict)
+      | inr began ↦ began.0 e no
+    ] in
+    let failing : (e : ℕ) → NextEpoch c.args.asked (g.X.EpochField.epoch_of c.args.epochs c.args.view.object) e → (All (λ i. g.I.Invariant.holds i (g.X.EpochField.with_epoch c.args.epochs c.args.view.object e) c.args.view.object) c.args.view.invariants.items → ⊥) → ⊥ = λ e next fails. elim inv.first [
+      | inl same ↦ ((rw same.0 at conflict.barred) e next fails).2 (ap Err is_conflict)
+      | inr began ↦ began.1 e next fails
+    ] in
+    let p = err_from_is_err_and c.from_residual.result c.from_residual.ensures.1 in
+    record {
+      claimed = search rules;
+      holder = search rules;
+      timely = search rules;
+      failed = search rules;
+      spends = search rules;
+      few = search rules;
+      enough = search rules;
+      cause =
+          let late = c.in_err-check-in-Err.ensures.late in
+          rw p.1 (rw p.2 (rw late.0 (inv.timeout, subst (λ n. ReadsLate n (g.K.SystemClock.readings c.args.clock.now) (g.K.SystemClock.readings c.check.new.clock)) inv.timeout (reads-late _ _ _ _ _ _ (reads-more _ _ inv.timed.0 _ _ _ inv.timed.1 (conflict.conflict_in_time (ap Err is_conflict))) late.1))));
+      refused = search rules;
+      blocked = λ e no some. absurd (none e no);
+      barred = λ e next fails. absurd (failing e next fails);
+      idle = search rules;
+      paged = λ h b stands version.
+          let here = inv.unmoved h b stands version in
+          pages-most _ _ _ _ (conflict.paged h b here.0 here.1.within) (inv.paged h b stands version);
+      placed = conflict.placed ∙ inv.placed;
+      others = others-placed (λ at. g.P.TransactionalStorageProtocol.owns at) (λ at n. g.P.TransactionalStorageProtocol.version_file at n) (λ at n. g.met.P.TransactionalStorageProtocol.owns_version at n) (g.P.TransactionalStorageProtocol.number c.loop-asked.view.id + 1) inv.placed inv.others conflict.creates;
+    }
+
 pub returns-in_err-refresh-in-Err : goal.returns-in_err-refresh-in-Err
-returns-in_err-refresh-in-Err g c = record {
-  claimed = search rules;
-  holder = search rules;
-  timely = search rules;
-  failed = search rules;
-  spends = search rules;
-  few = search rules;
-  enough = search rules;
-  cause = search rules;
-}
+returns-in_err-refresh-in-Err g c =
+    let inv = c.loop-asked.invariant in
+    let conflict = c.in-Err.ensures in
+    let is_conflict = c.is_sequenced_write_conflict.ensures.kind.0 c.if-is_sequenced_write_conflict.true in
+    let none : (e : TransactionalObjectError) → HasNoEpoch c.args.asked (g.X.EpochField.epoch_of c.args.epochs c.args.view.object) e → ⊥ = λ e no. elim inv.first [
+      | inl same ↦ blocked-no_conflict _ _ e no (sym (IfErr-at_err (λ error. c.in-Err.error ≡ error) ((rw same.0 at conflict.blocked) e no).0 refl) ∙ is_conflict)
+      | inr began ↦ began.0 e no
+    ] in
+    let failing : (e : ℕ) → NextEpoch c.args.asked (g.X.EpochField.epoch_of c.args.epochs c.args.view.object) e → (All (λ i. g.I.Invariant.holds i (g.X.EpochField.with_epoch c.args.epochs c.args.view.object e) c.args.view.object) c.args.view.invariants.items → ⊥) → ⊥ = λ e next fails. elim inv.first [
+      | inl same ↦ ((rw same.0 at conflict.barred) e next fails).2 (ap Err is_conflict)
+      | inr began ↦ began.1 e next fails
+    ] in
+    let refresh = c.refresh.ensures in
+    let overtaken = conflict.conflict (ap Err is_conflict) in
+    let p = err_from_is_err_and c.from_residual-in_err-refresh-in-Err.result c.from_residual-in_err-refresh-in-Err.ensures.1 in
+    let stood = g.P.TransactionalStorageProtocol.stands c.args.protocol.now c.args.store.now in
+    let number = g.P.TransactionalStorageProtocol.number c.args.view.id in
+    let epoch_of = g.X.EpochField.epoch_of c.args.epochs in
+    let with_epoch = g.X.EpochField.with_epoch c.args.epochs in
+    let met : ℕ → g.row.T.Denot → Type 0 = λ n v. ((n ≡ number) × (v ≡ c.args.view.object)) ⊎ ((h : List g.row.T.Denot) (b : ℕ) → stood h b → IsVersion h number c.args.view.object → IsLatest h n v) in
+    let late = ReadsLate c.args.timeout (g.K.SystemClock.readings c.args.clock.now) (g.K.SystemClock.readings c.check.new.clock) in
+    let fails : TransactionalObjectError → Type 0 = λ error. (n : ℕ) × (v : g.row.T.Denot) × met n v × ((e : ℕ) × NextEpoch c.args.asked (epoch_of v) e × IsTestFailure (λ i. g.I.Invariant.holds i (with_epoch v e) v) (λ i. g.I.Invariant.fails i (with_epoch v e) v) c.args.view.invariants.items error) in
+    let blocked : TransactionalObjectError → Type 0 = λ error. (n : ℕ) × (v : g.row.T.Denot) × met n v × HasNoEpoch c.args.asked (epoch_of v) error in
+    let full : Type 0 = (n : ℕ) × (v : g.row.T.Denot) × met n v × (n + 1 ≡ 2 ^ 64) in
+    let unheld : Type 0 = (h : List g.row.T.Denot) (b : ℕ) → stood h b → IsVersion h number c.args.view.object → ⊥ in
+    let told = rw c.in_err-refresh-in-Err.was at c.refresh.follows.holds-at-none in
+    let failures : (g.S.ObjectStore.state c.args.store.now).failures ≤ (g.S.ObjectStore.state c.attempt.new.store).failures = omega (arith, inv.spends.failures_rise, conflict.spends.failures_rise) in
+    record {
+      claimed = search rules;
+      holder = search rules;
+      timely = search rules;
+      failed = search rules;
+      spends = search rules;
+      few = search rules;
+      enough = search rules;
+      cause = rw p.1 (rw p.2 (elim told [
+        | inl same ↦ claim-refresh c.args.timeout late fails blocked full unheld c.refresh.new.turns (g.S.ObjectStore.state c.args.store.now) (g.S.ObjectStore.state c.attempt.new.store) (g.S.ObjectStore.state c.refresh.new.store) (g.P.TransactionalStorageProtocol.stands c.attempt.new.protocol c.attempt.new.store) failures
+            (λ empty h b stands version.
+            let here = inv.unmoved h b stands version in
+            none-empty h (empty h b (overtaken.stands h b here.0 here.1.within)) version)
+            (λ unheld h b stands version.
+            let here = inv.unmoved h b stands version in
+            unheld h b (overtaken.stands h b here.0 here.1.within))
+            _ same.1
+        | inr shuts ↦ absurd shuts.1
+      ]));
+      refused = rw p.1 (rw p.2 (λ callback h b stands version.
+          let here = inv.unmoved h b stands version in
+          refresh.kept h b (overtaken.stands h b here.0 here.1.within)));
+      blocked = λ e no some. absurd (none e no);
+      barred = λ e next fails. absurd (failing e next fails);
+      idle = rw p.1 (rw p.2 (λ blocks. elim told [ inl same ↦ absurd (refresh-not_blocking (g.P.TransactionalStorageProtocol.stands c.attempt.new.protocol c.attempt.new.store) c.refresh.new.turns (g.S.ObjectStore.state c.attempt.new.store) (g.S.ObjectStore.state c.refresh.new.store) _ blocks same.1) | inr shuts ↦ absurd shuts.1 ]));
+      paged = λ h b stands version.
+          let here = inv.unmoved h b stands version in
+          let read = refresh.paged h b (overtaken.stands h b here.0 here.1.within) in
+          rw read (pages-most _ _ _ _ (conflict.paged h b here.0 here.1.within) (inv.paged h b stands version));
+      placed = refresh.placed ∙ conflict.placed ∙ inv.placed;
+      others = others-trans (others-placed (λ at. g.P.TransactionalStorageProtocol.owns at) (λ at n. g.P.TransactionalStorageProtocol.version_file at n) (λ at n. g.met.P.TransactionalStorageProtocol.owns_version at n) (g.P.TransactionalStorageProtocol.number c.loop-asked.view.id + 1) inv.placed inv.others conflict.creates) (others-same refresh.files);
+    }
 
 pub returns-in-Err-2 : goal.returns-in-Err-2
-returns-in-Err-2 g c = record {
-  claimed = tt;
-  holder = tt;
-  timely = tt;
-  failed = λ h b stands version.
-      let here = c.loop-asked.invariant.unmoved h b stands version in
-      elim (c.in-Err-2.ensures.err h b here.0 here.1.within) [
-        | inl after ↦ inl after
-        | inr written ↦ inr (g.P.TransactionalStorageProtocol.number c.loop-asked.view.id, c.loop-asked.view.object, written.0, here.1, written.1, written.2)
+returns-in-Err-2 g c =
+    let inv = c.loop-asked.invariant in
+    let attempt = c.in-Err.ensures in
+    record {
+      claimed = tt;
+      holder = tt;
+      timely = tt;
+      failed = λ h b stands version.
+          let here = inv.unmoved h b stands version in
+          elim (attempt.err h b here.0 here.1.within) [
+            | inl after ↦ inl after
+            | inr written ↦ inr (g.P.TransactionalStorageProtocol.number c.loop-asked.view.id, c.loop-asked.view.object, written.0, here.1, written.1, written.2)
+          ];
+      spends = search rules;
+      few = search rules;
+      enough = search rules;
+      cause =
+          let stood = g.P.TransactionalStorageProtocol.stands c.args.protocol.now c.args.store.now in
+          let number = g.P.TransactionalStorageProtocol.number c.args.view.id in
+          let at = g.P.TransactionalStorageProtocol.number c.loop-asked.view.id in
+          let epoch_of = g.X.EpochField.epoch_of c.args.epochs in
+          let with_epoch = g.X.EpochField.with_epoch c.args.epochs in
+          let met : ℕ → g.row.T.Denot → Type 0 = λ n v. ((n ≡ number) × (v ≡ c.args.view.object)) ⊎ ((h : List g.row.T.Denot) (b : ℕ) → stood h b → IsVersion h number c.args.view.object → IsLatest h n v) in
+          let late = ReadsLate c.args.timeout (g.K.SystemClock.readings c.args.clock.now) (g.K.SystemClock.readings c.attempt.new.clock) in
+          let fails : TransactionalObjectError → Type 0 = λ error. (n : ℕ) × (v : g.row.T.Denot) × met n v × ((e : ℕ) × NextEpoch c.args.asked (epoch_of v) e × IsTestFailure (λ i. g.I.Invariant.holds i (with_epoch v e) v) (λ i. g.I.Invariant.fails i (with_epoch v e) v) c.args.view.invariants.items error) in
+          let blocked : TransactionalObjectError → Type 0 = λ error. (n : ℕ) × (v : g.row.T.Denot) × met n v × HasNoEpoch c.args.asked (epoch_of v) error in
+          let full : Type 0 = (n : ℕ) × (v : g.row.T.Denot) × met n v × (n + 1 ≡ 2 ^ 64) in
+          let unheld : Type 0 = (h : List g.row.T.Denot) (b : ℕ) → stood h b → IsVersion h number c.args.view.object → ⊥ in
+          subst (λ n. HasCauseOfClaim n late fails blocked full unheld c.spend.new.self (g.S.ObjectStore.state c.args.store.now) (g.S.ObjectStore.state c.attempt.new.store) c.in-Err.error) inv.timeout
+          (claim-cause c.args.asked (epoch_of c.loop-asked.view.object) c.starting-deadline.result.timeout at
+          (ReadsOne (λ r. c.starting-deadline.result.timeout ≤ r - c.starting-deadline.result.start) (g.K.SystemClock.readings c.loop-asked.clock) (g.K.SystemClock.readings c.attempt.new.clock))
+          (λ error. (e : ℕ) × NextEpoch c.args.asked (epoch_of c.loop-asked.view.object) e × IsTestFailure (λ i. g.I.Invariant.holds i (with_epoch c.loop-asked.view.object e) c.loop-asked.view.object) (λ i. g.I.Invariant.fails i (with_epoch c.loop-asked.view.object e) c.loop-asked.view.object) c.loop-asked.view.invariants.items error)
+          (UnheldAt (g.P.TransactionalStorageProtocol.stands c.loop-asked.protocol c.loop-asked.store) at)
+          (g.S.ObjectStore.state c.args.store.now) (g.S.ObjectStore.state c.loop-asked.store) (g.S.ObjectStore.state c.attempt.new.store)
+          late
+          fails
+          blocked
+          full
+          unheld
+          c.spend.new.self
+          inv.spends.failures_rise
+          (λ late. subst (λ n. ReadsLate n (g.K.SystemClock.readings c.args.clock.now) (g.K.SystemClock.readings c.attempt.new.clock)) inv.timeout (reads-late _ _ _ _ _ _ inv.timed.1 late))
+          (λ error failing. (at, c.loop-asked.view.object, inv.met, (failing.0, failing.1, rw inv.invariants at failing.2)))
+          (λ error none. (at, c.loop-asked.view.object, inv.met, none))
+          (λ fills. (at, c.loop-asked.view.object, inv.met, fills))
+          (λ none h b stands version. none h b (inv.unmoved h b stands version).0 (inv.unmoved h b stands version).1.within)
+          _ (λ is. true≢false (sym (c.is_sequenced_write_conflict.ensures.kind.1 is) ∙ c.if-is_sequenced_write_conflict.false)) c.in-Err.ensures.cause);
+      refused = λ callback h b stands version.
+          let same = attempt.refused callback in
+          rw same.0 (rw same.1 (inv.unmoved h b stands version).0);
+      blocked = λ e no some. elim inv.first [
+        | inl same ↦ (let blocked = (rw same.0 at attempt.blocked) e no in (ap Err (IfErr-at_err (λ error. c.in-Err.error ≡ error) blocked.0 refl), blocked.1 ∙ same.1))
+        | inr began ↦ absurd (began.0 e no)
       ];
-  spends = search rules;
-  few = search rules;
-  enough = search rules;
-  cause =
-      let inv = c.loop-asked.invariant in
-      let stood = g.P.TransactionalStorageProtocol.stands c.args.protocol.now c.args.store.now in
-      let number = g.P.TransactionalStorageProtocol.number c.args.view.id in
-      let late = ReadsLate c.args.timeout (g.K.SystemClock.readings c.args.clock.now) (g.K.SystemClock.readings c.attempt.new.clock) in
-      let blocked : TransactionalObjectError → Type 0 = λ e. (h : List _) (b : ℕ) → stood h b → IsVersion h number c.args.view.object → IsBlocked (λ v. g.X.EpochField.epoch_of c.args.epochs v) (λ v e'. g.X.EpochField.with_epoch c.args.epochs v e') h c.args.asked e in
-      let full : Type 0 = (h : List _) (b : ℕ) → stood h b → IsVersion h number c.args.view.object → 2 ^ 64 ≤ length h + 1 in
-      let unheld : Type 0 = (h : List _) (b : ℕ) → stood h b → IsVersion h number c.args.view.object → ⊥ in
-      subst (λ n. HasCauseOfClaim n late blocked full unheld c.spend.new.self (g.S.ObjectStore.state c.args.store.now) (g.S.ObjectStore.state c.attempt.new.store) c.in-Err.error) inv.timeout
-      (claim-cause c.args.asked (g.X.EpochField.epoch_of c.args.epochs c.loop-asked.view.object) c.starting-deadline.result.timeout (g.P.TransactionalStorageProtocol.number c.loop-asked.view.id)
-      (ReadsOne (λ r. c.starting-deadline.result.timeout ≤ r - c.starting-deadline.result.start) (g.K.SystemClock.readings c.loop-asked.clock) (g.K.SystemClock.readings c.attempt.new.clock))
-      (λ error. (e : ℕ) × NextEpoch c.args.asked (g.X.EpochField.epoch_of c.args.epochs c.loop-asked.view.object) e × IsTestFailure (λ i. g.I.Invariant.holds i (g.X.EpochField.with_epoch c.args.epochs c.loop-asked.view.object e) c.loop-asked.view.object) (λ i. g.I.Invariant.fails i (g.X.EpochField.with_epoch c.args.epochs c.loop-asked.view.object e) c.loop-asked.view.object) c.loop-asked.view.invariants.items error)
-      (UnheldAt (g.P.TransactionalStorageProtocol.stands c.loop-asked.protocol c.loop-asked.store) (g.P.TransactionalStorageProtocol.number c.loop-asked.view.id))
-      (g.S.ObjectStore.state c.args.store.now) (g.S.ObjectStore.state c.loop-asked.store) (g.S.ObjectStore.state c.attempt.new.store)
-      late
-      blocked
-      full
-      unheld
-      c.spend.new.self
-      inv.spends.failures_rise
-      (λ late. subst (λ n. ReadsLate n (g.K.SystemClock.readings c.args.clock.now) (g.K.SystemClock.readings c.attempt.new.clock)) inv.timeout (reads-late _ _ _ _ _ _ inv.timed.1 late))
-      (λ error none h b stands version. (g.P.TransactionalStorageProtocol.number c.loop-asked.view.id, c.loop-asked.view.object, (inv.unmoved h b stands version).1, none))
-      (λ fills h b stands version. omega (arith, fills, (inv.unmoved h b stands version).1.within))
-      (λ none h b stands version. none h b (inv.unmoved h b stands version).0 (inv.unmoved h b stands version).1.within)
-      _ (λ is. true≢false (sym (c.is_sequenced_write_conflict.ensures.kind.1 is) ∙ c.if-is_sequenced_write_conflict.false)) c.in-Err.ensures.cause);
-}
+      barred = λ e next fails. elim inv.first [
+        | inl same ↦ (refl, ((rw same.0 at attempt.barred) e next fails).1 ∙ same.1)
+        | inr began ↦ absurd (began.1 e next fails)
+      ];
+      idle = λ blocks.
+          let calls = ap (λ (s : State). s.calls) (attempt.idle blocks) in
+          omega (arith, calls, inv.spends.calls_most, c.loop-asked-test.ensures.spent);
+      paged = λ h b stands version.
+          let here = inv.unmoved h b stands version in
+          pages-most _ _ _ _ (attempt.paged h b here.0 here.1.within) (inv.paged h b stands version);
+      placed = attempt.placed ∙ inv.placed;
+      others = others-placed (λ at. g.P.TransactionalStorageProtocol.owns at) (λ at n. g.P.TransactionalStorageProtocol.version_file at n) (λ at n. g.met.P.TransactionalStorageProtocol.owns_version at n) (g.P.TransactionalStorageProtocol.number c.loop-asked.view.id + 1) inv.placed inv.others attempt.creates;
+    }
 
 pub returns-in-Ok : goal.returns-in-Ok
 returns-in-Ok g c = record {
-  claimed = search rules;
+  claimed = λ h b stands version.
+      let inv = c.loop-asked.invariant in
+      let here = inv.unmoved h b stands version in
+      let ok = c.in-Ok.ensures in
+      let latest = ok.updated.newest h b here.0 here.1 in
+      let value = ap (λ v. v.object) ok.moved.0 in
+      record {
+        newest = c.loop-asked.view.object;
+        latest = subst (λ n. IsLatest h n c.loop-asked.view.object) latest.id_is latest;
+        next = ok.next;
+        value = value;
+        own = ok.moved.1;
+        allowed = rw value (rw inv.invariants at ok.allowed);
+        stands = rw value (ok.updated.stands h b here.0 here.1);
+        at = rw value (ok.updated.next h b here.0 here.1);
+      };
   holder = search rules;
   timely =
       let inv = c.loop-asked.invariant in
@@ -120,4 +271,20 @@ returns-in-Ok g c = record {
   few = search rules;
   enough = search rules;
   cause = tt;
+  refused = tt;
+  blocked = λ e no some. elim c.loop-asked.invariant.first [
+    | inl same ↦ (let bad = ((rw same.0 at c.in-Ok.ensures.blocked) e no).0 in absurd (cc))
+    | inr began ↦ absurd (began.0 e no)
+  ];
+  barred = λ e next fails. elim c.loop-asked.invariant.first [
+    | inl same ↦ (let bad = ((rw same.0 at c.in-Ok.ensures.barred) e next fails).0 in absurd (cc))
+    | inr began ↦ absurd (began.1 e next fails)
+  ];
+  idle = tt;
+  paged = λ h b stands version.
+      let inv = c.loop-asked.invariant in
+      let here = inv.unmoved h b stands version in
+      pages-most _ _ _ _ (c.in-Ok.ensures.paged h b here.0 here.1.within) (inv.paged h b stands version);
+  placed = c.in-Ok.ensures.placed ∙ c.loop-asked.invariant.placed;
+  others = let inv = c.loop-asked.invariant in others-placed (λ at. g.P.TransactionalStorageProtocol.owns at) (λ at n. g.P.TransactionalStorageProtocol.version_file at n) (λ at n. g.met.P.TransactionalStorageProtocol.owns_version at n) (g.P.TransactionalStorageProtocol.number c.loop-asked.view.id + 1) inv.placed inv.others c.in-Ok.ensures.creates;
 }

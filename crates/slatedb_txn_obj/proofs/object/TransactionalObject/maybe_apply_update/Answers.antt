@@ -1,11 +1,12 @@
 -- What the last answer of the mutator and its update gave, and what an attempt spends.
-use Rattle.std.proofs.Common.{arith, refl, sym, subst, ap, ◌∙◌, Ok, Err, Some, None, inl, inr, ◌≡◌, ◌⊎◌, ◌+◌, ◌^◌, ℕ, List}
+use Rattle.std.proofs.Common.{arith, true≢false, refl, sym, subst, ap, ◌∙◌, Ok, Err, Some, None, inl, inr, ◌≡◌, ◌⊎◌, ◌+◌, ◌^◌, ℕ, List}
 use Rattle.std.specs.Fn.{FnReturnsAt}
 use Rattle.std.proofs.lemmas.Result.{err_from_is_err_and, IfErr-at_err}
 use Rattle.txn_types.specs.declared.error.TransactionalObjectError.{TransactionalObjectError}
-use Rattle.slatedb_txn_obj.specs.Views.{IsVersion, Nothing, Entered, Shut, Refused, Failed}
-use Rattle.slatedb_txn_obj.proofs.AttemptCauses.{apply-shut, apply-refresh}
-use Rattle.slatedb_txn_obj.proofs.Attempts.{spends-update, spends-refresh, first-spent, conflict-stays, latest-not_overtaken, candidate-first}
+use Rattle.slatedb_txn_obj.specs.Views.{IsVersion, Nothing, Entered, Shut, Refused, Failed, Stopped, ByVersion, ByMutator, ByObject}
+use Rattle.slatedb_txn_obj.proofs.AttemptCauses.{apply-shut, apply-mutator, apply-refresh, apply-update}
+use Rattle.slatedb_txn_obj.proofs.Leaving.{others-trans, others-same, others-placed}
+use Rattle.slatedb_txn_obj.proofs.Attempts.{spends-update, spends-refresh, first-spent, paged-after, pages-most, conflict-stays, latest-not_overtaken, candidate-first}
 use Rattle.slatedb_txn_obj.proofs.Views.{version-of_latest, none-empty}
 use Rattle.slatedb_txn_obj.proofs.object.TransactionalObject.maybe_apply_update.Goals as goal
 
@@ -42,6 +43,15 @@ loop-self-preserved g c =
             | inl first ↦ (let spent = (first-spent _ _ _ _ _ _ _ _ _ _ _ first c.loop-self-test.ensures.spent (conflict.paged h b here.0 here.1.within) (refresh.few h b (overtaken.stands h b here.0 here.1.within)) conflict.spends.left_least refresh.spends.left_least) in inr (spent.0, shown.2 h b (overtaken.stands h b here.0 here.1.within), spent.1))
             | inr second ↦ absurd (latest-not_overtaken _ _ _ h b _ overtaken here.0 here.1 second.1)
           ];
+      same =
+          let now = c.refresh.follows.lender-at-none in
+          shown.1 ∙ ap (λ v. g.Self.TransactionalObject.moved v (g.Self.TransactionalObject.at now) (g.Self.TransactionalObject.value now)) (conflict.left ∙ inv.same) ∙ g.met.Self.TransactionalObject.moved_again c.args.self.now (g.Self.TransactionalObject.at c.loop-self.self) (g.Self.TransactionalObject.at now) (g.Self.TransactionalObject.value c.loop-self.self) (g.Self.TransactionalObject.value now);
+      placed = refresh.placed ∙ conflict.placed ∙ inv.placed;
+      others = others-trans (others-placed (λ at. g.P.TransactionalStorageProtocol.owns at) (λ at n. g.P.TransactionalStorageProtocol.version_file at n) (λ at n. g.met.P.TransactionalStorageProtocol.owns_version at n) (g.P.TransactionalStorageProtocol.number (g.Self.TransactionalObject.at c.loop-self.self) + 1) c.loop-self.invariant.placed c.loop-self.invariant.others conflict.creates) (others-same refresh.files);
+      paged = λ h b stands version.
+          let here = inv.unmoved h b stands version in
+          let after = stays h b here.0 here.1.within in
+          paged-after (g.Id.PartialEq.eq c.in-Ok-Some.dirty.id (g.Self.TransactionalObject.at c.loop-self.self)) _ _ _ _ _ _ (λ no. rw (conflict.other no).1 (rw (conflict.other no).2 refl)) (λ yes latest. latest-not_overtaken _ _ _ h b _ (conflict.conflict exists yes) here.0 here.1 latest) (conflict.paged h b here.0 here.1.within) (refresh.paged h b after) (shown.2 h b after) (inv.paged h b stands version);
       first = inr (candidate-first (λ v r. FnReturnsAt g.F.Fn c.args.mutator.now v r) _ _ _ _ _ c.in-Ok-Some.dirty c.loop-self.invariant.first (record { shown = _; shows = refl; says = record { met = rw c.in-Ok-Some.field-0-is at c.in-Ok-Some.ensures } }));
     }
 
@@ -99,17 +109,20 @@ returns-in_err-refresh-in-Err-update-clause-cause g c =
     let object = g.Self.TransactionalObject in
     let protocol = g.P.TransactionalStorageProtocol in
     let state = g.S.ObjectStore.state in
-    let shut : TransactionalObjectError → Type 0 = λ e. (v : g.row.Self.Denot) × (object.is_shut v e ⊎ ((d : g.row.T.Denot) × object.refuses v d e)) in
-    let full : Type 0 = (v : g.row.Self.Denot) × (protocol.number (object.at v) + 1 ≡ 2 ^ 64) in
+    let stopped : TransactionalObjectError → Type 0 = Stopped (λ v r. FnReturnsAt g.F.Fn c.args.mutator.now v r) object.is_shut object.refuses c.refresh.follows.lender-at-none in
+    let full : Type 0 = protocol.number (object.at c.refresh.follows.lender-at-none) + 1 ≡ 2 ^ 64 in
     let unheld : Type 0 = (h : List g.row.T.Denot) (b : ℕ) → protocol.stands c.args.protocol.now c.args.store.now h b → IsVersion h (protocol.number (object.at c.args.self.now)) (object.value c.args.self.now) → ⊥ in
     rw p.1 (rw p.2 (elim (rw c.in_err-refresh-in-Err-update.was at c.refresh.follows.holds-at-none) [
-      | inl same ↦ apply-refresh shut full unheld c.refresh.new.turns (state c.args.store.now) (state c.update.new.store) (state c.refresh.new.store) (protocol.stands c.update.new.protocol c.update.new.store)
+      | inl same ↦ apply-refresh stopped full unheld c.refresh.new.turns (state c.args.store.now) (state c.update.new.store) (state c.refresh.new.store) (protocol.stands c.update.new.protocol c.update.new.store)
           (omega (arith, inv.spends.failures_rise, conflict.spends.failures_rise))
           (λ empty h b stands version.
           let here = inv.unmoved h b stands version in
           none-empty h (empty h b (stays h b here.0 here.1.within)) version)
+          (λ none h b stands version.
+          let here = inv.unmoved h b stands version in
+          none h b (stays h b here.0 here.1.within))
           _ same.1
-      | inr shuts ↦ apply-shut shut full unheld c.refresh.new.turns (state c.args.store.now) (state c.update.new.store) (state c.refresh.new.store) _ shuts.0 (c.refresh.follows.lender-at-none, inl shuts.1)
+      | inr shuts ↦ apply-shut stopped full unheld c.refresh.new.turns (state c.args.store.now) (state c.update.new.store) (state c.refresh.new.store) _ shuts.0 (ByVersion shuts.1)
     ]))
 
 pub returns-in_err-refresh-in-Err-update-clause-failed :
@@ -167,3 +180,95 @@ returns-in-Err-2-clause-failed g c h b stands version =
       | inl after ↦ Failed c.in-Ok-Some.dirty now answered (inl after)
       | inr after ↦ Failed c.in-Ok-Some.dirty now answered (inr after)
     ]
+
+pub returns-in-Err-clause-cause : goal.returns-in-Err-clause-cause
+returns-in-Err-clause-cause g c =
+    let object = g.Self.TransactionalObject in
+    let protocol = g.P.TransactionalStorageProtocol in
+    let state = g.S.ObjectStore.state in
+    let stopped : TransactionalObjectError → Type 0 = Stopped (λ v r. FnReturnsAt g.F.Fn c.args.mutator.now v r) object.is_shut object.refuses c.loop-self.self in
+    let full : Type 0 = protocol.number (object.at c.loop-self.self) + 1 ≡ 2 ^ 64 in
+    let unheld : Type 0 = (h : List g.row.T.Denot) (b : ℕ) → protocol.stands c.args.protocol.now c.args.store.now h b → IsVersion h (protocol.number (object.at c.args.self.now)) (object.value c.args.self.now) → ⊥ in
+    rw c.from.ensures (apply-mutator stopped full unheld c.spend.new.self (state c.args.store.now) (state c.loop-self.store) (state c.loop-self.store) c.in-Err.fault (ByMutator c.in-Err.fault (record { shown = _; shows = refl; says = record { met = c.in-Err.ensures } }) refl))
+
+pub returns-in-Err-2-clause-cause : goal.returns-in-Err-2-clause-cause
+returns-in-Err-2-clause-cause g c =
+    let inv = c.loop-self.invariant in
+    let update = c.in-Err-update.ensures in
+    let answered : FnReturnsAt g.F.Fn c.args.mutator.now c.update.new.self (Ok (Some c.in-Ok-Some.dirty)) = rw update.left (record { shown = _; shows = refl; says = record { met = rw c.in-Ok-Some.field-0-is at c.in-Ok-Some.ensures } }) in
+    let object = g.Self.TransactionalObject in
+    let protocol = g.P.TransactionalStorageProtocol in
+    let state = g.S.ObjectStore.state in
+    let stopped : TransactionalObjectError → Type 0 = Stopped (λ v r. FnReturnsAt g.F.Fn c.args.mutator.now v r) object.is_shut object.refuses c.update.new.self in
+    let full : Type 0 = protocol.number (object.at c.update.new.self) + 1 ≡ 2 ^ 64 in
+    let unheld : Type 0 = (h : List g.row.T.Denot) (b : ℕ) → protocol.stands c.args.protocol.now c.args.store.now h b → IsVersion h (protocol.number (object.at c.args.self.now)) (object.value c.args.self.now) → ⊥ in
+    let refuses : TransactionalObjectError → Type 0 = λ e. object.refuses c.loop-self.self c.in-Ok-Some.dirty.value e in
+    let stops : (error : TransactionalObjectError) → refuses error → stopped error = λ error why. ByObject c.in-Ok-Some.dirty answered (subst (λ v. object.refuses v c.in-Ok-Some.dirty.value error) (sym update.left) why) in
+    apply-update stopped full unheld c.spend.new.self (state c.args.store.now) (state c.loop-self.store) (state c.update.new.store) refuses _ _ inv.spends.failures_rise
+    stops
+    (λ fills. rw update.left fills)
+    (λ none h b stands version. none h b (inv.unmoved h b stands version).0 (inv.unmoved h b stands version).1.within)
+    _ (λ is. true≢false (sym (c.is_sequenced_write_conflict.ensures.kind.1 is) ∙ c.if-is_sequenced_write_conflict.false)) update.cause
+
+pub returns-in-Ok-clause-others : goal.returns-in-Ok-clause-others
+returns-in-Ok-clause-others g c = others-placed (λ at. g.P.TransactionalStorageProtocol.owns at) (λ at n. g.P.TransactionalStorageProtocol.version_file at n) (λ at n. g.met.P.TransactionalStorageProtocol.owns_version at n) (g.P.TransactionalStorageProtocol.number (g.Self.TransactionalObject.at c.loop-self.self) + 1) c.loop-self.invariant.placed c.loop-self.invariant.others c.in-Ok.ensures.creates
+
+pub returns-in-Err-2-clause-others : goal.returns-in-Err-2-clause-others
+returns-in-Err-2-clause-others g c = others-placed (λ at. g.P.TransactionalStorageProtocol.owns at) (λ at n. g.P.TransactionalStorageProtocol.version_file at n) (λ at n. g.met.P.TransactionalStorageProtocol.owns_version at n) (g.P.TransactionalStorageProtocol.number (g.Self.TransactionalObject.at c.loop-self.self) + 1) c.loop-self.invariant.placed c.loop-self.invariant.others c.in-Err-update.ensures.creates
+
+pub returns-in_err-refresh-in-Err-update-clause-others :
+    goal.returns-in_err-refresh-in-Err-update-clause-others
+returns-in_err-refresh-in-Err-update-clause-others g c = others-trans (others-placed (λ at. g.P.TransactionalStorageProtocol.owns at) (λ at n. g.P.TransactionalStorageProtocol.version_file at n) (λ at n. g.met.P.TransactionalStorageProtocol.owns_version at n) (g.P.TransactionalStorageProtocol.number (g.Self.TransactionalObject.at c.loop-self.self) + 1) c.loop-self.invariant.placed c.loop-self.invariant.others c.in-Err-update.ensures.creates) (others-same c.refresh.ensures.files)
+
+pub returns-in-Ok-clause-same_object : goal.returns-in-Ok-clause-same_object
+returns-in-Ok-clause-same_object g c =
+    let moved = c.in-Ok.ensures.moved in
+    let now = c.update.new.self in
+    moved.0 ∙ ap (λ v. g.Self.TransactionalObject.moved v (g.Self.TransactionalObject.at now) c.in-Ok-Some.dirty.value) c.loop-self.invariant.same
+    ∙ g.met.Self.TransactionalObject.moved_again c.args.self.now (g.Self.TransactionalObject.at c.loop-self.self) (g.Self.TransactionalObject.at now) (g.Self.TransactionalObject.value c.loop-self.self) c.in-Ok-Some.dirty.value
+    ∙ ap (λ x. g.Self.TransactionalObject.moved c.args.self.now (g.Self.TransactionalObject.at now) x) (sym moved.1)
+
+pub returns-in-Err-2-clause-same_object : goal.returns-in-Err-2-clause-same_object
+returns-in-Err-2-clause-same_object g c = rw c.in-Err-update.ensures.left c.loop-self.invariant.same
+
+pub returns-in_err-refresh-in-Err-update-clause-same_object :
+    goal.returns-in_err-refresh-in-Err-update-clause-same_object
+returns-in_err-refresh-in-Err-update-clause-same_object g c =
+    let inv = c.loop-self.invariant in
+    let conflict = c.in-Err-update.ensures in
+    let now = c.refresh.follows.lender-at-none in
+    elim (rw c.in_err-refresh-in-Err-update.was at c.refresh.follows.holds-at-none) [
+      | inl same ↦ rw same.0 (rw conflict.left inv.same)
+      | inr shuts ↦ shuts.2 ∙ ap (λ v. g.Self.TransactionalObject.moved v (g.Self.TransactionalObject.at now) (g.Self.TransactionalObject.value now)) (conflict.left ∙ inv.same) ∙ g.met.Self.TransactionalObject.moved_again c.args.self.now (g.Self.TransactionalObject.at c.loop-self.self) (g.Self.TransactionalObject.at now) (g.Self.TransactionalObject.value c.loop-self.self) (g.Self.TransactionalObject.value now)
+    ]
+
+pub returns-in-Ok-clause-paged : goal.returns-in-Ok-clause-paged
+returns-in-Ok-clause-paged g c h b stands version =
+    let inv = c.loop-self.invariant in
+    let here = inv.unmoved h b stands version in
+    pages-most _ _ _ _ (c.in-Ok.ensures.paged h b here.0 here.1.within) (inv.paged h b stands version)
+
+pub returns-in-Err-2-clause-paged : goal.returns-in-Err-2-clause-paged
+returns-in-Err-2-clause-paged g c h b stands version =
+    let inv = c.loop-self.invariant in
+    let here = inv.unmoved h b stands version in
+    pages-most _ _ _ _ (c.in-Err-update.ensures.paged h b here.0 here.1.within) (inv.paged h b stands version)
+
+pub returns-in_err-refresh-in-Err-update-clause-paged :
+    goal.returns-in_err-refresh-in-Err-update-clause-paged
+returns-in_err-refresh-in-Err-update-clause-paged g c h b stands version =
+    let inv = c.loop-self.invariant in
+    let conflict = c.in-Err-update.ensures in
+    let exists = ap Err (c.is_sequenced_write_conflict.ensures.kind.0 c.if-is_sequenced_write_conflict.true) in
+    let stays = conflict-stays (g.P.TransactionalStorageProtocol.stands c.loop-self.protocol c.loop-self.store) (g.P.TransactionalStorageProtocol.stands c.update.new.protocol c.update.new.store) (g.P.TransactionalStorageProtocol.number (g.Self.TransactionalObject.at c.loop-self.self)) (g.Id.PartialEq.eq c.in-Ok-Some.dirty.id (g.Self.TransactionalObject.at c.loop-self.self)) (λ no h b stands. rw (conflict.other no).1 (rw (conflict.other no).2 stands)) (conflict.conflict exists) in
+    let here = inv.unmoved h b stands version in
+    let read = c.refresh.ensures.paged h b (stays h b here.0 here.1.within) in
+    rw read (pages-most _ _ _ _ (conflict.paged h b here.0 here.1.within) (inv.paged h b stands version))
+
+pub returns-in-Ok-None-clause-paged : goal.returns-in-Ok-None-clause-paged
+returns-in-Ok-None-clause-paged g c h b stands version =
+    pages-most _ _ _ _ (omega arith) (c.loop-self.invariant.paged h b stands version)
+
+pub returns-in-Err-clause-paged : goal.returns-in-Err-clause-paged
+returns-in-Err-clause-paged g c h b stands version =
+    pages-most _ _ _ _ (omega arith) (c.loop-self.invariant.paged h b stands version)
