@@ -22,6 +22,7 @@ pub trait TransactionalObject<T: Clone, Id: Copy + Eq> {
     ghost use Rattle.txn_types.specs.Clones.{IsExactClone};
     ghost use Rattle.txn_types.specs.declared.error.TransactionalObjectError.{TransactionalObjectError};
     ghost use Rattle.txn_drivers.specs.Calls.{Spends, SpendsTurns};
+    ghost use Rattle.txn_drivers.specs.LatestReads.{IsLatest};
     ghost use Rattle.slatedb_txn_obj.specs.Leaves.{SameFiles, MayCreate, LeavesOthers};
     ghost use Rattle.slatedb_txn_obj.specs.Protocol.{Overtaken, MayAppend, Stays, UnheldAt};
     ghost use Rattle.slatedb_txn_obj.specs.Views.{IsVersion, Updated, ShowsLatest, IsShutting, HasCauseOfUpdate, HasCauseOfRefresh, Applied, NotApplied, DecidedBy, KeepsIds, Stopped, HasCauseOfApply};
@@ -118,7 +119,8 @@ pub trait TransactionalObject<T: Clone, Id: Copy + Eq> {
     /// Asks the mutator for a candidate made of the object, and updates by it. After a conflict it refreshes, and asks once
     /// more. Nothing asked for is Ok, and the mutator's refusal is `CallbackError`, or `NoMemory`, and writes nothing. Each
     /// attempt spends a turn, and so does each pass and page of a refresh; where one is due and none is left, it is
-    /// `TurnsExhausted`. After any other error the last candidate may have been written.
+    /// `TurnsExhausted`. After any other error the last candidate may have been written. An error names what the version met
+    /// that the object is at then, the one that it was at or the newest, which a refresh read.
     final fn maybe_apply_update<
         S: ObjectStore,
         P: TransactionalStorageProtocol<T, Id, S>,
@@ -145,6 +147,7 @@ pub trait TransactionalObject<T: Clone, Id: Copy + Eq> {
             → 4 + 2 * P.pages protocol.old store.old ≤ turns.old → IsErrOf result TransactionalObjectError.TurnsExhausted → ⊥ }
         ensures cause { IfErr result (HasCauseOfApply (Stopped (λ v r. FnReturnsAt F.Fn mutator.now v r) is_shut refuses self.new) (P.number (at self.new) + 1 ≡ 2 ^ 64) ((h : List T) (b : ℕ) → P.stands protocol.old store.old h b → IsVersion h (P.number (at self.old)) (value self.old) → ⊥) turns.new (S.state store.old) (S.state store.new)) }
         ensures same_object { self.new ≡ moved self.old (at self.new) (value self.new) }
+        ensures met { IfErr result (λ _. (self.new ≡ self.old) ⊎ ((h : List T) (b : ℕ) → P.stands protocol.old store.old h b → IsVersion h (P.number (at self.old)) (value self.old) → IsLatest h (P.number (at self.new)) (value self.new))) }
         ensures paged { (h : List T) (b : ℕ) → P.stands protocol.old store.old h b → IsVersion h (P.number (at self.old)) (value self.old) → P.pages protocol.new store.new ≤ P.pages protocol.old store.old + 2 }
         ensures placed { P.place protocol.new ≡ P.place protocol.old }
         ensures others { LeavesOthers (P.owns (P.place protocol.old)) (S.state store.old) (S.state store.new) }

@@ -92,18 +92,25 @@ pub(crate) struct Setting {
     b: Protocol,
 }
 
-pub(crate) fn a_protocol(alloc: Global, page: u64) -> Result<Protocol, Fail>
+/// The protocol of this folder, with so many files a page.
+pub(crate) fn a_protocol_of(alloc: Global, subdir: &str, page: u64) -> Result<Protocol, Fail>
     requires { 1 ≤ page }
 {
     let root = Path::from_text(alloc, "/root")?;
     let protocol = ObjectStoreSequencedStorageProtocol::new(
         alloc,
         &root,
-        "test",
+        subdir,
         "val",
         NumberCodec,
     )?;
     Ok(protocol.with_page(page))
+}
+
+pub(crate) fn a_protocol(alloc: Global, page: u64) -> Result<Protocol, Fail>
+    requires { 1 ≤ page }
+{
+    a_protocol_of(alloc, "test", page)
 }
 
 /// Two protocols, with so many files a page.

@@ -1,7 +1,7 @@
 //! Uses of the protocols from outside.
 use crate::calls::Op::{Advance, Delete, List, Read, Write};
 use crate::calls::Told::{Did, Fails, Found, Ids, Wrote};
-use crate::calls::{Op, Protocol, Told, a_protocol, did, found, perform, wrote};
+use crate::calls::{Op, Protocol, Told, a_protocol, a_protocol_of, did, found, perform, wrote};
 use bytes::Bytes;
 use slatedb_txn_obj::protocol::TransactionalStorageProtocol;
 use std::alloc::{AllocError, Global};
@@ -13,6 +13,7 @@ use txn_store::path::Path;
 use txn_store::store::{ObjectStore, PutMode, Token};
 use txn_types::error::TransactionalObjectError;
 use txn_types::id::MonotonicId;
+use uses_of_protocol::beside::write_beside;
 use uses_of_protocol::list_store::ListStore;
 use uses_of_protocol::one_client::{Call, Reply, perform_all};
 use uses_of_protocol::register::{Register, Revision};
@@ -58,6 +59,26 @@ fn values_are_appended_to_a_register(rt: HostRuntime) -> Result<(), Fail> {
     );
     let stale = register.write(&mut store, Some(Revision(1)), &30);
     assert!(rt; matches!(&stale, Err(TransactionalObjectError::ObjectVersionExists)));
+    Ok(())
+}
+
+/// What is newest in one folder, before and after a value is written there, each time once another folder has a new version.
+fn newest_beside(alloc: Global) -> Result<[Option<(MonotonicId, u64)>; 2], Fail> {
+    let mut store = InMemory::new(alloc);
+    let mut turns = Turns::new(20);
+    let mut one = a_protocol(alloc, 1)?;
+    let mut other = a_protocol_of(alloc, "other", 1)?;
+    let before = write_beside(&mut one, &mut other, &mut store, &mut turns, None, &10)?;
+    other.write(&mut store, None, &20)?;
+    let first = Some(MonotonicId::new(1));
+    let after = write_beside(&mut one, &mut other, &mut store, &mut turns, first, &30)?;
+    Ok([before, after])
+}
+
+#[test]
+fn two_folders_of_a_store_leave_each_other_alone(rt: HostRuntime) -> Result<(), Fail> {
+    let newest = newest_beside(rt.alloc())?;
+    assert_eq!(rt; newest, [None, Some((MonotonicId::new(1), 20))]);
     Ok(())
 }
 

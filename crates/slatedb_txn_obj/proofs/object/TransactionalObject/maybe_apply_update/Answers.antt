@@ -46,6 +46,9 @@ loop-self-preserved g c =
       same =
           let now = c.refresh.follows.lender-at-none in
           shown.1 ∙ ap (λ v. g.Self.TransactionalObject.moved v (g.Self.TransactionalObject.at now) (g.Self.TransactionalObject.value now)) (conflict.left ∙ inv.same) ∙ g.met.Self.TransactionalObject.moved_again c.args.self.now (g.Self.TransactionalObject.at c.loop-self.self) (g.Self.TransactionalObject.at now) (g.Self.TransactionalObject.value c.loop-self.self) (g.Self.TransactionalObject.value now);
+      met = inr (λ h b stands version.
+          let here = inv.unmoved h b stands version in
+          shown.2 h b (stays h b here.0 here.1.within));
       placed = refresh.placed ∙ conflict.placed ∙ inv.placed;
       others = others-trans (others-placed (λ at. g.P.TransactionalStorageProtocol.owns at) (λ at n. g.P.TransactionalStorageProtocol.version_file at n) (λ at n. g.met.P.TransactionalStorageProtocol.owns_version at n) (g.P.TransactionalStorageProtocol.number (g.Self.TransactionalObject.at c.loop-self.self) + 1) c.loop-self.invariant.placed c.loop-self.invariant.others conflict.creates) (others-same refresh.files);
       paged = λ h b stands version.
@@ -230,6 +233,24 @@ returns-in-Ok-clause-same_object g c =
 
 pub returns-in-Err-2-clause-same_object : goal.returns-in-Err-2-clause-same_object
 returns-in-Err-2-clause-same_object g c = rw c.in-Err-update.ensures.left c.loop-self.invariant.same
+
+pub returns-in-Err-2-clause-met : goal.returns-in-Err-2-clause-met
+returns-in-Err-2-clause-met g c = rw c.in-Err-update.ensures.left c.loop-self.invariant.met
+
+pub returns-in_err-refresh-in-Err-update-clause-met :
+    goal.returns-in_err-refresh-in-Err-update-clause-met
+returns-in_err-refresh-in-Err-update-clause-met g c =
+    let p = err_from_is_err_and c.from_residual.result c.from_residual.ensures.1 in
+    let inv = c.loop-self.invariant in
+    let conflict = c.in-Err-update.ensures in
+    let exists = ap Err (c.is_sequenced_write_conflict.ensures.kind.0 c.if-is_sequenced_write_conflict.true) in
+    let stays = conflict-stays (g.P.TransactionalStorageProtocol.stands c.loop-self.protocol c.loop-self.store) (g.P.TransactionalStorageProtocol.stands c.update.new.protocol c.update.new.store) (g.P.TransactionalStorageProtocol.number (g.Self.TransactionalObject.at c.loop-self.self)) (g.Id.PartialEq.eq c.in-Ok-Some.dirty.id (g.Self.TransactionalObject.at c.loop-self.self)) (λ no h b stands. rw (conflict.other no).1 (rw (conflict.other no).2 stands)) (conflict.conflict exists) in
+    rw p.1 (elim (rw c.in_err-refresh-in-Err-update.was at c.refresh.follows.holds-at-none) [
+      | inl same ↦ rw same.0 (rw conflict.left inv.met)
+      | inr shuts ↦ inr (λ h b stands version.
+          let here = inv.unmoved h b stands version in
+          shuts.3 h b (stays h b here.0 here.1.within))
+    ])
 
 pub returns-in_err-refresh-in-Err-update-clause-same_object :
     goal.returns-in_err-refresh-in-Err-update-clause-same_object

@@ -21,6 +21,7 @@ invariant-loop-self g l =
           → KeepsIds (λ v r. FnReturnsAt g.F.Fn l.mutator v r) (λ v. protocol.number (object.at v)) object.value object.at g.Id.PartialEq.eq
           → ((l.turns ≡ l.fn.turns) × (protocol.pages l.protocol l.store ≡ protocol.pages l.fn.protocol l.fn.store) × ((state l.fn.store).left ≤ (state l.store).left))
           ⊎ ((l.fn.turns ≤ l.turns + 3 + 2 * protocol.pages l.fn.protocol l.fn.store) × IsLatest h (protocol.number (object.at l.self)) (object.value l.self) × ((state l.fn.store).left ≤ (state l.store).left + 1));
+      met : (l.self ≡ l.fn.self) ⊎ ((h : List _) (b : ℕ) → protocol.stands l.fn.protocol l.fn.store h b → IsVersion h (protocol.number (object.at l.fn.self)) (object.value l.fn.self) → IsLatest h (protocol.number (object.at l.self)) (object.value l.self));
       same : l.self ≡ object.moved l.fn.self (object.at l.self) (object.value l.self);
       placed : protocol.place l.protocol ≡ protocol.place l.fn.protocol;
       others : LeavesOthers (protocol.owns (protocol.place l.fn.protocol)) (state l.fn.store) (state l.store);
