@@ -7,7 +7,7 @@ use Rattle.std.proofs.lemmas.Option.{get_or_from_slice_get, slice_get-map, slice
 use Rattle.txn_lines.specs.declared.record.Record.{Record}
 use Rattle.txn_threads.specs.declared.gate.FreeGate.{FreeGate}
 use Rattle.txn_threads.specs.declared.kept.Share.{Share}
-use Rattle.txn_threads.specs.declared.work.Job.{Job}
+use Rattle.txn_threads.specs.declared.jobs.Job.{Job}
 use Rattle.txn_threads.specs.declared.work.Worked.{Worked}
 use Rattle.txn_threads.specs.declared.work.Worker.{Worker}
 use Rattle.txn_threads.specs.Crew.{EachGrows}
@@ -24,11 +24,11 @@ found_here p y ys x true is later rest = (zero, is)
 found_here p y ys x false is later rest = later (rest is)
 
 -- what is found stands somewhere
-found_at : {X : Type 0} (p : X → Bool) (xs : List X) (x : X) → find p xs ≡ Some x → (k : ℕ) × (slice_get xs k ≡ Some x)
+pub found_at : {X : Type 0} (p : X → Bool) (xs : List X) (x : X) → find p xs ≡ Some x → (k : ℕ) × (slice_get xs k ≡ Some x)
 found_at p [] x is = cc
 found_at p (y ∷ ys) x is = found_here p y ys x (p y) is (λ at. (suc at.0, at.1)) (found_at p ys x)
 
-mapped_from : {X Y : Type 0} (f : X → Y) (o : Option X) (y : Y) → option_map f o ≡ Some y → (x : X) × (o ≡ Some x) × (f x ≡ y)
+pub mapped_from : {X Y : Type 0} (f : X → Y) (o : Option X) (y : Y) → option_map f o ≡ Some y → (x : X) × (o ≡ Some x) × (f x ≡ y)
 mapped_from f None y is = cc
 mapped_from f (Some x) y is = (x, refl, same_Some _ _ is)
 

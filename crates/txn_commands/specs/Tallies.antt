@@ -1,6 +1,5 @@
 -- What the printed lines of a run of workers say of the world that they leave.
-use Rattle.std.specs.Prelude.{◌≡◌, ◌≤◌, ◌↔◌, ◌⊎◌, ℕ, List, Bool, IsTrue, Option, length}
-use Rattle.std.specs.Io.KnownBytes.{Appends}
+use Rattle.std.specs.Prelude.{◌≡◌, ◌≤◌, ◌↔◌, ℕ, List, Bool, IsTrue, length}
 use Rattle.txn_lines.specs.declared.record.Record.{Record}
 use Rattle.txn_lines.specs.declared.record.RecordCodec.{RecordCodec}
 use Rattle.txn_lines.specs.declared.record.RecordEpoch.{RecordEpoch}
@@ -11,10 +10,9 @@ use Rattle.txn_history.specs.History.{history}
 use Rattle.txn_threads.specs.Kept.{KeptState, Replays, CameOnce, Agree}
 use Rattle.txn_lines.specs.declared.stop.Stop.TheVariants as stops
 use Rattle.txn_commands.specs.declared.threads.Tally.{Tally}
-use Rattle.txn_commands.specs.declared.threads.Halt.{Halt}
-use Rattle.txn_commands.specs.declared.threads.Halt.TheVariants as halts
-use Rattle.txn_script.specs.Printed.{with_feed}
-use Rattle.txn_commands.specs.Threads.{tally_text, halt_text, begun_count, answered_count}
+use Rattle.txn_commands.specs.declared.halt.Halt.{Halt}
+use Rattle.txn_commands.specs.declared.halt.Halt.TheVariants as halts
+use Rattle.txn_commands.specs.Threads.{begun_count, answered_count}
 
 -- the counts agree exactly where each worker's share came once, with the count of its rows in the journal
 abbrev pub AgreeAs : KeptState Record RecordCodec RecordEpoch → List Share → Bool → Type 0
@@ -33,19 +31,7 @@ pub record Tallies (workers : ℕ) (kept : KeptState Record RecordCodec RecordEp
 abbrev pub IsTally : ℕ → Tally → Type 0
 IsTally workers tally = (kept : KeptState Record RecordCodec RecordEpoch) × (shares : List Share) × Tallies workers kept shares tally
 
--- the lines of such a run are printed, and nothing else
-abbrev pub PrintsTally : ℕ → Bool → Option (List ℕ) → Option (List ℕ) → Type 0
-PrintsTally workers agree old new = (tally : Tally) × IsTally workers tally × (tally.agree ≡ agree) × Appends old new (with_feed (tally_text tally))
-
 -- what halts a run of so many workers before it prints: one of them left a job undone, or memory was wanting
 abbrev pub IsHaltOf : ℕ → Halt → Type 0
 IsHaltOf workers (halts.Worker number) = (1 ≤ number) × (number ≤ workers)
 IsHaltOf workers (halts.Stop stop) = stop ≡ stops.NoMemory
-
--- a run halts before it prints, and leaves its writer as it was; or its writer failed
-abbrev pub Halts : {W : Type 0} → ℕ → Halt → W → W → Type 0
-Halts workers halt old new = (IsHaltOf workers halt × (new ≡ old)) ⊎ (halt ≡ halts.Stop stops.WriteFailed)
-
--- a run halts, and the line of what halted it is written, and nothing else
-abbrev pub NamesHalt : {W : Type 0} → ℕ → W → W → Option (List ℕ) → Option (List ℕ) → Type 0
-NamesHalt workers old new old_named new_named = (halt : Halt) × Halts workers halt old new × Appends old_named new_named (with_feed (halt_text halt))

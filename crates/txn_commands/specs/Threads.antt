@@ -1,22 +1,25 @@
 -- What a run of workers does and prints.
-use Rattle.std.specs.Prelude.{◌≡◌, ℕ, ◌+◌, ◌*◌, List, [], ◌∷◌, ◌++◌, Bool, true, false, Option, None, codes, count_by, decimal, find, map}
+use Rattle.std.specs.Prelude.{◌≡◌, ℕ, ◌+◌, ◌*◌, List, [], ◌∷◌, ◌++◌, Bool, true, false, ◌&&◌, Option, None, Result, Ok, Err, is_ok, codes, count_by, decimal, find, map}
 use Rattle.std.specs.Option.{option_map}
 use Rattle.txn_lines.specs.declared.record.Record.{Record}
 use Rattle.txn_history.specs.declared.event.Call.TheVariants as calls
 use Rattle.txn_view_history.specs.declared.event.AnyCall.TheVariants as any
-use Rattle.txn_threads.specs.declared.work.Job.{Job}
-use Rattle.txn_threads.specs.declared.work.Job.TheVariants as jobs
-use Rattle.txn_threads.specs.declared.work.End.{End}
-use Rattle.txn_threads.specs.declared.work.End.TheVariants as ends
+use Rattle.txn_threads.specs.declared.jobs.Job.{Job}
+use Rattle.txn_threads.specs.declared.jobs.Job.TheVariants as jobs
+use Rattle.txn_threads.specs.declared.jobs.End.{End}
+use Rattle.txn_threads.specs.declared.jobs.End.TheVariants as ends
 use Rattle.txn_threads.specs.declared.work.Worked.{Worked}
 use Rattle.txn_threads.specs.declared.work.Worker.{Worker}
 use Rattle.txn_threads.specs.declared.gate.FreeGate.{FreeGate}
 use Rattle.txn_threads.specs.declared.kept.Share.{Share}
 use Rattle.txn_view_history.specs.Trace.{AnyRow}
 use Rattle.txn_history.specs.declared.trace.RowOf.TheVariants.{Effect, Begun, Answered}
+use Rattle.txn_journals.specs.declared.fault.AuditFault.{AuditFault}
+use Rattle.txn_journals.specs.Verdict.{fault_number}
 use Rattle.txn_commands.specs.declared.threads.Tally.{Tally}
-use Rattle.txn_commands.specs.declared.threads.Halt.{Halt}
-use Rattle.txn_commands.specs.declared.threads.Halt.TheVariants as halts
+use Rattle.txn_commands.specs.declared.threads.Report.{Report}
+use Rattle.txn_commands.specs.declared.halt.Halt.{Halt}
+use Rattle.txn_commands.specs.declared.halt.Halt.TheVariants as halts
 use Rattle.txn_lines.specs.Printed.{stop_text}
 
 -- the k-th value of a worker, counted from 1
@@ -42,6 +45,19 @@ abbrev pub tally_text : Tally → List ℕ
 tally_text tally =
     number_line (codes "workers ") tally.workers (number_line (codes "calls ") tally.calls (number_line (codes "answers ") tally.answers
     (number_line (codes "history ") tally.history (codes "counts " ++ verdict tally.agree))))
+
+-- what a line says of an audit
+abbrev pub audit_text : Result (Unit {0}) AuditFault → List ℕ
+audit_text (Ok agrees) = codes "ok"
+audit_text (Err fault) = codes "fault " ++ decimal (fault_number fault)
+
+-- the lines of both passes, the last without its line feed
+abbrev pub report_text : Report → List ℕ
+report_text report = tally_text report.tally ++ (10 ∷ (codes "audit " ++ audit_text report.audit))
+
+-- the counts and the audit agree
+abbrev pub passes : Report → Bool
+passes report = report.tally.agree && is_ok report.audit
 
 -- the line of a run that prints nothing else
 abbrev pub halt_text : Halt → List ℕ

@@ -3,4 +3,7 @@
 #![tactic(auto)]
 
 pub mod command;
+mod diaries;
+pub mod halt;
+mod jobs;
 pub mod threads;

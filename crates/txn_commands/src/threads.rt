@@ -1,26 +1,30 @@
-//! A run of workers on threads round one world, and what it prints.
+//! A run of workers on threads, round one world and then with diaries round one store, and what it prints.
 
 ghost use Rattle.std.specs.Prelude.{◌≡◌, ◌≤◌, ◌⊎◌, All, Some, Bool, IfOk, IfErr};
 ghost use Rattle.std.specs.Io.KnownBytes.{Appends};
 ghost use Rattle.txn_lines.specs.declared.stop.Stop.TheVariants as stops;
-ghost use Rattle.txn_commands.specs.Threads.{job_list, tally_text, halt_text, says_begun, says_answered, begun_count, answered_count, stopped_worker, share_list, IsCrew};
-ghost use Rattle.txn_commands.specs.Tallies.{AgreeAs, Tallies, IsTally, PrintsTally, Halts, IsHaltOf, NamesHalt};
+ghost use Rattle.txn_commands.specs.Threads.{tally_text, audit_text, report_text, says_begun, says_answered, begun_count, answered_count, stopped_worker, share_list, IsCrew};
+ghost use Rattle.txn_commands.specs.Tallies.{AgreeAs, Tallies, IsTally, IsHaltOf};
+ghost use Rattle.txn_commands.specs.Reports.{IsReport, PrintsReport, Halts, NamesHalt};
 
+use crate::diaries::run_diaries;
+use crate::halt::Halt;
+use crate::jobs::jobs_of;
 use std::alloc::{AllocError, Global};
 use std::io::Write;
 use std::sync::{Mutex, Wait};
 use std::thread::Threads;
 use std::{fmt, io};
-use txn_history::event::Call;
+use txn_journals::fault::AuditFault;
 use txn_lines::record::{Record, RecordCodec, RecordEpoch};
 use txn_lines::stop::Stop;
 use txn_script::printer::Printer;
 use txn_threads::finish::finish;
 use txn_threads::gate::FreeGate;
+use txn_threads::jobs::End;
 use txn_threads::kept::{Kept, Share};
-use txn_threads::work::{End, Job, Worked, Worker, work_all};
+use txn_threads::work::{Worked, Worker, work_all};
 use txn_types::layout::PAGE;
-use txn_view_history::event::AnyCall;
 use txn_view_history::trace::AnyRow;
 use txn_world::world::World;
 
@@ -58,66 +62,51 @@ impl fmt::Display for Tally {
     }
 }
 
-/// Why a run of workers prints none of its lines.
-#[derive(Clone, Copy, Debug, PartialEq, Eq)]
-pub enum Halt {
-    /// The worker of this number, and none before it, left a job undone.
-    Worker(u64),
-    /// A growth was refused, or the writer failed.
-    Stop(Stop),
-}
+/// Whether an audit agrees, as a line shows it.
+#[derive(Clone, Copy)]
+struct Verdict(Result<(), AuditFault>);
 
-impl fmt::Display for Halt {
-    ghost output = { λ halt. Some (halt_text halt) };
+impl fmt::Display for Verdict {
+    ghost output = { λ verdict. Some (audit_text verdict.0) };
 
     fn fmt<W: fmt::Write>(&self, f: &mut fmt::Formatter<W>) -> fmt::Result {
-        match self {
-            Halt::Worker(number) => write!(f, "worker {number} stopped"),
-            Halt::Stop(stop) => write!(f, "{stop}"),
+        match self.0 {
+            Ok(()) => write!(f, "ok"),
+            Err(fault) => write!(f, "fault {}", fault.number()),
         }
     }
 }
 
-impl From<AllocError> for Halt {
+/// What both passes of a run left.
+#[derive(Clone, Copy, Debug, PartialEq, Eq)]
+pub struct Report {
+    /// What the workers round one world left.
+    pub tally: Tally,
+    /// What an audit finds of the clients that share only a store.
+    pub audit: Result<(), AuditFault>,
+}
+
+impl Report {
     ghost use Rattle.std.specs.Prelude.{◌≡◌};
-    ghost use Rattle.txn_lines.specs.declared.stop.Stop.TheVariants as stops;
-    ghost use Rattle.txn_commands.specs.declared.threads.Halt.TheVariants as halts;
+    ghost use Rattle.txn_commands.specs.Threads.{passes};
 
-    ghost from_gives = { λ _ halt. halt ≡ halts.Stop stops.NoMemory };
-
-    fn from(_error: AllocError) -> Halt {
-        Halt::Stop(Stop::NoMemory)
+    /// Whether the counts and the audit agree.
+    fn passes(&self) -> bool
+        ensures { result ≡ passes self.now }
+    {
+        self.tally.agree && self.audit.is_ok()
     }
 }
 
-impl From<Stop> for Halt {
-    ghost use Rattle.std.specs.Prelude.{◌≡◌};
-    ghost use Rattle.txn_commands.specs.declared.threads.Halt.TheVariants as halts;
+/// Its lines, of which the last lacks its line feed.
+impl fmt::Display for Report {
+    ghost output = { λ report. Some (report_text report) };
 
-    ghost from_gives = { λ stop halt. halt ≡ halts.Stop stop };
-
-    fn from(stop: Stop) -> Halt {
-        Halt::Stop(stop)
+    fn fmt<W: fmt::Write>(&self, f: &mut fmt::Formatter<W>) -> fmt::Result {
+        let Report { tally, audit } = *self;
+        let verdict = Verdict(audit);
+        write!(f, "{tally}\naudit {verdict}")
     }
-}
-
-/// The jobs of a worker: it writes the first version, and then four times on what it reads. Its values
-/// have epoch 0, and payloads from 100 times its number and 1 on.
-fn jobs_of(alloc: Global, worker: u64) -> Result<Vec<Job<Record>>, AllocError>
-    requires { worker ≤ 64 }
-    ensures { IfOk result (λ jobs. jobs.items ≡ job_list worker) }
-{
-    let value = |k| Record {
-        epoch: 0,
-        payload: worker * 100 + k,
-    };
-    Ok(vec![in alloc;
-        Job::Call(AnyCall::Plain(Call::Write(None, value(1)))),
-        Job::WriteOnRead(value(2)),
-        Job::WriteOnRead(value(3)),
-        Job::WriteOnRead(value(4)),
-        Job::WriteOnRead(value(5)),
-    ]?)
 }
 
 /// The workers that hold these shares, each with its jobs.
@@ -247,7 +236,19 @@ fn run_workers<R: Threads + Wait + Sync>(rt: &R, alloc: Global, workers: u64) ->
     Ok(tally_of(alloc, workers, kept.into_inner(), shares)?)
 }
 
-/// Runs the workers and prints what they left. Says whether their counts agree.
+/// Lets so many workers work round one world, and then so many clients that share only a store.
+fn run_both<R: Threads + Wait + Sync>(rt: &R, alloc: Global, workers: u64) -> Result<Report, Halt>
+    requires some { 1 ≤ workers }
+    requires few { workers ≤ 64 }
+    ensures report { IfOk result (IsReport workers) }
+    ensures halt { IfErr result (IsHaltOf workers) }
+{
+    let tally = run_workers(rt, alloc, workers)?;
+    let audit = run_diaries(rt, alloc, workers)?;
+    Ok(Report { tally, audit })
+}
+
+/// Runs the workers and prints what they left. Says whether their counts and the audit agree.
 fn print_threads<R: Threads + Wait + Sync, W: Write>(
     rt: &R,
     alloc: Global,
@@ -256,15 +257,15 @@ fn print_threads<R: Threads + Wait + Sync, W: Write>(
 ) -> Result<bool, Halt>
     requires some { 1 ≤ workers }
     requires few { workers ≤ 64 }
-    ensures printed { IfOk result (λ agree. PrintsTally workers agree (W.contents out.old) (W.contents out.new)) }
+    ensures printed { IfOk result (λ passed. PrintsReport workers passed (W.contents out.old) (W.contents out.new)) }
     ensures halt { IfErr result (λ halt. Halts workers halt out.old out.new) }
 {
-    let tally = run_workers(rt, alloc, workers)?;
+    let report = run_both(rt, alloc, workers)?;
     let mut printer = Printer::new(alloc);
-    printer.print_line(tally)?;
+    printer.print_line(report)?;
     printer.write_out(out)?;
     match out.flush() {
-        Ok(()) => Ok(tally.agree),
+        Ok(()) => Ok(report.passes()),
         Err(_) => Err(Halt::Stop(Stop::WriteFailed)),
     }
 }
@@ -283,10 +284,10 @@ fn run_or_name<R: Threads + Wait + Sync, W: Write, E: Write>(
     ensures status { IfOk result (λ status. status ≤ 1) }
     ensures silent { IfOk result (λ status. status ≡ 0 → err.new ≡ err.old) }
     ensures done { IfOk result (λ status. status ≡ 0
-        → PrintsTally workers Bool.true (W.contents out.old) (W.contents out.new)) }
-    // The counts differ, or what halted the run is named.
+        → PrintsReport workers Bool.true (W.contents out.old) (W.contents out.new)) }
+    // The counts or the audit do not agree, or what halted the run is named.
     ensures failed { IfOk result (λ status. status ≡ 1
-        → PrintsTally workers Bool.false (W.contents out.old) (W.contents out.new)
+        → PrintsReport workers Bool.false (W.contents out.old) (W.contents out.new)
         ⊎ NamesHalt workers out.old out.new (E.contents err.old) (E.contents err.new)) }
 {
     match print_threads(rt, alloc, workers, out) {
@@ -299,9 +300,10 @@ fn run_or_name<R: Threads + Wait + Sync, W: Write, E: Write>(
     }
 }
 
-/// Runs so many workers on threads round one world, prints what they left, and gives the exit status: 0,
-/// or 1 where their counts differ, where a worker stopped, where memory was wanting or the writer failed.
-/// The last three are named on `err`, and the first two print none of the lines.
+/// Runs so many workers on threads twice, round one world, and then each with a diary round one store, prints what they left,
+/// and gives the exit status: 0, or 1 where their counts differ, where the audit of the diaries finds a fault, where a worker
+/// stopped, where memory was wanting or the writer failed. The last three are named on `err`; where a worker stopped or memory
+/// was wanting none of the lines is printed.
 pub fn run_threads<R: Threads + Wait + Sync, W: Write, E: Write>(
     rt: &R,
     alloc: Global,
@@ -314,8 +316,9 @@ pub fn run_threads<R: Threads + Wait + Sync, W: Write, E: Write>(
     ensures status { result ≤ 1 }
     // Nothing is said where nothing went wrong.
     ensures silent { result ≡ 0 → err.new ≡ err.old }
-    // What is written is what a run of one client after another leaves, and its counts agree.
-    ensures done { result ≡ 0 → PrintsTally workers Bool.true (W.contents out.old) (W.contents out.new) }
+    // What is written is what a run of one client after another leaves, and its counts agree; and the clients of the second
+    // pass shared only the store.
+    ensures done { result ≡ 0 → PrintsReport workers Bool.true (W.contents out.old) (W.contents out.new) }
 {
     // Nothing is left to tell a failure of `err` to.
     run_or_name(rt, alloc, workers, out, err).unwrap_or(1)

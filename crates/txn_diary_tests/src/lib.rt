@@ -6,3 +6,5 @@
 mod audits;
 #[cfg(test)]
 mod refused;
+#[cfg(test)]
+mod verdicts;

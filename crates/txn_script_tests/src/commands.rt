@@ -7,7 +7,9 @@ use std::sync::Wait;
 use std::test::Fail;
 use std::thread::Threads;
 use txn_commands::command::{Command, command_of};
-use txn_commands::threads::{Halt, Tally, run_threads};
+use txn_commands::halt::Halt;
+use txn_commands::threads::{Report, Tally, run_threads};
+use txn_journals::fault::AuditFault;
 use txn_lines::stop::Stop;
 
 /// Words, the program's name first, and what they ask for.
@@ -62,7 +64,7 @@ fn number_of(line: Option<&str>, name: &str) -> Option<u64> {
     }
 }
 
-/// The length of the history where a text is the five lines of so many workers whose counts agree, and nothing else.
+/// The length of the history where a text is the six lines of so many workers whose counts and audit agree, and nothing else.
 fn history_in(text: &str, workers: u64) -> Option<u64> {
     let calls = Some(workers.saturating_mul(9));
     let mut lines = text.lines();
@@ -72,8 +74,12 @@ fn history_in(text: &str, workers: u64) -> Option<u64> {
         number_of(lines.next(), "answers") == calls,
     ];
     let history = number_of(lines.next(), "history")?;
-    let agree = lines.next() == Some("counts agree") && lines.next().is_none();
-    if counted == [true, true, true] && agree {
+    let agree = [
+        lines.next() == Some("counts agree"),
+        lines.next() == Some("audit ok"),
+        lines.next().is_none(),
+    ];
+    if counted == [true, true, true] && agree == [true, true, true] {
         Some(history)
     } else {
         None
@@ -104,7 +110,7 @@ fn workers_of_each_count_agree(rt: HostRuntime) {
     }
 }
 
-/// The lines of a run whose counts differ, and what halts one.
+/// The lines of a run whose counts and audit do not agree, and what halts one.
 fn told(alloc: Global) -> Result<[String; 3], AllocError> {
     let tally = Tally {
         workers: 2,
@@ -113,8 +119,12 @@ fn told(alloc: Global) -> Result<[String; 3], AllocError> {
         history: 5,
         agree: false,
     };
+    let report = Report {
+        tally,
+        audit: Err(AuditFault::RowsDiffer),
+    };
     Ok([
-        format!(in alloc; "{tally}")?,
+        format!(in alloc; "{report}")?,
         format!(in alloc; "{}", Halt::Worker(3))?,
         format!(in alloc; "{}", Halt::Stop(Stop::NoMemory))?,
     ])
@@ -122,7 +132,7 @@ fn told(alloc: Global) -> Result<[String; 3], AllocError> {
 
 /// What `told` should say.
 const TOLD: [&str; 3] = [
-    "workers 2\ncalls 18\nanswers 17\nhistory 5\ncounts differ",
+    "workers 2\ncalls 18\nanswers 17\nhistory 5\ncounts differ\naudit fault 3",
     "worker 3 stopped",
     "no memory",
 ];

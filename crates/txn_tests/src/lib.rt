@@ -7,6 +7,8 @@ mod events;
 #[cfg(test)]
 mod lines;
 #[cfg(test)]
+mod meetings;
+#[cfg(test)]
 mod refused;
 #[cfg(test)]
 mod schedules;

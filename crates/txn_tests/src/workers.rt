@@ -1,18 +1,16 @@
-//! Workers round one kept world: what they leave, and that they are at work at the same time.
+//! Workers round one kept world: what they leave, and how they end.
 ghost use Rattle.std.specs.Prelude.{◌≡◌, ◌≤◌, IfOk, vec_len};
 
 use std::alloc::{AllocError, AllocGlobal, Global};
-use std::sync::atomic::{AtomicU64, Ordering};
 use std::sync::{Mutex, Wait};
 use std::test::Fail;
-use std::thread;
-use std::thread::Threads;
 use txn_history::event::{Call, EventFault};
 use txn_lines::record::{Record, RecordCodec, RecordEpoch};
 use txn_threads::finish::{FinishFault, finish};
 use txn_threads::gate::{FreeGate, Gate, GateSpent};
+use txn_threads::jobs::{End, Job};
 use txn_threads::kept::{Kept, Share};
-use txn_threads::work::{End, Job, Worker, work, work_all};
+use txn_threads::work::work;
 use txn_types::layout::PAGE;
 use txn_view_history::event::{AnyCall, AnyEvent, AnyTold};
 use txn_world::world::World;
@@ -29,12 +27,12 @@ pub(crate) fn kept_by(alloc: Global, workers: u64) -> Result<(Records, Vec<Share
     Kept::new(alloc, world, workers)
 }
 
-const ONE: Record = Record {
+pub(crate) const ONE: Record = Record {
     epoch: 0,
     payload: 1,
 };
 
-const TWO: Record = Record {
+pub(crate) const TWO: Record = Record {
     epoch: 0,
     payload: 2,
 };
@@ -267,135 +265,6 @@ fn shares_that_do_not_finish_the_kept_world(rt: HostRuntime) -> Result<(), Fail>
     for (fault, number) in FAULTS {
         assert_eq!(rt; fault.number(), number);
     }
-    Ok(())
-}
-
-/// How often a worker looks for the other at its gate.
-const LOOKS: u64 = 10_000_000;
-
-/// A gate at which two workers meet: worker 1 at its first turn and worker 2 at its second raise their
-/// flag, and wait for the other's.
-#[derive(Clone, Copy)]
-struct Meeting<'a> {
-    first: &'a AtomicU64,
-    second: &'a AtomicU64,
-}
-
-impl Gate for Meeting<'_> {
-    fn pass(&mut self, worker: u64, turn: u64) -> Result<(), GateSpent> {
-        if turn != worker {
-            return Ok(());
-        }
-        let (mine, other) = if worker == 1 {
-            (self.first, self.second)
-        } else {
-            (self.second, self.first)
-        };
-        mine.store(1, Ordering::SeqCst);
-        for _ in 0..LOOKS {
-            if other.load(Ordering::SeqCst) == 1 {
-                return Ok(());
-            }
-            thread::yield_now();
-        }
-        Err(GateSpent)
-    }
-}
-
-/// Two workers at a meeting, each with a first write and one on what it reads.
-fn at_a_meeting<'a>(
-    alloc: Global,
-    shares: Vec<Share>,
-    gate: Meeting<'a>,
-) -> Result<Vec<Worker<Record, Meeting<'a>>>, AllocError> {
-    let mut workers = Vec::new(alloc);
-    for share in shares {
-        let jobs = vec![in alloc;
-            Job::Call(AnyCall::Plain(Call::Write(None, ONE))),
-            Job::WriteOnRead(TWO),
-        ]?;
-        workers.push(Worker { share, gate, jobs })?;
-    }
-    Ok(workers)
-}
-
-/// How workers on threads of their own end, and their shares then.
-fn told_on_threads(
-    rt: &(impl Threads + Wait + Sync + AllocGlobal),
-    kept: &Mutex<Records>,
-    shares: Vec<Share>,
-    gate: Meeting<'_>,
-) -> Result<(Vec<End>, Vec<Share>), AllocError> {
-    let workers = at_a_meeting(rt.alloc(), shares, gate)?;
-    let mut ends = Vec::new(rt.alloc());
-    let mut shares = Vec::new(rt.alloc());
-    for one in work_all(rt, kept, workers)? {
-        ends.push(one.end)?;
-        shares.push(one.share)?;
-    }
-    Ok((ends, shares))
-}
-
-/// How workers on threads of their own end, and whether their shares finish the kept world.
-fn ends_on_threads(
-    rt: &(impl Threads + Wait + Sync + AllocGlobal),
-) -> Result<(Vec<End>, bool), AllocError> {
-    let (kept, shares) = kept_by(rt.alloc(), 2)?;
-    let kept = Mutex::new(kept);
-    let (first, second) = (AtomicU64::new(0), AtomicU64::new(0));
-    let gate = Meeting {
-        first: &first,
-        second: &second,
-    };
-    let told = told_on_threads(rt, &kept, shares, gate);
-    let kept = kept.into_inner();
-    let (ends, shares) = told?;
-    Ok((ends, finish(kept, shares).is_ok()))
-}
-
-/// How a worker ends.
-fn end_of(rt: &impl Wait, kept: &Mutex<Records>, worker: Worker<Record, Meeting<'_>>) -> End {
-    let Worker {
-        share,
-        mut gate,
-        jobs,
-    } = worker;
-    work(rt, kept, share, &mut gate, &jobs).end
-}
-
-/// How workers end one after the other.
-fn told_in_turn(
-    rt: &(impl Wait + AllocGlobal),
-    kept: &Mutex<Records>,
-    workers: Vec<Worker<Record, Meeting<'_>>>,
-) -> Result<Vec<End>, AllocError> {
-    let mut ends = Vec::new(rt.alloc());
-    for worker in workers {
-        ends.push(end_of(rt, kept, worker))?;
-    }
-    Ok(ends)
-}
-
-/// How they end one after the other.
-fn ends_in_turn(rt: &(impl Wait + AllocGlobal)) -> Result<Vec<End>, AllocError> {
-    let (kept, shares) = kept_by(rt.alloc(), 2)?;
-    let kept = Mutex::new(kept);
-    let (first, second) = (AtomicU64::new(0), AtomicU64::new(0));
-    let gate = Meeting {
-        first: &first,
-        second: &second,
-    };
-    told_in_turn(rt, &kept, at_a_meeting(rt.alloc(), shares, gate)?)
-}
-
-#[test]
-fn workers_are_at_work_at_the_same_time(rt: HostRuntime) -> Result<(), Fail> {
-    let (ends, finished) = ends_on_threads(&rt)?;
-    assert_eq!(rt; ends.as_slice(), [End::Done, End::Done].as_slice());
-    assert!(rt; finished);
-    // In turn they do not meet.
-    let ends = ends_in_turn(&rt)?;
-    assert_eq!(rt; ends.as_slice(), [End::GateSpent, End::Done].as_slice());
     Ok(())
 }
 

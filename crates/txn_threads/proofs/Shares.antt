@@ -1,7 +1,8 @@
 -- What holds of one more element, and tests that say what they are asked.
 use Rattle.std.proofs.Common.{◌≡◌, ◌↔◌, IsTrue, ℕ, zero, suc, ◌+◌, ◌<◌, ◌≤◌, Bool, true, false, ◌⊎◌, inl, inr, refl, sym, ap, subst, arith}
 
-near : (k n : ℕ) → k < n + 1 → (k < n) ⊎ (k ≡ n)
+-- a number below the next one
+pub near : (k n : ℕ) → k < n + 1 → (k < n) ⊎ (k ≡ n)
 near zero zero small = inr refl
 near zero (suc n) small = inl (omega arith)
 near (suc k) zero small = absurd (omega (arith, small))

@@ -4,3 +4,6 @@ pub mod KeptLends
 pub mod Finish
 pub mod Work
 pub mod Crew
+pub mod Lengthens
+pub mod Clients
+pub mod CallerLaws

@@ -6,8 +6,8 @@ use Rattle.txn_view_history.specs.declared.event.AnyAnswer.TheVariants as answer
 use Rattle.txn_view_history.specs.Trace.{AnyTold}
 use Rattle.txn_history.specs.declared.event.ToldOf.TheVariants as told
 use Rattle.txn_threads.specs.declared.kept.Share.{Share}
-use Rattle.txn_threads.specs.declared.work.Heard.{Heard}
-use Rattle.txn_threads.specs.declared.work.Heard.TheVariants.{Goes, Ended}
+use Rattle.txn_threads.specs.declared.caller.Heard.{Heard}
+use Rattle.txn_threads.specs.declared.caller.Heard.TheVariants.{Goes, Ended}
 
 module _ {T : Type 0} where
   -- The base that a call's answer gives for a write: the id that a read found, or that it found none.

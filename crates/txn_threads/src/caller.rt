@@ -1,0 +1,71 @@
+//! Who makes calls, event by event.
+ghost use Rattle.std.specs.Prelude.{◌≡◌};
+ghost use Rattle.txn_threads.specs.Work.{base_read, heard_of};
+
+use std::sync::Wait;
+use txn_history::event::{Answer, EventFault};
+use txn_view_history::event::{AnyAnswer, AnyCall, AnyTold};
+
+/// What a worker hears of its event.
+pub(crate) enum Heard {
+    /// The operation of this number goes on.
+    Goes(u64),
+    /// The call was answered. A read gives the base for a write: the id that it found, or that it found
+    /// none.
+    Ended(Option<Option<u64>>),
+}
+
+/// The base for a write that the answer gives.
+fn base_read<T>(answer: &AnyAnswer<T>) -> Option<Option<u64>>
+    ensures { result ≡ base_read answer.now }
+{
+    match answer {
+        AnyAnswer::Plain(Answer::Read(None)) => Some(None),
+        AnyAnswer::Plain(Answer::Read(Some((id, _)))) => Some(Some(*id)),
+        _ => None,
+    }
+}
+
+/// What a worker hears of what its event told.
+pub(crate) fn hear<T>(told: &AnyTold<T>) -> Heard
+    ensures { result ≡ heard_of told.now }
+{
+    match told {
+        AnyTold::Began(op) | AnyTold::Went(op) => Heard::Goes(*op),
+        AnyTold::Answered(_, answer) => Heard::Ended(base_read(answer)),
+        // A worker makes no event that tells these.
+        AnyTold::GaveUp(_) | AnyTold::Landed(_, _) | AnyTold::Crashed(_) => Heard::Ended(None),
+    }
+}
+
+/// Who makes calls, an event at a time, beside others with whom it shares a place: a worker's share of a
+/// kept world, or a client with its diary, which shares a store.
+pub(crate) trait Caller<T: Clone, P> {
+    ghost use Rattle.std.specs.Prelude.{◌≤◌, ◌+◌, ℕ};
+    ghost use Rattle.txn_types.specs.Clones.{IsExactClone};
+
+    /// It is the same caller, after so many more events at most.
+    ghost goes: { Self → ℕ → Self → Type 0 };
+
+    /// The number by which its gate knows it.
+    fn number(&self) -> u64;
+
+    /// Begins a call.
+    fn begin<R: Wait>(&mut self, rt: &R, place: &P, call: AnyCall<T>) -> Result<Heard, EventFault>
+        requires { IsExactClone T.is_clone }
+        ensures { goes self.old 1 self.new };
+
+    /// Gives an operation what it asks for: a look at its client's caches, or one call of the store.
+    fn step<R: Wait>(&mut self, rt: &R, place: &P, op: u64) -> Result<Heard, EventFault>
+        requires { IsExactClone T.is_clone }
+        ensures { goes self.old 1 self.new };
+
+    /// It is itself after no event.
+    ghost goes_none: { (x : Self) (most : ℕ) → goes x most x };
+
+    /// What is at most so many is at most more.
+    ghost goes_fewer: { (x y : Self) (m most : ℕ) → goes x m y → m ≤ most → goes x most y };
+
+    /// Events after events are as many as both.
+    ghost goes_further: { (x y z : Self) (m n most : ℕ) → goes x m y → goes y n z → m + n ≤ most → goes x most z };
+}

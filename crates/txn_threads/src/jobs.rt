@@ -1,0 +1,196 @@
+//! What a worker is to do, and how it does it, whoever makes its calls.
+ghost use Rattle.std.specs.Prelude.{◌≡◌, ◌*◌, length};
+ghost use Rattle.txn_types.specs.Clones.{IsExactClone};
+
+use crate::caller::{Caller, Heard};
+use crate::gate::Gate;
+use std::sync::Wait;
+use txn_history::event::{Call, EventFault};
+use txn_view_history::event::AnyCall;
+
+/// The most events of one call of a worker, its begin among them.
+pub const EVENTS_OF_A_CALL: u64 = 200;
+
+/// What a worker is to do.
+#[derive(Debug, Drop, PartialEq, Eq)]
+pub enum Job<T> {
+    /// Makes this call.
+    Call(AnyCall<T>),
+    /// Reads, then writes the value on the id that it read, or as the first version where there was
+    /// none. Where the read is refused there is no write.
+    WriteOnRead(T),
+}
+
+/// How a worker came to its end.
+#[derive(Clone, Copy, Debug, PartialEq, Eq)]
+pub enum End {
+    /// Each job was done: each of its calls was answered.
+    Done,
+    /// The gate let it take no further event.
+    GateSpent,
+    /// A call was not answered within [`EVENTS_OF_A_CALL`] events.
+    LimitSpent,
+    /// Its event was refused, or memory was wanting for the event.
+    Refused(EventFault),
+}
+
+/// Asks the gate for one event more.
+fn pass<G: Gate>(gate: &mut G, number: u64, turns: &mut u64) -> Result<(), End> {
+    *turns = turns.saturating_add(1);
+    match gate.pass(number, *turns) {
+        Ok(()) => Ok(()),
+        Err(_) => Err(End::GateSpent),
+    }
+}
+
+/// A worker at work: who makes its calls, and how many turns it asked its gate for.
+struct Turns<X> {
+    caller: X,
+    turns: u64,
+}
+
+/// Begins the call, where the gate lets it.
+fn begin<R: Wait, T: Clone, P, X: Caller<T, P>, G: Gate>(
+    rt: &R,
+    place: &P,
+    worker: &mut Turns<X>,
+    gate: &mut G,
+    call: AnyCall<T>,
+) -> Result<Heard, End>
+    requires { IsExactClone T.is_clone }
+    ensures { X.goes worker.old.caller 1 worker.new.caller }
+{
+    pass(gate, worker.caller.number(), &mut worker.turns)?;
+    match worker.caller.begin(rt, place, call) {
+        Ok(heard) => Ok(heard),
+        Err(fault) => Err(End::Refused(fault)),
+    }
+}
+
+/// Gives the operation what it asks for, where the gate lets it.
+fn step<R: Wait, T: Clone, P, X: Caller<T, P>, G: Gate>(
+    rt: &R,
+    place: &P,
+    worker: &mut Turns<X>,
+    gate: &mut G,
+    op: u64,
+) -> Result<Heard, End>
+    requires { IsExactClone T.is_clone }
+    ensures { X.goes worker.old.caller 1 worker.new.caller }
+{
+    pass(gate, worker.caller.number(), &mut worker.turns)?;
+    match worker.caller.step(rt, place, op) {
+        Ok(heard) => Ok(heard),
+        Err(fault) => Err(End::Refused(fault)),
+    }
+}
+
+/// Makes one call, and gives the base for a write where it read.
+fn call<R: Wait, T: Clone, P, X: Caller<T, P>, G: Gate>(
+    rt: &R,
+    place: &P,
+    worker: &mut Turns<X>,
+    gate: &mut G,
+    call: AnyCall<T>,
+) -> Result<Option<Option<u64>>, End>
+    requires { IsExactClone T.is_clone }
+    ensures { X.goes worker.old.caller 200 worker.new.caller }
+{
+    let op = match begin(rt, place, worker, gate, call)? {
+        Heard::Goes(op) => op,
+        Heard::Ended(base) => return Ok(base),
+    };
+    for _ in 1..EVENTS_OF_A_CALL {
+        match step(rt, place, worker, gate, op)? {
+            Heard::Goes(_) => {}
+            Heard::Ended(base) => return Ok(base),
+        }
+    }
+    Err(End::LimitSpent)
+}
+
+/// Reads, then writes the value on what it read.
+fn write_on_read<R: Wait, T: Clone, P, X: Caller<T, P>, G: Gate>(
+    rt: &R,
+    place: &P,
+    worker: &mut Turns<X>,
+    gate: &mut G,
+    value: T,
+) -> Result<(), End>
+    requires { IsExactClone T.is_clone }
+    ensures { X.goes worker.old.caller 400 worker.new.caller }
+{
+    if let Some(base) = call(rt, place, worker, gate, AnyCall::Plain(Call::Read))? {
+        let write = AnyCall::Plain(Call::Write(base, value));
+        call(rt, place, worker, gate, write)?;
+    }
+    Ok(())
+}
+
+/// Does one job.
+fn do_job<R: Wait, T: Clone, P, X: Caller<T, P>, G: Gate>(
+    rt: &R,
+    place: &P,
+    worker: &mut Turns<X>,
+    gate: &mut G,
+    job: &Job<T>,
+) -> Result<(), End>
+    requires { IsExactClone T.is_clone }
+    ensures { X.goes worker.old.caller 400 worker.new.caller }
+{
+    match job {
+        Job::Call(made) => {
+            let Ok(made) = made.try_clone() else {
+                return Err(End::Refused(EventFault::NoMemory));
+            };
+            call(rt, place, worker, gate, made)?;
+            Ok(())
+        }
+        Job::WriteOnRead(value) => {
+            let Ok(value) = value.clone() else {
+                return Err(End::Refused(EventFault::NoMemory));
+            };
+            write_on_read(rt, place, worker, gate, value)
+        }
+    }
+}
+
+/// Does the jobs in order, and says how it came to its end.
+fn end_of<R: Wait, T: Clone, P, X: Caller<T, P>, G: Gate>(
+    rt: &R,
+    place: &P,
+    worker: &mut Turns<X>,
+    gate: &mut G,
+    jobs: &[Job<T>],
+) -> End
+    requires { IsExactClone T.is_clone }
+    ensures { X.goes worker.old.caller (400 * length jobs.now) worker.new.caller }
+{
+    for one in jobs {
+        if let Err(end) = do_job(rt, place, worker, gate, one) {
+            return end;
+        }
+    }
+    End::Done
+}
+
+/// Does the jobs in order, each event after the gate was asked, and says how it came to its end. It goes on past a call that
+/// is answered with a refusal, and ends at the first job that could not be done.
+pub(crate) fn do_jobs<R: Wait, T: Clone, P, X: Caller<T, P>, G: Gate>(
+    rt: &R,
+    place: &P,
+    caller: X,
+    gate: &mut G,
+    jobs: &[Job<T>],
+) -> (X, End)
+    requires { IsExactClone T.is_clone }
+    ensures { X.goes caller (400 * length jobs.now) result.0 }
+{
+    let mut worker = Turns { caller, turns: 0 };
+    let end = end_of(rt, place, &mut worker, gate, jobs);
+    let Turns {
+        caller,
+        turns: _turns,
+    } = worker;
+    (caller, end)
+}
