@@ -20,13 +20,17 @@ use Rattle.txn_commands.specs.Threads.{tally_text, halt_text, begun_count, answe
 abbrev pub AgreeAs : KeptState Record RecordCodec RecordEpoch → List Share → Bool → Type 0
 AgreeAs kept shares agree = IsTrue agree ↔ (CameOnce kept.workers shares × Agree kept.journal shares)
 
+-- the tally agrees exactly where the world has as many clients as there are workers, and the counts agree
+abbrev pub AgreesAs : ℕ → KeptState Record RecordCodec RecordEpoch → List Share → Bool → Type 0
+AgreesAs workers kept shares agree = IsTrue agree ↔ ((kept.world.state.clients ≡ workers) × CameOnce kept.workers shares × Agree kept.journal shares)
+
 -- what is counted is the calls, the answers and the entries of this world, and the shares are held against its journal
 pub record Tallies (workers : ℕ) (kept : KeptState Record RecordCodec RecordEpoch) (shares : List Share) (tally : Tally) : Type 0 where
   pub workers_are : tally.workers ≡ workers
   pub calls : tally.calls ≡ begun_count kept.world.state.trace
   pub answers : tally.answers ≡ answered_count kept.world.state.trace
   pub entries : tally.history ≡ length (history record_read kept.world.state.trace)
-  pub agree : AgreeAs kept shares tally.agree
+  pub agree : AgreesAs workers kept shares tally.agree
   -- taking the journal's events one after another leads to this world
   pub replays : Replays record_text record_read record_epoch record_with kept.journal kept.world.state
 

@@ -34,7 +34,7 @@ pub struct Tally {
     pub answers: u64,
     /// How many versions the history has.
     pub history: u64,
-    /// Whether each worker's count is that of its rows in the journal.
+    /// Whether the world has as many clients as there are workers, and each worker's count is that of its rows in the journal.
     pub agree: bool,
 }
 
@@ -219,13 +219,14 @@ fn tally_of(
         return Err(Stop::NoMemory);
     };
     let history = entries.len() as u64;
-    let agree = counts_agree(kept, shares);
+    let each_has_one = kept.world().clients() == workers;
+    let counts = counts_agree(kept, shares);
     Ok(Tally {
         workers,
         calls,
         answers,
         history,
-        agree,
+        agree: counts && each_has_one,
     })
 }
 
