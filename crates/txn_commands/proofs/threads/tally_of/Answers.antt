@@ -22,7 +22,7 @@ returns c =
         entries = (c.len-history.ensures ∙ items) ∙ (sym (length-map c.in-Ok.entries.items Some) ∙ (ap length c.in-Ok.ensures ∙ ap (λ (w : WorldState Record RecordCodec RecordEpoch). length (history record_read w.state.trace)) c.world-2.ensures.world));
         agree = elim c.if-counts.branch [
           | then-counts w ↦ agrees_then c.args.workers c.args.kept c.args.shares.items c.counts_agree-counts.result c.if-counts.result c.clients.result c.counts_agree-counts.ensures w.if-counts.true w.result-is (c.clients.ensures ∙ ap (λ (w : WorldState Record RecordCodec RecordEpoch). w.state.clients) c.world-3.ensures.world)
-          | else-counts w ↦ agrees_else c.args.workers c.args.kept c.args.shares.items c.counts_agree-counts.result c.if-counts.result c.counts_agree-counts.ensures w.if-counts.false w.result-is
+          | else-counts w ↦ agrees_else c.args.workers c.args.kept c.args.shares.items c.counts_agree-counts.result c.if-counts.result c.counts_agree-counts.ensures w.if-counts.false (w.result-is ∙ w.if-counts.false)
         ];
         replays = c.world.ensures.replays;
       };
