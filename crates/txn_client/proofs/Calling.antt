@@ -1,0 +1,74 @@
+-- A call that goes on.
+use Rattle.std.proofs.Common.{◌≡◌, ◌+◌, ℕ, List, [], ◌∷◌, ◌++◌, Option, Some, None, refl, sym, ap, ◌∙◌, append-nil, append_assoc}
+use Rattle.std.proofs.lemmas.List.Elements.{All-nil, All-push}
+use Rattle.txn_view_history.specs.declared.event.AnyCall.{AnyCall}
+use Rattle.txn_view_history.specs.declared.event.AnyAnswer.{AnyAnswer}
+use Rattle.txn_journals.specs.declared.rows.JournalRow.{JournalRow}
+use Rattle.txn_journals.specs.declared.rows.Step.{Step}
+use Rattle.txn_journals.specs.declared.rows.Step.TheVariants as steps
+use Rattle.txn_diary.specs.Diaries.{DiaryState}
+use Rattle.txn_diary.specs.Reading.{op_of, with_answer, answers_from}
+use Rattle.txn_client.specs.declared.work.Heard.{Heard}
+use Rattle.txn_client.specs.declared.work.Heard.TheVariants as heards
+use Rattle.txn_client.specs.Noted.{Noted, begun_with}
+use Rattle.txn_client.specs.Calling.{IsActOf, IsCall}
+use Rattle.txn_client.specs.Working.{heard_in, BeginsWith, TakesStep, CallsAs}
+use Rattle.txn_client.proofs.Adding.{answers_added, advances_more}
+
+module _ {T : Type 0} where
+  act_op : (begun op : ℕ) (step : Step T) → IsActOf op step → op_of begun step ≡ op
+  act_op begun op (steps.Begin call) h = absurd h
+  act_op begun op (steps.Act o act) h = h
+  act_op begun op (steps.Killed lefts) h = absurd h
+
+  begun_op : (begun : ℕ) (step : Step T) (call : AnyCall T) → step ≡ steps.Begin call → op_of begun step ≡ begun + 1
+  begun_op begun step call h = ap (op_of begun) h
+
+  going : (answer : Option (AnyAnswer T)) → heard_in answer ≡ heards.Goes → answer ≡ None
+  going None h = refl
+  going (Some answer) h = cc
+
+  ended : (answer : Option (AnyAnswer T)) (told : AnyAnswer T) → heard_in answer ≡ heards.Answered told → answer ≡ Some told
+  ended None told h = cc
+  ended (Some answer) told h = cc
+
+module _ {T C E : Type 0} where
+  -- a call that has begun
+  pub calls_first : (op : ℕ) (call : AnyCall T) (answer : Option (AnyAnswer T)) (old : DiaryState T C E) (noted : List (Noted T)) (begun : ℕ) (new : DiaryState T C E) (noted' : List (Noted T)) (begun' : ℕ)
+      → BeginsWith call answer old noted begun new noted' begun' → with_answer (begun + 1) answer ≡ with_answer op answer → CallsAs op call answer old noted begun new noted' begun'
+  calls_first op call answer old noted begun new noted' begun' b same = record {
+    rows = b.row ∷ [];
+    is_call = record {
+      first = b.row;
+      turns = [];
+      rows_are = refl;
+      begins = b.begins;
+      acts = All-nil (λ row. IsActOf op row.step);
+      answers_are = append-nil (with_answer (op_of begun b.row.step) b.row.answer) ∙ (ap (λ o. with_answer o b.row.answer) (begun_op begun b.row.step call b.begins) ∙ (ap (with_answer (begun + 1)) b.answer_is ∙ same));
+    };
+    advances = b.advances;
+  }
+
+  -- a call with one act more
+  pub calls_more : (op : ℕ) (call : AnyCall T) (heard : Heard T) (answer : Option (AnyAnswer T)) (a b c : DiaryState T C E) (m n o : List (Noted T)) (i j k : ℕ)
+      → CallsAs op call None a m i b n j → (step : TakesStep op b n j heard c o k) → step.row.answer ≡ answer → CallsAs op call answer a m i c o k
+  calls_more op call heard answer a b c m n o i j k so step is = record {
+    rows = so.rows ++ step.row ∷ [];
+    is_call = record {
+      first = so.is_call.first;
+      turns = so.is_call.turns ++ step.row ∷ [];
+      rows_are = ap (λ (rows : List (JournalRow T)). rows ++ step.row ∷ []) so.is_call.rows_are;
+      begins = so.is_call.begins;
+      acts = All-push (λ row. IsActOf op row.step) so.is_call.turns step.row so.is_call.acts step.acts;
+      answers_are = answers_added i so.rows (step.row ∷ []) ∙ (ap (λ (before : List (ℕ × AnyAnswer T)). before ++ answers_from (begun_with i so.rows) (step.row ∷ [])) so.is_call.answers_are ∙ (append-nil (with_answer (op_of (begun_with i so.rows) step.row.step) step.row.answer) ∙ (ap (λ at. with_answer at step.row.answer) (act_op (begun_with i so.rows) op step.row.step step.acts) ∙ ap (with_answer op) is)));
+    };
+    advances = advances_more a b c m n o i j k so.rows (step.row ∷ []) so.advances step.advances;
+  }
+
+  pub calls_on : (op : ℕ) (call : AnyCall T) (a b c : DiaryState T C E) (m n o : List (Noted T)) (i j k : ℕ)
+      → CallsAs op call None a m i b n j → TakesStep op b n j heards.Goes c o k → CallsAs op call None a m i c o k
+  calls_on op call a b c m n o i j k so step = calls_more op call heards.Goes None a b c m n o i j k so step (going step.row.answer (sym step.heard_is))
+
+  pub calls_end : (op : ℕ) (call : AnyCall T) (told : AnyAnswer T) (a b c : DiaryState T C E) (m n o : List (Noted T)) (i j k : ℕ)
+      → CallsAs op call None a m i b n j → TakesStep op b n j (heards.Answered told) c o k → CallsAs op call (Some told) a m i c o k
+  calls_end op call told a b c m n o i j k so step = calls_more op call (heards.Answered told) (Some told) a b c m n o i j k so step (ended step.row.answer told (sym step.heard_is))

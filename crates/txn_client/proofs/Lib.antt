@@ -1,0 +1,5 @@
+pub mod Adding
+pub mod Hearing
+pub mod Beginning
+pub mod Calling
+pub mod Recording

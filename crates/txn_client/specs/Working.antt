@@ -1,0 +1,139 @@
+-- Words of private contracts: how a client's diary and its recorder go on together.
+use Rattle.std.specs.Prelude.{◌≡◌, ◌⊎◌, ◌-◌, ℕ, slice_get, length, List, [], ◌∷◌, ◌++◌, Option, Some, None, Result, Ok, Err}
+use Rattle.txn_history.specs.declared.event.ToldOf.TheVariants as told
+use Rattle.txn_history.specs.declared.event.EventFault.{EventFault}
+use Rattle.txn_history.specs.declared.event.EventFault.TheVariants as faults
+use Rattle.txn_view_history.specs.declared.event.AnyCall.{AnyCall}
+use Rattle.txn_view_history.specs.declared.event.AnyAnswer.{AnyAnswer}
+use Rattle.txn_view_history.specs.Trace.{AnyTold}
+use Rattle.txn_store.specs.declared.request.Request.{Request}
+use Rattle.txn_journals.specs.declared.rows.JournalRow.{JournalRow}
+use Rattle.txn_journals.specs.declared.rows.Step.{Step}
+use Rattle.txn_journals.specs.declared.rows.Step.TheVariants as steps
+use Rattle.txn_diary.specs.Diaries.{DiaryState}
+use Rattle.txn_client.specs.declared.stop.Stop.{Stop}
+use Rattle.txn_client.specs.declared.stop.Stop.TheVariants as stops
+use Rattle.txn_client.specs.declared.work.Heard.{Heard}
+use Rattle.txn_client.specs.declared.work.Heard.TheVariants as heards
+use Rattle.txn_client.specs.declared.work.Begun.{Begun}
+use Rattle.txn_client.specs.declared.work.Begun.TheVariants as begins
+use Rattle.txn_client.specs.declared.work.Done.{Done}
+use Rattle.txn_client.specs.declared.work.Done.TheVariants as dones
+use Rattle.txn_client.specs.Noted.{Noted, Asked, Answered, row_noted, noted_from, begun_with}
+use Rattle.txn_client.specs.Calling.{IsActOf, IsCall, Does}
+
+module _ {T : Type 0} where
+  -- what is heard of what was told
+  abbrev pub heard_of : AnyTold T → Heard T
+  heard_of (told.Answered op answer) = heards.Answered answer
+  heard_of _ = heards.Goes
+
+  -- what was told of this operation, as it is noted
+  abbrev pub told_noted : ℕ → AnyTold T → List (Noted T)
+  told_noted op (told.Answered _ answer) = Answered op answer ∷ []
+  told_noted op _ = []
+
+  -- the operation that was told of
+  abbrev pub op_told : AnyTold T → ℕ
+  op_told (told.Began op) = op
+  op_told (told.Went op) = op
+  op_told (told.Answered op answer) = op
+  op_told (told.GaveUp op) = op
+  op_told (told.Landed request changed) = request
+  op_told (told.Crashed client) = client
+
+  -- the call that a step begins, where it begins one
+  abbrev pub call_of : Step T → Option (AnyCall T)
+  call_of (steps.Begin call) = Some call
+  call_of _ = None
+
+  abbrev pub call_in : Option (JournalRow T) → Option (AnyCall T)
+  call_in None = None
+  call_in (Some row) = call_of row.step
+
+  -- the call that the last of these rows begins, where it begins one
+  abbrev pub last_begun : List (JournalRow T) → Option (AnyCall T)
+  last_begun rows = call_in (slice_get rows (length rows - 1))
+
+  -- what is heard of an answer
+  abbrev pub heard_in : Option (AnyAnswer T) → Heard T
+  heard_in None = heards.Goes
+  heard_in (Some answer) = heards.Answered answer
+
+module _ {T : Type 0} where
+  -- a call's answer, or why it has none
+  abbrev pub settled : Done T → Result (AnyAnswer T) Stop
+  settled (dones.Answered answer) = Ok answer
+  settled (dones.Refused fault) = Err (stops.Refused fault)
+  settled dones.Spent = Err stops.StepsSpent
+
+-- a stop after which the client makes no further call
+abbrev pub IsEnding : Stop → Type 0
+IsEnding (stops.Unrecorded error) = Unit {0}
+IsEnding stops.NoMemory = Unit {0}
+IsEnding _ = ⊥
+
+module _ {T C E : Type 0} where
+  -- the same client did something more, if anything
+  abbrev pub IsFurther : DiaryState T C E → DiaryState T C E → Type 0
+  IsFurther old new = (rows : List (JournalRow T)) × Does old rows new
+
+  -- The same client did these things, its recorder was handed what they say, and its count of begins went on.
+  pub record Advances (old : DiaryState T C E) (noted : List (Noted T)) (begun : ℕ) (rows : List (JournalRow T)) (new : DiaryState T C E) (noted' : List (Noted T)) (begun' : ℕ) : Type 0 where
+    pub does : Does old rows new
+    pub noted_is : noted' ≡ noted ++ noted_from begun rows
+    pub begun_is : begun' ≡ begun_with begun rows
+
+  -- An operation acts once, and this is heard of it.
+  pub record TakesStep (op : ℕ) (old : DiaryState T C E) (noted : List (Noted T)) (begun : ℕ) (heard : Heard T) (new : DiaryState T C E) (noted' : List (Noted T)) (begun' : ℕ) : Type 0 where
+    pub row : JournalRow T
+    pub acts : IsActOf op row.step
+    pub heard_is : heard ≡ heard_in row.answer
+    pub advances : Advances old noted begun (row ∷ []) new noted' begun'
+
+  -- An operation acts on the reply to this request, of which its recorder was told before, and this is heard of it.
+  pub record TakesAsked (op : ℕ) (request : Request) (old : DiaryState T C E) (noted : List (Noted T)) (begun : ℕ) (heard : Heard T) (new : DiaryState T C E) (noted' : List (Noted T)) (begun' : ℕ) : Type 0 where
+    pub row : JournalRow T
+    pub acts : IsActOf op row.step
+    pub heard_is : heard ≡ heard_in row.answer
+    pub does : Does old (row ∷ []) new
+    pub noted_is : (before : List (Noted T)) → noted ≡ before ++ Asked op request ∷ [] → noted' ≡ before ++ row_noted op row
+    pub begun_is : begun' ≡ begun
+
+  -- A call is this operation's so far, with this answer, if one.
+  pub record CallsAs (op : ℕ) (call : AnyCall T) (answer : Option (AnyAnswer T)) (old : DiaryState T C E) (noted : List (Noted T)) (begun : ℕ) (new : DiaryState T C E) (noted' : List (Noted T)) (begun' : ℕ) : Type 0 where
+    pub rows : List (JournalRow T)
+    pub is_call : IsCall begun op call answer rows
+    pub advances : Advances old noted begun rows new noted' begun'
+
+  -- A call was made, with this answer, if one.
+  abbrev pub Calls : AnyCall T → Option (AnyAnswer T) → DiaryState T C E → List (Noted T) → ℕ → DiaryState T C E → List (Noted T) → ℕ → Type 0
+  Calls call answer old noted begun new noted' begun' = (op : ℕ) × CallsAs op call answer old noted begun new noted' begun'
+
+  -- A call begins, and tells this answer, if it tells one.
+  pub record BeginsWith (call : AnyCall T) (answer : Option (AnyAnswer T)) (old : DiaryState T C E) (noted : List (Noted T)) (begun : ℕ) (new : DiaryState T C E) (noted' : List (Noted T)) (begun' : ℕ) : Type 0 where
+    pub row : JournalRow T
+    pub begins : row.step ≡ steps.Begin call
+    pub answer_is : row.answer ≡ answer
+    pub advances : Advances old noted begun (row ∷ []) new noted' begun'
+
+  -- A call begins, or is refused.
+  module _ (refusal : Option EventFault) where
+    -- A refused begin leaves all, and names its reason.
+    pub record IsRefused (fault : EventFault) (old : DiaryState T C E) (noted : List (Noted T)) (begun : ℕ) (new : DiaryState T C E) (noted' : List (Noted T)) (begun' : ℕ) : Type 0 where
+      pub same : new ≡ old
+      pub noted_is : noted' ≡ noted
+      pub begun_is : begun' ≡ begun
+      pub reason : (refusal ≡ Some fault) ⊎ (fault ≡ faults.NoMemory)
+
+    -- what became of a begin
+    abbrev pub IsBegun : AnyCall T → DiaryState T C E → List (Noted T) → ℕ → Begun T → DiaryState T C E → List (Noted T) → ℕ → Type 0
+    IsBegun call old noted begun (begins.Refused fault) new noted' begun' = IsRefused fault old noted begun new noted' begun'
+    IsBegun call old noted begun (begins.Goes op) new noted' begun' = BeginsWith call None old noted begun new noted' begun'
+    IsBegun call old noted begun (begins.Answered answer) new noted' begun' = BeginsWith call (Some answer) old noted begun new noted' begun'
+
+    -- what became of a call
+    abbrev pub IsDone : AnyCall T → DiaryState T C E → List (Noted T) → ℕ → Done T → DiaryState T C E → List (Noted T) → ℕ → Type 0
+    IsDone call old noted begun (dones.Answered answer) new noted' begun' = Calls call (Some answer) old noted begun new noted' begun'
+    IsDone call old noted begun dones.Spent new noted' begun' = Calls call None old noted begun new noted' begun'
+    IsDone call old noted begun (dones.Refused fault) new noted' begun' = IsRefused fault old noted begun new noted' begun'

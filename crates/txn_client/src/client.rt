@@ -1,0 +1,127 @@
+//! A client whose calls run to their answers, each recorded as it happens.
+use crate::recorder::Recorder;
+use crate::serve::Serve;
+use crate::stop::Stop;
+use crate::work::{Work, settled};
+use std::alloc::{AllocError, Global};
+use std::marker::Model;
+use txn_diary::diary::Diary;
+use txn_types::codec::ObjectCodec;
+use txn_types::epoch::EpochField;
+use txn_view_history::event::{AnyAnswer, AnyCall};
+
+/// One client of a store, with a diary, which hands what it does to a recorder as it happens. As long as it goes on, what its
+/// recorder was handed is what its journal says, looks aside.
+///
+/// Clauses see its diary, what its recorder was handed, and whether it goes on.
+#[derive(Drop)]
+pub struct Client<T: Clone, C: ObjectCodec<T> + Drop, E: EpochField<T>, S, R: Recorder<T>> {
+    work: Work<T, C, E, S, R>,
+    goes_on: bool,
+}
+
+impl<T: Clone, C: ObjectCodec<T> + Drop, E: EpochField<T>, S, R: Recorder<T>> Model
+    for Client<T, C, E, S, R> {
+    ghost use Rattle.std.specs.Prelude.{◌≡◌, true};
+    ghost use Rattle.std.specs.Coded.{codes};
+    ghost use Rattle.txn_store.specs.Memory.{files_code};
+    ghost use Rattle.txn_client.specs.Noted.{noted_from, begun_with};
+    ghost use Rattle.txn_client.specs.Calling.{ClientState, IsRecorded};
+
+    ghost Value = { ClientState T C E };
+
+    ghost coded = { Prim.hlevel (codes, files_code) };
+
+    ghost view = { λ c. record { diary = c.work.diary; noted = R.noted c.work.recorder; goes_on = c.goes_on } };
+
+    ghost invariant = { λ c. c.goes_on ≡ true → IsRecorded c.work.begun (R.noted c.work.recorder) c.work.diary.rows };
+}
+
+impl<
+    T: Clone,
+    C: ObjectCodec<T> + Drop,
+    E: EpochField<T>,
+    S: Serve + Drop,
+    R: Recorder<T> + Drop,
+> Client<T, C, E, S, R> {
+    ghost use Rattle.std.specs.Prelude.{◌≡◌, ◌≤◌, [], Some, true, IfOk, IfErr};
+    ghost use Rattle.txn_types.specs.Clones.{IsExactClone};
+    ghost use Rattle.txn_journals.specs.Parts.{no_part};
+    ghost use Rattle.txn_diary.specs.Diaries.{refusal_of};
+    ghost use Rattle.txn_client.specs.Noted.{noted_from};
+    ghost use Rattle.txn_client.specs.Calling.{MakesCall, Stops};
+
+    /// A client of this number, at least 1, that has done nothing, over a store and a recorder that was handed nothing. A listing
+    /// has pages of at most `page` files, at least 1. The only error is want of memory.
+    pub fn new(
+        alloc: Global,
+        client: u64,
+        codec: C,
+        epochs: E,
+        page: u64,
+        store: S,
+        recorder: R,
+    ) -> Result<Client<T, C, E, S, R>, AllocError>
+        requires some { 1 ≤ client }
+        requires paged { 1 ≤ page }
+        requires empty { R.noted recorder ≡ [] }
+        ensures { IfOk result (λ made. made ≡ record { diary = record { client = client; page = page; codec = codec; epochs = epochs; part = no_part; rows = [] }; noted = []; goes_on = true }) }
+    {
+        let diary = Diary::new(alloc, client, codec, epochs, page)?;
+        let work = Work {
+            alloc,
+            diary,
+            store,
+            recorder,
+            begun: 0,
+        };
+        Ok(Client {
+            work,
+            goes_on: true,
+        })
+    }
+
+    /// What the client did, as its diary has it.
+    pub fn diary(&self) -> &Diary<T, C, E>
+        ensures diary { result.now ≡ self.now.diary }
+        // As long as it goes on, its recorder was handed what its journal says.
+        ensures recorded { self.now.goes_on ≡ true → self.now.noted ≡ noted_from 0 self.now.diary.rows }
+    {
+        &self.work.diary
+    }
+
+    /// The store that it calls.
+    pub fn store(&self) -> &S {
+        &self.work.store
+    }
+
+    /// Whether it makes calls: not once its recorder failed, or memory was wanting in the middle of a call.
+    pub fn goes_on(&self) -> bool
+        ensures { result ≡ self.now.goes_on }
+    {
+        self.goes_on
+    }
+
+    /// Makes a call, which takes at most `steps` looks and store calls: the answer. What is asked is handed to the recorder
+    /// before the store is called, and the reply before the operation takes it.
+    ///
+    /// # Errors
+    ///
+    /// [`Stop::Refused`] where the client does not permit the call, or memory is wanting for its begin: it is as it was.
+    /// [`Stop::StepsSpent`] where the steps did not suffice: the operation is given up, and the client goes on. After
+    /// [`Stop::Unrecorded`] and [`Stop::NoMemory`] it makes no further call, and each is [`Stop::Ended`].
+    pub fn call(&mut self, call: AnyCall<T>, steps: u64) -> Result<AnyAnswer<T>, Stop>
+        requires { IsExactClone T.is_clone }
+        ensures ok { IfOk result (λ answer. MakesCall call (Some answer) self.old self.new) }
+        ensures err { IfErr result (Stops (refusal_of (E.epoch_of self.old.diary.epochs) self.old.diary call) call self.old self.new) }
+    {
+        if !self.goes_on {
+            drop(call);
+            return Err(Stop::Ended);
+        }
+        self.goes_on = false;
+        let done = self.work.call(call, steps)?;
+        self.goes_on = true;
+        settled(done)
+    }
+}

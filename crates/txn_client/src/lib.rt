@@ -1,0 +1,8 @@
+//! A client of any store: its calls run to their answers, and what it does is handed to a recorder as it happens.
+#![tactic(auto)]
+
+pub mod client;
+pub mod recorder;
+pub mod serve;
+pub mod stop;
+mod work;

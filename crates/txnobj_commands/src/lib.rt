@@ -1,0 +1,4 @@
+//! The commands of `txnobj`.
+#![tactic(auto)]
+
+pub mod options;

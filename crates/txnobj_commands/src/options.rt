@@ -1,0 +1,390 @@
+//! The words of a command line, read by `clap`.
+
+use clap::{Arg, ArgAction, ArgMatches, Command as Words, Error, value_parser};
+use std::alloc::{AllocError, Global};
+
+/// Where a value comes from: the argument itself, the standard input for `-`, or a file for `@FILE`.
+#[derive(Clone, Copy, Debug, PartialEq, Eq)]
+pub enum Source<'a> {
+    Text(&'a str),
+    Input,
+    File(&'a str),
+}
+
+/// What is asked for.
+#[derive(Debug, Drop)]
+pub enum Command<'a> {
+    /// Writes the first version.
+    Init(Source<'a>),
+    /// Prints the newest version's bytes, or its id and epoch.
+    Get {
+        id: bool,
+    },
+    /// Writes a version on the newest, in its epoch.
+    Put {
+        value: Source<'a>,
+        /// On this version alone.
+        base: Option<u64>,
+        /// As the holder of this epoch.
+        epoch: Option<u64>,
+    },
+    /// Claims the next epoch, or this one.
+    Claim {
+        epoch: Option<u64>,
+    },
+    /// Prints the ids of the stored versions.
+    List,
+    /// Prints each stored version.
+    History,
+    /// Waits for a version above this one, so many seconds at most.
+    Watch {
+        after: u64,
+        seconds: u64,
+    },
+    /// Raises the boundary.
+    Advance(u64),
+    /// Removes a version at or below the boundary.
+    Delete(u64),
+    /// Removes the versions below the newest.
+    Collect,
+    /// Reads calls from the standard input, a line each.
+    Shell,
+    /// Tests whether the folder can carry an object.
+    Doctor,
+    /// Removes temporary files that are older than so many seconds.
+    Clean(u64),
+    /// Audits recordings.
+    Audit(Vec<&'a str>),
+}
+
+/// Which object, who asks, and how.
+#[derive(Debug, Drop)]
+pub struct Options<'a> {
+    /// The folder below which the object's files lie. Only an audit needs none.
+    pub root: Option<&'a str>,
+    /// The object's name. Only an audit and a test of the folder need none.
+    pub name: Option<&'a str>,
+    pub suffix: &'a str,
+    /// The client's number, at least 1. None: one of its own.
+    pub client: Option<u64>,
+    /// The file to which it adds its recording.
+    pub diary: Option<&'a str>,
+    /// Whether what is answered lasts when the power fails.
+    pub syncs: bool,
+    pub command: Command<'a>,
+}
+
+/// A positional argument that has to be there.
+fn needed<'a>(alloc: Global, id: &'a str, help: &'a str) -> Arg<'a> {
+    Arg::new(alloc, id).required(true).help(help)
+}
+
+/// A number that has to be there.
+fn number<'a>(alloc: Global, id: &'a str, help: &'a str) -> Arg<'a> {
+    needed(alloc, id, help).value_parser(value_parser!(u64))
+}
+
+/// An option with a number.
+fn optional_number<'a>(alloc: Global, id: &'a str, help: &'a str) -> Arg<'a> {
+    Arg::new(alloc, id)
+        .long(id)
+        .value_parser(value_parser!(u64))
+        .help(help)
+}
+
+/// An option with a text.
+fn optional_text<'a>(alloc: Global, id: &'a str, value: &'a str, help: &'a str) -> Arg<'a> {
+    Arg::new(alloc, id).long(id).value_name(value).help(help)
+}
+
+/// The options that stand before a command.
+fn with_options<'a>(alloc: Global, words: Words<'a>) -> Result<Words<'a>, AllocError> {
+    let syncs = Arg::new(alloc, "no-sync")
+        .long("no-sync")
+        .action(ArgAction::SetTrue)
+        .help("Do not wait until what is written lasts through a power failure");
+    words
+        .arg(optional_text(
+            alloc,
+            "root",
+            "DIR",
+            "The folder below which the object's files lie",
+        ))?
+        .arg(optional_text(
+            alloc,
+            "name",
+            "NAME",
+            "The object's name: its versions lie in DIR/NAME",
+        ))?
+        .arg(optional_text(
+            alloc,
+            "suffix",
+            "SUFFIX",
+            "What the names of the versions' files end with",
+        )
+        .default_value("val"))?
+        .arg(optional_number(
+            alloc,
+            "client",
+            "The client's number, at least 1 [default: one of its own]",
+        ))?
+        .arg(optional_text(
+            alloc,
+            "diary",
+            "FILE",
+            "Add a recording of what is done to this file, for an audit",
+        ))?
+        .arg(syncs)
+}
+
+fn subcommand<'a>(alloc: Global, name: &'a str, about: &'a str, example: &'a str) -> Words<'a> {
+    Words::new(alloc, name).about(about).after_help(example)
+}
+
+const VALUE: &str = "The value's bytes; `-` is the standard input, `@FILE` a file";
+
+/// The commands that write.
+fn with_writes<'a>(alloc: Global, words: Words<'a>) -> Result<Words<'a>, AllocError> {
+    let init = subcommand(
+        alloc,
+        "init",
+        "Write the first version, in epoch 0; print its id",
+        "Example: txnobj --root /srv/meta --name leader init nobody",
+    )
+    .arg(needed(alloc, "VALUE", VALUE))?;
+    let put = subcommand(
+        alloc,
+        "put",
+        "Write a version on the newest, in its epoch, again after a conflict; print its id",
+        "Example: txnobj --root /srv/meta --name leader put @leader.json",
+    )
+    .arg(needed(alloc, "VALUE", VALUE))?
+    .arg(optional_number(alloc, "base", "Only if this is the newest version"))?
+    .arg(optional_number(
+        alloc,
+        "epoch",
+        "As the holder of this epoch: fenced where a greater one stands",
+    ))?;
+    let claim = subcommand(
+        alloc,
+        "claim",
+        "Write the newest value once more in the next epoch, which shuts older holders out; print ID EPOCH",
+        "Example: read -r id epoch < <(txnobj --root /srv/meta --name leader claim)",
+    )
+    .arg(optional_number(
+        alloc,
+        "epoch",
+        "Claim this epoch: fenced where it or a greater one stands",
+    ))?;
+    words.subcommand(init)?.subcommand(put)?.subcommand(claim)
+}
+
+/// The commands that read.
+fn with_reads<'a>(alloc: Global, words: Words<'a>) -> Result<Words<'a>, AllocError> {
+    let id = Arg::new(alloc, "id")
+        .long("id")
+        .action(ArgAction::SetTrue)
+        .help("Print ID EPOCH, and not the bytes");
+    let get = subcommand(
+        alloc,
+        "get",
+        "Print the newest version's bytes, and nothing else",
+        "Example: txnobj --root /srv/meta --name leader get > leader.json",
+    )
+    .arg(id)?;
+    let list = subcommand(
+        alloc,
+        "list",
+        "Print the ids of the stored versions, one a line",
+        "Example: txnobj --root /srv/meta --name leader list",
+    );
+    let history = subcommand(
+        alloc,
+        "history",
+        "Print ID EPOCH:BYTES of each stored version, a line each, other bytes than plain ASCII as %XX",
+        "Example: txnobj --root /srv/meta --name leader history",
+    );
+    let watch = subcommand(
+        alloc,
+        "watch",
+        "Wait for a version above an id; print ID EPOCH of the newest",
+        "Example: txnobj --root /srv/meta --name leader watch --after 7 --seconds 3600",
+    )
+    .arg(optional_number(alloc, "after", "The id").required(true))?
+    .arg(optional_number(alloc, "seconds", "How long to wait").default_value("60"))?;
+    words
+        .subcommand(get)?
+        .subcommand(list)?
+        .subcommand(history)?
+        .subcommand(watch)
+}
+
+/// The commands that remove.
+fn with_removals<'a>(alloc: Global, words: Words<'a>) -> Result<Words<'a>, AllocError> {
+    let advance = subcommand(
+        alloc,
+        "advance",
+        "Raise the boundary to an id below the newest: what is at or below it may be deleted",
+        "Example: txnobj --root /srv/meta --name leader advance 6",
+    )
+    .arg(number(alloc, "ID", "The id"))?;
+    let delete = subcommand(
+        alloc,
+        "delete",
+        "Remove a version at or below the boundary",
+        "Example: txnobj --root /srv/meta --name leader delete 3",
+    )
+    .arg(number(alloc, "ID", "The id"))?;
+    let collect = subcommand(
+        alloc,
+        "collect",
+        "Remove all versions below the newest; print how many",
+        "Example: txnobj --root /srv/meta --name leader collect",
+    );
+    words
+        .subcommand(advance)?
+        .subcommand(delete)?
+        .subcommand(collect)
+}
+
+/// The other commands.
+fn with_others<'a>(alloc: Global, words: Words<'a>) -> Result<Words<'a>, AllocError> {
+    let shell = subcommand(
+        alloc,
+        "shell",
+        "Read calls from the standard input, a line each, and print their answers: for a process that keeps a view or an epoch",
+        "Example: printf 'load\nclaim 1\nholder_update 1 1:hello\n' | txnobj --root /srv/meta --name leader shell",
+    );
+    let doctor = subcommand(
+        alloc,
+        "doctor",
+        "Test whether the folder's file system can carry an object",
+        "Example: txnobj --root /srv/meta doctor",
+    );
+    let clean = subcommand(
+        alloc,
+        "clean",
+        "Remove temporary files that writers left which were killed; print how many",
+        "Example: txnobj --root /srv/meta --name leader clean 3600",
+    )
+    .arg(number(alloc, "SECONDS", "Only those that are older"))?;
+    let diaries = needed(alloc, "DIARY", "The files of the recordings")
+        .num_args(1..)
+        .action(ArgAction::Append);
+    let audit = subcommand(
+        alloc,
+        "audit",
+        "Hold recordings of clients against each other: whether they are one history",
+        "Example: txnobj audit a.diary b.diary",
+    )
+    .arg(diaries)?;
+    words
+        .subcommand(shell)?
+        .subcommand(doctor)?
+        .subcommand(clean)?
+        .subcommand(audit)
+}
+
+const STATUSES: &str =
+    "Statuses: 0 done; 1 a fault of the system; 2 wrong words; 3 nothing new to see; 4 an audit that does not agree; 12 the store failed; 14 there is no version; 15 a conflict; 16 fenced; 17 not in this state; 18 bytes that are no value; 19 no memory; 20 no id or epoch is left; 21 no end in sight; 30 + n the client does not permit the call, by fault n";
+
+fn words_of<'a>(alloc: Global) -> Result<Words<'a>, AllocError> {
+    let words = Words::new(alloc, "txnobj")
+        .about(
+            "One object in a shared folder, kept as numbered versions that many processes update by compare and swap",
+        )
+        .after_help(STATUSES)
+        .subcommand_required(true);
+    let words = with_options(alloc, words)?;
+    let words = with_writes(alloc, words)?;
+    let words = with_reads(alloc, words)?;
+    let words = with_removals(alloc, words)?;
+    with_others(alloc, words)
+}
+
+/// Where a value comes from that an argument names.
+fn source_of<'a>(text: &'a str) -> Source<'a> {
+    if text == "-" {
+        return Source::Input;
+    }
+    match text.strip_prefix('@') {
+        Some(file) => Source::File(file),
+        None => Source::Text(text),
+    }
+}
+
+/// The number of an argument.
+fn number_in(found: &ArgMatches<'_>, id: &str) -> u64 {
+    found.get_one::<u64>(id).unwrap_or(0)
+}
+
+fn text_in<'a>(found: &ArgMatches<'a>, id: &str) -> &'a str {
+    found.get_str(id).unwrap_or("")
+}
+
+/// What is asked for, where the words name no such thing: to be refused.
+fn command_of<'a>(name: &str, found: &ArgMatches<'a>) -> Option<Command<'a>> {
+    Some(match name {
+        "init" => Command::Init(source_of(text_in(found, "VALUE"))),
+        "get" => Command::Get {
+            id: found.get_flag("id"),
+        },
+        "put" => Command::Put {
+            value: source_of(text_in(found, "VALUE")),
+            base: found.get_one::<u64>("base"),
+            epoch: found.get_one::<u64>("epoch"),
+        },
+        "claim" => Command::Claim {
+            epoch: found.get_one::<u64>("epoch"),
+        },
+        "list" => Command::List,
+        "history" => Command::History,
+        "watch" => Command::Watch {
+            after: number_in(found, "after"),
+            seconds: number_in(found, "seconds"),
+        },
+        "advance" => Command::Advance(number_in(found, "ID")),
+        "delete" => Command::Delete(number_in(found, "ID")),
+        "collect" => Command::Collect,
+        "shell" => Command::Shell,
+        "doctor" => Command::Doctor,
+        "clean" => Command::Clean(number_in(found, "SECONDS")),
+        _ => return None,
+    })
+}
+
+/// The words of an option that may come several times.
+fn texts_in<'a>(
+    alloc: Global,
+    found: &ArgMatches<'a>,
+    id: &str,
+) -> Result<Vec<&'a str>, AllocError> {
+    let mut texts = Vec::new(alloc);
+    if let Some(words) = found.get_strs(id) {
+        texts.extend_from_slice(words)?;
+    }
+    Ok(texts)
+}
+
+/// What the words ask for, the program's name first.
+///
+/// # Errors
+///
+/// The text to be printed and the status to end with, also where the words ask for help, which is no error: 0 then, else 2.
+pub fn options_of<'a>(alloc: Global, words: &'a [String]) -> Result<Options<'a>, Error> {
+    let found = words_of(alloc)?.try_get_matches_from(words)?;
+    let command = match found.subcommand() {
+        Some(("audit", of)) => Command::Audit(texts_in(alloc, of, "DIARY")?),
+        Some((name, of)) => command_of(name, of).unwrap_or(Command::Doctor),
+        None => Command::Doctor,
+    };
+    Ok(Options {
+        root: found.get_str("root"),
+        name: found.get_str("name"),
+        suffix: text_in(&found, "suffix"),
+        client: found.get_one::<u64>("client"),
+        diary: found.get_str("diary"),
+        syncs: !found.get_flag("no-sync"),
+        command,
+    })
+}
