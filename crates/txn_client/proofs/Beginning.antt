@@ -38,7 +38,7 @@ module _ {T C E : Type 0} where
       → said ≡ told_of (told.Began op) op found → noted' ≡ between ++ told_noted begun' said → found ≡ answer → end ≡ begun' → BeginsWith call answer old noted begun new noted' end
   begins_with call handed found answer said op old new noted between noted' begun begun' end does call_is begun_is first told_is second answer_is end_is =
       let handed_so : Begun begun' handed ∷ told_noted begun' said ≡ (Begun (begun + 1) call ∷ [] ++ answer_noted (begun + 1) found) ++ [] =
-          ap (λ b. Begun b handed ∷ told_noted b said) begun_is ∙ (ap (λ c. Begun (begun + 1) c ∷ told_noted (begun + 1) said) call_is ∙ (ap (λ rest. Begun (begun + 1) call ∷ rest) (ap (told_noted (begun + 1)) told_is ∙ noted_began op (begun + 1) found) ∙ sym (append-nil (Begun (begun + 1) call ∷ answer_noted (begun + 1) found)))) in
+      ap (λ b. Begun b handed ∷ told_noted b said) begun_is ∙ (ap (λ c. Begun (begun + 1) c ∷ told_noted (begun + 1) said) call_is ∙ (ap (λ rest. Begun (begun + 1) call ∷ rest) (ap (told_noted (begun + 1)) told_is ∙ noted_began op (begun + 1) found) ∙ sym (append-nil (Begun (begun + 1) call ∷ answer_noted (begun + 1) found)))) in
       record {
         row = record { step = steps.Begin call; answer = found };
         begins = refl;

@@ -1,3 +1,4 @@
 pub mod Noted
 pub mod Calling
 pub mod Working
+pub mod Retrying

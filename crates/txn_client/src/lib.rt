@@ -3,6 +3,7 @@
 
 pub mod client;
 pub mod recorder;
+pub mod retry;
 pub mod serve;
 pub mod stop;
 mod work;

@@ -1,0 +1,85 @@
+//! Updates that are made again after each conflict.
+use crate::client::Client;
+use crate::recorder::Recorder;
+use crate::serve::Serve;
+use crate::stop::Stop;
+use std::alloc::AllocError;
+use txn_history::event::Answer;
+use txn_types::codec::ObjectCodec;
+use txn_types::epoch::EpochField;
+use txn_view_history::event::{AnyAnswer, AnyCall, ViewCall};
+
+/// A view of a client as it stands: its number, and the version that it is at.
+#[derive(Debug, Drop)]
+pub struct Viewed<T> {
+    pub view: u64,
+    pub id: u64,
+    pub value: T,
+}
+
+/// What became of an update that is made again after each conflict.
+#[derive(Debug, Drop)]
+pub enum Applied<T> {
+    /// A candidate was written straight on the version that it was made of: the view as it stands now.
+    Written(Viewed<T>),
+    /// The mutator asked for nothing, of the version that the view is at.
+    Unchanged,
+    /// A call was answered so, and gave no view: a refusal other than a conflict, or one of a refresh.
+    Answered(AnyAnswer<T>),
+    /// Each attempt ended in a conflict.
+    AttemptsSpent,
+}
+
+impl<
+    T: Clone + Drop,
+    C: ObjectCodec<T> + Drop,
+    E: EpochField<T>,
+    S: Serve + Drop,
+    R: Recorder<T> + Drop,
+> Client<T, C, E, S, R> {
+    ghost use Rattle.std.specs.Prelude.{IfOk, IfErr};
+    ghost use Rattle.std.specs.Fn.{FnReturnsAt};
+    ghost use Rattle.txn_types.specs.Clones.{IsExactClone};
+    ghost use Rattle.txn_client.specs.Retrying.{IsApplied, IsStopped};
+
+    /// Asks the mutator for a candidate made of the version that the view is at, and updates the view by it. After a conflict it
+    /// refreshes the view and asks once more, `attempts` times at most. Each call takes at most `steps` looks and store calls.
+    ///
+    /// # Errors
+    ///
+    /// As those of [`Client::call`], and [`Stop::Refused`] with want of memory where the mutator finds none.
+    pub fn maybe_apply_update<F: Fn(&T) -> Result<Option<T>, AllocError>>(
+        &mut self,
+        viewed: Viewed<T>,
+        attempts: u64,
+        steps: u64,
+        mutator: &F,
+    ) -> Result<Applied<T>, Stop>
+        requires exact { IsExactClone T.is_clone }
+        requires callable { F.IsAlwaysCallable mutator.now }
+        ensures ok { IfOk result (λ applied. IsApplied (λ value answer. FnReturnsAt F.Fn mutator.now value answer) viewed.view self.old applied self.new) }
+        ensures err { IfErr result (λ _. IsStopped self.old self.new) }
+    {
+        let mut viewed = viewed;
+        for _ in 0..attempts {
+            let view = viewed.view;
+            let candidate = match mutator(&viewed.value) {
+                Ok(Some(candidate)) => candidate,
+                Ok(None) => return Ok(Applied::Unchanged),
+                Err(_) => return Err(Stop::NoMemory),
+            };
+            match self.call(AnyCall::View(ViewCall::Update(view, candidate)), steps)? {
+                AnyAnswer::View(view, id, value) => {
+                    return Ok(Applied::Written(Viewed { view, id, value }));
+                }
+                AnyAnswer::Plain(Answer::Refused(5)) => {}
+                other => return Ok(Applied::Answered(other)),
+            }
+            match self.call(AnyCall::View(ViewCall::Refresh(view)), steps)? {
+                AnyAnswer::View(view, id, value) => viewed = Viewed { view, id, value },
+                other => return Ok(Applied::Answered(other)),
+            }
+        }
+        Ok(Applied::AttemptsSpent)
+    }
+}

@@ -1,4 +1,0 @@
-//! The commands of `txnobj`.
-#![tactic(auto)]
-
-pub mod options;

@@ -1,0 +1,4 @@
+//! The words of a command line of `txnobj`.
+#![tactic(auto)]
+
+pub mod options;
