@@ -1,7 +1,7 @@
 //! The rows of a call that begins, and of its answer. Both are in the words that scripts have.
-ghost use Rattle.std.specs.Prelude.{◌≡◌, ◌++◌, ℕ, List, codes, IfOk, string_bytes};
+ghost use Rattle.std.specs.Prelude.{◌≡◌, ◌++◌, ℕ, List, codes, IfOk, OnOk, string_bytes};
 ghost use Rattle.txn_lines.specs.Grammar.{base_text, bound_text, list_text};
-ghost use Rattle.txn_lines.specs.Printed.{refusal_name, listed_text};
+ghost use Rattle.txn_lines.specs.Printed.{refusal_name, ids_text, listed_text};
 ghost use Rattle.txn_recorded.specs.Written.{◌then◌};
 ghost use Rattle.txn_recorded.specs.Calls.{Shows, plain_text, view_call_text, call_text, plain_answer_text, answer_text, begin_row_text, answer_row_text};
 
@@ -15,15 +15,14 @@ use txn_view_history::event::{AnyAnswer, AnyCall, ViewCall};
 /// What a write asks for, after its word.
 fn write_text<T: fmt::Display>(
     alloc: Global,
-    word: &str,
     base: Option<u64>,
     value: &T,
 ) -> Result<String, AllocError>
-    ensures { (text : T → List ℕ) → Shows T.output text → IfOk result (λ words. string_bytes words ≡ word.now then base_text base then text value.now) }
+    ensures { (text : T → List ℕ) → Shows T.output text → IfOk result (λ words. string_bytes words ≡ base_text base then text value.now) }
 {
     match base {
-        None => format!(in alloc; "{word} - {value}"),
-        Some(id) => format!(in alloc; "{word} {id} {value}"),
+        None => format!(in alloc; "- {value}"),
+        Some(id) => format!(in alloc; "{id} {value}"),
     }
 }
 
@@ -52,8 +51,14 @@ fn plain_text<T: fmt::Display>(alloc: Global, call: &Call<T>) -> Result<String, 
     ensures { (text : T → List ℕ) → Shows T.output text → IfOk result (λ words. string_bytes words ≡ plain_text text call.now) }
 {
     match call {
-        Call::Write(base, value) => write_text(alloc, "write", *base, value),
-        Call::WriteUnchecked(base, value) => write_text(alloc, "write_unchecked", *base, value),
+        Call::Write(base, value) => {
+            let write = write_text(alloc, *base, value)?;
+            format!(in alloc; "write {write}")
+        }
+        Call::WriteUnchecked(base, value) => {
+            let write = write_text(alloc, *base, value)?;
+            format!(in alloc; "write_unchecked {write}")
+        }
         Call::Read => String::from_str(alloc, "read"),
         Call::ReadUnchecked(id) => format!(in alloc; "read_unchecked {id}"),
         Call::ReadSeen(id) => format!(in alloc; "read_seen {id}"),
@@ -117,17 +122,26 @@ fn refusal_name(number: u8) -> &'static str
     }
 }
 
-/// Ids, each after one space, or ` none`.
-fn ids_text(alloc: Global, ids: &[u64]) -> Result<String, AllocError>
-    ensures { IfOk result (λ words. string_bytes words ≡ codes "ids" ++ listed_text ids.now) }
+/// Adds ids, each after one space.
+fn push_ids(words: &mut String, ids: &[u64]) -> Result<(), AllocError>
+    ensures { OnOk result (string_bytes words.new ≡ string_bytes words.old ++ ids_text ids.now) }
 {
-    let mut words = String::from_str(alloc, "ids")?;
-    if ids.is_empty() {
-        words.push_str(" none")?;
-    }
     for id in ids {
         write!(words, " {id}")?;
     }
+    Ok(())
+}
+
+/// Ids, each after one space, or that there are none.
+#[tactic(auto, using(crate::proofs::Pages::some_listed))]
+fn ids_text(alloc: Global, ids: &[u64]) -> Result<String, AllocError>
+    ensures { IfOk result (λ words. string_bytes words ≡ codes "ids" ++ listed_text ids.now) }
+{
+    if ids.is_empty() {
+        return String::from_str(alloc, "ids none");
+    }
+    let mut words = String::from_str(alloc, "ids")?;
+    push_ids(&mut words, ids)?;
     Ok(words)
 }
 

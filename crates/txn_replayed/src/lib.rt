@@ -3,8 +3,6 @@
 #![tactic(auto)]
 
 pub mod audit;
-pub mod rebuild;
 pub mod refusal;
 
 mod replay;
-mod stage;

@@ -9,10 +9,10 @@ use Rattle.txn_journals.specs.declared.rows.Step.TheVariants as steps
 use Rattle.txn_journals.specs.declared.rows.JournalRow.{JournalRow}
 use Rattle.txn_diary.specs.Reading.{op_of, begun_by}
 use Rattle.txn_recorded.specs.Calls.{answer_text}
-use Rattle.txn_replayed.specs.declared.stage.Stage.{Stage}
-use Rattle.txn_replayed.specs.declared.stage.Stage.TheVariants as stages
-use Rattle.txn_replayed.specs.Told.{Told, Began, Asked, Answered, act_tells, step_tells, answer_tells, entry_tells, journal_tells}
-use Rattle.txn_replayed.specs.Stages.{all_begun, IsAt, Stands, IsStageOf}
+use Rattle.txn_rebuilt.specs.declared.stage.Stage.{Stage}
+use Rattle.txn_rebuilt.specs.declared.stage.Stage.TheVariants as stages
+use Rattle.txn_rebuilt.specs.Told.{Told, Began, Asked, Answered, act_tells, step_tells, answer_tells, entry_tells, journal_tells}
+use Rattle.txn_rebuilt.specs.Stages.{all_begun, IsAt, Stands, IsStageOf}
 
 module _ {T : Type 0} where
   -- what a journal with one row more tells

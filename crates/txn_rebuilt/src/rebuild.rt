@@ -3,10 +3,10 @@ ghost use Rattle.std.specs.Prelude.{◌≡◌, ◌≤◌, ℕ, List, Some, IfOk,
 ghost use Rattle.txn_types.specs.Clones.{IsExactClone};
 ghost use Rattle.txn_recorded.specs.Calls.{Shows, answer_text};
 ghost use Rattle.txn_recorded.specs.declared.row.Row.TheVariants as rows;
-ghost use Rattle.txn_replayed.specs.Told.{recording_tells, journal_tells, TellsSame};
-ghost use Rattle.txn_replayed.specs.Stages.{Goes, IsSameClient, IsOpened};
+ghost use Rattle.txn_rebuilt.specs.Told.{recording_tells, journal_tells, TellsSame};
+ghost use Rattle.txn_rebuilt.specs.Stages.{Goes, IsSameClient, IsOpened};
 
-use crate::refusal::RowFault;
+use crate::fault::RowFault;
 use crate::stage::{Rebuilding, Stage};
 use std::alloc::Global;
 use std::fmt;

@@ -7,9 +7,9 @@ use Rattle.txn_journals.specs.declared.rows.JournalRow.{JournalRow}
 use Rattle.txn_diary.specs.Reading.{begun_by}
 use Rattle.txn_diary.specs.Diaries.{DiaryState}
 use Rattle.txn_recorded.specs.Calls.{Shows, answer_text}
-use Rattle.txn_replayed.specs.declared.stage.Stage.{Stage}
-use Rattle.txn_replayed.specs.declared.stage.Stage.TheVariants as stages
-use Rattle.txn_replayed.specs.Told.{Told, Asked, Answered, journal_tells}
+use Rattle.txn_rebuilt.specs.declared.stage.Stage.{Stage}
+use Rattle.txn_rebuilt.specs.declared.stage.Stage.TheVariants as stages
+use Rattle.txn_rebuilt.specs.Told.{Told, Asked, Answered, journal_tells}
 
 module _ {T : Type 0} where
   -- how many operations began in a journal, where so many began before it

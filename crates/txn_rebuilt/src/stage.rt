@@ -7,11 +7,11 @@ ghost use Rattle.txn_view_history.specs.Trace.{AnyTold};
 ghost use Rattle.txn_view_history.specs.declared.event.AnyAnswer.{AnyAnswer};
 ghost use Rattle.txn_machine.specs.Doing.{asks_as};
 ghost use Rattle.txn_recorded.specs.Calls.{Shows, answer_text};
-ghost use Rattle.txn_replayed.specs.Told.{Told, Began, Asked, Replied, Failed, GaveUp, Answered, row_tells, journal_tells, TellsSame};
-ghost use Rattle.txn_replayed.specs.Stages.{Stands, Goes, IsStageOf, IsUnanswered, IsSameClient};
-ghost use Rattle.txn_replayed.specs.declared.stage.Stage.TheVariants as stages;
+ghost use Rattle.txn_rebuilt.specs.Told.{Told, Began, Asked, Replied, Failed, GaveUp, Answered, row_tells, journal_tells, TellsSame};
+ghost use Rattle.txn_rebuilt.specs.Stages.{Stands, Goes, IsStageOf, IsUnanswered, IsSameClient};
+ghost use Rattle.txn_rebuilt.specs.declared.stage.Stage.TheVariants as stages;
 
-use crate::refusal::RowFault;
+use crate::fault::RowFault;
 use std::alloc::Global;
 use std::fmt;
 use txn_caches::ask::Ask;
@@ -63,13 +63,18 @@ fn asks_this(ask: Option<Ask<'_>>, request: &Request) -> bool
 {
     match ask {
         Some(Ask::Store(asked)) => same_request(asked, request),
-        _ => false,
+        Some(Ask::Look) => false,
+        None => false,
     }
 }
 
 /// Whether an operation asks to look.
 fn asks_look(ask: Option<Ask<'_>>) -> bool {
-    matches!(ask, Some(Ask::Look))
+    match ask {
+        Some(Ask::Look) => true,
+        Some(Ask::Store(_)) => false,
+        None => false,
+    }
 }
 
 impl<'a> Stage<'a> {
