@@ -21,7 +21,7 @@ ids_more ids i id before after all lt is adds so_far =
     ap (λ xs. xs ++ rest) adds ∙ (append_assoc before (32 ∷ decimal id) rest ∙ (ap (λ ns. before ++ ids_text ns) (sym (drop_more ids i id lt ∙ ap (λ n. n ∷ drop (i + 1) ids) (sym is))) ∙ so_far))
 
 pub ids_all : (ids : List ℕ) (i : ℕ) (before all : List ℕ) → length ids ≤ i → before ++ ids_text (drop i ids) ≡ all → before ≡ all
-ids_all ids i before all le so_far = sym (append-nil before) ∙ (ap (λ ns. before ++ ids_text ns) (sym (drop_all ids i le)) ∙ so_far)
+ids_all ids i before all le so_far = sym (append-nil before) ∙ (ap (λ ns. before ++ ids_text ns) (sym (drop_all i ids le)) ∙ so_far)
 
 -- ids, where there are some
 pub some_listed : (ids : List ℕ) → (length ids == 0) ≡ false → ids_text ids ≡ listed_text ids

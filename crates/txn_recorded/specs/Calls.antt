@@ -69,7 +69,7 @@ module _ {T : Type 0} (text : T → List ℕ) where
   abbrev pub answer_text : AnyAnswer T → List ℕ
   answer_text (any_answers.Plain answer) = plain_answer_text answer
   answer_text (any_answers.View view id value) = codes "view" then decimal view then codes "at" then decimal id then text value
-  answer_text (any_answers.Held view id value epoch) = codes "holder" then decimal view then codes "at" then decimal id then text value ++ codes " epoch " ++ decimal epoch
+  answer_text (any_answers.Held view id value epoch) = codes "holder" then decimal view then codes "at" then decimal id then text value then codes "epoch" then decimal epoch
 
   -- a call that begins as the operation of this number
   abbrev pub begin_row_text : ℕ → AnyCall T → List ℕ

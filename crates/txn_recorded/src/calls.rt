@@ -70,10 +70,7 @@ fn plain_text<T: fmt::Display>(alloc: Global, call: &Call<T>) -> Result<String, 
 }
 
 /// A call that makes a view, or uses one.
-fn view_call_text<T: fmt::Display>(
-    alloc: Global,
-    call: &ViewCall<T>,
-) -> Result<String, AllocError>
+fn view_call_text<T: fmt::Display>(alloc: Global, call: &ViewCall<T>) -> Result<String, AllocError>
     ensures { (text : T → List ℕ) → Shows T.output text → IfOk result (λ words. string_bytes words ≡ view_call_text text call.now) }
 {
     match call {
