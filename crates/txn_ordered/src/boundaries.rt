@@ -50,7 +50,9 @@ fn was_refused(call: &Asked<'_>, error: StoreError) -> bool {
 }
 
 /// The first call of which nobody knows whether it took effect and which this holds of.
-fn loose<F: Fn(&Asked<'_>) -> bool>(calls: &[Asked<'_>], fates: &[Fate], is: F) -> Option<usize> {
+fn loose<F: Fn(&Asked<'_>) -> bool>(calls: &[Asked<'_>], fates: &[Fate], is: &F) -> Option<usize>
+    requires { F.IsAlwaysCallable is.now }
+{
     for place in 0..calls.len() {
         if !has_place(fates, place) && is(&calls[place]) {
             return Some(place);
@@ -100,7 +102,11 @@ impl Boundaries {
         if self.writers.contains_key(&number) {
             return Ok(());
         }
-        let place = loose(calls, fates.as_slice(), |call| call.raises() == Some(number));
+        let place = loose(
+            calls,
+            fates.as_slice(),
+            &|call| call.raises() == Some(number),
+        );
         self.land(fates, place, number, Some(token))
     }
 
@@ -123,7 +129,7 @@ impl Boundaries {
             if !self.writers.is_empty() {
                 return Ok(());
             }
-            loose(calls, fates.as_slice(), |call| creates(call))
+            loose(calls, fates.as_slice(), &|call| creates(call))
         } else if was_refused(call, StoreError::Precondition) {
             let Some(token) = expected(call) else {
                 return Ok(());
@@ -132,7 +138,11 @@ impl Boundaries {
             if self.has_above(number) {
                 return Ok(());
             }
-            loose(calls, fates.as_slice(), |call| expected(call) == Some(token))
+            loose(
+                calls,
+                fates.as_slice(),
+                &|call| expected(call) == Some(token),
+            )
         } else {
             return Ok(());
         };

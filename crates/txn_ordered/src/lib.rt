@@ -4,13 +4,12 @@
 //! The order is a proposal. No clause says that it is right: who replays it on an honest store sees whether it is.
 #![tactic(auto)]
 
-pub mod order;
-
 mod boundaries;
 mod calls;
 mod graph;
 mod landings;
 mod lives;
+pub mod order;
 mod precedence;
 mod removals;
 mod times;

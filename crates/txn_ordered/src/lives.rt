@@ -168,9 +168,10 @@ impl Lives {
         ids: &mut HashMap<u64, ()>,
     ) -> Result<(), AllocError> {
         for call in calls {
-            if let (Some(id), Some(Reply::Put(Err(StoreError::AlreadyExists)))) =
-                (call.creates(), call.reply)
-            {
+            if let (Some(id), Some(Reply::Put(Err(StoreError::AlreadyExists)))) = (
+                call.creates(),
+                call.reply,
+            ) {
                 if !ids.contains_key(&id) {
                     if let Some(place) = loose_maker(calls, fates.as_slice(), loose, id, None) {
                         land(fates, place, None);

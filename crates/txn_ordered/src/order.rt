@@ -147,7 +147,13 @@ pub fn order<T>(alloc: Global, recordings: &[Vec<Row<T>>]) -> Result<Vec<Placed>
     let boundaries = written(alloc, calls.as_slice(), &mut fates)?;
     let mut lives = lived(alloc, calls.as_slice(), &mut fates)?;
     let ids = ids(alloc, &lives)?;
-    let idle = remove(alloc, calls.as_slice(), &mut fates, &mut lives, ids.as_slice())?;
+    let idle = remove(
+        alloc,
+        calls.as_slice(),
+        &mut fates,
+        &mut lives,
+        ids.as_slice(),
+    )?;
     let raised = raised(alloc, &boundaries)?;
     let times = times(alloc, calls.as_slice(), fates.as_slice())?;
     let mut graph = Graph::new(alloc, calls.len().saturating_add(times.len()))?;
@@ -160,12 +166,23 @@ pub fn order<T>(alloc: Global, recordings: &[Vec<Row<T>>]) -> Result<Vec<Placed>
         boundaries: &boundaries,
     };
     precedence.link(alloc, &mut graph, idle.as_slice())?;
-    link_times(&mut graph, calls.as_slice(), fates.as_slice(), times.as_slice())?;
+    link_times(
+        &mut graph,
+        calls.as_slice(),
+        fates.as_slice(),
+        times.as_slice(),
+    )?;
     let keys = keys(alloc, calls.as_slice(), times.len())?;
     let nodes = graph.sort(alloc, keys.as_slice())?;
     if nodes.len() < keys.len() {
         return Err(circle(alloc, &graph, calls.as_slice())?);
     }
     let known = greatest_token(&lives, &boundaries);
-    Ok(in_order(alloc, calls.as_slice(), fates.as_slice(), nodes.as_slice(), known)?)
+    Ok(in_order(
+        alloc,
+        calls.as_slice(),
+        fates.as_slice(),
+        nodes.as_slice(),
+        known,
+    )?)
 }

@@ -67,9 +67,10 @@ fn unseen(alloc: Global, calls: &[Asked<'_>], ids: &[u64]) -> Result<Vec<Concern
     let mut unseen = Vec::new(alloc);
     for place in 0..calls.len() {
         let call = &calls[place];
-        if let (Request::Get { path, .. }, Some(Reply::Get(Err(StoreError::NotFound)))) =
-            (call.request, call.reply)
-        {
+        if let (Request::Get { path, .. }, Some(Reply::Get(Err(StoreError::NotFound)))) = (
+            call.request,
+            call.reply,
+        ) {
             if let Some(id) = version_of(path) {
                 unseen.push((id, place))?;
             }
@@ -198,6 +199,34 @@ impl Deletes {
         }
     }
 
+    /// Finds what removed the life at a place.
+    fn end_life(
+        &mut self,
+        calls: &[Asked<'_>],
+        fates: &mut Vec<Fate>,
+        lives: &mut Lives,
+        unseen: &[Concern],
+        place: usize,
+    ) {
+        let Some(life) = lives.lives.get(place).copied() else {
+            return;
+        };
+        let next = lives.at(place.saturating_add(1), life.id);
+        let ended = ended(calls, &life, next, unseen);
+        let Some(at) = self.remover(calls, fates.as_slice(), &life, next, ended) else {
+            return;
+        };
+        if let Some(taken) = self.taken.get_mut(at) {
+            *taken = true;
+        }
+        if fate_of(fates.as_slice(), at) == Fate::Unknown {
+            land(fates, at, None);
+        }
+        if let Some(life) = lives.lives.get_mut(place) {
+            life.removed_by = Some(at);
+        }
+    }
+
     /// The deletes that were answered and removed nothing.
     fn idle(&self, alloc: Global, fates: &[Fate]) -> Result<Vec<Concern>, AllocError> {
         let mut idle = Vec::new(alloc);
@@ -224,20 +253,7 @@ pub(crate) fn remove(
         taken: vec![in alloc; false; calls.len()]?,
     };
     for place in 0..lives.lives.len() {
-        let life = lives.lives[place];
-        let next = lives.at(place.saturating_add(1), life.id);
-        let ended = ended(calls, &life, next, unseen.as_slice());
-        if let Some(at) = deletes.remover(calls, fates.as_slice(), &life, next, ended) {
-            if let Some(taken) = deletes.taken.get_mut(at) {
-                *taken = true;
-            }
-            if fate_of(fates.as_slice(), at) == Fate::Unknown {
-                land(fates, at, None);
-            }
-            if let Some(life) = lives.lives.get_mut(place) {
-                life.removed_by = Some(at);
-            }
-        }
+        deletes.end_life(calls, fates, lives, unseen.as_slice(), place);
     }
     deletes.idle(alloc, fates.as_slice())
 }

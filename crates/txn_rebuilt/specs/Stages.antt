@@ -1,5 +1,5 @@
 -- Words of private contracts: what is known of a client between two rows of its recording.
-use Rattle.std.specs.Prelude.{◌≡◌, ⊥, ℕ, List, [], ◌∷◌, ◌++◌, Option, Some, None, string_bytes}
+use Rattle.std.specs.Prelude.{◌≡◌, ℕ, List, [], ◌∷◌, ◌++◌, Option, Some, None, string_bytes}
 use Rattle.txn_history.specs.declared.event.ToldOf.TheVariants as told
 use Rattle.txn_view_history.specs.Trace.{AnyTold}
 use Rattle.txn_view_history.specs.declared.event.AnyAnswer.{AnyAnswer}

@@ -11,7 +11,7 @@ use Rattle.txn_journals.specs.declared.rows.Step.TheVariants as steps
 use Rattle.txn_journals.specs.declared.rows.JournalRow.{JournalRow}
 use Rattle.txn_diary.specs.Reading.{op_of, begun_by}
 use Rattle.txn_recorded.specs.declared.row.Row.{Row}
-use Rattle.txn_recorded.specs.declared.row.Row.TheVariants as rows
+use Rattle.txn_recorded.specs.declared.row.Row.TheVariants as kinds
 
 -- One thing that is told of an operation, which has this number: it began with this call, it asked the store this, it had this reply, its store call failed, its client gave it up, or it was answered, in these words.
 pub data Told (T : Type 0) : Type 0 where
@@ -25,13 +25,13 @@ pub data Told (T : Type 0) : Type 0 where
 module _ {T : Type 0} where
   -- what a row of a recording tells; times aside
   abbrev pub row_tells : Row T → List (Told T)
-  row_tells (rows.Client client page) = []
-  row_tells (rows.Begin op call) = Began op call ∷ []
-  row_tells (rows.Ask op at request) = Asked op request ∷ []
-  row_tells (rows.Reply op at reply) = Replied op reply ∷ []
-  row_tells (rows.Failed op at) = Failed op ∷ []
-  row_tells (rows.GiveUp op) = GaveUp op ∷ []
-  row_tells (rows.Answer op words) = Answered op (string_bytes words) ∷ []
+  row_tells (kinds.Client client page) = []
+  row_tells (kinds.Begin op call) = Began op call ∷ []
+  row_tells (kinds.Ask op at request) = Asked op request ∷ []
+  row_tells (kinds.Reply op at reply) = Replied op reply ∷ []
+  row_tells (kinds.Failed op at) = Failed op ∷ []
+  row_tells (kinds.GiveUp op) = GaveUp op ∷ []
+  row_tells (kinds.Answer op words) = Answered op (string_bytes words) ∷ []
 
   -- what a recording tells
   abbrev pub recording_tells : List (Row T) → List (Told T)

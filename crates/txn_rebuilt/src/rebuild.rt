@@ -2,7 +2,7 @@
 ghost use Rattle.std.specs.Prelude.{◌≡◌, ◌≤◌, ℕ, List, Some, IfOk, OnOk, slice_get, drop};
 ghost use Rattle.txn_types.specs.Clones.{IsExactClone};
 ghost use Rattle.txn_recorded.specs.Calls.{Shows, answer_text};
-ghost use Rattle.txn_recorded.specs.declared.row.Row.TheVariants as rows;
+ghost use Rattle.txn_recorded.specs.declared.row.Row.TheVariants as kinds;
 ghost use Rattle.txn_rebuilt.specs.Told.{recording_tells, journal_tells, TellsSame};
 ghost use Rattle.txn_rebuilt.specs.Stages.{Goes, IsSameClient, IsOpened};
 
@@ -17,7 +17,7 @@ use txn_types::epoch::EpochField;
 
 /// The client that the first row names, at least 1, with this page.
 fn client_of<T>(rows: &[Row<T>], page: u64) -> Result<u64, RowFault>
-    ensures client { IfOk result (λ client. slice_get rows.now 0 ≡ Some (rows.Client client page)) }
+    ensures client { IfOk result (λ client. slice_get rows.now 0 ≡ Some (kinds.Client client page)) }
     ensures some { IfOk result (λ client. 1 ≤ client) }
 {
     match rows.first() {
@@ -78,7 +78,7 @@ pub fn rebuild<T: Clone + fmt::Display + Drop, C: ObjectCodec<T> + Drop, E: Epoc
     requires exact { IsExactClone T.is_clone }
     requires paged { 1 ≤ page }
     // The client is the one that the first row names, with this page.
-    ensures client { IfOk result (λ diary. slice_get rows.now 0 ≡ Some (rows.Client diary.client page)) }
+    ensures client { IfOk result (λ diary. slice_get rows.now 0 ≡ Some (kinds.Client diary.client page)) }
     ensures page { IfOk result (λ diary. diary.page ≡ page) }
     ensures codec { IfOk result (λ diary. diary.codec ≡ codec) }
     ensures epochs { IfOk result (λ diary. diary.epochs ≡ epochs) }

@@ -1,5 +1,5 @@
 -- What an audit of recordings promises where it agrees. All lists have the oldest first.
-use Rattle.std.specs.Prelude.{◌≡◌, ◌≤◌, ⊥, ℕ, List, [], ◌∷◌, Option, Some, Ok, reverse, slice_get}
+use Rattle.std.specs.Prelude.{◌≡◌, ◌≤◌, ℕ, List, [], ◌∷◌, Option, Some, Ok, reverse, slice_get}
 use Rattle.std.specs.Vec.{Vec}
 use Rattle.txn_store.specs.Store.{State as StoreState}
 use Rattle.txn_journals.specs.declared.rows.LogRow.{LogRow}
@@ -9,7 +9,7 @@ use Rattle.txn_journals.specs.Shares.{AreDiaries, ShareOnlyTheStore}
 use Rattle.txn_diary.specs.Diaries.{DiaryState}
 use Rattle.txn_recorded.specs.Calls.{Shows, answer_text}
 use Rattle.txn_recorded.specs.declared.row.Row.{Row}
-use Rattle.txn_recorded.specs.declared.row.Row.TheVariants as rows
+use Rattle.txn_recorded.specs.declared.row.Row.TheVariants as kinds
 use Rattle.txn_rebuilt.specs.Told.{TellsSame, recording_tells, journal_tells}
 
 -- a client with its journal, as an audit sees it
@@ -19,7 +19,7 @@ as_diary d = record { client = d.client; rows = d.rows; part = d.part }
 module _ {T : Type 0} (page : ℕ) (output : T → Option (List ℕ)) where
   -- A diary is that of a recording: its client is the one that the recording's first row names, with this page, and its journal tells what the recording tells.
   pub record IsOf (rows : List (Row T)) (d : Diary T) : Type 0 where
-    pub client : slice_get rows 0 ≡ Some (rows.Client d.client page)
+    pub client : slice_get rows 0 ≡ Some (kinds.Client d.client page)
     pub tells : (text : T → List ℕ) → Shows output text → TellsSame (recording_tells rows) (journal_tells (answer_text text) 0 d.rows)
 
   -- the diaries are those of the recordings, one by one
