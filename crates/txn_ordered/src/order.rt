@@ -1,0 +1,188 @@
+//! The order of the recorded calls of a store.
+
+use crate::boundaries::{Boundaries, written};
+use crate::calls::{Asked, calls};
+use crate::graph::Graph;
+use crate::landings::{Fate, fate_of, fates};
+use crate::lives::{Lives, lived};
+use crate::precedence::{Precedence, raised};
+use crate::removals::{ids, remove};
+use crate::times::{link_times, times};
+use std::alloc::{AllocError, AllocFailed, Global};
+use txn_recorded::row::Row;
+use txn_store::request::{Reply, Request};
+use txn_store::store::Token;
+
+/// A recorded call: which recording has it, and which row of that asks. Both are counted from 0.
+#[derive(Clone, Copy, Debug, PartialEq, Eq)]
+pub struct CallPlace {
+    pub recording: usize,
+    pub row: usize,
+}
+
+/// One call in the order.
+#[derive(Drop)]
+pub struct Placed {
+    pub call: CallPlace,
+    /// What the store replied where nobody saw a reply, and the call took effect all the same.
+    pub landed: Option<Reply>,
+}
+
+/// Why there is no order.
+#[derive(Debug, Drop)]
+pub enum OrderFault {
+    /// These calls wait for each other: each came before the one behind it, and the last before the first.
+    Circle(Vec<CallPlace>),
+    /// A growth was refused.
+    NoMemory,
+}
+
+impl From<AllocError> for OrderFault {
+    fn from(_e: AllocError) -> OrderFault {
+        OrderFault::NoMemory
+    }
+}
+
+impl<T: Drop> From<AllocFailed<T>> for OrderFault {
+    fn from(_e: AllocFailed<T>) -> OrderFault {
+        OrderFault::NoMemory
+    }
+}
+
+/// The keys by which calls come first that could come next: when they were asked. Times come at once.
+fn keys(alloc: Global, calls: &[Asked<'_>], times: usize) -> Result<Vec<u64>, AllocError> {
+    let mut keys = Vec::new(alloc);
+    for call in calls {
+        keys.push(call.from)?;
+    }
+    for _ in 0..times {
+        keys.push(0)?;
+    }
+    Ok(keys)
+}
+
+/// The calls of a circle.
+fn circle(alloc: Global, graph: &Graph, calls: &[Asked<'_>]) -> Result<OrderFault, AllocError> {
+    let mut circle = Vec::new(alloc);
+    let nodes = graph.circle(alloc)?;
+    for node in nodes.as_slice() {
+        if let Some(call) = calls.get(*node) {
+            circle.push(CallPlace {
+                recording: call.recording,
+                row: call.row,
+            })?;
+        }
+    }
+    Ok(OrderFault::Circle(circle))
+}
+
+/// The greatest token that any reply told.
+fn greatest_token(lives: &Lives, boundaries: &Boundaries) -> u64 {
+    let mut greatest = 0u64;
+    for token in lives.of_token.keys() {
+        greatest = greatest.max(*token);
+    }
+    for token in boundaries.of_token.keys() {
+        greatest = greatest.max(*token);
+    }
+    greatest
+}
+
+/// What the store replied to a call that landed, and the greatest token then.
+fn landing(request: &Request, token: Option<u64>, greatest: u64) -> (Reply, u64) {
+    match (request, token) {
+        (Request::Put { .. }, Some(token)) => (Reply::Put(Ok(Token::new(token))), greatest),
+        (Request::Put { .. }, None) => {
+            let fresh = greatest.saturating_add(1);
+            (Reply::Put(Ok(Token::new(fresh))), fresh)
+        }
+        _ => (Reply::Delete(Ok(())), greatest),
+    }
+}
+
+/// The calls that have a place, in the order of their nodes.
+fn in_order(
+    alloc: Global,
+    calls: &[Asked<'_>],
+    fates: &[Fate],
+    nodes: &[usize],
+    known: u64,
+) -> Result<Vec<Placed>, AllocError> {
+    let mut greatest = known;
+    let mut order = Vec::new(alloc);
+    for node in nodes {
+        if let Some(asked) = calls.get(*node) {
+            let call = CallPlace {
+                recording: asked.recording,
+                row: asked.row,
+            };
+            match fate_of(fates, *node) {
+                Fate::Answered => order.push(Placed { call, landed: None })?,
+                Fate::Unknown => {}
+                Fate::Landed(token) => {
+                    let (reply, now) = landing(asked.request, token, greatest);
+                    greatest = now;
+                    order.push(Placed {
+                        call,
+                        landed: Some(reply),
+                    })?;
+                }
+            }
+        }
+    }
+    Ok(order)
+}
+
+/// An order of the calls in these recordings, each a list of rows, by what the replies show and by the times. A call whose reply
+/// nobody saw has a place where a reply shows that it took effect, and none elsewhere. It takes time by the number of calls, but
+/// for listings, which it holds against all versions.
+///
+/// # Errors
+///
+/// `Circle` where calls wait for each other, so that no order explains all replies and times; `NoMemory` where a growth was
+/// refused.
+pub fn order<T>(alloc: Global, recordings: &[Vec<Row<T>>]) -> Result<Vec<Placed>, OrderFault> {
+    let calls = calls(alloc, recordings)?;
+    let mut fates = fates(alloc, calls.as_slice())?;
+    let boundaries = written(alloc, calls.as_slice(), &mut fates)?;
+    let mut lives = lived(alloc, calls.as_slice(), &mut fates)?;
+    let ids = ids(alloc, &lives)?;
+    let idle = remove(
+        alloc,
+        calls.as_slice(),
+        &mut fates,
+        &mut lives,
+        ids.as_slice(),
+    )?;
+    let raised = raised(alloc, &boundaries)?;
+    let times = times(alloc, calls.as_slice(), fates.as_slice())?;
+    let mut graph = Graph::new(alloc, calls.len().saturating_add(times.len()))?;
+    let precedence = Precedence {
+        calls: calls.as_slice(),
+        fates: fates.as_slice(),
+        lives: &lives,
+        ids: ids.as_slice(),
+        raised: raised.as_slice(),
+        boundaries: &boundaries,
+    };
+    precedence.link(alloc, &mut graph, idle.as_slice())?;
+    link_times(
+        &mut graph,
+        calls.as_slice(),
+        fates.as_slice(),
+        times.as_slice(),
+    )?;
+    let keys = keys(alloc, calls.as_slice(), times.len())?;
+    let nodes = graph.sort(alloc, keys.as_slice())?;
+    if nodes.len() < keys.len() {
+        return Err(circle(alloc, &graph, calls.as_slice())?);
+    }
+    let known = greatest_token(&lives, &boundaries);
+    Ok(in_order(
+        alloc,
+        calls.as_slice(),
+        fates.as_slice(),
+        nodes.as_slice(),
+        known,
+    )?)
+}

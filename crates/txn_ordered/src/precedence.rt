@@ -1,0 +1,333 @@
+//! Which call came before which, by what the replies show.
+
+use crate::boundaries::Boundaries;
+use crate::calls::{Asked, Name, name_of, number_in, version_of};
+use crate::graph::Graph;
+use crate::landings::{Fate, has_place};
+use crate::lives::{Life, Lives};
+use crate::removals::{Concern, missing};
+use std::alloc::{AllocError, Global};
+use txn_store::path::Path;
+use txn_store::request::{Reply, Request};
+use txn_store::store::{PutMode, StoreError, Token};
+
+/// What the edges are made of.
+#[derive(Drop)]
+pub(crate) struct Precedence<'a> {
+    pub calls: &'a [Asked<'a>],
+    pub fates: &'a [Fate],
+    pub lives: &'a Lives,
+    pub ids: &'a [u64],
+    /// The boundaries that were written, ascending, each with its call.
+    pub raised: &'a [(u64, usize)],
+    pub boundaries: &'a Boundaries,
+}
+
+/// The boundaries that were written, ascending, each with the call that wrote it.
+pub(crate) fn raised(
+    alloc: Global,
+    boundaries: &Boundaries,
+) -> Result<Vec<(u64, usize)>, AllocError> {
+    let mut raised = Vec::new(alloc);
+    for (number, call) in boundaries.writers.iter() {
+        raised.push((*number, *call))?;
+    }
+    Ok(raised)
+}
+
+impl<'a> Precedence<'a> {
+    /// The call that wrote a boundary.
+    fn writer(&self, number: u64) -> Option<usize> {
+        self.boundaries.writers.get(&number).copied()
+    }
+
+    /// The call that wrote the boundary after this one.
+    fn writer_after(&self, number: u64) -> Option<usize> {
+        let place = self.raised.partition_point(|raised| raised.0 <= number);
+        match self.raised.get(place) {
+            Some((_, call)) => Some(*call),
+            None => None,
+        }
+    }
+
+    /// The call that wrote the first boundary.
+    fn first_writer(&self) -> Option<usize> {
+        match self.raised.first() {
+            Some((_, call)) => Some(*call),
+            None => None,
+        }
+    }
+
+    /// When a call was asked, and when its reply was there.
+    fn times(&self, call: usize) -> (u64, u64) {
+        match self.calls.get(call) {
+            Some(call) => (call.from, call.until),
+            None => (0, u64::MAX),
+        }
+    }
+
+    /// The boundaries rise.
+    fn rises(&self, graph: &mut Graph) -> Result<(), AllocError> {
+        let mut last = None;
+        for (_, call) in self.raised {
+            graph.edge(last, Some(*call))?;
+            last = Some(*call);
+        }
+        Ok(())
+    }
+
+    /// A life is made, removed, and then made again; and a version is made on the one before it.
+    fn lives(&self, graph: &mut Graph) -> Result<(), AllocError> {
+        let lives = self.lives.lives.as_slice();
+        let mut first: Option<Life> = None;
+        for place in 0..lives.len() {
+            let life = lives[place];
+            graph.edge(Some(life.made_by), life.removed_by)?;
+            if let Some(next) = self.lives.at(place.saturating_add(1), life.id) {
+                graph.edge(life.removed_by, Some(next.made_by))?;
+            }
+            if let Some(before) = first {
+                if before.id == life.id {
+                    continue;
+                }
+                if before.id.saturating_add(1) == life.id {
+                    graph.edge(Some(before.made_by), Some(life.made_by))?;
+                }
+            }
+            first = Some(life);
+        }
+        Ok(())
+    }
+
+    /// Whether a call may stand between the removal of a life and the next making.
+    fn may_stand(&self, call: &Asked<'_>, removed: Option<usize>, made: Option<Life>) -> bool {
+        let late = match removed {
+            Some(removed) => call.until > self.times(removed).0,
+            None => true,
+        };
+        let early = match made {
+            Some(life) => call.from < life.until,
+            None => true,
+        };
+        late && early
+    }
+
+    /// A call did not see a version, which was made before where that is known: it stands before the first making, or between
+    /// a removal and the next making.
+    fn absent(
+        &self,
+        graph: &mut Graph,
+        at: usize,
+        call: &Asked<'_>,
+        id: u64,
+        made: bool,
+    ) -> Result<(), AllocError> {
+        let (start, end) = self.lives.of(id);
+        let mut removed = None;
+        let mut fallback = None;
+        for place in start..end {
+            let Some(life) = self.lives.at(place, id) else {
+                return Ok(());
+            };
+            if place == start || removed.is_some() {
+                if self.may_stand(call, removed, Some(life)) && !(made && removed.is_none()) {
+                    graph.edge(removed, Some(at))?;
+                    return graph.edge(Some(at), Some(life.made_by));
+                }
+                if fallback.is_none() {
+                    fallback = Some((removed, life.made_by));
+                }
+            }
+            removed = life.removed_by;
+        }
+        if removed.is_some() && self.may_stand(call, removed, None) {
+            return graph.edge(removed, Some(at));
+        }
+        if let Some((removed, made)) = fallback {
+            graph.edge(removed, Some(at))?;
+            graph.edge(Some(at), Some(made))?;
+        }
+        Ok(())
+    }
+
+    /// A call saw that a version was there.
+    fn present(
+        &self,
+        graph: &mut Graph,
+        at: usize,
+        call: &Asked<'_>,
+        id: u64,
+    ) -> Result<(), AllocError> {
+        let (start, end) = self.lives.of(id);
+        let mut fallback = None;
+        for place in start..end {
+            let Some(life) = self.lives.at(place, id) else {
+                return Ok(());
+            };
+            let early = match life.removed_by {
+                Some(removed) => call.from < self.times(removed).1,
+                None => true,
+            };
+            if call.until > life.from && early {
+                return self.saw(graph, at, Some(life));
+            }
+            if fallback.is_none() {
+                fallback = Some(life);
+            }
+        }
+        self.saw(graph, at, fallback)
+    }
+
+    /// A call saw this life.
+    fn saw(&self, graph: &mut Graph, at: usize, life: Option<Life>) -> Result<(), AllocError> {
+        if let Some(life) = life {
+            graph.edge(Some(life.made_by), Some(at))?;
+            graph.edge(Some(at), life.removed_by)?;
+        }
+        Ok(())
+    }
+
+    /// A call saw this boundary.
+    fn saw_boundary(&self, graph: &mut Graph, at: usize, number: u64) -> Result<(), AllocError> {
+        graph.edge(self.writer(number), Some(at))?;
+        graph.edge(Some(at), self.writer_after(number))
+    }
+
+    /// The boundary of a token.
+    fn number_of(&self, token: Token) -> Option<u64> {
+        self.boundaries.of_token.get(&token.number()).copied()
+    }
+
+    /// What a get shows.
+    fn get(
+        &self,
+        graph: &mut Graph,
+        at: usize,
+        call: &Asked<'_>,
+        path: &Path,
+        known: Option<Token>,
+    ) -> Result<(), AllocError> {
+        match (name_of(path), call.reply) {
+            (Name::Version(_), Some(Reply::Get(Ok(got)))) => {
+                self.saw(graph, at, self.lives.with_token(got.token.number()))
+            }
+            (Name::Version(id), Some(Reply::Get(Err(StoreError::NotFound)))) => {
+                self.absent(graph, at, call, id, false)
+            }
+            (Name::Boundary, Some(Reply::Get(Ok(got)))) => match number_in(&got.bytes) {
+                Some(number) => self.saw_boundary(graph, at, number),
+                None => Ok(()),
+            },
+            (Name::Boundary, Some(Reply::Get(Err(StoreError::NotModified)))) => match known {
+                Some(token) => match self.number_of(token) {
+                    Some(number) => self.saw_boundary(graph, at, number),
+                    None => Ok(()),
+                },
+                None => Ok(()),
+            },
+            (Name::Boundary, Some(Reply::Get(Err(StoreError::NotFound)))) => {
+                graph.edge(Some(at), self.first_writer())
+            }
+            _ => Ok(()),
+        }
+    }
+
+    /// What a put shows that was refused, or that wrote over another.
+    fn put(
+        &self,
+        graph: &mut Graph,
+        at: usize,
+        call: &Asked<'_>,
+        path: &Path,
+        mode: PutMode,
+    ) -> Result<(), AllocError> {
+        match (name_of(path), mode, call.reply) {
+            (Name::Version(id), _, Some(Reply::Put(Err(StoreError::AlreadyExists)))) => {
+                self.present(graph, at, call, id)
+            }
+            (Name::Boundary, _, Some(Reply::Put(Err(StoreError::AlreadyExists)))) => {
+                graph.edge(self.first_writer(), Some(at))
+            }
+            (Name::Boundary, PutMode::Update(token), Some(Reply::Put(Ok(_)))) => {
+                match self.number_of(token) {
+                    Some(number) => graph.edge(self.writer(number), Some(at)),
+                    None => Ok(()),
+                }
+            }
+            (
+                Name::Boundary,
+                PutMode::Update(token),
+                Some(Reply::Put(Err(StoreError::Precondition))),
+            ) => match self.number_of(token) {
+                Some(number) => graph.edge(self.writer_after(number), Some(at)),
+                None => Ok(()),
+            },
+            _ => Ok(()),
+        }
+    }
+
+    /// What a listing shows.
+    fn list(
+        &self,
+        alloc: Global,
+        graph: &mut Graph,
+        at: usize,
+        call: &Asked<'_>,
+    ) -> Result<(), AllocError> {
+        if let Some(Reply::List(Ok(page))) = call.reply {
+            for meta in page.metas.as_slice() {
+                if version_of(&meta.location).is_some() {
+                    self.saw(graph, at, self.lives.with_token(meta.token.number()))?;
+                }
+            }
+            let missing = missing(alloc, call, self.ids)?;
+            for (id, below) in missing.as_slice() {
+                self.absent(graph, at, call, *id, *below)?;
+            }
+        }
+        Ok(())
+    }
+
+    /// What a call shows.
+    fn call(
+        &self,
+        alloc: Global,
+        graph: &mut Graph,
+        at: usize,
+        call: &Asked<'_>,
+    ) -> Result<(), AllocError> {
+        match call.request {
+            Request::Get {
+                path,
+                if_none_match,
+            } => self.get(graph, at, call, path, *if_none_match),
+            Request::Put { path, mode, .. } => self.put(graph, at, call, path, *mode),
+            Request::List { .. } => self.list(alloc, graph, at, call),
+            Request::Delete { .. } => Ok(()),
+        }
+    }
+
+    /// Adds all edges that replies show.
+    pub fn link(
+        &self,
+        alloc: Global,
+        graph: &mut Graph,
+        idle: &[Concern],
+    ) -> Result<(), AllocError> {
+        self.rises(graph)?;
+        self.lives(graph)?;
+        for (id, at) in idle {
+            if let Some(call) = self.calls.get(*at) {
+                self.absent(graph, *at, call, *id, false)?;
+            }
+        }
+        for at in 0..self.calls.len() {
+            let call = &self.calls[at];
+            if has_place(self.fates, at) {
+                graph.edge(call.before, Some(at))?;
+                self.call(alloc, graph, at, call)?;
+            }
+        }
+        Ok(())
+    }
+}

@@ -1,0 +1,87 @@
+-- A journal with one row more, and what is then known of its client.
+use Rattle.std.proofs.Common.{◌≡◌, ℕ, ◌+◌, List, [], ◌∷◌, ◌++◌, true, false, Option, Some, None, string_bytes, refl, sym, ◌∙◌, ap, subst}
+use Rattle.std.proofs.lemmas.List.{append_assoc, append-nil}
+use Rattle.txn_view_history.specs.declared.event.AnyCall.{AnyCall}
+use Rattle.txn_view_history.specs.declared.event.AnyAnswer.{AnyAnswer}
+use Rattle.txn_journals.specs.declared.rows.Act.{Act}
+use Rattle.txn_journals.specs.declared.rows.Step.{Step}
+use Rattle.txn_journals.specs.declared.rows.Step.TheVariants as steps
+use Rattle.txn_journals.specs.declared.rows.JournalRow.{JournalRow}
+use Rattle.txn_journals.specs.Parts.{Part}
+use Rattle.txn_journals.specs.Journals.{goes_on, Follows}
+use Rattle.txn_diary.specs.Reading.{op_of, begun_by}
+use Rattle.txn_recorded.specs.Calls.{answer_text}
+use Rattle.txn_rebuilt.specs.declared.stage.Stage.{Stage}
+use Rattle.txn_rebuilt.specs.declared.stage.Stage.TheVariants as stages
+use Rattle.txn_rebuilt.specs.Told.{Told, Began, Asked, Answered, act_tells, answer_tells, entry_tells, journal_tells, TellsSame, Whole, EndsAsking, LacksAnswer}
+use Rattle.txn_rebuilt.specs.Stages.{all_begun, IsAt, Stands, IsStageOf}
+
+module _ {T : Type 0} where
+  -- what a journal with one row more tells
+  pub tells_more : (text : AnyAnswer T → List ℕ) (begun : ℕ) (rows : List (JournalRow T)) (row : JournalRow T) → journal_tells text begun (rows ++ row ∷ []) ≡ journal_tells text begun rows ++ entry_tells text (all_begun begun rows) row
+  tells_more text begun [] row = append-nil (entry_tells text begun row)
+  tells_more text begun (r ∷ rows) row =
+      ap (λ xs. entry_tells text begun r ++ xs) (tells_more text (begun_by begun r.step) rows row)
+      ∙ sym (append_assoc (entry_tells text begun r) (journal_tells text (begun_by begun r.step) rows) (entry_tells text (all_begun (begun_by begun r.step) rows) row))
+
+  -- how many operations began with it
+  pub begun_more : (begun : ℕ) (rows : List (JournalRow T)) (row : JournalRow T) → all_begun begun (rows ++ row ∷ []) ≡ begun_by (all_begun begun rows) row.step
+  begun_more begun [] row = refl
+  begun_more begun (r ∷ rows) row = begun_more (begun_by begun r.step) rows row
+
+  -- the stage that comes with an answer, by what was told before it
+  at_stage : (text : AnyAnswer T → List ℕ) (op : ℕ) (recorded journaled before more : List (Told T)) (answer : Option (AnyAnswer T)) (stage : Stage) → recorded ≡ before ++ more → journaled ≡ before ++ (more ++ answer_tells text op answer) → IsStageOf text answer stage → IsAt op recorded journaled stage
+  at_stage text op recorded journaled before more None stage r j is =
+      subst (IsAt op recorded journaled) (sym is) (r ∙ (ap (λ xs. before ++ xs) (sym (append-nil more)) ∙ sym j))
+  at_stage text op recorded journaled before more (Some answer) (stages.Answers words) r j is =
+      ap (λ xs. xs ++ Answered op (string_bytes words) ∷ []) r ∙ (append_assoc before more (Answered op (string_bytes words) ∷ []) ∙ (ap (λ w. before ++ (more ++ Answered op w ∷ [])) is ∙ sym j))
+
+  -- An operation acts, and is answered or not.
+  pub acted : (text : T → List ℕ) (rows next : List (JournalRow T)) (begun : ℕ) (act : Act) (answer : Option (AnyAnswer T)) (recorded : List (Told T)) (stage : Stage) → next ≡ rows ++ record { step = steps.Act begun act; answer = answer } ∷ [] → all_begun 0 rows ≡ begun → recorded ≡ journal_tells (answer_text text) 0 rows ++ act_tells begun act → IsStageOf (answer_text text) answer stage → Stands text recorded next begun stage
+  acted text rows next begun act answer recorded stage adds count tells is =
+      let words = answer_text text in
+      let row : JournalRow T = record { step = steps.Act begun act; answer = answer } in (
+        ap (all_begun 0) adds ∙ (begun_more 0 rows row ∙ count),
+        at_stage words begun recorded (journal_tells words 0 next) (journal_tells words 0 rows) (act_tells begun act) answer stage tells (ap (journal_tells words 0) adds ∙ tells_more words 0 rows row) is,
+      )
+
+  -- A call begins, and is answered or not.
+  pub began : (text : T → List ℕ) (rows next : List (JournalRow T)) (begun op : ℕ) (call : AnyCall T) (answer : Option (AnyAnswer T)) (recorded : List (Told T)) (stage : Stage) → next ≡ rows ++ record { step = steps.Begin call; answer = answer } ∷ [] → all_begun 0 rows ≡ begun → op ≡ begun + 1 → recorded ≡ journal_tells (answer_text text) 0 rows → IsStageOf (answer_text text) answer stage → Stands text (recorded ++ Began op call ∷ []) next op stage
+  began text rows next begun op call answer recorded stage adds count number tells is =
+      let words = answer_text text in
+      let row : JournalRow T = record { step = steps.Begin call; answer = answer } in
+      let here : all_begun 0 rows + 1 ≡ op = ap (λ n. n + 1) count ∙ sym number in (
+        ap (all_begun 0) adds ∙ (begun_more 0 rows row ∙ here),
+        at_stage words op (recorded ++ Began op call ∷ []) (journal_tells words 0 next) (journal_tells words 0 rows) (Began op call ∷ []) answer stage (ap (λ xs. xs ++ Began op call ∷ []) tells)
+          (ap (journal_tells words 0) adds ∙ (tells_more words 0 rows row ∙ ap (λ n. journal_tells words 0 rows ++ ((Began n call ∷ []) ++ answer_tells words n answer)) here)) is,
+      )
+
+  -- a client that is killed tells nothing more
+  killed_adds : (text : AnyAnswer T → List ℕ) (rows next : List (JournalRow T)) (step : Step T) (answer : Option (AnyAnswer T)) → next ≡ rows ++ record { step = step; answer = answer } ∷ [] → goes_on step ≡ false → answer ≡ None → journal_tells text 0 next ≡ journal_tells text 0 rows
+  killed_adds text rows next (steps.Begin call) answer adds e none = cc
+  killed_adds text rows next (steps.Act op act) answer adds e none = cc
+  killed_adds text rows next (steps.Killed lefts) answer adds e none =
+      let row : Option (AnyAnswer T) → JournalRow T = λ a. record { step = steps.Killed lefts; answer = a } in
+      ap (journal_tells text 0) (adds ∙ ap (λ a. rows ++ row a ∷ []) none)
+      ∙ (tells_more text 0 rows (row None) ∙ append-nil (journal_tells text 0 rows))
+
+  -- at each stage a recording that ends tells what the journal tells
+  ended_at : (op : ℕ) (recorded journaled : List (Told T)) (stage : Stage) → IsAt op recorded journaled stage → TellsSame recorded journaled
+  ended_at op recorded journaled stages.Idle is = Whole is
+  ended_at op recorded journaled stages.Runs is = Whole is
+  ended_at op recorded journaled (stages.Asks request) is = EndsAsking op request.now is
+  ended_at op recorded journaled (stages.Answers words) is = LacksAnswer op (string_bytes words) is
+
+  pub ended : (text : T → List ℕ) (rows : List (JournalRow T)) (begun : ℕ) (recorded : List (Told T)) (stage : Stage) → Stands text recorded rows begun stage → TellsSame recorded (journal_tells (answer_text text) 0 rows)
+  ended text rows begun recorded stage stands = ended_at begun recorded (journal_tells (answer_text text) 0 rows) stage stands.1
+
+  pub killed_ended : (text : T → List ℕ) (rows next : List (JournalRow T)) (step : Step T) (answer : Option (AnyAnswer T)) (begun : ℕ) (recorded : List (Told T)) (stage : Stage) → next ≡ rows ++ record { step = step; answer = answer } ∷ [] → goes_on step ≡ false → answer ≡ None → Stands text recorded rows begun stage → TellsSame recorded (journal_tells (answer_text text) 0 next)
+  killed_ended text rows next step answer begun recorded stage adds e none stands =
+      subst (TellsSame recorded) (sym (killed_adds (answer_text text) rows next step answer adds e none)) (ended text rows begun recorded stage stands)
+
+module _ {T : Type 0} (page : ℕ) (encode : T → List ℕ) (decode : List ℕ → Option T) (get_epoch : T → ℕ) (set_epoch : T → ℕ → T) where
+  -- a kill answers nothing
+  pub killed_answer : (client : ℕ) (old new : Part T) (step : Step T) (answer : Option (AnyAnswer T)) → goes_on step ≡ false → Follows page encode decode get_epoch set_epoch client old step answer new → answer ≡ None
+  killed_answer client old new (steps.Begin call) answer e f = cc
+  killed_answer client old new (steps.Act op act) answer e f = cc
+  killed_answer client old new (steps.Killed lefts) answer e f = f.tells

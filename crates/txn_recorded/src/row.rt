@@ -1,0 +1,24 @@
+//! The rows of a recording.
+
+use txn_store::request::{Reply, Request};
+use txn_view_history::event::AnyCall;
+
+/// One row of a client's recording. The client counts its operations from 1, in the order in which they begin, and has one at
+/// a time. Times are nanoseconds of one clock, which all clients of a machine read.
+#[derive(Drop)]
+pub enum Row<T> {
+    /// The recording is of the client of this number, at least 1, whose listings have pages of at most so many files, at least 1.
+    Client(u64, u64),
+    /// The client begins a call as its operation of this number.
+    Begin(u64, AnyCall<T>),
+    /// At this time the operation is about to ask the store.
+    Ask(u64, u64, Request),
+    /// At this time it has the store's reply.
+    Reply(u64, u64, Reply),
+    /// At this time its store call has failed, and nobody knows whether it took effect.
+    Failed(u64, u64),
+    /// The client gives the operation up.
+    GiveUp(u64),
+    /// The operation is answered, with the answer as it is printed.
+    Answer(u64, String),
+}

@@ -1,0 +1,147 @@
+//! The audit of recordings.
+ghost use Rattle.std.specs.Prelude.{◌≡◌, ◌≤◌, IfOk, map};
+ghost use Rattle.txn_types.specs.Clones.{IsExactClone};
+ghost use Rattle.txn_journals.specs.Shares.{AreDiaries};
+ghost use Rattle.txn_replayed.specs.OneHistory.{as_diary, IsOf, AreOf, IsOneHistoryOf};
+
+use crate::refusal::Refusal;
+use crate::replay::{places_of, replay};
+use std::alloc::Global;
+use std::fmt;
+use txn_audit::audit::audit;
+use txn_diary::diary::Diary;
+use txn_journals::audited::Logged;
+use txn_journals::laws::clients_share_only_the_store;
+use txn_logged::honest::HonestLog;
+use txn_ordered::order::{CallPlace, order};
+use txn_rebuilt::fault::RowFault;
+use txn_rebuilt::rebuild::rebuild;
+use txn_recorded::row::Row;
+use txn_types::codec::ObjectCodec;
+use txn_types::epoch::EpochField;
+
+/// What an audit that agrees found: the calls in an order that an honest store serves, and the clients' diaries.
+#[derive(Drop)]
+pub struct OneHistory<T: Clone, C: ObjectCodec<T> + Drop, E: EpochField<T>> {
+    pub log: HonestLog,
+    pub diaries: Vec<Diary<T, C, E>>,
+}
+
+/// The page that the first row of the first recording names, 1 where there is none.
+fn page_of<T>(recordings: &[Vec<Row<T>>]) -> u64
+    ensures { 1 ≤ result }
+{
+    let Some(rows) = recordings.first() else {
+        return 1;
+    };
+    match rows.first() {
+        Some(Row::Client(_, page)) if *page != 0 => *page,
+        _ => 1,
+    }
+}
+
+/// The place of a row that its client cannot have made, as a refusal.
+fn refusal_of(recording: usize, row: usize, fault: RowFault) -> Refusal {
+    match fault {
+        RowFault::NoMemory => Refusal::NoMemory,
+        fault => Refusal::Row(CallPlace { recording, row }, fault),
+    }
+}
+
+/// The diary of a recording whose page is this.
+fn diary_of<
+    T: Clone + fmt::Display + Drop,
+    C: ObjectCodec<T> + Copy + Drop,
+    E: EpochField<T> + Copy,
+>(
+    alloc: Global,
+    codec: C,
+    epochs: E,
+    page: u64,
+    recording: usize,
+    rows: &[Row<T>],
+    places: &[u64],
+) -> Result<Diary<T, C, E>, Refusal>
+    requires exact { IsExactClone T.is_clone }
+    requires paged { 1 ≤ page }
+    ensures of { IfOk result (λ diary. IsOf page T.output rows.now (as_diary diary)) }
+    ensures page { IfOk result (λ diary. diary.page ≡ page) }
+    ensures codec { IfOk result (λ diary. diary.codec ≡ codec) }
+    ensures epochs { IfOk result (λ diary. diary.epochs ≡ epochs) }
+{
+    match rebuild(alloc, codec, epochs, page, rows, places) {
+        Ok(diary) => Ok(diary),
+        Err((row, fault)) => Err(refusal_of(recording, row, fault)),
+    }
+}
+
+/// The places in the order of the replies of a recording.
+fn places_in(places: &[Vec<u64>], recording: usize) -> &[u64] {
+    match places.get(recording) {
+        Some(places) => places.as_slice(),
+        None => &[],
+    }
+}
+
+/// The diaries of recordings whose page is this, each recording's replies with these places in the order.
+fn diaries_of<
+    T: Clone + fmt::Display + Drop,
+    C: ObjectCodec<T> + Copy + Drop,
+    E: EpochField<T> + Copy,
+>(
+    alloc: Global,
+    codec: C,
+    epochs: E,
+    page: u64,
+    recordings: &[Vec<Row<T>>],
+    places: &[Vec<u64>],
+) -> Result<Vec<Diary<T, C, E>>, Refusal>
+    requires exact { IsExactClone T.is_clone }
+    requires paged { 1 ≤ page }
+    ensures told { IfOk result (λ diaries. AreOf page T.output (map (λ rows. rows.items) recordings.now) (map as_diary diaries.items)) }
+    ensures diaries { IfOk result (λ diaries. AreDiaries page (C.encoded codec) (C.decoded codec) (E.epoch_of epochs) (E.with_epoch epochs) (map as_diary diaries.items)) }
+{
+    let mut diaries = Vec::new(alloc);
+    for recording in 0..recordings.len() {
+        let rows = recordings[recording].as_slice();
+        let places = places_in(places, recording);
+        let diary = diary_of(alloc, codec, epochs, page, recording, rows, places)?;
+        let _ = diary.rows();
+        diaries.push(diary)?;
+    }
+    Ok(diaries)
+}
+
+/// Holds an order of the recorded calls on an honest store against the diaries made from the recordings.
+///
+/// Each recording is the rows of one client, from the first. Where this agrees, the recordings are one history: `IsOneHistoryOf`
+/// says so, and what follows of it.
+///
+/// # Errors
+///
+/// `Circle` where the calls have no order; `Row` for the first row of a recording that its client cannot have made;
+/// `Dishonest` for the first reply in the order that no honest store gave; `Differs` where the diaries and the log differ, as where
+/// two recordings are of one client; `NoMemory` where a growth was refused.
+pub fn audit_recordings<
+    T: Clone + fmt::Display + Drop,
+    C: ObjectCodec<T> + Copy + Drop,
+    E: EpochField<T> + Copy,
+>(
+    alloc: Global,
+    codec: C,
+    epochs: E,
+    recordings: &[Vec<Row<T>>],
+) -> Result<OneHistory<T, C, E>, Refusal>
+    requires { IsExactClone T.is_clone }
+    ensures { IfOk result (λ found. IsOneHistoryOf T.output (C.encoded codec) (C.decoded codec) (E.epoch_of epochs) (E.with_epoch epochs) (map (λ rows. rows.items) recordings.now) found.log (map as_diary found.diaries.items)) }
+{
+    let page = page_of(recordings);
+    let order = order(alloc, recordings)?;
+    let places = places_of(alloc, recordings.len(), order.as_slice())?;
+    let diaries = diaries_of(alloc, codec, epochs, page, recordings, places.as_slice())?;
+    let log = replay(alloc, recordings, order)?;
+    audit(&log, diaries.as_slice())?;
+    let _ = log.log();
+    clients_share_only_the_store::<T, C, E>(&codec, &epochs);
+    Ok(OneHistory { log, diaries })
+}

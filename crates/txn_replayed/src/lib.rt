@@ -1,0 +1,8 @@
+//! The audit of what clients of a real store recorded: their calls in an order that an honest store can have served, their
+//! diaries made once more from their recordings, and the two held against each other.
+#![tactic(auto)]
+
+pub mod audit;
+pub mod refusal;
+
+mod replay;
