@@ -1,10 +1,10 @@
 -- Rows that are added to rows, and what they tell.
-use Rattle.std.proofs.Common.{◌≡◌, ℕ, List, [], ◌∷◌, ◌++◌, All, refl, sym, ap, ◌∙◌, append_assoc, append-nil}
+use Rattle.std.proofs.Common.{◌≡◌, ℕ, List, [], ◌∷◌, ◌++◌, refl, sym, ap, subst, ◌∙◌, append_assoc, append-nil}
 use Rattle.txn_view_history.specs.declared.event.AnyAnswer.{AnyAnswer}
 use Rattle.txn_journals.specs.declared.rows.JournalRow.{JournalRow}
 use Rattle.txn_diary.specs.Diaries.{DiaryState}
 use Rattle.txn_diary.specs.Reading.{op_of, begun_by, with_answer, answers_from}
-use Rattle.txn_client.specs.Noted.{Noted, row_noted, noted_from, begun_with}
+use Rattle.txn_client.specs.Noted.{Noted, row_noted, noted_from, begun_with, HandsAll}
 use Rattle.txn_client.specs.Calling.{Does}
 use Rattle.txn_client.specs.Working.{Advances, IsFurther}
 
@@ -40,9 +40,15 @@ module _ {T C E : Type 0} where
   pub further_more : (a b c : DiaryState T C E) → IsFurther a b → IsFurther b c → IsFurther a c
   further_more a b c one two = (one.0 ++ two.0, does_more a b c one.0 two.0 one.1 two.1)
 
-  pub advances_more : (a b c : DiaryState T C E) (m n o : List (Noted T)) (i j k : ℕ) (xs ys : List (JournalRow T)) → Advances a m i xs b n j → Advances b n j ys c o k → Advances a m i (xs ++ ys) c o k
+module _ {T R : Type 0} (hands : R → Noted T → R → Type 0) where
+  pub hands_more : (a b c : R) (xs ys : List (Noted T)) → HandsAll hands a xs b → HandsAll hands b ys c → HandsAll hands a (xs ++ ys) c
+  hands_more a b c [] ys one two = subst (λ from. HandsAll hands from ys c) one two
+  hands_more a b c (x ∷ xs) ys one two = (one.0, one.1, hands_more one.0 b c xs ys one.2 two)
+
+module _ {T C E R : Type 0} (hands : R → Noted T → R → Type 0) where
+  pub advances_more : (a b c : DiaryState T C E) (m n o : R) (i j k : ℕ) (xs ys : List (JournalRow T)) → Advances hands a m i xs b n j → Advances hands b n j ys c o k → Advances hands a m i (xs ++ ys) c o k
   advances_more a b c m n o i j k xs ys one two = record {
     does = does_more a b c xs ys one.does two.does;
-    noted_is = two.noted_is ∙ (ap (λ (before : List (Noted T)). before ++ noted_from j ys) one.noted_is ∙ (append_assoc m (noted_from i xs) (noted_from j ys) ∙ ap (λ (rest : List (Noted T)). m ++ rest) (ap (λ at. noted_from i xs ++ noted_from at ys) one.begun_is ∙ sym (noted_added i xs ys))));
+    handed = subst (λ (notes : List (Noted T)). HandsAll hands m notes o) (ap (λ at. noted_from i xs ++ noted_from at ys) one.begun_is ∙ sym (noted_added i xs ys)) (hands_more hands m n o (noted_from i xs) (noted_from j ys) one.handed two.handed);
     begun_is = two.begun_is ∙ (ap (λ at. begun_with at ys) one.begun_is ∙ sym (begun_added i xs ys));
   }

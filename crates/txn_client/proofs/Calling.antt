@@ -32,11 +32,11 @@ module _ {T : Type 0} where
   ended None told h = cc
   ended (Some answer) told h = cc
 
-module _ {T C E : Type 0} where
+module _ {T C E R : Type 0} (hands : R → Noted T → R → Type 0) where
   -- a call that has begun
-  pub calls_first : (op : ℕ) (call : AnyCall T) (answer : Option (AnyAnswer T)) (old : DiaryState T C E) (noted : List (Noted T)) (begun : ℕ) (new : DiaryState T C E) (noted' : List (Noted T)) (begun' : ℕ)
-      → BeginsWith call answer old noted begun new noted' begun' → with_answer (begun + 1) answer ≡ with_answer op answer → CallsAs op call answer old noted begun new noted' begun'
-  calls_first op call answer old noted begun new noted' begun' b same = record {
+  pub calls_first : (op : ℕ) (call : AnyCall T) (answer : Option (AnyAnswer T)) (old : DiaryState T C E) (recorder : R) (begun : ℕ) (new : DiaryState T C E) (recorder' : R) (begun' : ℕ)
+      → BeginsWith hands call answer old recorder begun new recorder' begun' → with_answer (begun + 1) answer ≡ with_answer op answer → CallsAs hands op call answer old recorder begun new recorder' begun'
+  calls_first op call answer old recorder begun new recorder' begun' b same = record {
     rows = b.row ∷ [];
     is_call = record {
       first = b.row;
@@ -50,8 +50,8 @@ module _ {T C E : Type 0} where
   }
 
   -- a call with one act more
-  pub calls_more : (op : ℕ) (call : AnyCall T) (heard : Heard T) (answer : Option (AnyAnswer T)) (a b c : DiaryState T C E) (m n o : List (Noted T)) (i j k : ℕ)
-      → CallsAs op call None a m i b n j → (step : TakesStep op b n j heard c o k) → step.row.answer ≡ answer → CallsAs op call answer a m i c o k
+  pub calls_more : (op : ℕ) (call : AnyCall T) (heard : Heard T) (answer : Option (AnyAnswer T)) (a b c : DiaryState T C E) (m n o : R) (i j k : ℕ)
+      → CallsAs hands op call None a m i b n j → (step : TakesStep hands op b n j heard c o k) → step.row.answer ≡ answer → CallsAs hands op call answer a m i c o k
   calls_more op call heard answer a b c m n o i j k so step is = record {
     rows = so.rows ++ step.row ∷ [];
     is_call = record {
@@ -62,13 +62,13 @@ module _ {T C E : Type 0} where
       acts = All-push (λ row. IsActOf op row.step) so.is_call.turns step.row so.is_call.acts step.acts;
       answers_are = answers_added i so.rows (step.row ∷ []) ∙ (ap (λ (before : List (ℕ × AnyAnswer T)). before ++ answers_from (begun_with i so.rows) (step.row ∷ [])) so.is_call.answers_are ∙ (append-nil (with_answer (op_of (begun_with i so.rows) step.row.step) step.row.answer) ∙ (ap (λ at. with_answer at step.row.answer) (act_op (begun_with i so.rows) op step.row.step step.acts) ∙ ap (with_answer op) is)));
     };
-    advances = advances_more a b c m n o i j k so.rows (step.row ∷ []) so.advances step.advances;
+    advances = advances_more hands a b c m n o i j k so.rows (step.row ∷ []) so.advances step.advances;
   }
 
-  pub calls_on : (op : ℕ) (call : AnyCall T) (a b c : DiaryState T C E) (m n o : List (Noted T)) (i j k : ℕ)
-      → CallsAs op call None a m i b n j → TakesStep op b n j heards.Goes c o k → CallsAs op call None a m i c o k
+  pub calls_on : (op : ℕ) (call : AnyCall T) (a b c : DiaryState T C E) (m n o : R) (i j k : ℕ)
+      → CallsAs hands op call None a m i b n j → TakesStep hands op b n j heards.Goes c o k → CallsAs hands op call None a m i c o k
   calls_on op call a b c m n o i j k so step = calls_more op call heards.Goes None a b c m n o i j k so step (going step.row.answer (sym step.heard_is))
 
-  pub calls_end : (op : ℕ) (call : AnyCall T) (told : AnyAnswer T) (a b c : DiaryState T C E) (m n o : List (Noted T)) (i j k : ℕ)
-      → CallsAs op call None a m i b n j → TakesStep op b n j (heards.Answered told) c o k → CallsAs op call (Some told) a m i c o k
+  pub calls_end : (op : ℕ) (call : AnyCall T) (told : AnyAnswer T) (a b c : DiaryState T C E) (m n o : R) (i j k : ℕ)
+      → CallsAs hands op call None a m i b n j → TakesStep hands op b n j (heards.Answered told) c o k → CallsAs hands op call (Some told) a m i c o k
   calls_end op call told a b c m n o i j k so step = calls_more op call (heards.Answered told) (Some told) a b c m n o i j k so step (ended step.row.answer told (sym step.heard_is))

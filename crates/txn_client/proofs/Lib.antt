@@ -3,3 +3,4 @@ pub mod Hearing
 pub mod Beginning
 pub mod Calling
 pub mod Recording
+pub mod Retrying

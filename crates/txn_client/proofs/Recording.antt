@@ -1,45 +1,47 @@
--- What a client's recorder was handed, and what a call leaves.
-use Rattle.std.proofs.Common.{◌≡◌, ℕ, List, ◌++◌, Option, Some, None, true, IfOk, IfErr, refl, sym, ap, subst, ◌∙◌}
+-- What a call leaves of a client.
+use Rattle.std.proofs.Common.{◌≡◌, ℕ, Option, Some, None, true, IfOk, IfErr, refl, sym, ap, subst, ◌∙◌}
 use Rattle.txn_history.specs.declared.event.EventFault.{EventFault}
 use Rattle.txn_view_history.specs.declared.event.AnyCall.{AnyCall}
-use Rattle.txn_journals.specs.declared.rows.JournalRow.{JournalRow}
+use Rattle.txn_view_history.specs.declared.event.AnyAnswer.{AnyAnswer}
 use Rattle.txn_diary.specs.Diaries.{DiaryState}
 use Rattle.txn_client.specs.declared.work.Done.{Done}
 use Rattle.txn_client.specs.declared.work.Done.TheVariants as dones
-use Rattle.txn_client.specs.Noted.{Noted, noted_from, begun_with}
-use Rattle.txn_client.specs.Calling.{ClientState, IsCall, IsRecorded, MakesCall, Stops}
-use Rattle.txn_client.specs.Working.{Advances, IsDone, settled}
-use Rattle.txn_client.proofs.Adding.{begun_added, noted_added}
+use Rattle.txn_client.specs.Noted.{Noted, noted_from, begun_with, HandsAll}
+use Rattle.txn_client.specs.Calling.{ClientState, IsCall, MakesCall, Stops}
+use Rattle.txn_client.specs.Working.{CallsAs, IsDone, settled}
+use Rattle.txn_client.proofs.Adding.{begun_added}
 
-module _ {T C E : Type 0} where
-  pub recorded_more : (old new : DiaryState T C E) (noted noted' : List (Noted T)) (begun begun' : ℕ) (rows : List (JournalRow T)) → IsRecorded begun noted old.rows → Advances old noted begun rows new noted' begun' → IsRecorded begun' noted' new.rows
-  recorded_more old new noted noted' begun begun' rows is so = record {
-    noted_is = so.noted_is ∙ (ap (λ (before : List (Noted T)). before ++ noted_from begun rows) is.noted_is ∙ (ap (λ at. noted_from 0 old.rows ++ noted_from at rows) is.begun_is ∙ (sym (noted_added 0 old.rows rows) ∙ ap (noted_from 0) (sym so.does.rows_are))));
-    begun_is = so.begun_is ∙ (ap (λ at. begun_with at rows) is.begun_is ∙ (sym (begun_added 0 old.rows rows) ∙ ap (begun_with 0) (sym so.does.rows_are)));
+module _ {T C E R : Type 0} (hands : R → Noted T → R → Type 0) where
+  begun_more : (op : ℕ) (call : AnyCall T) (answer : Option (AnyAnswer T)) (old new : DiaryState T C E) (recorder recorder' : R) (begun begun' : ℕ) → CallsAs hands op call answer old recorder begun new recorder' begun' → begun ≡ begun_with 0 old.rows → begun' ≡ begun_with 0 new.rows
+  begun_more op call answer old new recorder recorder' begun begun' c is = c.advances.begun_is ∙ (ap (λ at. begun_with at c.rows) is ∙ (sym (begun_added 0 old.rows c.rows) ∙ ap (begun_with 0) (sym c.advances.does.rows_are)))
+
+  pub begun_done : (refusal : Option EventFault) (call : AnyCall T) (old new : DiaryState T C E) (recorder recorder' : R) (begun begun' : ℕ) (done : Done T) → IsDone hands refusal call old recorder begun done new recorder' begun' → begun ≡ begun_with 0 old.rows → begun' ≡ begun_with 0 new.rows
+  begun_done refusal call old new recorder recorder' begun begun' (dones.Answered answer) d is = begun_more d.0 call (Some answer) old new recorder recorder' begun begun' d.1 is
+  begun_done refusal call old new recorder recorder' begun begun' dones.Spent d is = begun_more d.0 call None old new recorder recorder' begun begun' d.1 is
+  begun_done refusal call old new recorder recorder' begun begun' (dones.Refused fault) d is = d.begun_is ∙ (is ∙ ap (λ (diary : DiaryState T C E). begun_with 0 diary.rows) (sym d.same))
+
+  made : (call : AnyCall T) (answer : Option (AnyAnswer T)) (old new : DiaryState T C E) (recorder recorder' : R) (begun begun' op : ℕ) → begun ≡ begun_with 0 old.rows → CallsAs hands op call answer old recorder begun new recorder' begun'
+      → MakesCall hands call answer (record { diary = old; recorder = recorder; goes_on = true }) (record { diary = new; recorder = recorder'; goes_on = true })
+  made call answer old new recorder recorder' begun begun' op b c = record {
+    op = op;
+    rows = c.rows;
+    is_call = subst (λ at. IsCall at op call answer c.rows) b c.is_call;
+    does = c.advances.does;
+    handed = subst (λ at. HandsAll hands recorder (noted_from at c.rows) recorder') b c.advances.handed;
+    goes_on = refl;
   }
 
-  recorded_same : (old new : DiaryState T C E) (noted noted' : List (Noted T)) (begun begun' : ℕ) → new ≡ old → noted' ≡ noted → begun' ≡ begun → IsRecorded begun noted old.rows → IsRecorded begun' noted' new.rows
-  recorded_same old new noted noted' begun begun' d n b is = record {
-    noted_is = n ∙ (is.noted_is ∙ ap (λ (diary : DiaryState T C E). noted_from 0 diary.rows) (sym d));
-    begun_is = b ∙ (is.begun_is ∙ ap (λ (diary : DiaryState T C E). begun_with 0 diary.rows) (sym d));
-  }
+  pub done_ok : (refusal : Option EventFault) (call : AnyCall T) (old new : DiaryState T C E) (recorder recorder' : R) (begun begun' : ℕ) (done : Done T) → begun ≡ begun_with 0 old.rows → IsDone hands refusal call old recorder begun done new recorder' begun'
+      → IfOk (settled done) (λ answer. MakesCall hands call (Some answer) (record { diary = old; recorder = recorder; goes_on = true }) (record { diary = new; recorder = recorder'; goes_on = true }))
+  done_ok refusal call old new recorder recorder' begun begun' (dones.Answered answer) b d = made call (Some answer) old new recorder recorder' begun begun' d.0 b d.1
+  done_ok refusal call old new recorder recorder' begun begun' dones.Spent b d = tt
+  done_ok refusal call old new recorder recorder' begun begun' (dones.Refused fault) b d = tt
 
-  pub recorded_done : (refusal : Option EventFault) (call : AnyCall T) (old new : DiaryState T C E) (noted noted' : List (Noted T)) (begun begun' : ℕ) (done : Done T) → IsDone refusal call old noted begun done new noted' begun' → IsRecorded begun noted old.rows → IsRecorded begun' noted' new.rows
-  recorded_done refusal call old new noted noted' begun begun' (dones.Answered answer) d is = recorded_more old new noted noted' begun begun' d.1.rows is d.1.advances
-  recorded_done refusal call old new noted noted' begun begun' dones.Spent d is = recorded_more old new noted noted' begun begun' d.1.rows is d.1.advances
-  recorded_done refusal call old new noted noted' begun begun' (dones.Refused fault) d is = recorded_same old new noted noted' begun begun' d.same d.noted_is d.begun_is is
+  same_client : (old new : DiaryState T C E) (recorder recorder' : R) → new ≡ old → recorder' ≡ recorder → ◌≡◌ {A = ClientState T C E R} (record { diary = new; recorder = recorder'; goes_on = true }) (record { diary = old; recorder = recorder; goes_on = true })
+  same_client old new recorder recorder' d n = cc
 
-  pub done_ok : (refusal : Option EventFault) (call : AnyCall T) (old new : DiaryState T C E) (noted noted' : List (Noted T)) (begun begun' : ℕ) (done : Done T) → begun ≡ begun_with 0 old.rows → IsDone refusal call old noted begun done new noted' begun'
-      → IfOk (settled done) (λ answer. MakesCall call (Some answer) (record { diary = old; noted = noted; goes_on = true }) (record { diary = new; noted = noted'; goes_on = true }))
-  done_ok refusal call old new noted noted' begun begun' (dones.Answered answer) b d = record { op = d.0; rows = d.1.rows; is_call = subst (λ at. IsCall at d.0 call (Some answer) d.1.rows) b d.1.is_call; does = d.1.advances.does; goes_on = refl }
-  done_ok refusal call old new noted noted' begun begun' dones.Spent b d = tt
-  done_ok refusal call old new noted noted' begun begun' (dones.Refused fault) b d = tt
-
-  same_client : (old new : DiaryState T C E) (noted noted' : List (Noted T)) → new ≡ old → noted' ≡ noted → ◌≡◌ {A = ClientState T C E} (record { diary = new; noted = noted'; goes_on = true }) (record { diary = old; noted = noted; goes_on = true })
-  same_client old new noted noted' d n = cc
-
-  pub done_err : (refusal : Option EventFault) (call : AnyCall T) (old new : DiaryState T C E) (noted noted' : List (Noted T)) (begun begun' : ℕ) (done : Done T) → begun ≡ begun_with 0 old.rows → IsDone refusal call old noted begun done new noted' begun'
-      → IfErr (settled done) (Stops refusal call (record { diary = old; noted = noted; goes_on = true }) (record { diary = new; noted = noted'; goes_on = true }))
-  done_err refusal call old new noted noted' begun begun' (dones.Answered answer) b d = tt
-  done_err refusal call old new noted noted' begun begun' dones.Spent b d = record { op = d.0; rows = d.1.rows; is_call = subst (λ at. IsCall at d.0 call None d.1.rows) b d.1.is_call; does = d.1.advances.does; goes_on = refl }
-  done_err refusal call old new noted noted' begun begun' (dones.Refused fault) b d = (same_client old new noted noted' d.same d.noted_is, refl, d.reason)
+  pub done_err : (refusal : Option EventFault) (call : AnyCall T) (old new : DiaryState T C E) (recorder recorder' : R) (begun begun' : ℕ) (done : Done T) → begun ≡ begun_with 0 old.rows → IsDone hands refusal call old recorder begun done new recorder' begun'
+      → IfErr (settled done) (Stops hands refusal call (record { diary = old; recorder = recorder; goes_on = true }) (record { diary = new; recorder = recorder'; goes_on = true }))
+  done_err refusal call old new recorder recorder' begun begun' (dones.Answered answer) b d = tt
+  done_err refusal call old new recorder recorder' begun begun' dones.Spent b d = made call None old new recorder recorder' begun begun' d.0 b d.1
+  done_err refusal call old new recorder recorder' begun begun' (dones.Refused fault) b d = (same_client old new recorder recorder' d.same d.recorder_is, refl, d.reason)

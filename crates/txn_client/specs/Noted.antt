@@ -1,5 +1,5 @@
 -- What a client hands to its recorder, as it happens. A recording holds these, the first first.
-use Rattle.std.specs.Prelude.{ℕ, ◌+◌, List, [], ◌∷◌, ◌++◌, Option, Some, None}
+use Rattle.std.specs.Prelude.{◌≡◌, ℕ, ◌+◌, List, [], ◌∷◌, ◌++◌, Option, Some, None}
 use Rattle.txn_store.specs.declared.request.Request.{Request}
 use Rattle.txn_store.specs.declared.request.Reply.{Reply}
 use Rattle.txn_view_history.specs.declared.event.AnyCall.{AnyCall}
@@ -57,3 +57,9 @@ module _ {T : Type 0} where
   abbrev pub begun_with : ℕ → List (JournalRow T) → ℕ
   begun_with begun [] = begun
   begun_with begun (row ∷ rows) = begun_with (begun_by begun row.step) rows
+
+-- A recorder is handed these, one after another.
+module _ {T R : Type 0} (hands : R → Noted T → R → Type 0) where
+  abbrev pub HandsAll : R → List (Noted T) → R → Type 0
+  HandsAll old [] new = new ≡ old
+  HandsAll old (note ∷ notes) new = (between : R) × hands old note between × HandsAll between notes new

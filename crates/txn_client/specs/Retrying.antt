@@ -6,26 +6,43 @@ use Rattle.txn_view_history.specs.declared.event.ViewCall.TheVariants as view_ca
 use Rattle.txn_journals.specs.declared.rows.JournalRow.{JournalRow}
 use Rattle.txn_client.specs.declared.retry.Applied.{Applied}
 use Rattle.txn_client.specs.declared.retry.Applied.TheVariants as applied
+use Rattle.txn_history.specs.declared.event.Answer.{Answer}
+use Rattle.txn_history.specs.declared.event.Answer.TheVariants as plain
+use Rattle.txn_view_history.specs.declared.event.AnyAnswer.{AnyAnswer}
+use Rattle.txn_client.specs.declared.retry.Tried.{Tried}
+use Rattle.txn_client.specs.declared.retry.Tried.TheVariants as trials
+use Rattle.txn_client.specs.Noted.{Noted}
 use Rattle.txn_client.specs.Calling.{ClientState, Does, MakesCall}
 
-module _ {T C E : Type 0} where
+module _ {T : Type 0} where
+  -- what an answer to an update or a refresh says: a conflict is refusal 5
+  abbrev pub tried_plain : Answer T → Tried T
+  tried_plain (plain.Refused 5) = trials.Conflict
+  tried_plain answer = trials.Answered (answers.Plain answer)
+
+  abbrev pub tried : AnyAnswer T → Tried T
+  tried (answers.View view id value) = trials.Viewed (record { view = view; id = id; value = value })
+  tried (answers.Plain answer) = tried_plain answer
+  tried (answers.Held view id value epoch) = trials.Answered (answers.Held view id value epoch)
+
+module _ {T C E R : Type 0} where
   -- the client did something more, if anything
-  abbrev pub IsStopped : ClientState T C E → ClientState T C E → Type 0
+  abbrev pub IsStopped : ClientState T C E R → ClientState T C E R → Type 0
   IsStopped old new = (rows : List (JournalRow T)) × Does old.diary rows new.diary
 
-module _ {T C E F : Type 0} where
+module _ {T C E R F : Type 0} (hands : R → Noted T → R → Type 0) where
   -- The last call was an update of this view by a candidate for which a mutator asked, made of some version; it wrote what the view stands at now.
-  pub record IsWritten (asks : T → Result (Option T) F → Type 0) (view id : ℕ) (value : T) (new : ClientState T C E) : Type 0 where
+  pub record IsWritten (asks : T → Result (Option T) F → Type 0) (view id : ℕ) (value : T) (new : ClientState T C E R) : Type 0 where
     pub of : T
     pub candidate : T
-    pub before : ClientState T C E
+    pub before : ClientState T C E R
     pub asked : asks of (Ok (Some candidate))
-    pub made : MakesCall (calls.View (view_calls.Update view candidate)) (Some (answers.View view id value)) before new
+    pub made : MakesCall hands (calls.View (view_calls.Update view candidate)) (Some (answers.View view id value)) before new
 
-module _ {T C E F : Type 0} (asks : T → Result (Option T) F → Type 0) where
+module _ {T C E R F : Type 0} (hands : R → Noted T → R → Type 0) (asks : T → Result (Option T) F → Type 0) where
   -- what became of it
-  abbrev pub IsApplied : ℕ → ClientState T C E → Applied T → ClientState T C E → Type 0
-  IsApplied view old (applied.Written viewed) new = IsStopped old new × IsWritten asks viewed.view viewed.id viewed.value new
+  abbrev pub IsApplied : ℕ → ClientState T C E R → Applied T → ClientState T C E R → Type 0
+  IsApplied view old (applied.Written viewed) new = IsStopped old new × IsWritten hands asks viewed.view viewed.id viewed.value new
   IsApplied view old applied.Unchanged new = IsStopped old new × ((of : T) × asks of (Ok None))
   IsApplied view old (applied.Answered answer) new = IsStopped old new
   IsApplied view old applied.AttemptsSpent new = IsStopped old new

@@ -19,7 +19,7 @@ use Rattle.txn_client.specs.declared.work.Begun.{Begun}
 use Rattle.txn_client.specs.declared.work.Begun.TheVariants as begins
 use Rattle.txn_client.specs.declared.work.Done.{Done}
 use Rattle.txn_client.specs.declared.work.Done.TheVariants as dones
-use Rattle.txn_client.specs.Noted.{Noted, Asked, Answered, row_noted, noted_from, begun_with}
+use Rattle.txn_client.specs.Noted.{Noted, Asked, Answered, row_noted, noted_from, begun_with, HandsAll}
 use Rattle.txn_client.specs.Calling.{IsActOf, IsCall, Does}
 
 module _ {T : Type 0} where
@@ -78,62 +78,63 @@ module _ {T C E : Type 0} where
   abbrev pub IsFurther : DiaryState T C E → DiaryState T C E → Type 0
   IsFurther old new = (rows : List (JournalRow T)) × Does old rows new
 
-  -- The same client did these things, its recorder was handed what they say, and its count of begins went on.
-  pub record Advances (old : DiaryState T C E) (noted : List (Noted T)) (begun : ℕ) (rows : List (JournalRow T)) (new : DiaryState T C E) (noted' : List (Noted T)) (begun' : ℕ) : Type 0 where
+module _ {T C E R : Type 0} (hands : R → Noted T → R → Type 0) where
+  -- The same client did these things, its recorder was handed what they tell, and its count of begins went on.
+  pub record Advances (old : DiaryState T C E) (recorder : R) (begun : ℕ) (rows : List (JournalRow T)) (new : DiaryState T C E) (recorder' : R) (begun' : ℕ) : Type 0 where
     pub does : Does old rows new
-    pub noted_is : noted' ≡ noted ++ noted_from begun rows
+    pub handed : HandsAll hands recorder (noted_from begun rows) recorder'
     pub begun_is : begun' ≡ begun_with begun rows
 
   -- An operation acts once, and this is heard of it.
-  pub record TakesStep (op : ℕ) (old : DiaryState T C E) (noted : List (Noted T)) (begun : ℕ) (heard : Heard T) (new : DiaryState T C E) (noted' : List (Noted T)) (begun' : ℕ) : Type 0 where
+  pub record TakesStep (op : ℕ) (old : DiaryState T C E) (recorder : R) (begun : ℕ) (heard : Heard T) (new : DiaryState T C E) (recorder' : R) (begun' : ℕ) : Type 0 where
     pub row : JournalRow T
     pub acts : IsActOf op row.step
     pub heard_is : heard ≡ heard_in row.answer
-    pub advances : Advances old noted begun (row ∷ []) new noted' begun'
+    pub advances : Advances old recorder begun (row ∷ []) new recorder' begun'
 
-  -- An operation acts on the reply to this request, of which its recorder was told before, and this is heard of it.
-  pub record TakesAsked (op : ℕ) (request : Request) (old : DiaryState T C E) (noted : List (Noted T)) (begun : ℕ) (heard : Heard T) (new : DiaryState T C E) (noted' : List (Noted T)) (begun' : ℕ) : Type 0 where
+  -- An operation acts on the reply to this request, which its recorder was handed last, and this is heard of it.
+  pub record TakesAsked (op : ℕ) (request : Request) (old : DiaryState T C E) (recorder : R) (begun : ℕ) (heard : Heard T) (new : DiaryState T C E) (recorder' : R) (begun' : ℕ) : Type 0 where
     pub row : JournalRow T
     pub acts : IsActOf op row.step
     pub heard_is : heard ≡ heard_in row.answer
     pub does : Does old (row ∷ []) new
-    pub noted_is : (before : List (Noted T)) → noted ≡ before ++ Asked op request ∷ [] → noted' ≡ before ++ row_noted op row
+    pub handed : (before : R) → hands before (Asked op request) recorder → HandsAll hands before (row_noted op row ++ []) recorder'
     pub begun_is : begun' ≡ begun
 
   -- A call is this operation's so far, with this answer, if one.
-  pub record CallsAs (op : ℕ) (call : AnyCall T) (answer : Option (AnyAnswer T)) (old : DiaryState T C E) (noted : List (Noted T)) (begun : ℕ) (new : DiaryState T C E) (noted' : List (Noted T)) (begun' : ℕ) : Type 0 where
+  pub record CallsAs (op : ℕ) (call : AnyCall T) (answer : Option (AnyAnswer T)) (old : DiaryState T C E) (recorder : R) (begun : ℕ) (new : DiaryState T C E) (recorder' : R) (begun' : ℕ) : Type 0 where
     pub rows : List (JournalRow T)
     pub is_call : IsCall begun op call answer rows
-    pub advances : Advances old noted begun rows new noted' begun'
+    pub advances : Advances old recorder begun rows new recorder' begun'
 
   -- A call was made, with this answer, if one.
-  abbrev pub Calls : AnyCall T → Option (AnyAnswer T) → DiaryState T C E → List (Noted T) → ℕ → DiaryState T C E → List (Noted T) → ℕ → Type 0
-  Calls call answer old noted begun new noted' begun' = (op : ℕ) × CallsAs op call answer old noted begun new noted' begun'
+  abbrev pub Calls : AnyCall T → Option (AnyAnswer T) → DiaryState T C E → R → ℕ → DiaryState T C E → R → ℕ → Type 0
+  Calls call answer old recorder begun new recorder' begun' = (op : ℕ) × CallsAs op call answer old recorder begun new recorder' begun'
 
   -- A call begins, and tells this answer, if it tells one.
-  pub record BeginsWith (call : AnyCall T) (answer : Option (AnyAnswer T)) (old : DiaryState T C E) (noted : List (Noted T)) (begun : ℕ) (new : DiaryState T C E) (noted' : List (Noted T)) (begun' : ℕ) : Type 0 where
+  pub record BeginsWith (call : AnyCall T) (answer : Option (AnyAnswer T)) (old : DiaryState T C E) (recorder : R) (begun : ℕ) (new : DiaryState T C E) (recorder' : R) (begun' : ℕ) : Type 0 where
     pub row : JournalRow T
     pub begins : row.step ≡ steps.Begin call
     pub answer_is : row.answer ≡ answer
-    pub advances : Advances old noted begun (row ∷ []) new noted' begun'
+    pub advances : Advances old recorder begun (row ∷ []) new recorder' begun'
 
   -- A call begins, or is refused.
   module _ (refusal : Option EventFault) where
     -- A refused begin leaves all, and names its reason.
-    pub record IsRefused (fault : EventFault) (old : DiaryState T C E) (noted : List (Noted T)) (begun : ℕ) (new : DiaryState T C E) (noted' : List (Noted T)) (begun' : ℕ) : Type 0 where
+    pub record IsRefused (fault : EventFault) (old : DiaryState T C E) (recorder : R) (begun : ℕ) (new : DiaryState T C E) (recorder' : R) (begun' : ℕ) : Type 0 where
       pub same : new ≡ old
-      pub noted_is : noted' ≡ noted
+      pub recorder_is : recorder' ≡ recorder
       pub begun_is : begun' ≡ begun
       pub reason : (refusal ≡ Some fault) ⊎ (fault ≡ faults.NoMemory)
 
     -- what became of a begin
-    abbrev pub IsBegun : AnyCall T → DiaryState T C E → List (Noted T) → ℕ → Begun T → DiaryState T C E → List (Noted T) → ℕ → Type 0
-    IsBegun call old noted begun (begins.Refused fault) new noted' begun' = IsRefused fault old noted begun new noted' begun'
-    IsBegun call old noted begun (begins.Goes op) new noted' begun' = BeginsWith call None old noted begun new noted' begun'
-    IsBegun call old noted begun (begins.Answered answer) new noted' begun' = BeginsWith call (Some answer) old noted begun new noted' begun'
+    abbrev pub IsBegun : AnyCall T → DiaryState T C E → R → ℕ → Begun T → DiaryState T C E → R → ℕ → Type 0
+    IsBegun call old recorder begun (begins.Refused fault) new recorder' begun' = IsRefused fault old recorder begun new recorder' begun'
+    IsBegun call old recorder begun (begins.Goes op) new recorder' begun' = BeginsWith call None old recorder begun new recorder' begun'
+    IsBegun call old recorder begun (begins.Answered answer) new recorder' begun' = BeginsWith call (Some answer) old recorder begun new recorder' begun'
 
     -- what became of a call
-    abbrev pub IsDone : AnyCall T → DiaryState T C E → List (Noted T) → ℕ → Done T → DiaryState T C E → List (Noted T) → ℕ → Type 0
-    IsDone call old noted begun (dones.Answered answer) new noted' begun' = Calls call (Some answer) old noted begun new noted' begun'
-    IsDone call old noted begun dones.Spent new noted' begun' = Calls call None old noted begun new noted' begun'
-    IsDone call old noted begun (dones.Refused fault) new noted' begun' = IsRefused fault old noted begun new noted' begun'
+    abbrev pub IsDone : AnyCall T → DiaryState T C E → R → ℕ → Done T → DiaryState T C E → R → ℕ → Type 0
+    IsDone call old recorder begun (dones.Answered answer) new recorder' begun' = Calls call (Some answer) old recorder begun new recorder' begun'
+    IsDone call old recorder begun dones.Spent new recorder' begun' = Calls call None old recorder begun new recorder' begun'
+    IsDone call old recorder begun (dones.Refused fault) new recorder' begun' = IsRefused fault old recorder begun new recorder' begun'

@@ -10,10 +10,10 @@ use txn_types::codec::ObjectCodec;
 use txn_types::epoch::EpochField;
 use txn_view_history::event::{AnyAnswer, AnyCall};
 
-/// One client of a store, with a diary, which hands what it does to a recorder as it happens. As long as it goes on, what its
-/// recorder was handed is what its journal says, looks aside.
+/// One client of a store, with a diary, which hands what it does to a recorder as it happens: each call that it makes hands
+/// over what the call's rows of the journal tell, looks aside.
 ///
-/// Clauses see its diary, what its recorder was handed, and whether it goes on.
+/// Clauses see its diary, its recorder, and whether it goes on.
 #[derive(Drop)]
 pub struct Client<T: Clone, C: ObjectCodec<T> + Drop, E: EpochField<T>, S, R: Recorder<T>> {
     work: Work<T, C, E, S, R>,
@@ -25,16 +25,16 @@ impl<T: Clone, C: ObjectCodec<T> + Drop, E: EpochField<T>, S, R: Recorder<T>> Mo
     ghost use Rattle.std.specs.Prelude.{◌≡◌, true};
     ghost use Rattle.std.specs.Coded.{codes};
     ghost use Rattle.txn_store.specs.Memory.{files_code};
-    ghost use Rattle.txn_client.specs.Noted.{noted_from, begun_with};
-    ghost use Rattle.txn_client.specs.Calling.{ClientState, IsRecorded};
+    ghost use Rattle.txn_client.specs.Noted.{begun_with};
+    ghost use Rattle.txn_client.specs.Calling.{ClientState};
 
-    ghost Value = { ClientState T C E };
+    ghost Value = { ClientState T C E R };
 
     ghost coded = { Prim.hlevel (codes, files_code) };
 
-    ghost view = { λ c. record { diary = c.work.diary; noted = R.noted c.work.recorder; goes_on = c.goes_on } };
+    ghost view = { λ c. record { diary = c.work.diary; recorder = c.work.recorder; goes_on = c.goes_on } };
 
-    ghost invariant = { λ c. c.goes_on ≡ true → IsRecorded c.work.begun (R.noted c.work.recorder) c.work.diary.rows };
+    ghost invariant = { λ c. c.goes_on ≡ true → c.work.begun ≡ begun_with 0 c.work.diary.rows };
 }
 
 impl<
@@ -48,10 +48,9 @@ impl<
     ghost use Rattle.txn_types.specs.Clones.{IsExactClone};
     ghost use Rattle.txn_journals.specs.Parts.{no_part};
     ghost use Rattle.txn_diary.specs.Diaries.{refusal_of};
-    ghost use Rattle.txn_client.specs.Noted.{noted_from};
     ghost use Rattle.txn_client.specs.Calling.{MakesCall, Stops};
 
-    /// A client of this number, at least 1, that has done nothing, over a store and a recorder that was handed nothing. A listing
+    /// A client of this number, at least 1, that has done nothing, over a store and a recorder. A listing
     /// has pages of at most `page` files, at least 1. The only error is want of memory.
     pub fn new(
         alloc: Global,
@@ -64,8 +63,7 @@ impl<
     ) -> Result<Client<T, C, E, S, R>, AllocError>
         requires some { 1 ≤ client }
         requires paged { 1 ≤ page }
-        requires empty { R.noted recorder ≡ [] }
-        ensures { IfOk result (λ made. made ≡ record { diary = record { client = client; page = page; codec = codec; epochs = epochs; part = no_part; rows = [] }; noted = []; goes_on = true }) }
+        ensures { IfOk result (λ made. made ≡ record { diary = record { client = client; page = page; codec = codec; epochs = epochs; part = no_part; rows = [] }; recorder = recorder; goes_on = true }) }
     {
         let diary = Diary::new(alloc, client, codec, epochs, page)?;
         let work = Work {
@@ -83,9 +81,7 @@ impl<
 
     /// What the client did, as its diary has it.
     pub fn diary(&self) -> &Diary<T, C, E>
-        ensures diary { result.now ≡ self.now.diary }
-        // As long as it goes on, its recorder was handed what its journal says.
-        ensures recorded { self.now.goes_on ≡ true → self.now.noted ≡ noted_from 0 self.now.diary.rows }
+        ensures { result.now ≡ self.now.diary }
     {
         &self.work.diary
     }
@@ -112,8 +108,8 @@ impl<
     /// [`Stop::Unrecorded`] and [`Stop::NoMemory`] it makes no further call, and each is [`Stop::Ended`].
     pub fn call(&mut self, call: AnyCall<T>, steps: u64) -> Result<AnyAnswer<T>, Stop>
         requires { IsExactClone T.is_clone }
-        ensures ok { IfOk result (λ answer. MakesCall call (Some answer) self.old self.new) }
-        ensures err { IfErr result (Stops (refusal_of (E.epoch_of self.old.diary.epochs) self.old.diary call) call self.old self.new) }
+        ensures ok { IfOk result (λ answer. MakesCall R.hands call (Some answer) self.old self.new) }
+        ensures err { IfErr result (Stops R.hands (refusal_of (E.epoch_of self.old.diary.epochs) self.old.diary call) call self.old self.new) }
     {
         if !self.goes_on {
             drop(call);

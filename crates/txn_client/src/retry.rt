@@ -1,4 +1,7 @@
 //! Updates that are made again after each conflict.
+ghost use Rattle.std.specs.Prelude.{◌≡◌};
+ghost use Rattle.txn_client.specs.Retrying.{tried};
+
 use crate::client::Client;
 use crate::recorder::Recorder;
 use crate::serve::Serve;
@@ -30,6 +33,27 @@ pub enum Applied<T> {
     AttemptsSpent,
 }
 
+/// What an answer to an update or a refresh says.
+enum Tried<T> {
+    Viewed(Viewed<T>),
+    Conflict,
+    Answered(AnyAnswer<T>),
+}
+
+/// What an answer says.
+fn tried<T>(answer: AnyAnswer<T>) -> Tried<T>
+    ensures { result ≡ tried answer }
+{
+    match answer {
+        AnyAnswer::View(view, id, value) => Tried::Viewed(Viewed { view, id, value }),
+        AnyAnswer::Plain(Answer::Refused(5)) => Tried::Conflict,
+        AnyAnswer::Plain(answer) => Tried::Answered(AnyAnswer::Plain(answer)),
+        AnyAnswer::Held(view, id, value, epoch) => {
+            Tried::Answered(AnyAnswer::Held(view, id, value, epoch))
+        }
+    }
+}
+
 impl<
     T: Clone + Drop,
     C: ObjectCodec<T> + Drop,
@@ -57,7 +81,7 @@ impl<
     ) -> Result<Applied<T>, Stop>
         requires exact { IsExactClone T.is_clone }
         requires callable { F.IsAlwaysCallable mutator.now }
-        ensures ok { IfOk result (λ applied. IsApplied (λ value answer. FnReturnsAt F.Fn mutator.now value answer) viewed.view self.old applied self.new) }
+        ensures ok { IfOk result (λ applied. IsApplied R.hands (λ value answer. FnReturnsAt F.Fn mutator.now value answer) viewed.view self.old applied self.new) }
         ensures err { IfErr result (λ _. IsStopped self.old self.new) }
     {
         let mut viewed = viewed;
@@ -68,16 +92,19 @@ impl<
                 Ok(None) => return Ok(Applied::Unchanged),
                 Err(_) => return Err(Stop::NoMemory),
             };
-            match self.call(AnyCall::View(ViewCall::Update(view, candidate)), steps)? {
-                AnyAnswer::View(view, id, value) => {
-                    return Ok(Applied::Written(Viewed { view, id, value }));
-                }
-                AnyAnswer::Plain(Answer::Refused(5)) => {}
-                other => return Ok(Applied::Answered(other)),
+            let updated = self.call(AnyCall::View(ViewCall::Update(view, candidate)), steps)?;
+            match tried(updated) {
+                Tried::Viewed(viewed) => return Ok(Applied::Written(viewed)),
+                Tried::Conflict => {}
+                Tried::Answered(answer) => return Ok(Applied::Answered(answer)),
             }
-            match self.call(AnyCall::View(ViewCall::Refresh(view)), steps)? {
-                AnyAnswer::View(view, id, value) => viewed = Viewed { view, id, value },
-                other => return Ok(Applied::Answered(other)),
+            let refreshed = self.call(AnyCall::View(ViewCall::Refresh(view)), steps)?;
+            match tried(refreshed) {
+                Tried::Viewed(newer) => viewed = newer,
+                Tried::Conflict => {
+                    return Ok(Applied::Answered(AnyAnswer::Plain(Answer::Refused(5))));
+                }
+                Tried::Answered(answer) => return Ok(Applied::Answered(answer)),
             }
         }
         Ok(Applied::AttemptsSpent)

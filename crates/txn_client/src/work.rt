@@ -120,7 +120,7 @@ impl<T: Clone, C: ObjectCodec<T> + Drop, E: EpochField<T>, S: Serve, R: Recorder
     ghost use Rattle.txn_types.specs.Clones.{IsExactClone};
     ghost use Rattle.txn_history.specs.Seen.{Store};
     ghost use Rattle.txn_diary.specs.Diaries.{asked_in, refusal_of};
-    ghost use Rattle.txn_client.specs.Noted.{Asked};
+    ghost use Rattle.txn_client.specs.Noted.{HandsAll};
     ghost use Rattle.txn_client.specs.Working.{heard_of, told_noted, IsEnding, IsFurther, TakesStep, TakesAsked, IsBegun, IsDone};
 
     /// Hands an operation's answer to the recorder, where one was told.
@@ -128,7 +128,7 @@ impl<T: Clone, C: ObjectCodec<T> + Drop, E: EpochField<T>, S: Serve, R: Recorder
         ensures diary { self.new.diary ≡ self.old.diary }
         ensures begun { self.new.begun ≡ self.old.begun }
         ensures heard { IfOk result (λ heard. heard ≡ heard_of told) }
-        ensures noted { OnOk result (R.noted self.new.recorder ≡ R.noted self.old.recorder ++ told_noted op told) }
+        ensures handed { OnOk result (HandsAll R.hands self.old.recorder (told_noted op told) self.new.recorder) }
         ensures err { IfErr result IsEnding }
     {
         match told {
@@ -143,7 +143,7 @@ impl<T: Clone, C: ObjectCodec<T> + Drop, E: EpochField<T>, S: Serve, R: Recorder
     /// The operation looks at the client's caches.
     fn look(&mut self, op: u64) -> Result<Heard<T>, Stop>
         requires { IsExactClone T.is_clone }
-        ensures ok { IfOk result (λ heard. TakesStep op self.old.diary (R.noted self.old.recorder) self.old.begun heard self.new.diary (R.noted self.new.recorder) self.new.begun) }
+        ensures ok { IfOk result (λ heard. TakesStep R.hands op self.old.diary self.old.recorder self.old.begun heard self.new.diary self.new.recorder self.new.begun) }
         ensures err { IfErr result (λ stop. IsEnding stop × IsFurther self.old.diary self.new.diary) }
     {
         match self.diary.look(op) {
@@ -155,7 +155,7 @@ impl<T: Clone, C: ObjectCodec<T> + Drop, E: EpochField<T>, S: Serve, R: Recorder
     /// The store call of the operation, which the recorder was told of, failed: the operation is answered so.
     fn fail(&mut self, op: u64, request: &Request) -> Result<Heard<T>, Stop>
         requires { asked_in self.old.diary op ≡ Some (Store request.now) }
-        ensures ok { IfOk result (λ heard. TakesAsked op request.now self.old.diary (R.noted self.old.recorder) self.old.begun heard self.new.diary (R.noted self.new.recorder) self.new.begun) }
+        ensures ok { IfOk result (λ heard. TakesAsked R.hands op request.now self.old.diary self.old.recorder self.old.begun heard self.new.diary self.new.recorder self.new.begun) }
         ensures err { IfErr result (λ stop. IsEnding stop × IsFurther self.old.diary self.new.diary) }
     {
         match self.diary.failed(op) {
@@ -170,7 +170,7 @@ impl<T: Clone, C: ObjectCodec<T> + Drop, E: EpochField<T>, S: Serve, R: Recorder
     /// The operation takes the store's reply to what the recorder was told of.
     fn take(&mut self, op: u64, request: Request, reply: Reply) -> Result<Heard<T>, Stop>
         requires { IsExactClone T.is_clone }
-        ensures ok { IfOk result (λ heard. TakesAsked op request self.old.diary (R.noted self.old.recorder) self.old.begun heard self.new.diary (R.noted self.new.recorder) self.new.begun) }
+        ensures ok { IfOk result (λ heard. TakesAsked R.hands op request self.old.diary self.old.recorder self.old.begun heard self.new.diary self.new.recorder self.new.begun) }
         ensures err { IfErr result (λ stop. IsEnding stop × IsFurther self.old.diary self.new.diary) }
     {
         self.recorder.replied(op, &reply)?;
@@ -190,7 +190,7 @@ impl<T: Clone, C: ObjectCodec<T> + Drop, E: EpochField<T>, S: Serve, R: Recorder
     fn ask(&mut self, op: u64, request: Request) -> Result<Heard<T>, Stop>
         requires exact { IsExactClone T.is_clone }
         requires asks { asked_in self.old.diary op ≡ Some (Store request) }
-        ensures ok { IfOk result (λ heard. TakesStep op self.old.diary (R.noted self.old.recorder) self.old.begun heard self.new.diary (R.noted self.new.recorder) self.new.begun) }
+        ensures ok { IfOk result (λ heard. TakesStep R.hands op self.old.diary self.old.recorder self.old.begun heard self.new.diary self.new.recorder self.new.begun) }
         ensures err { IfErr result (λ stop. IsEnding stop × IsFurther self.old.diary self.new.diary) }
     {
         self.recorder.asked(op, &request)?;
@@ -216,7 +216,7 @@ impl<T: Clone, C: ObjectCodec<T> + Drop, E: EpochField<T>, S: Serve, R: Recorder
     /// The operation does what it asks for.
     fn step(&mut self, op: u64) -> Result<Heard<T>, Stop>
         requires { IsExactClone T.is_clone }
-        ensures ok { IfOk result (λ heard. TakesStep op self.old.diary (R.noted self.old.recorder) self.old.begun heard self.new.diary (R.noted self.new.recorder) self.new.begun) }
+        ensures ok { IfOk result (λ heard. TakesStep R.hands op self.old.diary self.old.recorder self.old.begun heard self.new.diary self.new.recorder self.new.begun) }
         ensures err { IfErr result (λ stop. IsEnding stop × IsFurther self.old.diary self.new.diary) }
     {
         match self.request(op)? {
@@ -227,7 +227,7 @@ impl<T: Clone, C: ObjectCodec<T> + Drop, E: EpochField<T>, S: Serve, R: Recorder
 
     /// Gives the operation up.
     fn give_up(&mut self, op: u64) -> Result<(), Stop>
-        ensures ok { OnOk result (TakesStep op self.old.diary (R.noted self.old.recorder) self.old.begun Heard.Goes self.new.diary (R.noted self.new.recorder) self.new.begun) }
+        ensures ok { OnOk result (TakesStep R.hands op self.old.diary self.old.recorder self.old.begun Heard.Goes self.new.diary self.new.recorder self.new.begun) }
         ensures err { IfErr result (λ stop. IsEnding stop × IsFurther self.old.diary self.new.diary) }
     {
         match self.diary.give_up(op) {
@@ -242,7 +242,7 @@ impl<T: Clone, C: ObjectCodec<T> + Drop, E: EpochField<T>, S: Serve, R: Recorder
     /// Begins a call, and tells the recorder.
     fn begin(&mut self, call: AnyCall<T>) -> Result<Begun<T>, Stop>
         requires { IsExactClone T.is_clone }
-        ensures ok { IfOk result (λ begun. IsBegun (refusal_of (E.epoch_of self.old.diary.epochs) self.old.diary call) call self.old.diary (R.noted self.old.recorder) self.old.begun begun self.new.diary (R.noted self.new.recorder) self.new.begun) }
+        ensures ok { IfOk result (λ begun. IsBegun R.hands (refusal_of (E.epoch_of self.old.diary.epochs) self.old.diary call) call self.old.diary self.old.recorder self.old.begun begun self.new.diary self.new.recorder self.new.begun) }
         ensures err { IfErr result (λ stop. IsEnding stop × IsFurther self.old.diary self.new.diary) }
     {
         let Some(begun) = self.begun.checked_add(1) else {
@@ -268,7 +268,7 @@ impl<T: Clone, C: ObjectCodec<T> + Drop, E: EpochField<T>, S: Serve, R: Recorder
     /// Makes a call, of at most so many steps.
     pub fn call(&mut self, call: AnyCall<T>, steps: u64) -> Result<Done<T>, Stop>
         requires { IsExactClone T.is_clone }
-        ensures ok { IfOk result (λ done. IsDone (refusal_of (E.epoch_of self.old.diary.epochs) self.old.diary call) call self.old.diary (R.noted self.old.recorder) self.old.begun done self.new.diary (R.noted self.new.recorder) self.new.begun) }
+        ensures ok { IfOk result (λ done. IsDone R.hands (refusal_of (E.epoch_of self.old.diary.epochs) self.old.diary call) call self.old.diary self.old.recorder self.old.begun done self.new.diary self.new.recorder self.new.begun) }
         ensures err { IfErr result (λ stop. IsEnding stop × IsFurther self.old.diary self.new.diary) }
     {
         let op = match self.begin(call)? {
