@@ -5,19 +5,19 @@ use Rattle.std.specs.Option.{MatchOption}
 use Rattle.std.specs.List.{list_any}
 use Rattle.std.specs.Cmp.Lexicographic.{same_text}
 use Rattle.std.proofs.lemmas.Str.Parse.{not_in_digits}
-use Rattle.std.proofs.lemmas.Str.Pattern.{IsSplitOnceResult, split_after}
+use Rattle.std.proofs.lemmas.Str.Pattern.{IsSplitOnceResult, split_after, split_parts}
 use Rattle.std.proofs.lemmas.Fmt.{digits_decimal}
 use Rattle.std.proofs.lemmas.Grind.{common_steps}
 use denote.Ref.{Bor}
 use lib.Pointwise.{pointwise}
 use Rattle.std.specs.declared.ops.Bound.{Bound}
 use Rattle.std.specs.declared.ops.Bound.TheVariants as bounds
-use Rattle.txn_view_history.specs.declared.event.AnyCall.{AnyCall}
 use Rattle.txn_history.specs.declared.event.Failure.{Failure}
-use Rattle.txn_lines.specs.declared.record.Record.{Record}
-use Rattle.txn_lines.specs.Record.{record_text}
+use Rattle.txn_lines.specs.Numerals.{decimal_read}
+use Rattle.txn_lines.proofs.NumeralLemmas.{decimal_read_is}
 use Rattle.txn_lines.proofs.RecordLemmas.{own}
-use Rattle.txn_lines.specs.Grammar.{base_text, write_text, bound_text, list_text, update_text, claim_text, call_text, begin_text, failure_text, fail_text, BaseFits, BoundFits}
+use Rattle.txn_lines.specs.Numerals.{pair_text}
+use Rattle.txn_lines.specs.Grammar.{base_text, write_text, bound_text, list_text, update_text, begin_text, failure_text, fail_text, BaseFits, BoundFits}
 
 -- the bytes do not have this one among them
 abbrev pub Lacks : ℕ → List ℕ → Type 0
@@ -65,6 +65,10 @@ at_some xs ys r a b h is = subst (Cut xs ys) is h
 at_none : (xs ys : List ℕ) (r : Found) → Cut xs ys r → r ≡ None → ⊥
 at_none xs ys r h is = subst (Cut xs ys) is h
 
+-- a text of a word and a number, which are read
+pub word_number : (bs word : List ℕ) (a b : Bor (List ℕ)) (n : ℕ) → IsSplitOnceResult 32 bs (Some (a, b)) → a.now ≡ word → Some n ≡ decimal_read b.now → bs ≡ word ++ (32 ∷ decimal n)
+word_number bs word a b n h one two = (split_parts 32 bs (Some (a, b)) h (lit< tt)).0 ∙ rw (one, (decimal_read_is b.now n (sym two)).0) refl
+
 -- what a reader says of a value, where it is read, and where it is not
 pub clash : {A : Type 0} (r : Option A) (x : A) → r ≡ Some x → r ≡ None → ⊥
 clash r x some none = let same : None ≡ Some x = sym none ∙ some in cc
@@ -72,19 +76,27 @@ clash r x some none = let same : None ≡ Some x = sym none ∙ some in cc
 pub same : {A : Type 0} (r : Option A) (x y : A) → r ≡ Some x → r ≡ Some y → y ≡ x
 same r x y one two = let both : Some y ≡ Some x = sym two ∙ one in cc
 
--- the client and the call of a begin
-pub begin_cut : (bs : List ℕ) (client : ℕ) (call : AnyCall Record) (r : Found) (a b : Bor (List ℕ)) → IsSplitOnceResult 32 bs r → client < 2 ^ 64 → bs ≡ begin_text client call → r ≡ Some (a, b) → (a.now ≡ decimal client) × (b.now ≡ call_text call)
-begin_cut bs client call r a b h small e is = at_some (decimal client) (call_text call) r a b (cut bs (decimal client) (call_text call) r h (decimal_lacks 32 client small (λ k. omega (arith, k))) e) is
+module _ {T : Type 0} (text : T → List ℕ) where
+  -- the client and the call of a begin
+  pub begin_cut : (bs : List ℕ) (client : ℕ) (call : T) (r : Found) (a b : Bor (List ℕ)) → IsSplitOnceResult 32 bs r → client < 2 ^ 64 → bs ≡ begin_text text client call → r ≡ Some (a, b) → (a.now ≡ decimal client) × (b.now ≡ text call)
+  begin_cut bs client call r a b h small e is = at_some (decimal client) (text call) r a b (cut bs (decimal client) (text call) r h (decimal_lacks 32 client small (λ k. omega (arith, k))) e) is
 
-pub begin_no_cut : (bs : List ℕ) (client : ℕ) (call : AnyCall Record) (r : Found) → IsSplitOnceResult 32 bs r → client < 2 ^ 64 → bs ≡ begin_text client call → r ≡ None → ⊥
-begin_no_cut bs client call r h small e is = at_none (decimal client) (call_text call) r (cut bs (decimal client) (call_text call) r h (decimal_lacks 32 client small (λ k. omega (arith, k))) e) is
+  pub begin_no_cut : (bs : List ℕ) (client : ℕ) (call : T) (r : Found) → IsSplitOnceResult 32 bs r → client < 2 ^ 64 → bs ≡ begin_text text client call → r ≡ None → ⊥
+  begin_no_cut bs client call r h small e is = at_none (decimal client) (text call) r (cut bs (decimal client) (text call) r h (decimal_lacks 32 client small (λ k. omega (arith, k))) e) is
 
--- the base and the value of a write
-pub write_cut : (bs : List ℕ) (base : Option ℕ) (value : Record) (r : Found) (a b : Bor (List ℕ)) → IsSplitOnceResult 32 bs r → BaseFits base → bs ≡ write_text base value → r ≡ Some (a, b) → (a.now ≡ base_text base) × (b.now ≡ record_text value)
-write_cut bs base value r a b h fits e is = at_some (base_text base) (record_text value) r a b (cut bs (base_text base) (record_text value) r h (base_lacks base fits) e) is
+  -- the base and the value of a write
+  pub write_cut : (bs : List ℕ) (base : Option ℕ) (value : T) (r : Found) (a b : Bor (List ℕ)) → IsSplitOnceResult 32 bs r → BaseFits base → bs ≡ write_text text base value → r ≡ Some (a, b) → (a.now ≡ base_text base) × (b.now ≡ text value)
+  write_cut bs base value r a b h fits e is = at_some (base_text base) (text value) r a b (cut bs (base_text base) (text value) r h (base_lacks base fits) e) is
 
-pub write_no_cut : (bs : List ℕ) (base : Option ℕ) (value : Record) (r : Found) → IsSplitOnceResult 32 bs r → BaseFits base → bs ≡ write_text base value → r ≡ None → ⊥
-write_no_cut bs base value r h fits e is = at_none (base_text base) (record_text value) r (cut bs (base_text base) (record_text value) r h (base_lacks base fits) e) is
+  pub write_no_cut : (bs : List ℕ) (base : Option ℕ) (value : T) (r : Found) → IsSplitOnceResult 32 bs r → BaseFits base → bs ≡ write_text text base value → r ≡ None → ⊥
+  write_no_cut bs base value r h fits e is = at_none (base_text base) (text value) r (cut bs (base_text base) (text value) r h (base_lacks base fits) e) is
+
+  -- the view and the value of an update
+  pub update_cut : (bs : List ℕ) (view : ℕ) (value : T) (r : Found) (a b : Bor (List ℕ)) → IsSplitOnceResult 32 bs r → view < 2 ^ 64 → bs ≡ update_text text view value → r ≡ Some (a, b) → (a.now ≡ decimal view) × (b.now ≡ text value)
+  update_cut bs view value r a b h small e is = at_some (decimal view) (text value) r a b (cut bs (decimal view) (text value) r h (decimal_lacks 32 view small (λ k. omega (arith, k))) e) is
+
+  pub update_no_cut : (bs : List ℕ) (view : ℕ) (value : T) (r : Found) → IsSplitOnceResult 32 bs r → view < 2 ^ 64 → bs ≡ update_text text view value → r ≡ None → ⊥
+  update_no_cut bs view value r h small e is = at_none (decimal view) (text value) r (cut bs (decimal view) (text value) r h (decimal_lacks 32 view small (λ k. omega (arith, k))) e) is
 
 -- the bounds of a listing
 pub list_cut : (bs : List ℕ) (from to : Bound ℕ) (r : Found) (a b : Bor (List ℕ)) → IsSplitOnceResult 32 bs r → BoundFits from → bs ≡ list_text from to → r ≡ Some (a, b) → (a.now ≡ bound_text from) × (b.now ≡ bound_text to)
@@ -93,19 +105,12 @@ list_cut bs from to r a b h fits e is = at_some (bound_text from) (bound_text to
 pub list_no_cut : (bs : List ℕ) (from to : Bound ℕ) (r : Found) → IsSplitOnceResult 32 bs r → BoundFits from → bs ≡ list_text from to → r ≡ None → ⊥
 list_no_cut bs from to r h fits e is = at_none (bound_text from) (bound_text to) r (cut bs (bound_text from) (bound_text to) r h (bound_lacks from fits) e) is
 
--- the view and the value of an update
-pub update_cut : (bs : List ℕ) (view : ℕ) (value : Record) (r : Found) (a b : Bor (List ℕ)) → IsSplitOnceResult 32 bs r → view < 2 ^ 64 → bs ≡ update_text view value → r ≡ Some (a, b) → (a.now ≡ decimal view) × (b.now ≡ record_text value)
-update_cut bs view value r a b h small e is = at_some (decimal view) (record_text value) r a b (cut bs (decimal view) (record_text value) r h (decimal_lacks 32 view small (λ k. omega (arith, k))) e) is
+-- two numbers
+pub pair_cut : (bs : List ℕ) (view epoch : ℕ) (r : Found) (a b : Bor (List ℕ)) → IsSplitOnceResult 32 bs r → view < 2 ^ 64 → bs ≡ pair_text view epoch → r ≡ Some (a, b) → (a.now ≡ decimal view) × (b.now ≡ decimal epoch)
+pair_cut bs view epoch r a b h small e is = at_some (decimal view) (decimal epoch) r a b (cut bs (decimal view) (decimal epoch) r h (decimal_lacks 32 view small (λ k. omega (arith, k))) e) is
 
-pub update_no_cut : (bs : List ℕ) (view : ℕ) (value : Record) (r : Found) → IsSplitOnceResult 32 bs r → view < 2 ^ 64 → bs ≡ update_text view value → r ≡ None → ⊥
-update_no_cut bs view value r h small e is = at_none (decimal view) (record_text value) r (cut bs (decimal view) (record_text value) r h (decimal_lacks 32 view small (λ k. omega (arith, k))) e) is
-
--- the view and the epoch of a claim
-pub claim_cut : (bs : List ℕ) (view epoch : ℕ) (r : Found) (a b : Bor (List ℕ)) → IsSplitOnceResult 32 bs r → view < 2 ^ 64 → bs ≡ claim_text view epoch → r ≡ Some (a, b) → (a.now ≡ decimal view) × (b.now ≡ decimal epoch)
-claim_cut bs view epoch r a b h small e is = at_some (decimal view) (decimal epoch) r a b (cut bs (decimal view) (decimal epoch) r h (decimal_lacks 32 view small (λ k. omega (arith, k))) e) is
-
-pub claim_no_cut : (bs : List ℕ) (view epoch : ℕ) (r : Found) → IsSplitOnceResult 32 bs r → view < 2 ^ 64 → bs ≡ claim_text view epoch → r ≡ None → ⊥
-claim_no_cut bs view epoch r h small e is = at_none (decimal view) (decimal epoch) r (cut bs (decimal view) (decimal epoch) r h (decimal_lacks 32 view small (λ k. omega (arith, k))) e) is
+pub pair_no_cut : (bs : List ℕ) (view epoch : ℕ) (r : Found) → IsSplitOnceResult 32 bs r → view < 2 ^ 64 → bs ≡ pair_text view epoch → r ≡ None → ⊥
+pair_no_cut bs view epoch r h small e is = at_none (decimal view) (decimal epoch) r (cut bs (decimal view) (decimal epoch) r h (decimal_lacks 32 view small (λ k. omega (arith, k))) e) is
 
 -- the operation and the way to fail
 pub fail_cut : (bs : List ℕ) (op : ℕ) (failure : Failure) (r : Found) (a b : Bor (List ℕ)) → IsSplitOnceResult 32 bs r → op < 2 ^ 64 → bs ≡ fail_text op failure → r ≡ Some (a, b) → (a.now ≡ decimal op) × (b.now ≡ failure_text failure)

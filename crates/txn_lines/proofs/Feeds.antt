@@ -1,12 +1,12 @@
 -- The first line of a text, and the lines after it.
-use Rattle.std.proofs.Common.{◌≡◌, ℕ, ◌<◌, List, [], ◌∷◌, ◌++◌, ◌==◌, Bool, true, false, cond, length, Option, Some, None, IfSome, inl, inr, refl, sym, ◌∙◌, ap, subst, arith, length-append}
+use Rattle.std.proofs.Common.{◌≡◌, ℕ, ◌<◌, ◌≤◌, List, [], ◌∷◌, ◌++◌, ◌==◌, Bool, true, false, cond, length, Option, Some, None, IfSome, inl, inr, refl, sym, ◌∙◌, ap, subst, arith, length-append}
 use Rattle.std.proofs.lemmas.Grind.{common_steps}
+use Rattle.std.proofs.lemmas.Bool.{ltb-true, lt-ltb}
 use Rattle.std.proofs.lemmas.List.{append_assoc}
 use Rattle.std.specs.Io.BufRead.{take_through, drop_through, strip_last, first_piece, DropsThrough}
 use Rattle.txn_lines.specs.declared.lines.Taken.TheVariants as taken
-use Rattle.txn_lines.specs.declared.lines.TheConstants.{MOST_BYTES}
 use Rattle.txn_lines.specs.Lines.{lines_of, onto, is_comment, is_skipped}
-use Rattle.txn_lines.specs.Reading.{LacksFeed, Ends, TakesPiece, ReadsLine}
+use Rattle.txn_lines.specs.Reading.{LacksFeed, Ends, TakesPiece, ReadsLine, is_above}
 
 strip_cons : (b y : ℕ) (ys : List ℕ) → strip_last 10 (b ∷ y ∷ ys) ≡ b ∷ strip_last 10 (y ∷ ys)
 strip_cons b y ys = grind (arith, common_steps)
@@ -141,15 +141,15 @@ line_whole (Some input) mid new text longer on read =
       here.2 ∙ ap Some (sym taken.1 ∙ sym (drop_through-append text on.0 on.3) ∙ ap (drop_through 10) (sym on.2)),
     )
 
-pub line_end : (old new : Option (List ℕ)) (text : List ℕ) → Whole old new text → length text ≡ 0 → ReadsLine old new text taken.End
-line_end None new text whole none = tt
-line_end (Some input) new text whole none =
+pub line_end : (most : Option ℕ) (old new : Option (List ℕ)) (text : List ℕ) → Whole old new text → length text ≡ 0 → ReadsLine most old new text taken.End
+line_end most None new text whole none = tt
+line_end most (Some input) new text whole none =
     let empty : input ≡ [] = none_taken input (ap length (sym whole.0) ∙ none) in
     (empty, whole.1 ∙ ap (λ xs. Some (drop_through 10 xs)) empty)
 
-pub line_read : (old new : Option (List ℕ)) (text : List ℕ) → Whole old new text → 0 < length text → ReadsLine old new text taken.Line
-line_read None new text whole some = tt
-line_read (Some input) new text whole some = (some, whole.0, whole.1)
+pub line_read : (most : Option ℕ) (old new : Option (List ℕ)) (text : List ℕ) → Whole old new text → 0 < length text → ReadsLine most old new text taken.Line
+line_read most None new text whole some = tt
+line_read most (Some input) new text whole some = (some, whole.0, whole.1)
 
 -- what the first line has of the bytes that were read of it
 skipped-append : (text rest : List ℕ) → 0 < length text → is_skipped (text ++ rest) ≡ is_comment text
@@ -163,9 +163,9 @@ comment_some : (text : List ℕ) → is_comment text ≡ true → 0 < length tex
 comment_some [] e = absurd (cc)
 comment_some (b ∷ bs) e = omega arith
 
-pub line_comment : (old mid new : Option (List ℕ)) (text : List ℕ) → InLine old mid text → is_comment text ≡ true → DropsThrough mid new 10 → ReadsLine old new text taken.Comment
-line_comment None mid new text on comment dropped = tt
-line_comment (Some input) mid new text on comment dropped =
+pub line_comment : (most : Option ℕ) (old mid new : Option (List ℕ)) (text : List ℕ) → InLine old mid text → is_comment text ≡ true → DropsThrough mid new 10 → ReadsLine most old new text taken.Comment
+line_comment most None mid new text on comment dropped = tt
+line_comment most (Some input) mid new text on comment dropped =
     let here : DropsThrough (Some on.0) new 10 = subst (λ o. DropsThrough o new 10) on.1 dropped in
     let some = comment_some text comment in (
       omega (arith, some, ap length on.2, length-append text on.0),
@@ -173,12 +173,21 @@ line_comment (Some input) mid new text on comment dropped =
       here ∙ ap Some (sym (drop_through-append text on.0 on.3) ∙ ap (drop_through 10) (sym on.2)),
     )
 
-pub line_long : (old mid : Option (List ℕ)) (text : List ℕ) → InLine old mid text → MOST_BYTES < length text → is_comment text ≡ false → ReadsLine old mid text taken.TooLong
-line_long None mid text on long kept = tt
-line_long (Some input) mid text on long kept =
-    let some : 0 < length text = omega (arith, long) in
+-- what goes on after a line that is too long is longer still
+above_more : (most : Option ℕ) (few more : ℕ) → few ≤ more → is_above most few ≡ true → is_above most more ≡ true
+above_more None few more le above = above
+above_more (Some most) few more le above = lt-ltb most more (omega (arith, le, ltb-true most few above))
+
+above_some : (most : Option ℕ) (n : ℕ) → is_above most n ≡ true → 0 < n
+above_some None n above = absurd (cc)
+above_some (Some most) n above = omega (arith, ltb-true most n above)
+
+pub line_long : (most : Option ℕ) (old mid : Option (List ℕ)) (text : List ℕ) → InLine old mid text → is_above most (length text) ≡ true → is_comment text ≡ false → ReadsLine most old mid text taken.TooLong
+line_long most None mid text on long kept = tt
+line_long most (Some input) mid text on long kept =
+    let some : 0 < length text = above_some most (length text) long in
     let piece : first_piece 10 input ≡ text ++ first_piece 10 on.0 = ap (first_piece 10) on.2 ∙ first_piece-append text on.0 on.3 in (
       omega (arith, some, ap length on.2, length-append text on.0),
       first_skipped input text on.0 some on.2 on.3 ∙ kept,
-      omega (arith, long, ap length piece, length-append text (first_piece 10 on.0)),
+      above_more most (length text) (length (first_piece 10 input)) (omega (arith, ap length piece, length-append text (first_piece 10 on.0))) long,
     )

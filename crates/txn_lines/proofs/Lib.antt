@@ -1,7 +1,7 @@
 pub mod NumeralLemmas
 pub mod RecordLemmas
 pub mod Cuts
-pub mod Texts
+pub mod Lengths
 pub mod Pieces
 pub mod Feeds
 pub mod Skips

@@ -5,3 +5,5 @@ pub mod Lines
 pub mod Grammar
 pub mod Printed
 pub mod Reading
+pub mod TextLaws
+pub mod RecordLaws

@@ -1,6 +1,5 @@
 -- The text of each printed line.
 use Rattle.std.specs.Prelude.{ℕ, List, [], ◌∷◌, ◌++◌, ◌==◌, if◌then◌else◌, Option, Some, None, codes, decimal}
-use Rattle.txn_lines.specs.declared.record.Record.{Record}
 use Rattle.txn_history.specs.declared.event.Answer.{Answer}
 use Rattle.txn_history.specs.declared.event.Answer.TheVariants as answers
 use Rattle.txn_view_history.specs.declared.event.AnyAnswer.{AnyAnswer}
@@ -8,7 +7,7 @@ use Rattle.txn_view_history.specs.declared.event.AnyAnswer.TheVariants as any
 use Rattle.txn_view_history.specs.Views.{View}
 use Rattle.txn_history.specs.declared.event.EventFault.{EventFault}
 use Rattle.txn_history.specs.declared.event.EventFault.TheVariants as faults
-use Rattle.txn_lines.specs.Record.{record_text}
+use Rattle.txn_history.specs.Allowed.{fault_number}
 use Rattle.txn_lines.specs.declared.stop.Stop.{Stop}
 use Rattle.txn_lines.specs.declared.stop.Stop.TheVariants as stops
 
@@ -27,15 +26,6 @@ refusal_name number =
     if number == 10 then codes "IdExhausted" else
     codes "TurnsExhausted"
 
-abbrev pub read_text : Option (ℕ × Record) → List ℕ
-read_text None = codes "read none"
-read_text (Some found) = codes "read " ++ (decimal found.0 ++ (codes " " ++ record_text found.1))
-
--- the value of a version, or that there is none
-abbrev pub value_text : Option Record → List ℕ
-value_text None = codes "value none"
-value_text (Some value) = codes "value " ++ record_text value
-
 -- ids, each after one space
 abbrev pub ids_text : List ℕ → List ℕ
 ids_text [] = []
@@ -46,45 +36,72 @@ abbrev pub listed_text : List ℕ → List ℕ
 listed_text [] = codes " none"
 listed_text (id ∷ ids) = ids_text (id ∷ ids)
 
--- the answer of a call without a view, or a refusal
-abbrev pub plain_answer_text : Answer Record → List ℕ
-plain_answer_text (answers.Wrote id) = codes "wrote " ++ decimal id
-plain_answer_text (answers.Read found) = read_text found
-plain_answer_text (answers.Value found) = value_text found
-plain_answer_text (answers.Ids ids) = codes "ids" ++ listed_text ids
-plain_answer_text answers.Done = codes "done"
-plain_answer_text (answers.Refused number) = codes "refused " ++ (decimal number ++ (codes " " ++ refusal_name number))
+-- the texts of answers, entries and views, by that of a value
+module _ {T : Type 0} (text : T → List ℕ) where
+  abbrev pub read_text : Option (ℕ × T) → List ℕ
+  read_text None = codes "read none"
+  read_text (Some found) = codes "read " ++ (decimal found.0 ++ (codes " " ++ text found.1))
 
--- the view of this number is at the version of this id, with this value
-abbrev pub view_text : ℕ → ℕ → Record → List ℕ
-view_text view id value = codes "view " ++ (decimal view ++ (codes " at " ++ (decimal id ++ (codes " " ++ record_text value))))
+  -- the value of a version, or that there is none
+  abbrev pub value_text : Option T → List ℕ
+  value_text None = codes "value none"
+  value_text (Some value) = codes "value " ++ text value
 
--- the same, as the holder of this epoch
-abbrev pub holder_text : ℕ → ℕ → Record → ℕ → List ℕ
-holder_text view id value epoch = codes "holder " ++ (decimal view ++ (codes " at " ++ (decimal id ++ (codes " " ++ (record_text value ++ (codes " epoch " ++ decimal epoch))))))
+  -- the answer of a call without a view, or a refusal
+  abbrev pub plain_answer_text : Answer T → List ℕ
+  plain_answer_text (answers.Wrote id) = codes "wrote " ++ decimal id
+  plain_answer_text (answers.Read found) = read_text found
+  plain_answer_text (answers.Value found) = value_text found
+  plain_answer_text (answers.Ids ids) = codes "ids" ++ listed_text ids
+  plain_answer_text answers.Done = codes "done"
+  plain_answer_text (answers.Refused number) = codes "refused " ++ (decimal number ++ (codes " " ++ refusal_name number))
 
-abbrev pub answered_text : AnyAnswer Record → List ℕ
-answered_text (any.Plain answer) = plain_answer_text answer
-answered_text (any.View view id value) = view_text view id value
-answered_text (any.Held view id value epoch) = holder_text view id value epoch
+  -- the view of this number is at the version of this id, with this value
+  abbrev pub view_text : ℕ → ℕ → T → List ℕ
+  view_text view id value = codes "view " ++ (decimal view ++ (codes " at " ++ (decimal id ++ (codes " " ++ text value))))
 
--- the line of an answer
-abbrev pub answer_text : ℕ → AnyAnswer Record → List ℕ
-answer_text op answer = codes "op " ++ (decimal op ++ (codes ": " ++ answered_text answer))
+  -- the same, as the holder of this epoch
+  abbrev pub holder_text : ℕ → ℕ → T → ℕ → List ℕ
+  holder_text view id value epoch = codes "holder " ++ (decimal view ++ (codes " at " ++ (decimal id ++ (codes " " ++ (text value ++ (codes " epoch " ++ decimal epoch))))))
 
--- the line of a refused event
+  abbrev pub answered_text : AnyAnswer T → List ℕ
+  answered_text (any.Plain answer) = plain_answer_text answer
+  answered_text (any.View view id value) = view_text view id value
+  answered_text (any.Held view id value epoch) = holder_text view id value epoch
+
+  -- the line of an answer
+  abbrev pub answer_text : ℕ → AnyAnswer T → List ℕ
+  answer_text op answer = codes "op " ++ (decimal op ++ (codes ": " ++ answered_text answer))
+
+  -- the line of an entry of the history
+  abbrev pub entry_text : ℕ → T → List ℕ
+  entry_text n value = codes "entry " ++ (decimal n ++ (codes " " ++ text value))
+
+  -- how a view stands, by the epoch of a holder
+  abbrev pub stands_by : ℕ → ℕ → T → Option ℕ → List ℕ
+  stands_by number id value None = view_text number id value
+  stands_by number id value (Some epoch) = holder_text number id value epoch
+
+  -- the line of a view that has not ended
+  abbrev pub stands_text : ℕ → View T → List ℕ
+  stands_text number view = stands_by number view.id view.object view.epoch
+
+-- the name of a fault
+abbrev pub fault_name : EventFault → List ℕ
+fault_name faults.UnknownNumber = codes "UnknownNumber"
+fault_name faults.NotAsked = codes "NotAsked"
+fault_name faults.UnknownBase = codes "UnknownBase"
+fault_name faults.BoundaryTooHigh = codes "BoundaryTooHigh"
+fault_name faults.EpochLowered = codes "EpochLowered"
+fault_name faults.ViewBusy = codes "ViewBusy"
+fault_name faults.NoMemory = codes "NoMemory"
+
+-- the line of an event that is refused with a fault of this number and name
+abbrev pub named_fault_text : ℕ → List ℕ → List ℕ
+named_fault_text number name = codes "fault " ++ (decimal number ++ (codes " " ++ name))
+
 abbrev pub fault_text : EventFault → List ℕ
-fault_text faults.UnknownNumber = codes "fault 1 UnknownNumber"
-fault_text faults.NotAsked = codes "fault 2 NotAsked"
-fault_text faults.UnknownBase = codes "fault 3 UnknownBase"
-fault_text faults.BoundaryTooHigh = codes "fault 4 BoundaryTooHigh"
-fault_text faults.EpochLowered = codes "fault 5 EpochLowered"
-fault_text faults.ViewBusy = codes "fault 6 ViewBusy"
-fault_text faults.NoMemory = codes "fault 7 NoMemory"
-
--- the line of an entry of the history
-abbrev pub entry_text : ℕ → Record → List ℕ
-entry_text n value = codes "entry " ++ (decimal n ++ (codes " " ++ record_text value))
+fault_text fault = named_fault_text (fault_number fault) (fault_name fault)
 
 -- the line of the boundary
 abbrev pub boundary_text : ℕ → List ℕ
@@ -94,14 +111,9 @@ boundary_text boundary = codes "boundary " ++ decimal boundary
 abbrev pub erased_text : List ℕ → List ℕ
 erased_text ids = codes "erased" ++ listed_text ids
 
--- how a view stands, by the epoch of a holder
-abbrev pub stands_by : ℕ → ℕ → Record → Option ℕ → List ℕ
-stands_by number id value None = view_text number id value
-stands_by number id value (Some epoch) = holder_text number id value epoch
-
--- the line of a view that has not ended
-abbrev pub stands_text : ℕ → View Record → List ℕ
-stands_text number view = stands_by number view.id view.object view.epoch
+-- the line of the ids that the newest value pins
+abbrev pub pinned_text : List ℕ → List ℕ
+pinned_text ids = codes "pinned" ++ listed_text ids
 
 -- the line of a script that stops
 abbrev pub stop_text : Stop → List ℕ

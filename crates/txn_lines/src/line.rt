@@ -1,204 +1,50 @@
 //! The lines of a script, and how one is read.
 
-ghost use Rattle.std.specs.Prelude.{◌≡◌, ℕ, ◌<◌, ◌^◌, IfSome, Some, Option};
-ghost use Rattle.std.specs.declared.ops.Bound.{Bound};
-ghost use Rattle.txn_history.specs.declared.event.Call.{Call};
+ghost use Rattle.std.specs.Prelude.{◌≡◌, ℕ, ◌<◌, ◌^◌, IfOk, IfSome, Some};
 ghost use Rattle.txn_history.specs.declared.event.Failure.{Failure};
-ghost use Rattle.txn_view_history.specs.Trace.{AnyEvent};
-ghost use Rattle.txn_view_history.specs.declared.event.ViewCall.{ViewCall};
-ghost use Rattle.txn_view_history.specs.declared.event.AnyCall.{AnyCall};
-ghost use Rattle.txn_lines.specs.declared.record.Record.{Record};
-ghost use Rattle.txn_lines.specs.Grammar.{base_text, write_text, bound_text, list_text, plain_text, update_text, claim_text, view_call_text, call_text, begin_text, failure_text, fail_text, event_text, BaseFits, WriteFits, BoundFits, ListFits, PlainFits, UpdateFits, ClaimFits, ViewCallFits, CallFits, EventFits, Says};
+ghost use Rattle.txn_lines.specs.Grammar.{begin_text, failure_text, fail_text, line_text, LineFits};
+ghost use Rattle.txn_lines.specs.Reading.{IsNoBegin};
 ghost use Rattle.txn_lines.specs.declared.line.Line.{Line};
 
 use crate::numerals::read_decimal;
-use crate::record::{Record, read_record};
-use std::ops::Bound;
-use txn_history::event::{Call, Failure};
-use txn_view_history::event::{AnyCall, AnyEvent, ViewCall};
+use crate::text_form::TextForm;
+use std::alloc::{AllocError, Global};
+use txn_history::event::{EventOf, Failure};
 
-/// What a line of a script says.
+/// What a line of a script says, whose clients make calls of this type.
 #[derive(Debug, Drop)]
-pub enum Line {
+pub enum Line<C> {
     /// The script has so many clients.
     Clients(u64),
     /// A listing goes in pages of so many files at most.
     Page(u64),
     /// One step of the world.
-    Event(AnyEvent<Record>),
+    Event(EventOf<C>),
     /// The operation goes on until it is answered.
     Run(u64),
 }
 
-/// The base that a number says, or `-` for none.
-fn read_base(text: &str) -> Option<Option<u64>>
-    ensures fits { IfSome result BaseFits }
-    ensures reads { IfSome result (λ base. text.now ≡ base_text base) }
-    ensures all { (base : Option ℕ)
-        → BaseFits base → text.now ≡ base_text base → result ≡ Some base }
-{
-    if text == "-" {
-        return Some(None);
-    }
-    Some(Some(read_decimal(text)?))
-}
-
-/// The base and the value of the write that these words say.
-fn read_write(text: &str) -> Option<(Option<u64>, Record)>
-    ensures fits { IfSome result (λ write. WriteFits write.0 write.1) }
-    ensures reads { IfSome result (λ write. text.now ≡ write_text write.0 write.1) }
-    ensures all { (base : Option ℕ) (value : Record)
-        → WriteFits base value → text.now ≡ write_text base value
-        → result ≡ Some (base, value) }
-{
-    let (base_word, value) = text.split_once(' ')?;
-    let base = read_base(base_word)?;
-    Some((base, read_record(value.as_bytes())?))
-}
-
-/// The bound that a word says: `=` and a number that is within, `!` and a number that is not, or `-` for none.
-fn read_bound(text: &str) -> Option<Bound<u64>>
-    ensures fits { IfSome result BoundFits }
-    ensures reads { IfSome result (λ bound. text.now ≡ bound_text bound) }
-    ensures all { (bound : Bound ℕ)
-        → BoundFits bound → text.now ≡ bound_text bound → result ≡ Some bound }
-{
-    if text == "-" {
-        return Some(Bound::Unbounded);
-    }
-    if let Some(number) = text.strip_prefix('=') {
-        return Some(Bound::Included(read_decimal(number)?));
-    }
-    Some(Bound::Excluded(read_decimal(text.strip_prefix('!')?)?))
-}
-
-/// The bounds of the listing that these words say.
-fn read_list(text: &str) -> Option<(Bound<u64>, Bound<u64>)>
-    ensures fits { IfSome result (λ bounds. ListFits bounds.0 bounds.1) }
-    ensures reads { IfSome result (λ bounds. text.now ≡ list_text bounds.0 bounds.1) }
-    ensures all { (from to : Bound ℕ)
-        → ListFits from to → text.now ≡ list_text from to → result ≡ Some (from, to) }
-{
-    let (from_word, to_word) = text.split_once(' ')?;
-    let from = read_bound(from_word)?;
-    Some((from, read_bound(to_word)?))
-}
-
-/// The call without a view that these words say.
-fn read_plain_call(text: &str) -> Option<Call<Record>>
-    ensures fits { IfSome result PlainFits }
-    ensures reads { IfSome result (λ call. text.now ≡ plain_text call) }
-    ensures all { (call : Call Record)
-        → PlainFits call → text.now ≡ plain_text call → result ≡ Some call }
-{
-    if text == "read" {
-        return Some(Call::Read);
-    }
-    let (word, rest) = text.split_once(' ')?;
-    match word {
-        "write" => {
-            let (base, value) = read_write(rest)?;
-            Some(Call::Write(base, value))
-        }
-        "write_unchecked" => {
-            let (base, value) = read_write(rest)?;
-            Some(Call::WriteUnchecked(base, value))
-        }
-        "read_unchecked" => Some(Call::ReadUnchecked(read_decimal(rest)?)),
-        "read_seen" => Some(Call::ReadSeen(read_decimal(rest)?)),
-        "list" => {
-            let (from, to) = read_list(rest)?;
-            Some(Call::ListIds(from, to))
-        }
-        "delete" => Some(Call::Delete(read_decimal(rest)?)),
-        "check" => Some(Call::Check(read_decimal(rest)?)),
-        "advance" => Some(Call::Advance(read_decimal(rest)?)),
-        _ => None,
-    }
-}
-
-/// The view and the value of the update that these words say.
-fn read_update(text: &str) -> Option<(u64, Record)>
-    ensures fits { IfSome result (λ update. UpdateFits update.0 update.1) }
-    ensures reads { IfSome result (λ update. text.now ≡ update_text update.0 update.1) }
-    ensures all { (view : ℕ) (value : Record)
-        → UpdateFits view value → text.now ≡ update_text view value
-        → result ≡ Some (view, value) }
-{
-    let (view_word, value) = text.split_once(' ')?;
-    let view = read_decimal(view_word)?;
-    Some((view, read_record(value.as_bytes())?))
-}
-
-/// The view and the epoch of the claim that these words say.
-fn read_claim(text: &str) -> Option<(u64, u64)>
-    ensures fits { IfSome result (λ claim. ClaimFits claim.0 claim.1) }
-    ensures reads { IfSome result (λ claim. text.now ≡ claim_text claim.0 claim.1) }
-    ensures all { (view epoch : ℕ)
-        → ClaimFits view epoch → text.now ≡ claim_text view epoch
-        → result ≡ Some (view, epoch) }
-{
-    let (view_word, epoch_word) = text.split_once(' ')?;
-    let view = read_decimal(view_word)?;
-    Some((view, read_decimal(epoch_word)?))
-}
-
-/// The call on a view that these words say.
-fn read_view_call(text: &str) -> Option<ViewCall<Record>>
-    ensures fits { IfSome result ViewCallFits }
-    ensures reads { IfSome result (λ call. text.now ≡ view_call_text call) }
-    ensures all { (call : ViewCall Record)
-        → ViewCallFits call → text.now ≡ view_call_text call → result ≡ Some call }
-{
-    if text == "load" {
-        return Some(ViewCall::Load);
-    }
-    let (word, rest) = text.split_once(' ')?;
-    match word {
-        "init" => Some(ViewCall::Init(read_record(rest.as_bytes())?)),
-        "refresh" => Some(ViewCall::Refresh(read_decimal(rest)?)),
-        "update" => {
-            let (view, value) = read_update(rest)?;
-            Some(ViewCall::Update(view, value))
-        }
-        "claim" => Some(ViewCall::Claim(read_decimal(rest)?)),
-        "claim_at" => {
-            let (view, epoch) = read_claim(rest)?;
-            Some(ViewCall::ClaimAt(view, epoch))
-        }
-        "holder_refresh" => Some(ViewCall::HolderRefresh(read_decimal(rest)?)),
-        "holder_update" => {
-            let (view, value) = read_update(rest)?;
-            Some(ViewCall::HolderUpdate(view, value))
-        }
-        _ => None,
-    }
-}
-
-/// The call that these words say.
-fn read_call(text: &str) -> Option<AnyCall<Record>>
-    ensures fits { IfSome result CallFits }
-    ensures reads { IfSome result (λ call. text.now ≡ call_text call) }
-    ensures all { (call : AnyCall Record)
-        → CallFits call → text.now ≡ call_text call → result ≡ Some call }
-{
-    match read_plain_call(text) {
-        Some(call) => Some(AnyCall::Plain(call)),
-        None => Some(AnyCall::View(read_view_call(text)?)),
-    }
-}
+/// The most bytes of a line that are not of its call: two words, a number of twenty digits, and spaces.
+const MOST_WORDS: usize = 32;
 
 /// The client and the call that these words say.
-fn read_begin(text: &str) -> Option<(u64, AnyCall<Record>)>
-    ensures fits { IfSome result (λ begun. (begun.0 < 2 ^ 64) × CallFits begun.1) }
-    ensures reads { IfSome result (λ begun. text.now ≡ begin_text begun.0 begun.1) }
-    ensures all { (client : ℕ) (call : AnyCall Record)
-        → client < 2 ^ 64 → CallFits call → text.now ≡ begin_text client call
-        → result ≡ Some (client, call) }
+fn read_begin<C: TextForm>(alloc: Global, words: &str) -> Result<Option<(u64, C)>, AllocError>
+    ensures fits { IfOk result (λ read. IfSome read (λ begun. (begun.0 < 2 ^ 64) × C.fits begun.1)) }
+    ensures reads { IfOk result (λ read. IfSome read (λ begun. words.now ≡ begin_text C.text begun.0 begun.1)) }
+    ensures all { IfOk result (λ read. (client : ℕ) (call : C)
+        → client < 2 ^ 64 → C.fits call → words.now ≡ begin_text C.text client call
+        → read ≡ Some (client, call)) }
 {
-    let (client_word, rest) = text.split_once(' ')?;
-    let client = read_decimal(client_word)?;
-    Some((client, read_call(rest)?))
+    let Some((client_word, rest)) = words.split_once(' ') else {
+        return Ok(None);
+    };
+    let Some(client) = read_decimal(client_word) else {
+        return Ok(None);
+    };
+    match C::read_text(alloc, rest)? {
+        Some(call) => Ok(Some((client, call))),
+        None => Ok(None),
+    }
 }
 
 /// The way to fail that a word says.
@@ -226,43 +72,57 @@ fn read_fail(text: &str) -> Option<(u64, Failure)>
     Some((op, read_failure(failure_word)?))
 }
 
-/// The event that these words say.
-fn read_event(text: &str) -> Option<AnyEvent<Record>>
-    ensures fits { IfSome result EventFits }
-    ensures reads { IfSome result (λ event. text.now ≡ event_text event) }
-    ensures all { (event : AnyEvent Record)
-        → EventFits event → text.now ≡ event_text event → result ≡ Some event }
+/// The line that these words say, where it is no begin.
+fn read_other<C: TextForm>(words: &str) -> Option<Line<C>>
+    ensures fits { IfSome result (LineFits C.fits) }
+    ensures reads { IfSome result (λ line. words.now ≡ line_text C.text line) }
+    ensures all { (line : Line C) → IsNoBegin line → LineFits C.fits line
+        → words.now ≡ line_text C.text line → result ≡ Some line }
 {
-    let (word, rest) = text.split_once(' ')?;
-    match word {
-        "begin" => {
-            let (client, call) = read_begin(rest)?;
-            Some(AnyEvent::Begin(client, call))
-        }
-        "look" => Some(AnyEvent::Look(read_decimal(rest)?)),
-        "serve" => Some(AnyEvent::Serve(read_decimal(rest)?)),
-        "fail" => {
-            let (op, failure) = read_fail(rest)?;
-            Some(AnyEvent::Fail(op, failure))
-        }
-        "giveup" => Some(AnyEvent::GiveUp(read_decimal(rest)?)),
-        "land" => Some(AnyEvent::Land(read_decimal(rest)?)),
-        "crash" => Some(AnyEvent::Crash(read_decimal(rest)?)),
-        _ => None,
-    }
-}
-
-/// The line that a text says, if it says one.
-pub fn read_line(text: &str) -> Option<Line>
-    ensures says { IfSome result (Says text.now) }
-    // Each text that says a line is read as that line.
-    ensures all { (line : Line) → Says text.now line → result ≡ Some line }
-{
-    let (word, rest) = text.split_once(' ')?;
+    let (word, rest) = words.split_once(' ')?;
     match word {
         "clients" => Some(Line::Clients(read_decimal(rest)?)),
         "page" => Some(Line::Page(read_decimal(rest)?)),
         "run" => Some(Line::Run(read_decimal(rest)?)),
-        _ => Some(Line::Event(read_event(text)?)),
+        "look" => Some(Line::Event(EventOf::Look(read_decimal(rest)?))),
+        "serve" => Some(Line::Event(EventOf::Serve(read_decimal(rest)?))),
+        "fail" => {
+            let (op, failure) = read_fail(rest)?;
+            Some(Line::Event(EventOf::Fail(op, failure)))
+        }
+        "giveup" => Some(Line::Event(EventOf::GiveUp(read_decimal(rest)?))),
+        "land" => Some(Line::Event(EventOf::Land(read_decimal(rest)?))),
+        "crash" => Some(Line::Event(EventOf::Crash(read_decimal(rest)?))),
+        _ => None,
+    }
+}
+
+/// A line, where its clients' calls have a text.
+impl<C: TextForm> TextForm for Line<C> {
+    ghost use Rattle.txn_lines.specs.Grammar.{line_text, LineFits};
+    ghost use Rattle.txn_lines.specs.TextLaws.{line_utf8};
+
+    ghost text = { line_text C.text };
+
+    ghost fits = { LineFits C.fits };
+
+    ghost is_utf8 = { line_utf8 C.text C.fits C.is_utf8 };
+
+    fn read_text(alloc: Global, words: &str) -> Result<Option<Line<C>>, AllocError> {
+        let Some((word, rest)) = words.split_once(' ') else {
+            return Ok(None);
+        };
+        if word != "begin" {
+            return Ok(read_other(words));
+        }
+        match read_begin(alloc, rest)? {
+            Some((client, call)) => Ok(Some(Line::Event(EventOf::Begin(client, call)))),
+            None => Ok(None),
+        }
+    }
+
+    /// That of a call, and [`MOST_WORDS`] more.
+    fn most_bytes() -> Option<usize> {
+        C::most_bytes()?.checked_add(MOST_WORDS)
     }
 }

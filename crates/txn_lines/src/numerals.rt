@@ -1,7 +1,7 @@
 //! Numbers as plain decimals write them.
-ghost use Rattle.std.specs.Prelude.{◌≡◌, ℕ, ◌<◌, ◌^◌, ◌↔◌, Some};
+ghost use Rattle.std.specs.Prelude.{◌≡◌, ℕ, ◌<◌, ◌^◌, ◌↔◌, Some, IfSome};
 ghost use Rattle.std.specs.Fmt.{decimal};
-ghost use Rattle.txn_lines.specs.Numerals.{decimal_read};
+ghost use Rattle.txn_lines.specs.Numerals.{decimal_read, pair_text, PairFits};
 
 use txn_store::digits::read_digits;
 
@@ -14,4 +14,17 @@ pub fn read_decimal(text: &str) -> Option<u64>
         return None;
     }
     read_digits(text)
+}
+
+/// Reads two plain decimals, divided by one space.
+pub fn read_pair(text: &str) -> Option<(u64, u64)>
+    ensures fits { IfSome result (λ pair. PairFits pair.0 pair.1) }
+    ensures reads { IfSome result (λ pair. text.now ≡ pair_text pair.0 pair.1) }
+    ensures all { (first second : ℕ)
+        → PairFits first second → text.now ≡ pair_text first second
+        → result ≡ Some (first, second) }
+{
+    let (first_word, second_word) = text.split_once(' ')?;
+    let first = read_decimal(first_word)?;
+    Some((first, read_decimal(second_word)?))
 }

@@ -1,9 +1,9 @@
 //! The printed lines.
 
 ghost use Rattle.std.specs.Prelude.{◌≡◌, Some};
-ghost use Rattle.txn_lines.specs.Printed.{refusal_name, plain_answer_text, answered_text, answer_text, entry_text, boundary_text, erased_text, stands_text, listed_text, fault_text};
+ghost use Rattle.txn_lines.specs.Printed.{refusal_name, plain_answer_text, answered_text, answer_text, entry_text, boundary_text, erased_text, pinned_text, stands_text, listed_text, fault_name, fault_text, named_fault_text};
 
-use crate::record::Record;
+use crate::text_form::LineValue;
 use std::fmt;
 use txn_history::event::{Answer, EventFault};
 use txn_view_history::event::AnyAnswer;
@@ -48,10 +48,10 @@ impl fmt::Display for Listed<'_> {
 
 /// The answer of a call without a view, or a refusal, as it is printed.
 #[derive(Clone, Copy, Debug)]
-struct PlainAnswered<'a>(&'a Answer<Record>);
+struct PlainAnswered<'a, T>(&'a Answer<T>);
 
-impl fmt::Display for PlainAnswered<'_> {
-    ghost output = { λ answered. Some (plain_answer_text answered.0.now) };
+impl<T: LineValue> fmt::Display for PlainAnswered<'_, T> {
+    ghost output = { λ answered. Some (plain_answer_text T.text answered.0.now) };
 
     fn fmt<W: fmt::Write>(&self, f: &mut fmt::Formatter<W>) -> fmt::Result {
         match self.0 {
@@ -75,10 +75,10 @@ impl fmt::Display for PlainAnswered<'_> {
 
 /// An answer as it is printed.
 #[derive(Debug, Drop)]
-pub struct Answered(pub AnyAnswer<Record>);
+pub struct Answered<T>(pub AnyAnswer<T>);
 
-impl fmt::Display for Answered {
-    ghost output = { λ answered. Some (answered_text answered.0) };
+impl<T: LineValue> fmt::Display for Answered<T> {
+    ghost output = { λ answered. Some (answered_text T.text answered.0) };
 
     fn fmt<W: fmt::Write>(&self, f: &mut fmt::Formatter<W>) -> fmt::Result {
         match &self.0 {
@@ -96,13 +96,13 @@ impl fmt::Display for Answered {
 
 /// The line of an answer.
 #[derive(Debug, Drop)]
-pub struct AnswerLine {
+pub struct AnswerLine<T> {
     pub op: u64,
-    pub answered: Answered,
+    pub answered: Answered<T>,
 }
 
-impl fmt::Display for AnswerLine {
-    ghost output = { λ line. Some (answer_text line.op line.answered.0) };
+impl<T: LineValue> fmt::Display for AnswerLine<T> {
+    ghost output = { λ line. Some (answer_text T.text line.op line.answered.0) };
 
     fn fmt<W: fmt::Write>(&self, f: &mut fmt::Formatter<W>) -> fmt::Result {
         let op = self.op;
@@ -113,13 +113,13 @@ impl fmt::Display for AnswerLine {
 
 /// The line of an entry of the history.
 #[derive(Clone, Copy, Debug)]
-pub struct EntryLine {
+pub struct EntryLine<'a, T> {
     pub number: usize,
-    pub value: Record,
+    pub value: &'a T,
 }
 
-impl fmt::Display for EntryLine {
-    ghost output = { λ line. Some (entry_text line.number line.value) };
+impl<T: LineValue> fmt::Display for EntryLine<'_, T> {
+    ghost output = { λ line. Some (entry_text T.text line.number line.value.now) };
 
     fn fmt<W: fmt::Write>(&self, f: &mut fmt::Formatter<W>) -> fmt::Result {
         let number = self.number;
@@ -154,22 +154,35 @@ impl fmt::Display for ErasedLine {
     }
 }
 
+/// The line of the ids that the newest value pins.
+#[derive(Debug, Drop)]
+pub struct PinnedLine(pub Vec<u64>);
+
+impl fmt::Display for PinnedLine {
+    ghost output = { λ line. Some (pinned_text line.0.items) };
+
+    fn fmt<W: fmt::Write>(&self, f: &mut fmt::Formatter<W>) -> fmt::Result {
+        let listed = Listed(&self.0);
+        write!(f, "pinned{listed}")
+    }
+}
+
 /// The line of a view that has not ended.
 #[derive(Clone, Copy, Debug)]
-pub struct ViewLine<'a> {
+pub struct ViewLine<'a, T> {
     /// The view's number, counted from 1.
     pub number: u64,
     /// The view as it stands.
-    pub view: &'a View<Record>,
+    pub view: &'a View<T>,
 }
 
-impl fmt::Display for ViewLine<'_> {
-    ghost output = { λ line. Some (stands_text line.number line.view.now) };
+impl<T: LineValue> fmt::Display for ViewLine<'_, T> {
+    ghost output = { λ line. Some (stands_text T.text line.number line.view.now) };
 
     fn fmt<W: fmt::Write>(&self, f: &mut fmt::Formatter<W>) -> fmt::Result {
         let number = self.number;
         let id = self.view.id;
-        let value = self.view.object;
+        let value = &self.view.object;
         match self.view.epoch {
             None => write!(f, "view {number} at {id} {value}"),
             Some(epoch) => write!(f, "holder {number} at {id} {value} epoch {epoch}"),
@@ -177,22 +190,51 @@ impl fmt::Display for ViewLine<'_> {
     }
 }
 
-/// The line of a refused event.
+/// The name of a fault.
+pub fn fault_name(fault: EventFault) -> &'static str
+    ensures { result.now ≡ fault_name fault }
+{
+    match fault {
+        EventFault::UnknownNumber => "UnknownNumber",
+        EventFault::NotAsked => "NotAsked",
+        EventFault::UnknownBase => "UnknownBase",
+        EventFault::BoundaryTooHigh => "BoundaryTooHigh",
+        EventFault::EpochLowered => "EpochLowered",
+        EventFault::ViewBusy => "ViewBusy",
+        EventFault::NoMemory => "NoMemory",
+    }
+}
+
+/// The line of a refused event, by the number and the name of its fault.
 #[derive(Clone, Copy, Debug)]
-pub struct FaultLine(pub EventFault);
+pub struct FaultLine {
+    pub number: u8,
+    pub name: &'static str,
+}
+
+impl FaultLine {
+    /// The line of the fault of this number and name.
+    pub fn new(number: u8, name: &'static str) -> FaultLine
+        ensures number { result.number ≡ number }
+        ensures name { result.name.now ≡ name.now }
+    {
+        FaultLine { number, name }
+    }
+
+    /// The line of a fault of a world.
+    pub fn of_world(fault: EventFault) -> FaultLine
+        ensures { named_fault_text result.number result.name.now ≡ fault_text fault }
+    {
+        FaultLine::new(fault.number(), fault_name(fault))
+    }
+}
 
 impl fmt::Display for FaultLine {
-    ghost output = { λ line. Some (fault_text line.0) };
+    ghost output = { λ line. Some (named_fault_text line.number line.name.now) };
 
     fn fmt<W: fmt::Write>(&self, f: &mut fmt::Formatter<W>) -> fmt::Result {
-        match self.0 {
-            EventFault::UnknownNumber => write!(f, "fault 1 UnknownNumber"),
-            EventFault::NotAsked => write!(f, "fault 2 NotAsked"),
-            EventFault::UnknownBase => write!(f, "fault 3 UnknownBase"),
-            EventFault::BoundaryTooHigh => write!(f, "fault 4 BoundaryTooHigh"),
-            EventFault::EpochLowered => write!(f, "fault 5 EpochLowered"),
-            EventFault::ViewBusy => write!(f, "fault 6 ViewBusy"),
-            EventFault::NoMemory => write!(f, "fault 7 NoMemory"),
-        }
+        let number = self.number;
+        let name = self.name;
+        write!(f, "fault {number} {name}")
     }
 }

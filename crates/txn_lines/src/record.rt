@@ -1,11 +1,12 @@
 //! A record as the text `epoch:payload`, two plain decimals.
-ghost use Rattle.std.specs.Prelude.{◌≡◌, ◌↔◌, Some, Ok, IfSome, IfOk, IfErr};
+ghost use Rattle.std.specs.Prelude.{◌≡◌, ◌≤◌, ◌↔◌, Some, Ok, IfSome, IfOk, IfErr, length};
 ghost use Rattle.txn_lines.specs.declared.record.Record.{Record};
 ghost use Rattle.txn_lines.specs.Record.{record_text, record_read, IsNumbers};
 ghost use Rattle.txn_types.specs.Refusal.{OnRefused};
 ghost use Rattle.txn_lines.specs.Refusal.{IsBadRecord};
 
 use crate::numerals::read_decimal;
+use crate::text_form::{LineValue, TextForm};
 use anyhow::anyhow;
 use bytes::Bytes;
 use std::alloc::{AllocError, Global};
@@ -47,6 +48,34 @@ pub fn read_record(bytes: &[u8]) -> Option<Record>
     let epoch = read_decimal(epoch)?;
     let payload = read_decimal(payload)?;
     Some(Record { epoch, payload })
+}
+
+/// The most bytes of a record's text: two numbers of twenty digits, and a colon.
+const MOST_BYTES: usize = 41;
+
+impl TextForm for Record {
+    ghost use Rattle.txn_lines.specs.Record.{record_text, IsNumbers};
+    ghost use Rattle.txn_lines.specs.RecordLaws.{record_utf8};
+
+    ghost text = { record_text };
+
+    ghost fits = { IsNumbers };
+
+    ghost is_utf8 = { record_utf8 };
+
+    fn read_text(_alloc: Global, words: &str) -> Result<Option<Record>, AllocError> {
+        Ok(read_record(words.as_bytes()))
+    }
+
+    fn most_bytes() -> Option<usize> {
+        Some(MOST_BYTES)
+    }
+}
+
+impl LineValue for Record {
+    ghost use Rattle.std.proofs.Common.{refl};
+
+    ghost shows = { λ v. refl };
 }
 
 impl ObjectCodec<Record> for RecordCodec {

@@ -1,19 +1,20 @@
 //! A manifest as the text `epoch:payload:pins`.
-ghost use Rattle.std.specs.Prelude.{◌≡◌, ◌↔◌, ◌==◌, ◌∷◌, [], ◌++◌, Some, None, Ok, IfSome, IfOk, IfErr, OnOk, string_bytes, map};
+ghost use Rattle.std.specs.Prelude.{◌≡◌, ◌↔◌, ◌==◌, ◌∷◌, [], ◌++◌, Some, None, Ok, IfSome, IfOk, IfErr, OnOk, map};
 ghost use Rattle.std.specs.List.{slice_split};
 ghost use Rattle.std.specs.Fmt.{decimal};
 ghost use Rattle.txn_types.specs.Refusal.{OnRefused};
 ghost use Rattle.txn_manifest.specs.declared.manifest.Manifest.{Manifest};
 ghost use Rattle.txn_manifest.specs.Pins.{ArePins};
-ghost use Rattle.txn_manifest.specs.Text.{pins_text, manifest_text, pins_read, manifest_read, IsManifest};
+ghost use Rattle.txn_manifest.specs.Text.{manifest_text, pins_read, manifest_read, IsManifest};
 ghost use Rattle.txn_manifest.specs.Refusal.{IsBadManifest};
 
 use crate::pins::Pins;
 use anyhow::anyhow;
 use bytes::Bytes;
 use std::alloc::{AllocError, Global};
-use std::str;
+use std::{fmt, str};
 use txn_lines::numerals::read_decimal;
+use txn_lines::text_form::{LineValue, TextForm};
 use txn_types::codec::{CodecFault, ObjectCodec};
 use txn_types::epoch::EpochField;
 
@@ -31,19 +32,19 @@ pub struct Manifest {
 #[derive(Clone, Copy, Debug)]
 pub struct ManifestCodec;
 
-/// The text of pins.
-fn write_pins(alloc: Global, pins: &[u64]) -> Result<String, AllocError>
-    ensures { IfOk result (λ text. string_bytes text ≡ pins_text pins.now) }
-{
-    let mut text = String::new(alloc);
-    for (k, pin) in pins.iter().enumerate() {
-        if k > 0 {
-            text.push(',')?;
-        }
-        let digits = format!(in alloc; "{pin}")?;
-        text.push_str(digits.as_str())?;
+/// It is shown as `epoch:payload:pins`: plain decimals, the pins divided by commas.
+impl fmt::Display for Manifest {
+    ghost use Rattle.std.specs.Prelude.{Some};
+    ghost use Rattle.txn_manifest.specs.Text.{manifest_text};
+
+    ghost output = { λ value. Some (manifest_text value) };
+
+    fn fmt<W: fmt::Write>(&self, f: &mut fmt::Formatter<W>) -> fmt::Result {
+        let epoch = self.epoch;
+        let payload = self.payload;
+        let pins = &self.pins;
+        write!(f, "{epoch}:{payload}:{pins}")
     }
-    Ok(text)
 }
 
 /// The parts of a text between its commas.
@@ -109,10 +110,7 @@ impl ObjectCodec<Manifest> for ManifestCodec {
     ghost decoded = { λ _ bytes. manifest_read bytes };
 
     fn encode(&self, alloc: Global, value: &Manifest) -> Result<Bytes, AllocError> {
-        let epoch = value.epoch;
-        let payload = value.payload;
-        let pins = write_pins(alloc, value.pins.as_slice())?;
-        Bytes::from_string(format!(in alloc; "{epoch}:{payload}:{pins}")?)
+        Bytes::from_string(format!(in alloc; "{value}")?)
     }
 
     fn decode(&self, alloc: Global, bytes: &Bytes) -> Result<Manifest, CodecFault>
@@ -128,6 +126,32 @@ impl ObjectCodec<Manifest> for ManifestCodec {
             Err(_) => Err(CodecFault::NoMemory),
         }
     }
+}
+
+/// A script speaks of manifests by their texts. A manifest has as many pins as there is memory for, so its text has no bound.
+impl TextForm for Manifest {
+    ghost use Rattle.txn_manifest.specs.Text.{manifest_text, IsManifest};
+    ghost use Rattle.txn_manifest.proofs.TextLemmas.{text_utf8};
+
+    ghost text = { manifest_text };
+
+    ghost fits = { IsManifest };
+
+    ghost is_utf8 = { text_utf8 };
+
+    fn read_text(alloc: Global, words: &str) -> Result<Option<Manifest>, AllocError> {
+        read_manifest(alloc, words.as_bytes())
+    }
+
+    fn most_bytes() -> Option<usize> {
+        None
+    }
+}
+
+impl LineValue for Manifest {
+    ghost use Rattle.std.proofs.Common.{refl};
+
+    ghost shows = { λ v. refl };
 }
 
 /// Where a manifest keeps its epoch: in its first number.

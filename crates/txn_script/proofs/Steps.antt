@@ -2,64 +2,65 @@
 use Rattle.std.proofs.Common.{◌≡◌, ℕ, suc, ◌-◌, ◌<◌, ◌≤◌, ◌+◌, List, [], ◌++◌, true, false, inl, inr, refl, sym, ◌∙◌, ap, subst, arith}
 use Rattle.std.proofs.lemmas.List.{append-nil, append_assoc}
 use Rattle.txn_view_history.specs.declared.event.AnyAnswer.{AnyAnswer}
-use Rattle.txn_view_history.specs.Trace.{AnyEvent, AnyTold}
+use Rattle.txn_view_history.specs.Trace.{AnyTold}
+use Rattle.txn_history.specs.declared.event.EventOf.{EventOf}
 use Rattle.txn_history.specs.declared.event.ToldOf.TheVariants as told
-use Rattle.txn_any_machine.specs.Machine.{State, next_event, Takes}
-use Rattle.txn_lines.specs.declared.record.Record.{Record}
-use Rattle.txn_lines.specs.Record.{record_text, record_read}
+use Rattle.txn_any_machine.specs.Machine.{State}
 use Rattle.txn_lines.specs.Printed.{answer_text}
 use Rattle.txn_script.specs.Printed.{with_feed}
-use Rattle.txn_script.specs.Script.{Steps, RunsOperation, goes_on, told_text, record_epoch, record_with}
+use Rattle.txn_script.specs.Rules.{Rules}
+use Rattle.txn_script.specs.Script.{Steps, RunsOperation, goes_on, told_text}
 
 -- what is told with no answer is not printed
-going_nothing : (t : AnyTold Record) → true ≡ goes_on t → told_text t ≡ []
-going_nothing (told.Began op) e = refl
-going_nothing (told.Went op) e = refl
-going_nothing (told.Answered op answer) e = absurd (cc)
-going_nothing (told.GaveUp op) e = refl
-going_nothing (told.Landed k changed) e = refl
-going_nothing (told.Crashed client) e = refl
-
-pub on_nothing : (old new : State Record) (event : AnyEvent Record) (text : List ℕ) → Steps old event true text new → text ≡ []
-on_nothing old new event text (inl step) = step.3 ∙ going_nothing step.0 step.2
-on_nothing old new event text (inr step) = let e = step.3 in absurd (cc)
-
--- what more turns print is all that is printed
-abbrev pub RunsOn : State Record → ℕ → ℕ → State Record → Type 0
-RunsOn start op n now = (more : List ℕ) (new : State Record) → RunsOperation n now op more new → RunsOperation 100 start op more new
-
-pub run_more : (start : State Record) (op n i : ℕ) (now next : State Record) (first : List ℕ) → n ≡ 100 - i → i < 100 → RunsOn start op n now → Steps now (next_event now op) true first next → RunsOn start op (100 - (i + 1)) next
-unfolding RunsOperation
-run_more start op n i now next first e lt on step more new h =
-    let turns : n ≡ suc (100 - (i + 1)) = omega (arith, e, lt) in
-    let on' : RunsOn start op (suc (100 - (i + 1))) now = subst (λ m. RunsOn start op m now) turns on in
-    on' more new (inr (first, next, more, step, h, ap (λ xs. xs ++ more) (sym (on_nothing now next (next_event now op) first step))))
-
-pub run_last : (start : State Record) (op n i : ℕ) (now next : State Record) (text : List ℕ) → n ≡ 100 - i → i < 100 → RunsOn start op n now → Steps now (next_event now op) false text next → RunsOperation 100 start op text next
-unfolding RunsOperation
-run_last start op n i now next text e lt on step =
-    let turns : n ≡ suc (100 - (i + 1)) = omega (arith, e, lt) in
-    let on' : RunsOn start op (suc (100 - (i + 1))) now = subst (λ m. RunsOn start op m now) turns on in
-    on' text next (inl step)
-
-pub run_ended : (start : State Record) (op n i : ℕ) (now : State Record) → n ≡ 100 - i → 100 ≤ i → RunsOn start op n now → RunsOperation 100 start op [] now
-unfolding RunsOperation
-run_ended start op n i now e le on =
-    let turns : n ≡ 0 = omega (arith, e, le) in
-    let on' : RunsOn start op 0 now = subst (λ m. RunsOn start op m now) turns on in
-    on' [] now (refl, refl)
+going_nothing : {T : Type 0} (text : T → List ℕ) (t : AnyTold T) → true ≡ goes_on t → told_text text t ≡ []
+going_nothing text (told.Began op) e = refl
+going_nothing text (told.Went op) e = refl
+going_nothing text (told.Answered op answer) e = absurd (cc)
+going_nothing text (told.GaveUp op) e = refl
+going_nothing text (told.Landed k changed) e = refl
+going_nothing text (told.Crashed client) e = refl
 
 pub same_after : (old new text : List ℕ) → new ≡ old ++ text → text ≡ [] → new ≡ old
 same_after old new text e none = e ∙ ap (λ xs. old ++ xs) none ∙ append-nil old
 
--- what is told and not printed
-pub quiet_step : (old new : State Record) (event : AnyEvent Record) (t : AnyTold Record) → Takes record_text record_read record_epoch record_with old event t new → true ≡ goes_on t → Steps old event true [] new
-quiet_step old new event t h e = inl (t, h, e, sym (going_nothing t e))
-
--- what is told and printed
-pub answered_step : (old new : State Record) (event : AnyEvent Record) (t : AnyTold Record) (op : ℕ) (answer : AnyAnswer Record) → Takes record_text record_read record_epoch record_with old event t new → t ≡ told.Answered op answer → Steps old event false (with_feed (answer_text op answer)) new
-answered_step old new event t op answer h e = inl (t, h, sym (ap goes_on e), sym (ap told_text e))
-
 -- two texts after what was printed
 pub both_after : (old mid new one two : List ℕ) → mid ≡ old ++ one → new ≡ mid ++ two → new ≡ old ++ (one ++ two)
 both_after old mid new one two e f = f ∙ ap (λ xs. xs ++ two) e ∙ append_assoc old one two
+
+module _ {T C : Type 0} (rules : Rules T C) where
+  pub on_nothing : (old new : State T) (event : EventOf C) (text : List ℕ) → Steps rules old event true text new → text ≡ []
+  on_nothing old new event text (inl step) = step.3 ∙ going_nothing rules.value_text step.0 step.2
+  on_nothing old new event text (inr step) = let e = step.3 in absurd (cc)
+
+  -- what more turns print is all that is printed
+  abbrev pub RunsOn : State T → ℕ → ℕ → State T → Type 0
+  RunsOn start op n now = (more : List ℕ) (new : State T) → RunsOperation rules n now op more new → RunsOperation rules 100 start op more new
+
+  pub run_more : (start : State T) (op n i : ℕ) (now next : State T) (first : List ℕ) → n ≡ 100 - i → i < 100 → RunsOn start op n now → Steps rules now (rules.world.next now op) true first next → RunsOn start op (100 - (i + 1)) next
+  unfolding RunsOperation
+  run_more start op n i now next first e lt on step more new h =
+      let turns : n ≡ suc (100 - (i + 1)) = omega (arith, e, lt) in
+      let on' : RunsOn start op (suc (100 - (i + 1))) now = subst (λ m. RunsOn start op m now) turns on in
+      on' more new (inr (first, next, more, step, h, ap (λ xs. xs ++ more) (sym (on_nothing now next (rules.world.next now op) first step))))
+
+  pub run_last : (start : State T) (op n i : ℕ) (now next : State T) (text : List ℕ) → n ≡ 100 - i → i < 100 → RunsOn start op n now → Steps rules now (rules.world.next now op) false text next → RunsOperation rules 100 start op text next
+  unfolding RunsOperation
+  run_last start op n i now next text e lt on step =
+      let turns : n ≡ suc (100 - (i + 1)) = omega (arith, e, lt) in
+      let on' : RunsOn start op (suc (100 - (i + 1))) now = subst (λ m. RunsOn start op m now) turns on in
+      on' text next (inl step)
+
+  pub run_ended : (start : State T) (op n i : ℕ) (now : State T) → n ≡ 100 - i → 100 ≤ i → RunsOn start op n now → RunsOperation rules 100 start op [] now
+  unfolding RunsOperation
+  run_ended start op n i now e le on =
+      let turns : n ≡ 0 = omega (arith, e, le) in
+      let on' : RunsOn start op 0 now = subst (λ m. RunsOn start op m now) turns on in
+      on' [] now (refl, refl)
+
+  -- what is told and not printed
+  pub quiet_step : (old new : State T) (event : EventOf C) (t : AnyTold T) → rules.world.takes old event t new → true ≡ goes_on t → Steps rules old event true [] new
+  quiet_step old new event t h e = inl (t, h, e, sym (going_nothing rules.value_text t e))
+
+  -- what is told and printed
+  pub answered_step : (old new : State T) (event : EventOf C) (t : AnyTold T) (op : ℕ) (answer : AnyAnswer T) → rules.world.takes old event t new → t ≡ told.Answered op answer → Steps rules old event false (with_feed (answer_text rules.value_text op answer)) new
+  answered_step old new event t op answer h e = inl (t, h, sym (ap goes_on e), sym (ap (told_text rules.value_text) e))

@@ -2,12 +2,12 @@
 use Rattle.std.specs.Prelude.{◌≡◌, ℕ, List, [], ◌++◌, ◌⊎◌, Option, Some, None}
 use Rattle.std.specs.Io.KnownBytes.{Appends, append_known}
 use Rattle.txn_any_machine.specs.Machine.{State}
-use Rattle.txn_lines.specs.declared.record.Record.{Record}
 use Rattle.txn_lines.specs.declared.line.Line.{Line}
 use Rattle.txn_lines.specs.declared.line.Line.TheVariants as lines
 use Rattle.txn_lines.specs.declared.stop.Stop.{Stop}
 use Rattle.txn_lines.specs.declared.stop.Stop.TheVariants as stops
 use Rattle.txn_script.specs.declared.printer.Printer.{Printer}
+use Rattle.txn_script.specs.Rules.{Rules}
 use Rattle.txn_script.specs.Script.{IsPage, IsEndFront}
 
 -- what a printer has not written yet
@@ -27,20 +27,20 @@ abbrev pub held : Option (List ℕ) → Printer → Option (List ℕ)
 held written printer = append_known written (unwritten printer)
 
 -- the line may not stand after the first one: directly after it, where it had so many clients, or later
-abbrev pub Misplaced : Option ℕ → Line → Type 0
+abbrev pub Misplaced : {C : Type 0} → Option ℕ → Line C → Type 0
 Misplaced opened (lines.Clients count) = Unit {0}
 Misplaced opened (lines.Page size) = ¬ (IsPage opened size)
 Misplaced opened (lines.Event event) = ⊥
 Misplaced opened (lines.Run op) = ⊥
 
 -- A stop in the end lines, some of which were printed.
-abbrev pub StopsInEnd : Stop → State Record → Option (List ℕ) → Option (List ℕ) → Type 0
-StopsInEnd stop s old new = (stop ≡ stops.WriteFailed) ⊎ ((stop ≡ stops.NoMemory) × (text : List ℕ) × IsEndFront (Some (record { state = s; opened = None })) [] text × Appends old new text)
+abbrev pub StopsInEnd : {T C : Type 0} → Rules T C → Stop → State T → Option (List ℕ) → Option (List ℕ) → Type 0
+StopsInEnd rules stop s old new = (stop ≡ stops.WriteFailed) ⊎ ((stop ≡ stops.NoMemory) × (text : List ℕ) × IsEndFront rules (Some (record { state = s; opened = None })) [] text × Appends old new text)
 
 -- A stop within these lines, some of which were printed.
 abbrev pub StopsWithin : Stop → List ℕ → Option (List ℕ) → Option (List ℕ) → Type 0
 StopsWithin stop whole old new = (stop ≡ stops.WriteFailed) ⊎ ((stop ≡ stops.NoMemory) × (text : List ℕ) × (more : List ℕ) × (text ++ more ≡ whole) × Appends old new text)
 
 -- A line took no effect on what is printed: it may not stand there, or memory was wanting.
-abbrev pub StopsLine : Stop → Stop → Option ℕ → Line → Type 0
+abbrev pub StopsLine : {C : Type 0} → Stop → Stop → Option ℕ → Line C → Type 0
 StopsLine stop bad opened line = (stop ≡ stops.NoMemory) ⊎ (Misplaced opened line × (stop ≡ bad))

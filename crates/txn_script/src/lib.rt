@@ -1,5 +1,7 @@
-//! The run of a script of events over a world of records, and what is printed of it.
+//! The run of a script of events over a world, and what is printed of it.
 #![tactic(auto)]
 
+pub mod kind;
 pub mod printer;
+mod records;
 pub mod script;

@@ -1,8 +1,12 @@
 //! The run of a script: each line in its turn, what it prints, and the end lines.
 
-ghost use Rattle.std.specs.Prelude.{◌≡◌, ℕ, ◌≤◌, ◌++◌, ◌∷◌, [], List, Some, None, IfOk, IfErr, IfSome, IfNone, OnOk};
+ghost use Rattle.std.specs.Prelude.{◌≡◌, ℕ, ◌≤◌, ◌++◌, ◌∷◌, [], List, Some, None, IfOk, IfErr, IfSome, IfNone, OnOk, Ok, Err};
+ghost use Rattle.std.specs.Option.{option_map};
 ghost use Rattle.std.specs.Io.KnownBytes.{Appends};
-ghost use Rattle.txn_script.specs.Printed.{with_feed, entries_text, view_line, views_text};
+ghost use Rattle.txn_lines.specs.declared.line.Line.{Line};
+ghost use Rattle.txn_script.specs.Printed.{with_feed, pinned_line, entries_text, view_line, views_text};
+ghost use Rattle.txn_script.specs.Rules.{rules_of};
+ghost use Rattle.txn_script.specs.Records.{record_rules};
 ghost use Rattle.txn_script.specs.Script.{IsClients, Steps, RunsOperation, PageSteps, EventSteps, MayStand, EndsWith, IsPrinted, IsPrintedBefore, StopsAfter};
 ghost use Rattle.txn_lines.specs.Reading.{reader_of, number_of, OnBadLine};
 ghost use Rattle.txn_script.specs.Reading.{Opens, OpensBad};
@@ -10,20 +14,20 @@ ghost use Rattle.txn_script.specs.Printing.{held, Gathers, IsUnchanged, StopsLin
 ghost use Rattle.txn_view_history.specs.Seen.{view_of};
 ghost use Rattle.txn_any_machine.specs.Machine.{seen_of, seen_views};
 
+use crate::kind::{Came, ScriptWorld};
 use crate::printer::Printer;
 use std::alloc::Global;
 use std::io::{BufRead, BufReader, Read, Write};
 use std::mem;
-use txn_history::event::EventFault;
+use txn_history::event::EventOf;
 use txn_lines::line::Line;
 use txn_lines::lines::Lines;
-use txn_lines::printed::{
-    AnswerLine, Answered, BoundaryLine, EntryLine, ErasedLine, FaultLine, ViewLine,
-};
+use txn_lines::printed::{AnswerLine, Answered, BoundaryLine, EntryLine, ErasedLine, PinnedLine, ViewLine};
 use txn_lines::record::{Record, RecordCodec, RecordEpoch};
 use txn_lines::stop::Stop;
+use txn_lines::text_form::{LineValue, TextForm};
 use txn_types::layout::PAGE;
-use txn_view_history::event::{AnyEvent, AnyTold};
+use txn_view_history::event::{AnyCall, AnyTold};
 use txn_world::world::World;
 
 /// The most clients that a script may have.
@@ -37,51 +41,53 @@ const MOST_TURNS: u64 = 100;
 
 /// Takes an event and prints what it is told, where that is printed. True where neither an answer nor
 /// a fault was told, so that an operation that took its turn goes on.
-fn take_event(
-    world: &mut World<Record, RecordCodec, RecordEpoch>,
-    event: AnyEvent<Record>,
+fn take_event<T: LineValue, C: TextForm, K: ScriptWorld<T, C>>(
+    world: &mut K,
+    event: EventOf<C>,
     printer: &mut Printer,
 ) -> Result<bool, Stop>
     ensures ok { IfOk result (λ going. (text : List ℕ)
-        × Steps world.old.state event going text world.new.state
+        × Steps (rules_of C.text C.fits T.text K.rules) (K.state world.old) event going text (K.state world.new)
         × Gathers printer.old printer.new text) }
     ensures err { IfErr result
         (λ stop. (stop ≡ Stop.NoMemory) × IsUnchanged printer.old printer.new) }
 {
-    match world.take(event) {
-        Ok(AnyTold::Answered(op, answer)) => {
+    let Ok(came) = world.take(event) else {
+        return Err(Stop::NoMemory);
+    };
+    match came {
+        Came::Told(AnyTold::Answered(op, answer)) => {
             let answered = Answered(answer);
             printer.print_line(AnswerLine { op, answered })?;
             Ok(false)
         }
-        Ok(AnyTold::Began(_)) => Ok(true),
-        Ok(AnyTold::Went(_)) => Ok(true),
-        Ok(AnyTold::GaveUp(_)) => Ok(true),
-        Ok(AnyTold::Landed(_, _)) => Ok(true),
-        Ok(AnyTold::Crashed(_)) => Ok(true),
-        Err(EventFault::NoMemory) => Err(Stop::NoMemory),
-        Err(fault) => {
-            printer.print_line(FaultLine(fault))?;
+        Came::Told(AnyTold::Began(_)) => Ok(true),
+        Came::Told(AnyTold::Went(_)) => Ok(true),
+        Came::Told(AnyTold::GaveUp(_)) => Ok(true),
+        Came::Told(AnyTold::Landed(_, _)) => Ok(true),
+        Came::Told(AnyTold::Crashed(_)) => Ok(true),
+        Came::Refused(line) => {
+            printer.print_line(line)?;
             Ok(false)
         }
     }
 }
 
 /// Gives an operation what it asks for until it is answered.
-fn run_operation(
-    world: &mut World<Record, RecordCodec, RecordEpoch>,
+fn run_operation<T: LineValue, C: TextForm, K: ScriptWorld<T, C>>(
+    world: &mut K,
     op: u64,
     printer: &mut Printer,
 ) -> Result<(), Stop>
     ensures ok { OnOk result ((text : List ℕ)
-        × RunsOperation 100 world.old.state op text world.new.state
+        × RunsOperation (rules_of C.text C.fits T.text K.rules) 100 (K.state world.old) op text (K.state world.new)
         × Gathers printer.old printer.new text) }
     ensures err { IfErr result
         (λ stop. (stop ≡ Stop.NoMemory) × IsUnchanged printer.old printer.new) }
 {
     for _turn in 0..MOST_TURNS {
         let event = world.next_event(op);
-        if !take_event(world, event, printer)? {
+        if !take_event::<T, C, K>(world, event, printer)? {
             return Ok(());
         }
     }
@@ -90,15 +96,15 @@ fn run_operation(
 
 /// The world that a `page` line makes, directly after the line of so many clients. `bad` is its refusal where it may
 /// not stand there.
-fn paged(
+fn paged<T: LineValue, C: TextForm, K: ScriptWorld<T, C>>(
     alloc: Global,
     opened: Option<u64>,
     size: u64,
     bad: Stop,
-) -> Result<World<Record, RecordCodec, RecordEpoch>, Stop>
+) -> Result<K, Stop>
     requires { IfSome opened IsClients }
-    ensures ok { IfOk result (λ world. PageSteps opened size [] world.state) }
-    ensures err { IfErr result (λ stop. StopsLine stop bad opened (Line.Page size)) }
+    ensures ok { IfOk result (λ world. PageSteps opened size [] (K.state world)) }
+    ensures err { IfErr result (λ stop. StopsLine {C = C} stop bad opened (Line.Page size)) }
 {
     let Some(clients) = opened else {
         return Err(bad);
@@ -106,7 +112,7 @@ fn paged(
     if size < 1 || MOST_PAGE < size {
         return Err(bad);
     }
-    match World::new(alloc, RecordCodec, RecordEpoch, clients, size) {
+    match K::open(alloc, clients, size) {
         Ok(world) => Ok(world),
         Err(_) => Err(Stop::NoMemory),
     }
@@ -114,61 +120,65 @@ fn paged(
 
 /// Takes what a line says, where `opened` is how many clients the line before it has opened a world for, if it has.
 /// `bad` is the line's refusal where it may not stand there.
-fn take_line(
+fn take_line<T: LineValue, C: TextForm, K: ScriptWorld<T, C>>(
     alloc: Global,
-    world: &mut World<Record, RecordCodec, RecordEpoch>,
+    world: &mut K,
     opened: Option<u64>,
-    line: Line,
+    line: Line<C>,
     bad: Stop,
     printer: &mut Printer,
 ) -> Result<(), Stop>
     requires { IfSome opened IsClients }
     ensures ok { OnOk result ((text : List ℕ)
-        × EventSteps opened world.old.state line text world.new.state
+        × EventSteps (rules_of C.text C.fits T.text K.rules) opened (K.state world.old) line text (K.state world.new)
         × Gathers printer.old printer.new text) }
     ensures err { IfErr result
         (λ stop. StopsLine stop bad opened line × IsUnchanged printer.old printer.new) }
 {
     match line {
         Line::Clients(_) => return Err(bad),
-        Line::Page(size) => drop(mem::replace(world, paged(alloc, opened, size, bad)?)),
-        Line::Event(event) => {
-            take_event(world, event, printer)?;
+        Line::Page(size) => {
+            drop(mem::replace(world, paged::<T, C, K>(alloc, opened, size, bad)?));
         }
-        Line::Run(op) => run_operation(world, op, printer)?,
+        Line::Event(event) => {
+            take_event::<T, C, K>(world, event, printer)?;
+        }
+        Line::Run(op) => run_operation::<T, C, K>(world, op, printer)?,
     }
     Ok(())
 }
 
 /// Prints the entries, numbered from 1.
-fn print_entries<W: Write>(
-    entries: &[Record],
+fn print_entries<T: LineValue, W: Write>(
+    entries: &[T],
     printer: &mut Printer,
     out: &mut W,
 ) -> Result<(), Stop>
     ensures ok { OnOk result
         (Appends (held (W.contents out.old) printer.old) (held (W.contents out.new) printer.new)
-        (entries_text 1 entries.now)) }
-    ensures err { IfErr result (λ stop. StopsWithin stop (entries_text 1 entries.now)
+        (entries_text T.text 1 entries.now)) }
+    ensures err { IfErr result (λ stop. StopsWithin stop (entries_text T.text 1 entries.now)
         (held (W.contents out.old) printer.old) (held (W.contents out.new) printer.new)) }
 {
     for (index, entry) in entries.iter().enumerate() {
         let number = index + 1;
-        let value = *entry;
-        printer.print_line(EntryLine { number, value })?;
+        printer.print_line(EntryLine {
+            number,
+            value: entry,
+        })?;
         printer.write_full(out)?;
     }
     Ok(())
 }
 
 /// Prints the line of the view of a number, where it has not ended.
-fn print_view(
-    world: &World<Record, RecordCodec, RecordEpoch>,
+fn print_view<T: LineValue, C: TextForm, K: ScriptWorld<T, C>>(
+    world: &K,
     number: u64,
     printer: &mut Printer,
 ) -> Result<(), Stop>
     ensures ok { OnOk result (Gathers printer.old printer.new
-        (view_line number (view_of (seen_of world.now.state) number))) }
+        (view_line T.text number (view_of (seen_of (K.state world.now)) number))) }
     ensures err { IfErr result
         (λ stop. (stop ≡ Stop.NoMemory) × IsUnchanged printer.old printer.new) }
 {
@@ -179,34 +189,46 @@ fn print_view(
 }
 
 /// Prints the lines of the views that have not ended.
-fn print_views<W: Write>(
-    world: &World<Record, RecordCodec, RecordEpoch>,
+fn print_views<T: LineValue, C: TextForm, K: ScriptWorld<T, C>, W: Write>(
+    world: &K,
     printer: &mut Printer,
     out: &mut W,
 ) -> Result<(), Stop>
     ensures ok { OnOk result (Appends (held (W.contents out.old) printer.old)
-        (held (W.contents out.new) printer.new) (views_text 1 (seen_views world.now.state.views))) }
+        (held (W.contents out.new) printer.new) (views_text T.text 1 (seen_views (K.state world.now).views))) }
     ensures err { IfErr result (λ stop. StopsWithin stop
-        (views_text 1 (seen_views world.now.state.views))
+        (views_text T.text 1 (seen_views (K.state world.now).views))
         (held (W.contents out.old) printer.old) (held (W.contents out.new) printer.new)) }
 {
     for index in 0..world.views() {
-        print_view(world, index + 1, printer)?;
+        print_view::<T, C, K>(world, index + 1, printer)?;
         printer.write_full(out)?;
     }
     Ok(())
 }
 
+/// Prints the line of what is pinned, where values pin some.
+fn print_pinned(pinned: Option<PinnedLine>, printer: &mut Printer) -> Result<(), Stop>
+    ensures ok { OnOk result (Gathers printer.old printer.new (pinned_line (option_map (λ line. line.0.items) pinned))) }
+    ensures err { IfErr result
+        (λ stop. (stop ≡ Stop.NoMemory) × IsUnchanged printer.old printer.new) }
+{
+    match pinned {
+        None => Ok(()),
+        Some(line) => printer.print_line(line),
+    }
+}
+
 /// Prints what is left at the end.
-fn print_end<W: Write>(
+fn print_end<T: LineValue, C: TextForm, K: ScriptWorld<T, C>, W: Write>(
     alloc: Global,
-    world: &World<Record, RecordCodec, RecordEpoch>,
+    world: &K,
     printer: &mut Printer,
     out: &mut W,
 ) -> Result<(), Stop>
-    ensures ok { OnOk result ((text : List ℕ) × EndsWith world.now.state text
+    ensures ok { OnOk result ((text : List ℕ) × EndsWith (rules_of C.text C.fits T.text K.rules) (K.state world.now) text
         × Appends (held (W.contents out.old) printer.old) (held (W.contents out.new) printer.new) text) }
-    ensures err { IfErr result (λ stop. StopsInEnd stop world.now.state
+    ensures err { IfErr result (λ stop. StopsInEnd (rules_of C.text C.fits T.text K.rules) stop (K.state world.now)
         (held (W.contents out.old) printer.old) (held (W.contents out.new) printer.new)) }
 {
     let Ok(entries) = world.entries(alloc) else {
@@ -215,17 +237,21 @@ fn print_end<W: Write>(
     let Ok(erased) = world.erased(alloc) else {
         return Err(Stop::NoMemory);
     };
+    let Ok(pinned) = world.pinned(alloc) else {
+        return Err(Stop::NoMemory);
+    };
     print_entries(&entries, printer, out)?;
     printer.print_line(BoundaryLine(world.boundary()))?;
     printer.print_line(ErasedLine(erased))?;
-    print_views(world, printer, out)
+    print_pinned(pinned, printer)?;
+    print_views::<T, C, K, W>(world, printer, out)
 }
 
 /// For how many clients a line opens a script, if it may stand first.
-fn clients_of(line: Option<Line>) -> Option<u64>
+fn clients_of<T, C: TextForm>(line: Option<Line<C>>) -> Option<u64>
     ensures some { IfSome result (λ clients.
         (line ≡ Some (Line.Clients clients)) × (1 ≤ clients) × (clients ≤ 64)) }
-    ensures none { IfNone result (IfSome line (λ said. ¬ (MayStand None said))) }
+    ensures none { IfNone result (IfSome line (λ said. ¬ (MayStand {T = T} None said))) }
 {
     match line {
         Some(Line::Clients(clients)) if 1 <= clients && clients <= MOST_CLIENTS => Some(clients),
@@ -234,72 +260,78 @@ fn clients_of(line: Option<Line>) -> Option<u64>
 }
 
 /// The world that the first line opens, and for how many clients.
-fn open<R: BufRead>(
+fn open<T: LineValue, C: TextForm, K: ScriptWorld<T, C>, R: BufRead>(
     alloc: Global,
     lines: &mut Lines<R>,
-) -> Result<(World<Record, RecordCodec, RecordEpoch>, u64), Stop>
-    ensures ok { IfOk result (λ opened. Opens (R.remaining (reader_of lines.old)) (number_of lines.old)
-        (R.remaining (reader_of lines.new)) (number_of lines.new) opened.1 opened.0.state) }
+) -> Result<(K, u64), Stop>
+    ensures ok { IfOk result (λ opened. Opens (rules_of C.text C.fits T.text K.rules) (R.remaining (reader_of lines.old)) (number_of lines.old)
+        (R.remaining (reader_of lines.new)) (number_of lines.new) opened.1 (K.state opened.0)) }
     ensures clients { IfOk result (λ opened. IsClients opened.1) }
     ensures bad { IfErr result (λ stop. OnBadLine stop
-        (OpensBad (R.remaining (reader_of lines.old)) (number_of lines.old))) }
+        (OpensBad (rules_of C.text C.fits T.text K.rules) (R.remaining (reader_of lines.old)) (number_of lines.old))) }
 {
-    let Some(clients) = clients_of(lines.next_line()?) else {
+    let Some(clients) = clients_of::<T, C>(lines.next_line()?) else {
         return Err(lines.bad());
     };
-    match World::new(alloc, RecordCodec, RecordEpoch, clients, PAGE) {
+    match K::open(alloc, clients, PAGE) {
         Ok(world) => Ok((world, clients)),
         Err(_) => Err(Stop::NoMemory),
     }
 }
 
 /// Takes each line of a script, and prints what it is told and what is left.
-fn play<R: BufRead, W: Write>(
+fn play<T: LineValue, C: TextForm, K: ScriptWorld<T, C>, R: BufRead, W: Write>(
     alloc: Global,
     lines: &mut Lines<R>,
     printer: &mut Printer,
     out: &mut W,
 ) -> Result<(), Stop>
     requires { number_of lines.old ≡ 0 }
-    ensures ok { OnOk result (IsPrinted (R.remaining (reader_of lines.old))
+    ensures ok { OnOk result (IsPrinted (rules_of C.text C.fits T.text K.rules) (R.remaining (reader_of lines.old))
         (held (W.contents out.old) printer.old) (held (W.contents out.new) printer.new)) }
-    ensures stop { IfErr result (λ stop. StopsAfter stop (R.remaining (reader_of lines.old))
+    ensures stop { IfErr result (λ stop. StopsAfter (rules_of C.text C.fits T.text K.rules) stop (R.remaining (reader_of lines.old))
         (held (W.contents out.old) printer.old) (held (W.contents out.new) printer.new)) }
 {
-    let (mut world, clients) = open(alloc, lines)?;
+    let (mut world, clients) = open::<T, C, K, R>(alloc, lines)?;
     let mut opened = Some(clients);
     for _line in 0..u64::MAX {
         let Some(line) = lines.next_line()? else {
-            return print_end(alloc, &world, printer, out);
+            return print_end::<T, C, K, W>(alloc, &world, printer, out);
         };
         let bad = lines.bad();
-        take_line(alloc, &mut world, opened, line, bad, printer)?;
+        take_line::<T, C, K>(alloc, &mut world, opened, line, bad, printer)?;
         opened = None;
         printer.write_full(out)?;
     }
     Err(Stop::ReadFailed)
 }
 
-/// Reads a script and prints what it does, both through buffers. `BadLine` comes only where that line
-/// may not stand there, and leaves what the lines before it print. The other stops are a failed read,
-/// a failed write and want of memory.
-pub fn print_script<R: Read + Drop, W: Write>(
+/// Reads a script of worlds of the kind `K` and prints what it does, both through buffers. `BadLine` comes only where that
+/// line may not stand there, and leaves what the lines before it print. The other stops are a failed read, a failed write and
+/// want of memory.
+pub fn print_world<
+    T: LineValue,
+    C: TextForm,
+    K: ScriptWorld<T, C>,
+    R: Read + Drop,
+    W: Write,
+>(
     alloc: Global,
     reader: R,
     out: &mut W,
 ) -> Result<(), Stop>
     // What is written is what the script prints, and nothing else.
     ensures ok { OnOk result
-        (IsPrinted (R.remaining reader) (W.contents out.old) (W.contents out.new)) }
+        (IsPrinted (rules_of C.text C.fits T.text K.rules) (R.remaining reader) (W.contents out.old) (W.contents out.new)) }
     ensures stop { IfErr result
-        (λ stop. StopsAfter stop (R.remaining reader) (W.contents out.old) (W.contents out.new)) }
+        (λ stop. StopsAfter (rules_of C.text C.fits T.text K.rules) stop (R.remaining reader) (W.contents out.old) (W.contents out.new)) }
 {
     let Ok(reader) = BufReader::new(alloc, reader) else {
         return Err(Stop::NoMemory);
     };
     let mut lines = Lines::new(alloc, reader);
     let mut printer = Printer::new(alloc);
-    let ended = play(alloc, &mut lines, &mut printer, out);
+    let ended = play::<T, C, K, BufReader<R>, W>(alloc, &mut lines, &mut printer, out);
     // What was printed stands, however the script ended.
     printer.write_out(out)?;
     let Ok(()) = out.flush() else {
@@ -308,7 +340,42 @@ pub fn print_script<R: Read + Drop, W: Write>(
     ended
 }
 
-/// Runs a script, and gives the exit status: 0, 2 for a bad line, 1 for another fault, which is named
+/// The exit status of a script that ended so: 0, 2 for a bad line, 1 for another fault. A fault is named on `err`.
+pub fn status_of<E: Write>(ended: Result<(), Stop>, err: &mut E) -> u8
+    ensures status { result ≤ 2 }
+    ensures silent { result ≡ 0 → err.new ≡ err.old }
+    ensures done { result ≡ 0 → ended ≡ Ok () }
+    ensures bad_line { result ≡ 2 → (n : ℕ) × (ended ≡ Err (Stop.BadLine n)) }
+{
+    match ended {
+        Ok(()) => 0,
+        Err(stop) => {
+            // Nothing is left to tell a failure to.
+            let _ = err.writeln(stop);
+            stop.status()
+        }
+    }
+}
+
+/// Reads a script of records and prints what it does, both through buffers. `BadLine` comes only where that line may not stand
+/// there, and leaves what the lines before it print. The other stops are a failed read, a failed write and want of memory.
+pub fn print_script<R: Read + Drop, W: Write>(
+    alloc: Global,
+    reader: R,
+    out: &mut W,
+) -> Result<(), Stop>
+    // What is written is what the script prints, and nothing else.
+    ensures ok { OnOk result
+        (IsPrinted record_rules (R.remaining reader) (W.contents out.old) (W.contents out.new)) }
+    ensures stop { IfErr result
+        (λ stop. StopsAfter record_rules stop (R.remaining reader) (W.contents out.old) (W.contents out.new)) }
+{
+    print_world::<Record, AnyCall<Record>, World<Record, RecordCodec, RecordEpoch>, R, W>(
+        alloc, reader, out,
+    )
+}
+
+/// Runs a script of records, and gives the exit status: 0, 2 for a bad line, 1 for another fault, which is named
 /// on `err`.
 pub fn run_script<R: Read + Drop, W: Write, E: Write>(
     alloc: Global,
@@ -320,16 +387,10 @@ pub fn run_script<R: Read + Drop, W: Write, E: Write>(
     // Nothing is said where nothing went wrong.
     ensures silent { result ≡ 0 → err.new ≡ err.old }
     ensures done { result ≡ 0
-        → IsPrinted (R.remaining reader) (W.contents out.old) (W.contents out.new) }
+        → IsPrinted record_rules (R.remaining reader) (W.contents out.old) (W.contents out.new) }
     ensures bad_line { result ≡ 2 → (n : ℕ)
-        × IsPrintedBefore n (R.remaining reader) (W.contents out.old) (W.contents out.new) }
+        × IsPrintedBefore record_rules n (R.remaining reader) (W.contents out.old) (W.contents out.new) }
 {
-    match print_script(alloc, reader, out) {
-        Ok(()) => 0,
-        Err(stop) => {
-            // Nothing is left to tell a failure to.
-            let _ = err.writeln(stop);
-            stop.status()
-        }
-    }
+    let ended = print_script(alloc, reader, out);
+    status_of(ended, err)
 }

@@ -2,22 +2,22 @@ use Rattle.std.proofs.Common.{refl}
 use Rattle.txn_lines.proofs.Cuts.{begin_cut, begin_no_cut, clash, same}
 use Rattle.txn_lines.proofs.line.read_begin.Goals as goal
 
-pub returns-in_err-client_word-clause-all : goal.returns-in_err-client_word-clause-all
-returns-in_err-client_word-clause-all c client call small fits e = absurd (begin_no_cut c.args.text.now client call c.split_once.result c.split_once.ensures.cases small e c.in_err-client_word.was)
+pub returns-in_default-clause-all : goal.returns-in_default-clause-all
+returns-in_default-clause-all g c client call small fits e = absurd (begin_no_cut g.C.TextForm.text c.args.words.now client call c.split_once.result c.split_once.ensures.cases small e c.in_default.is)
 
-pub returns-in_err-client-clause-all : goal.returns-in_err-client-clause-all
-returns-in_err-client-clause-all c client call small fits e =
-    let parts = begin_cut c.args.text.now client call c.split_once.result c.in_ok-client_word.client_word c.in_ok-client_word.rest c.split_once.ensures.cases small e c.in_ok-client_word.was in
-    absurd (clash c.read_decimal.result client ((c.read_decimal.ensures.exact client small).1 parts.0) c.in_err-client.was)
+pub returns-in_default-read_decimal-clause-all : goal.returns-in_default-read_decimal-clause-all
+returns-in_default-read_decimal-clause-all g c client call small fits e =
+    let parts = begin_cut g.C.TextForm.text c.args.words.now client call c.split_once.result c.in-Some.client_word c.in-Some.rest c.split_once.ensures.cases small e c.in-Some.is in
+    absurd (clash c.read_decimal.result client ((c.read_decimal.ensures.exact client small).1 parts.0) c.in_default-read_decimal.is)
 
-pub returns-in_err-read_call-clause-all : goal.returns-in_err-read_call-clause-all
-returns-in_err-read_call-clause-all c client call small fits e =
-    let parts = begin_cut c.args.text.now client call c.split_once.result c.in_ok-client_word.client_word c.in_ok-client_word.rest c.split_once.ensures.cases small e c.in_ok-client_word.was in
-    absurd (clash c.read_call.result call (c.read_call.ensures.all call fits parts.1) c.in_err-read_call.was)
+pub returns-in-None-clause-all : goal.returns-in-None-clause-all
+returns-in-None-clause-all g c client call small fits e =
+    let parts = begin_cut g.C.TextForm.text c.args.words.now client call c.split_once.result c.in-Some.client_word c.in-Some.rest c.split_once.ensures.cases small e c.in-Some.is in
+    absurd (clash c.in_ok-call.field-0 call (c.in_ok-call.ensures.all call (record { words = parts.1; numbers = fits })) c.in-None.is)
 
-pub returns-clause-all : goal.returns-clause-all
-returns-clause-all c client call small fits e =
-    let parts = begin_cut c.args.text.now client call c.split_once.result c.in_ok-client_word.client_word c.in_ok-client_word.rest c.split_once.ensures.cases small e c.in_ok-client_word.was in
-    let client_is = same c.read_decimal.result client c.in_ok-client.client ((c.read_decimal.ensures.exact client small).1 parts.0) c.in_ok-client.was in
-    let call_is = same c.read_call.result call c.in_ok-read_call.field-0 (c.read_call.ensures.all call fits parts.1) c.in_ok-read_call.was in
-    rw (client_is, call_is) refl
+pub returns-in-Some-2-clause-all : goal.returns-in-Some-2-clause-all
+returns-in-Some-2-clause-all g c client call small fits e =
+    let parts = begin_cut g.C.TextForm.text c.args.words.now client call c.split_once.result c.in-Some.client_word c.in-Some.rest c.split_once.ensures.cases small e c.in-Some.is in
+    let first_is = same c.read_decimal.result client c.in-Some-read_decimal.client ((c.read_decimal.ensures.exact client small).1 parts.0) c.in-Some-read_decimal.is in
+    let second_is = same c.in_ok-call.field-0 call c.in-Some-2.call (c.in_ok-call.ensures.all call (record { words = parts.1; numbers = fits })) c.in-Some-2.is in
+    rw (first_is, second_is) refl

@@ -1,15 +1,14 @@
-use Rattle.std.proofs.Common.{◌+◌, ℕ, ◌-◌, ◌≤◌, ◌∙◌, Bool, Option, take, length-take, length, vec_len, subst, sym, ap, arith}
+use Rattle.std.proofs.Common.{ℕ, ◌≤◌, ◌∙◌, Bool, Option, take, length-take, length, subst, sym, ap, arith}
 use Rattle.std.specs.Io.KnownBytes.{Consumes}
 use Rattle.std.specs.Io.BufRead.{FillKeeps}
 use Rattle.std.proofs.BufReadLemmas.{Consumes_shown}
-use Rattle.txn_lines.specs.declared.lines.TheConstants.{MOST_BYTES}
 use Rattle.txn_lines.proofs.Pieces.{IsCounted, counted_within, takes_piece, consumed_twice}
 use Rattle.txn_lines.proofs.lines.take_piece.Goals as goal
 use Rattle.txn_lines.proofs.lines.take_piece.Goals.{in-Some, in-None}
 
 pub returns-clause-piece : goal.returns-clause-piece
 returns-clause-piece g c =
-    let room = MOST_BYTES + 1 - vec_len c.args.text.now in
+    let room = c.args.room in
     let available = c.in-Ok.available.now in
     let most = c.min.result in
     let shown = take most available in
@@ -26,4 +25,4 @@ returns-clause-piece g c =
     let less : count ≤ length available = omega (arith, length-take most available) in
     consumed_twice _ _ available most count within (Consumes_shown _ _ _ _ available count less c.in-Ok.ensures.front c.in-Ok.ensures.end filled.0 filled.1 c.consume.ensures.bytes).0
     in
-    takes_piece (g.R.Read.remaining c.args.reader.now) (g.R.Read.remaining c.consume.new.self) c.feed_place.result available c.args.text.now.items c.extend_from_slice.new.self.items room most count ended (omega arith) (omega arith) c.feed_place.ensures counted consumed c.in-Ok.ensures.end c.in-Ok-extend_from_slice.ensures.items
+    takes_piece (g.R.Read.remaining c.args.reader.now) (g.R.Read.remaining c.consume.new.self) c.feed_place.result available c.args.text.now.items c.extend_from_slice.new.self.items room most count ended c.requires (omega arith) c.feed_place.ensures counted consumed c.in-Ok.ensures.end c.in-Ok-extend_from_slice.ensures.items

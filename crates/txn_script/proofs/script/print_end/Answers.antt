@@ -1,78 +1,113 @@
-use Rattle.std.proofs.Common.{ℕ, [], List, ◌++◌, map, Some, refl, sym, ◌∙◌, ap, subst}
-use Rattle.std.proofs.lemmas.List.{append_assoc}
+use Rattle.std.proofs.Common.{ℕ, [], List, ◌++◌, map, Some, refl, ◌∙◌, ap}
+use Rattle.std.specs.Option.{option_map}
 use Rattle.std.proofs.lemmas.Result.{on_ok_weaker, MatchResult-weaker, err_from_is_err_and}
-use Rattle.std.specs.Io.KnownBytes.{Appends, append_known}
-use Rattle.txn_lines.specs.declared.record.Record.{Record}
+use Rattle.std.specs.Io.KnownBytes.{append_known}
 use Rattle.txn_lines.specs.Printed.{boundary_text, erased_text}
+use Rattle.txn_lines.specs.declared.printed.PinnedLine.{PinnedLine}
 use Rattle.txn_history.specs.History.{boundary}
 use Rattle.txn_any_machine.specs.Machine.{seen_views}
-use Rattle.txn_script.specs.Printed.{with_feed, entries_text, views_text}
-use Rattle.txn_script.proofs.Playing.{Ended, appends_nothing, appends_both, gathers, ends_with, stops_in_views, part_front, line_front}
+use Rattle.txn_script.specs.Printed.{with_feed, pinned_line, entries_text, views_text}
+use Rattle.txn_script.specs.Rules.{rules_of}
+use Rattle.txn_script.proofs.Ending.{Ended, PrintedBefore, appends_nothing, ends_with, stops_in_views, part_front, stops_at_boundary, stops_at_erased, stops_at_pinned}
 use Rattle.txn_script.proofs.script.print_end.Goals as goal
 
 pub returns-clause-ok : goal.returns-clause-ok
 returns-clause-ok g c =
-    let s = c.args.world.now.state in
+    let r = (rules_of g.C.TextForm.text g.C.TextForm.fits g.T.TextForm.text g.K.ScriptWorld.rules) in
+    let s = g.K.ScriptWorld.state c.args.world.now in
     let values = c.deref.result.now in
     let ids = c.in-Ok-erased.erased.items in
-    let are : Ended s values ids = record { entries = ap (λ (records : List Record). map Some records) c.deref.ensures.value ∙ c.in-Ok.ensures; erased = c.in-Ok-erased.ensures } in
+    let pins = option_map (λ (line : PinnedLine). line.0.items) c.in-Ok-pinned.pinned in
+    let are : Ended r s values ids pins = record { entries = ap (λ (values : List g.T.type). map Some values) c.deref.ensures.value ∙ c.in-Ok.ensures; erased = c.in-Ok-erased.ensures; pinned = c.in-Ok-pinned.ensures } in
     let held = append_known (g.W.Write.contents c.args.out.now) c.args.printer.now.text.items in
     let out = g.W.Write.contents c.print_entries.new.out in
+    let first = c.print_entries.new.printer.text.items in
+    let printed = c.in_ok-print_line.ensures.ok ∙ ap (λ (n : ℕ). first ++ with_feed (boundary_text n)) c.boundary.ensures in
+    let before : PrintedBefore r s values ids pins held out first c.print_line.new.self.text.items c.print_line-2.new.self.text.items c.print_pinned.new.printer.text.items = record { entries = c.in_ok-print_entries.ensures.ok; boundary = printed; erased = c.in_ok-print_line-2.ensures.ok; pinned = c.in_ok-print_pinned.ensures.ok } in
     let now = append_known (g.W.Write.contents c.print_views.new.out) c.print_views.new.printer.text.items in
-    let printed = c.in_ok-print_line.ensures.ok ∙ ap (λ (n : ℕ). c.print_entries.new.printer.text.items ++ with_feed (boundary_text n)) c.boundary.ensures in
-    on_ok_weaker c.print_views.result (ends_with s values ids held out now c.print_entries.new.printer.text.items c.print_line.new.self.text.items c.print_line-2.new.self.text.items are c.in_ok-print_entries.ensures.ok printed c.in_ok-print_line-2.ensures.ok) c.print_views.ensures.ok
+    on_ok_weaker c.print_views.result (ends_with r s values ids pins held out now first c.print_line.new.self.text.items c.print_line-2.new.self.text.items c.print_pinned.new.printer.text.items are before) c.print_views.ensures.ok
+
 
 pub returns-clause-err : goal.returns-clause-err
 returns-clause-err g c =
-    let s = c.args.world.now.state in
+    let r = (rules_of g.C.TextForm.text g.C.TextForm.fits g.T.TextForm.text g.K.ScriptWorld.rules) in
+    let s = g.K.ScriptWorld.state c.args.world.now in
     let values = c.deref.result.now in
     let ids = c.in-Ok-erased.erased.items in
-    let are : Ended s values ids = record { entries = ap (λ (records : List Record). map Some records) c.deref.ensures.value ∙ c.in-Ok.ensures; erased = c.in-Ok-erased.ensures } in
+    let pins = option_map (λ (line : PinnedLine). line.0.items) c.in-Ok-pinned.pinned in
+    let are : Ended r s values ids pins = record { entries = ap (λ (values : List g.T.type). map Some values) c.deref.ensures.value ∙ c.in-Ok.ensures; erased = c.in-Ok-erased.ensures; pinned = c.in-Ok-pinned.ensures } in
     let held = append_known (g.W.Write.contents c.args.out.now) c.args.printer.now.text.items in
     let out = g.W.Write.contents c.print_entries.new.out in
+    let first = c.print_entries.new.printer.text.items in
+    let printed = c.in_ok-print_line.ensures.ok ∙ ap (λ (n : ℕ). first ++ with_feed (boundary_text n)) c.boundary.ensures in
+    let before : PrintedBefore r s values ids pins held out first c.print_line.new.self.text.items c.print_line-2.new.self.text.items c.print_pinned.new.printer.text.items = record { entries = c.in_ok-print_entries.ensures.ok; boundary = printed; erased = c.in_ok-print_line-2.ensures.ok; pinned = c.in_ok-print_pinned.ensures.ok } in
     let now = append_known (g.W.Write.contents c.print_views.new.out) c.print_views.new.printer.text.items in
-    let printed = c.in_ok-print_line.ensures.ok ∙ ap (λ (n : ℕ). c.print_entries.new.printer.text.items ++ with_feed (boundary_text n)) c.boundary.ensures in
-    MatchResult-weaker c.print_views.result c.print_views.ensures.err (λ x h. h) (λ stop is. stops_in_views stop s values ids held out now c.print_entries.new.printer.text.items c.print_line.new.self.text.items c.print_line-2.new.self.text.items are c.in_ok-print_entries.ensures.ok printed c.in_ok-print_line-2.ensures.ok is)
+    MatchResult-weaker c.print_views.result c.print_views.ensures.err (λ x h. h) (λ stop is. stops_in_views r s values ids pins stop held out now first c.print_line.new.self.text.items c.print_line-2.new.self.text.items c.print_pinned.new.printer.text.items are before is)
+
 
 pub returns-in_err-print_entries-clause-err : goal.returns-in_err-print_entries-clause-err
 returns-in_err-print_entries-clause-err g c =
-    let s = c.args.world.now.state in
+    let r = (rules_of g.C.TextForm.text g.C.TextForm.fits g.T.TextForm.text g.K.ScriptWorld.rules) in
+    let s = g.K.ScriptWorld.state c.args.world.now in
     let values = c.deref.result.now in
     let ids = c.in-Ok-erased.erased.items in
-    let are : Ended s values ids = record { entries = ap (λ (records : List Record). map Some records) c.deref.ensures.value ∙ c.in-Ok.ensures; erased = c.in-Ok-erased.ensures } in
+    let pins = option_map (λ (line : PinnedLine). line.0.items) c.in-Ok-pinned.pinned in
+    let are : Ended r s values ids pins = record { entries = ap (λ (values : List g.T.type). map Some values) c.deref.ensures.value ∙ c.in-Ok.ensures; erased = c.in-Ok-erased.ensures; pinned = c.in-Ok-pinned.ensures } in
     let held = append_known (g.W.Write.contents c.args.out.now) c.args.printer.now.text.items in
-    let now = append_known (g.W.Write.contents c.print_entries.new.out) c.print_entries.new.printer.text.items in
-    let after = with_feed (boundary_text (boundary s.trace)) ++ (with_feed (erased_text ids) ++ views_text 1 (seen_views s.views)) in
+    let out = g.W.Write.contents c.print_entries.new.out in
+    let first = c.print_entries.new.printer.text.items in
+    let now = append_known out first in
+    let after = with_feed (boundary_text (boundary s.trace)) ++ (with_feed (erased_text ids) ++ (pinned_line pins ++ views_text g.T.TextForm.text 1 (seen_views s.views))) in
     let p = err_from_is_err_and c.from_residual.result c.from_residual.ensures.1 in
-    rw (p.1, p.2) (part_front c.in_err-print_entries.field-0.0 s values ids held held now [] (entries_text 1 values) after are refl (appends_nothing held) c.in_err-print_entries.ensures.err)
+    rw (p.1, p.2) (part_front r s values ids pins c.in_err-print_entries.field-0.0 held held now [] (entries_text g.T.TextForm.text 1 values) after are refl (appends_nothing held) c.in_err-print_entries.ensures.err)
+
 
 pub returns-in_err-print_line-clause-err : goal.returns-in_err-print_line-clause-err
 returns-in_err-print_line-clause-err g c =
-    let s = c.args.world.now.state in
+    let r = (rules_of g.C.TextForm.text g.C.TextForm.fits g.T.TextForm.text g.K.ScriptWorld.rules) in
+    let s = g.K.ScriptWorld.state c.args.world.now in
     let values = c.deref.result.now in
     let ids = c.in-Ok-erased.erased.items in
-    let are : Ended s values ids = record { entries = ap (λ (records : List Record). map Some records) c.deref.ensures.value ∙ c.in-Ok.ensures; erased = c.in-Ok-erased.ensures } in
+    let pins = option_map (λ (line : PinnedLine). line.0.items) c.in-Ok-pinned.pinned in
+    let are : Ended r s values ids pins = record { entries = ap (λ (values : List g.T.type). map Some values) c.deref.ensures.value ∙ c.in-Ok.ensures; erased = c.in-Ok-erased.ensures; pinned = c.in-Ok-pinned.ensures } in
     let held = append_known (g.W.Write.contents c.args.out.now) c.args.printer.now.text.items in
     let out = g.W.Write.contents c.print_entries.new.out in
-    let after = with_feed (boundary_text (boundary s.trace)) ++ (with_feed (erased_text ids) ++ views_text 1 (seen_views s.views)) in
+    let first = c.print_entries.new.printer.text.items in
     let err = c.in_err-print_line.ensures.err in
-    let grown = subst (λ (items : List ℕ). Appends held (append_known out items) (entries_text 1 values)) (sym err.1) c.in_ok-print_entries.ensures.ok in
     let p = err_from_is_err_and c.from_residual-in_err-print_line.result c.from_residual-in_err-print_line.ensures.1 in
-    rw (p.1, p.2) (line_front c.in_err-print_line.field-0.0 s values ids held (append_known out c.print_line.new.self.text.items) (entries_text 1 values) after are err.0 refl grown)
+    rw (p.1, p.2) (stops_at_boundary r s values ids pins c.in_err-print_line.field-0.0 held out first c.print_line.new.self.text.items are err.0 err.1 c.in_ok-print_entries.ensures.ok)
+
 
 pub returns-in_err-print_line-2-clause-err : goal.returns-in_err-print_line-2-clause-err
 returns-in_err-print_line-2-clause-err g c =
-    let s = c.args.world.now.state in
+    let r = (rules_of g.C.TextForm.text g.C.TextForm.fits g.T.TextForm.text g.K.ScriptWorld.rules) in
+    let s = g.K.ScriptWorld.state c.args.world.now in
     let values = c.deref.result.now in
     let ids = c.in-Ok-erased.erased.items in
-    let are : Ended s values ids = record { entries = ap (λ (records : List Record). map Some records) c.deref.ensures.value ∙ c.in-Ok.ensures; erased = c.in-Ok-erased.ensures } in
+    let pins = option_map (λ (line : PinnedLine). line.0.items) c.in-Ok-pinned.pinned in
+    let are : Ended r s values ids pins = record { entries = ap (λ (values : List g.T.type). map Some values) c.deref.ensures.value ∙ c.in-Ok.ensures; erased = c.in-Ok-erased.ensures; pinned = c.in-Ok-pinned.ensures } in
     let held = append_known (g.W.Write.contents c.args.out.now) c.args.printer.now.text.items in
     let out = g.W.Write.contents c.print_entries.new.out in
-    let one = with_feed (boundary_text (boundary s.trace)) in
-    let after = with_feed (erased_text ids) ++ views_text 1 (seen_views s.views) in
+    let first = c.print_entries.new.printer.text.items in
+    let printed = c.in_ok-print_line.ensures.ok ∙ ap (λ (n : ℕ). first ++ with_feed (boundary_text n)) c.boundary.ensures in
     let err = c.in_err-print_line-2.ensures.err in
-    let printed = c.in_ok-print_line.ensures.ok ∙ ap (λ (n : ℕ). c.print_entries.new.printer.text.items ++ with_feed (boundary_text n)) c.boundary.ensures in
-    let first = appends_both held (append_known out c.print_entries.new.printer.text.items) (append_known out c.print_line.new.self.text.items) (entries_text 1 values) one c.in_ok-print_entries.ensures.ok (gathers out c.print_entries.new.printer.text.items c.print_line.new.self.text.items one printed) in
-    let grown = subst (λ (items : List ℕ). Appends held (append_known out items) (entries_text 1 values ++ one)) (sym err.1) first in
     let p = err_from_is_err_and c.from_residual-in_err-print_line-2.result c.from_residual-in_err-print_line-2.ensures.1 in
-    rw (p.1, p.2) (line_front c.in_err-print_line-2.field-0.0 s values ids held (append_known out c.print_line-2.new.self.text.items) (entries_text 1 values ++ one) after are err.0 (append_assoc (entries_text 1 values) one after) grown)
+    rw (p.1, p.2) (stops_at_erased r s values ids pins c.in_err-print_line-2.field-0.0 held out first c.print_line.new.self.text.items c.print_line-2.new.self.text.items are err.0 err.1 c.in_ok-print_entries.ensures.ok printed)
+
+
+pub returns-in_err-print_pinned-clause-err : goal.returns-in_err-print_pinned-clause-err
+returns-in_err-print_pinned-clause-err g c =
+    let r = (rules_of g.C.TextForm.text g.C.TextForm.fits g.T.TextForm.text g.K.ScriptWorld.rules) in
+    let s = g.K.ScriptWorld.state c.args.world.now in
+    let values = c.deref.result.now in
+    let ids = c.in-Ok-erased.erased.items in
+    let pins = option_map (λ (line : PinnedLine). line.0.items) c.in-Ok-pinned.pinned in
+    let are : Ended r s values ids pins = record { entries = ap (λ (values : List g.T.type). map Some values) c.deref.ensures.value ∙ c.in-Ok.ensures; erased = c.in-Ok-erased.ensures; pinned = c.in-Ok-pinned.ensures } in
+    let held = append_known (g.W.Write.contents c.args.out.now) c.args.printer.now.text.items in
+    let out = g.W.Write.contents c.print_entries.new.out in
+    let first = c.print_entries.new.printer.text.items in
+    let printed = c.in_ok-print_line.ensures.ok ∙ ap (λ (n : ℕ). first ++ with_feed (boundary_text n)) c.boundary.ensures in
+    let err = c.in_err-print_pinned.ensures.err in
+    let p = err_from_is_err_and c.from_residual-in_err-print_pinned.result c.from_residual-in_err-print_pinned.ensures.1 in
+    rw (p.1, p.2) (stops_at_pinned r s values ids pins c.in_err-print_pinned.field-0.0 held out first c.print_line.new.self.text.items c.print_line-2.new.self.text.items c.print_pinned.new.printer.text.items are err.0 err.1 c.in_ok-print_entries.ensures.ok printed c.in_ok-print_line-2.ensures.ok)
+

@@ -5,4 +5,4 @@ use Rattle.txn_script.proofs.script.print_entries.Given as goal
 
 -- what was printed so far, and what is left to print
 abbrev pub invariant-loop-index : goal.invariant-loop-index
-invariant-loop-index g l = (text : List ℕ) × Appends (append_known (g.W.Write.contents l.fn.out) l.fn.printer.text.items) (append_known (g.W.Write.contents l.out) l.printer.text.items) text × (text ++ entries_text (l.index + 1) (drop l.index l.entries) ≡ entries_text 1 l.entries)
+invariant-loop-index g l = (text : List ℕ) × Appends (append_known (g.W.Write.contents l.fn.out) l.fn.printer.text.items) (append_known (g.W.Write.contents l.out) l.printer.text.items) text × (text ++ entries_text g.T.TextForm.text (l.index + 1) (drop l.index l.entries) ≡ entries_text g.T.TextForm.text 1 l.entries)

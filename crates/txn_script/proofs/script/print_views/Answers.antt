@@ -2,11 +2,10 @@ use Rattle.std.proofs.Common.{ℕ, [], ◌+◌, ◌++◌, ◌<◌, ◌≤◌, Li
 use Rattle.std.proofs.lemmas.Result.{err_from_is_err_and}
 use Rattle.std.proofs.lemmas.List.{append-nil, append_assoc, length-map}
 use Rattle.std.specs.Io.KnownBytes.{Appends, append_known}
-use Rattle.txn_lines.specs.declared.record.Record.{Record}
 use Rattle.txn_view_history.specs.Views.{View}
 use Rattle.txn_any_machine.specs.Machine.{seen_view, seen_views}
 use Rattle.txn_script.specs.Printed.{view_line, views_text}
-use Rattle.txn_script.proofs.Playing.{appends_nothing, gathers_line, views_step, view_there}
+use Rattle.txn_script.proofs.Ending.{appends_nothing, gathers_line, views_step, view_there}
 use Rattle.txn_script.proofs.script.print_views.Goals as goal
 
 pub loop-index-init : goal.loop-index-init
@@ -15,27 +14,27 @@ loop-index-init g c = ([], appends_nothing (append_known (g.W.Write.contents c.a
 pub loop-index-preserved : goal.loop-index-preserved
 loop-index-preserved g c =
     let before = c.loop-index.invariant in
-    let s = c.args.world.now.state in
+    let s = g.K.ScriptWorld.state c.args.world.now in
     let index = c.loop-index.index in
     let views = seen_views s.views in
     let within : index < length views = omega (arith, c.loop-index-test.true, c.views-index-end.ensures, length-map s.views seen_view) in
-    let line = view_line (index + 1) (get_or views index None) in
-    let rest = views_text (index + 1 + 1) (drop (index + 1) views) in
-    let printed = c.in_ok-print_view.ensures.ok ∙ ap (λ (view : Option (View Record)). c.loop-index.printer.text.items ++ view_line (index + 1) view) (view_there s index within) in (
+    let line = view_line g.T.TextForm.text (index + 1) (get_or views index None) in
+    let rest = views_text g.T.TextForm.text (index + 1 + 1) (drop (index + 1) views) in
+    let printed = c.in_ok-print_view.ensures.ok ∙ ap (λ (view : Option (View g.T.type)). c.loop-index.printer.text.items ++ view_line g.T.TextForm.text (index + 1) view) (view_there s index within) in (
       before.0 ++ line,
       gathers_line (append_known (g.W.Write.contents c.args.out.now) c.args.printer.now.text.items) (g.W.Write.contents c.loop-index.out) (g.W.Write.contents c.write_full.new.out) c.loop-index.printer.text.items c.print_view.new.printer.text.items c.write_full.new.self.text.items before.0 line before.1 printed c.in_ok-write_full.ensures.ok,
-      append_assoc before.0 line rest ∙ ap (λ more. before.0 ++ more) (sym (views_step index views within)) ∙ before.2,
+      append_assoc before.0 line rest ∙ ap (λ more. before.0 ++ more) (sym (views_step g.T.TextForm.text index views within)) ∙ before.2,
     )
 
 pub returns-clause-ok : goal.returns-clause-ok
 returns-clause-ok g c =
     let before = c.loop-index.invariant in
-    let s = c.args.world.now.state in
+    let s = g.K.ScriptWorld.state c.args.world.now in
     let index = c.loop-index.index in
     let views = seen_views s.views in
     let past : length views ≤ index = omega (arith, c.loop-index-test.false, c.views-index-end.ensures, length-map s.views seen_view) in
     let none_left = drop_of_length-le views past in
-    let whole = sym (append-nil before.0) ∙ sym (ap (λ (left : List (Option (View Record))). before.0 ++ views_text (index + 1) left) none_left) ∙ before.2 in
+    let whole = sym (append-nil before.0) ∙ sym (ap (λ (left : List (Option (View g.T.type))). before.0 ++ views_text g.T.TextForm.text (index + 1) left) none_left) ∙ before.2 in
     subst (Appends (append_known (g.W.Write.contents c.args.out.now) c.args.printer.now.text.items) (append_known (g.W.Write.contents c.loop-index.out) c.loop-index.printer.text.items)) whole before.1
 
 pub returns-in_err-print_view-clause-err : goal.returns-in_err-print_view-clause-err
@@ -45,4 +44,4 @@ returns-in_err-print_view-clause-err g c =
     let err = c.in_err-print_view.ensures.err in
     let grown = subst (λ (items : List ℕ). Appends held (append_known (g.W.Write.contents c.loop-index.out) items) before.0) (sym err.1) before.1 in
     let p = err_from_is_err_and c.from_residual.result c.from_residual.ensures.1 in
-    rw (p.1, p.2) (inr (err.0, before.0, views_text (c.loop-index.index + 1) (drop c.loop-index.index (seen_views c.args.world.now.state.views)), before.2, grown))
+    rw (p.1, p.2) (inr (err.0, before.0, views_text g.T.TextForm.text (c.loop-index.index + 1) (drop c.loop-index.index (seen_views (g.K.ScriptWorld.state c.args.world.now).views)), before.2, grown))

@@ -1,5 +1,4 @@
-use Rattle.std.proofs.Common.{◌≡◌, ◌≤◌, vec_len}
-use Rattle.txn_lines.specs.declared.lines.TheConstants.{MOST_BYTES}
+use Rattle.std.proofs.Common.{◌≡◌, ◌≤◌, IfSome, vec_len}
 use Rattle.txn_lines.proofs.Feeds.{InLine}
 use Rattle.txn_lines.proofs.lines.Lines.read_text.Given as goal
 
@@ -7,6 +6,6 @@ use Rattle.txn_lines.proofs.lines.Lines.read_text.Given as goal
 abbrev pub invariant-loop-piece : goal.invariant-loop-piece
 invariant-loop-piece g l = record {
   number : l.self.number ≡ l.fn.self.number;
-  short : vec_len l.self.text ≤ MOST_BYTES;
+  short : IfSome l.most (λ most. vec_len l.self.text ≤ most);
   read : InLine (g.R.Read.remaining l.fn.self.reader) (g.R.Read.remaining l.self.reader) l.self.text.items;
 }

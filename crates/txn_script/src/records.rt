@@ -1,0 +1,64 @@
+//! Worlds of records, as scripts run them.
+
+ghost use Rattle.std.specs.Prelude.{◌≡◌};
+
+use crate::kind::{Came, ScriptWorld};
+use std::alloc::{AllocError, Global};
+use txn_history::event::EventFault;
+use txn_lines::printed::{FaultLine, PinnedLine};
+use txn_lines::record::{Record, RecordCodec, RecordEpoch};
+use txn_view_history::event::{AnyCall, AnyEvent};
+use txn_view_history::view::View;
+use txn_world::world::World;
+
+impl ScriptWorld<Record, AnyCall<Record>> for World<Record, RecordCodec, RecordEpoch> {
+    ghost use Rattle.txn_script.specs.Records.{record_world};
+
+    ghost rules = { record_world };
+
+    ghost state = { λ world. world.state };
+
+    fn open(
+        alloc: Global,
+        clients: u64,
+        page: u64,
+    ) -> Result<World<Record, RecordCodec, RecordEpoch>, AllocError> {
+        World::new(alloc, RecordCodec, RecordEpoch, clients, page)
+    }
+
+    fn take(&mut self, event: AnyEvent<Record>) -> Result<Came<Record>, AllocError> {
+        match World::take(self, event) {
+            Ok(told) => Ok(Came::Told(told)),
+            Err(EventFault::NoMemory) => Err(AllocError),
+            Err(fault) => Ok(Came::Refused(FaultLine::of_world(fault))),
+        }
+    }
+
+    fn next_event(&self, op: u64) -> AnyEvent<Record> {
+        World::next_event(self, op)
+    }
+
+    fn entries(&self, alloc: Global) -> Result<Vec<Record>, AllocError> {
+        World::entries(self, alloc)
+    }
+
+    fn boundary(&self) -> u64 {
+        World::boundary(self)
+    }
+
+    fn erased(&self, alloc: Global) -> Result<Vec<u64>, AllocError> {
+        World::erased(self, alloc)
+    }
+
+    fn pinned(&self, _alloc: Global) -> Result<Option<PinnedLine>, AllocError> {
+        Ok(None)
+    }
+
+    fn views(&self) -> u64 {
+        World::views(self)
+    }
+
+    fn view(&self, number: u64) -> Option<&View<Record>> {
+        World::view(self, number)
+    }
+}
