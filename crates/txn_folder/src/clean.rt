@@ -56,7 +56,8 @@ fn clean_one<R: Files + Alloc<A = Global> + Clone + Drop>(
         return Ok(false);
     }
     let is_old = match entry.metadata() {
-        Ok(metadata) => metadata.is_file() && matches!(metadata.modified(), Ok(time) if time < before),
+        Ok(metadata) => metadata.is_file()
+            && matches!(metadata.modified(), Ok(time) if time < before),
         Err(error) if error.kind() == ErrorKind::NotFound => false,
         Err(error) => return Err(Fault::of(Doing::Looking, error)),
     };

@@ -57,7 +57,8 @@ impl fmt::Display for Doing {
             Doing::MakingFolder => "making the folder",
             Doing::WritingTemporary => "writing a temporary file",
             Doing::SettingTime => "setting the time of a file",
-            Doing::KeepingTime => "the file system does not keep the time of a file to the nanosecond",
+            Doing::KeepingTime =>
+                "the file system does not keep the time of a file to the nanosecond",
             Doing::SyncingTemporary => "syncing a temporary file",
             Doing::Linking => "linking a new file to its name",
             Doing::Replacing => "renaming a new file over an old one",

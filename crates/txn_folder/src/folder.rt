@@ -38,12 +38,7 @@ impl Model for Folder {
 impl Folder {
     /// The files of the object of this name below a root, a folder of the file system. `BadSegment` comes exactly where the
     /// name or the suffix is not as it has to be: a plain segment, and for the suffix one without a dot.
-    pub fn new(
-        alloc: Global,
-        root: &str,
-        name: &str,
-        suffix: &str,
-    ) -> Result<Folder, PathFault>
+    pub fn new(alloc: Global, root: &str, name: &str, suffix: &str) -> Result<Folder, PathFault>
         ensures ok { IfOk result (λ folder. folder ≡ record { root = root.now; name = name.now; suffix = suffix.now }) }
         ensures bad_segment { IsErrOf result PathFault.BadSegment ↔ ((not (is_plain name.now) || not (is_suffix suffix.now)) ≡ true) }
     {

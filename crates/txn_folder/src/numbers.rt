@@ -4,12 +4,11 @@ ghost use Rattle.std.specs.Prelude.{◌≡◌, ◌<◌, ◌≤◌, IfOk, OnErr};
 use crate::fault::{Doing, Fault, Halt, at_error};
 use crate::place::number_of;
 use std::alloc::Global;
-use std::fs;
 use std::fs::{FileTimes, OpenFile, OpenOptions};
-use std::io;
 use std::io::{ErrorKind, Write};
 use std::rt::{Clock, Files};
 use std::time::{Duration, UNIX_EPOCH};
+use std::{fs, io};
 
 /// How many temporary names are tried.
 const TRIES: u64 = 64;

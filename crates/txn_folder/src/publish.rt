@@ -3,12 +3,11 @@
 use crate::fault::{Doing, Fault, Halt, at_error};
 use crate::numbers::Written;
 use crate::place::number_of;
-use std::fs;
 use std::fs::OpenFile;
-use std::io;
 use std::io::ErrorKind;
 use std::os::unix::fs::MetadataExt;
 use std::rt::Files;
+use std::{fs, io};
 
 /// Whether anything has this name. What is no regular file is a fault, and so is a name that cannot be looked up.
 pub(crate) fn stands<R: Files>(rt: &R, file: &str) -> Result<bool, Halt> {

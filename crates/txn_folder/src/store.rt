@@ -5,11 +5,11 @@ ghost use Rattle.txn_folder.specs.Replies.{IsReplyTo, IsHalt, IsPutError, IsGetE
 use crate::clean::clean_in;
 use crate::fault::{Doing, Fault, Halt, at_error};
 use crate::folder::Folder;
+use crate::found::{Found, read_file};
 use crate::listing::page_after;
 use crate::lock::{LockFile, Sharing, take_lock};
 use crate::numbers::{Numbers, Written};
 use crate::place::{Place, place_of, token_of};
-use crate::found::{Found, read_file};
 use crate::publish::{link, make_folders, remove, replace, stands, sync_folder};
 use bytes::Bytes;
 use std::alloc::{AllocError, Global};
@@ -226,12 +226,7 @@ where
     }
 
     /// Makes a file, where none stands, and tells its token.
-    fn create(
-        &mut self,
-        alloc: Global,
-        path: &Path,
-        bytes: &Bytes,
-    ) -> Result<Option<Token>, Halt>
+    fn create(&mut self, alloc: Global, path: &Path, bytes: &Bytes) -> Result<Option<Token>, Halt>
         ensures { self.new.fault ≡ self.old.fault }
     {
         let place = self.place(path)?;

@@ -3,9 +3,8 @@
 use crate::failing::Failing;
 use crate::steps::folder_of;
 use std::cell::Cell;
-use std::fs;
-use std::io;
 use std::test::Fail;
+use std::{fs, io};
 use txn_folder::doctor::{Check, examine};
 
 /// How many names a folder has.
@@ -52,8 +51,17 @@ fn folders_are_examined(rt: HostRuntime) -> Result<(), Fail> {
     let (_, missing) = report(&rt, "no such folder")?;
     fs::remove_dir_all(&rt, root)?;
     assert!(rt; text.as_str() == SERVES, "the report says {text}");
-    assert!(rt; failed.is_none() && left == 0, "a check fails, or a file is left");
-    assert!(rt; linking == (Some(Check::Links), 0), "another check fails, or a file is left");
-    assert!(rt; missing == Some(Check::Keeps), "a missing folder passes a check");
+    assert!(rt;
+        failed.is_none() && left == 0,
+        "a check fails, or a file is left"
+    );
+    assert!(rt;
+        linking == (Some(Check::Links), 0),
+        "another check fails, or a file is left"
+    );
+    assert!(rt;
+        missing == Some(Check::Keeps),
+        "a missing folder passes a check"
+    );
     Ok(())
 }

@@ -1,7 +1,9 @@
 //! Each call of the system failing in turn, before its effect or after it.
 
 use crate::failing::Failing;
-use crate::steps::Call::{Create, CreateBoundary, Delete, List, Overwrite, Read, ReadBoundary, Update};
+use crate::steps::Call::{
+    Create, CreateBoundary, Delete, List, Overwrite, Read, ReadBoundary, Update,
+};
 use crate::steps::{Call, folder_of, layout_of, store_of, told};
 use std::cell::Cell;
 use std::fs;
@@ -9,16 +11,32 @@ use std::test::Fail;
 use txn_store::path::PathFault;
 
 /// A call, what it is answered where nothing fails, and what shows then that it took effect, and that it did not.
-type Case = (Call, &'static str, &'static [(Call, &'static str)], &'static [(Call, &'static str)]);
+type Case = (
+    Call,
+    &'static str,
+    &'static [(Call, &'static str)],
+    &'static [(Call, &'static str)],
+);
 
 const CASES: &[Case] = &[
     (
         Create(2, b"0:2"),
         "put",
-        &[(Read(2, b"0:2"), "got"), (List(None, 5, &[1, 2], false), "listed")],
-        &[(Read(2, b""), "not found"), (List(None, 5, &[1], false), "listed")],
+        &[
+            (Read(2, b"0:2"), "got"),
+            (List(None, 5, &[1, 2], false), "listed"),
+        ],
+        &[
+            (Read(2, b""), "not found"),
+            (List(None, 5, &[1], false), "listed"),
+        ],
     ),
-    (Create(1, b"0:2"), "already exists", &[(Read(1, b"0:1"), "got")], &[(Read(1, b"0:1"), "got")]),
+    (
+        Create(1, b"0:2"),
+        "already exists",
+        &[(Read(1, b"0:1"), "got")],
+        &[(Read(1, b"0:1"), "got")],
+    ),
     (
         Overwrite(1, b"0:3"),
         "put",
@@ -31,14 +49,24 @@ const CASES: &[Case] = &[
         &[(ReadBoundary(b"2"), "got")],
         &[(ReadBoundary(b"1"), "got")],
     ),
-    (Update(0, b"2"), "precondition", &[(ReadBoundary(b"1"), "got")], &[(ReadBoundary(b"1"), "got")]),
+    (
+        Update(0, b"2"),
+        "precondition",
+        &[(ReadBoundary(b"1"), "got")],
+        &[(ReadBoundary(b"1"), "got")],
+    ),
     (
         Delete(1),
         "deleted",
         &[(Read(1, b""), "not found")],
         &[(Read(1, b"0:1"), "got")],
     ),
-    (Read(1, b"0:1"), "got", &[(Read(1, b"0:1"), "got")], &[(Read(1, b"0:1"), "got")]),
+    (
+        Read(1, b"0:1"),
+        "got",
+        &[(Read(1, b"0:1"), "got")],
+        &[(Read(1, b"0:1"), "got")],
+    ),
     (
         List(None, 5, &[1], false),
         "listed",
@@ -97,7 +125,13 @@ fn told_failing(
     Ok((answer, store.fault().is_some()))
 }
 
-fn went(rt: &HostRuntime, root: &str, case: &Case, nth: u64, after: bool) -> Result<Outcome, PathFault> {
+fn went(
+    rt: &HostRuntime,
+    root: &str,
+    case: &Case,
+    nth: u64,
+    after: bool,
+) -> Result<Outcome, PathFault> {
     let (call, answer, done, undone) = case;
     let before = [(Create(1, b"0:1"), "put"), (CreateBoundary(b"1"), "put")];
     if !all_told(rt, root, &before)? {
@@ -125,7 +159,10 @@ fn each_call_of_the_system_fails(rt: HostRuntime) -> Result<(), Fail> {
                     panic!(rt; "no memory");
                 };
                 let _ = fs::remove_dir_all(&rt, root.as_str());
-                assert!(rt; went != Outcome::Wrong, "case {place} is told wrong where call {nth} fails, after: {after}");
+                assert!(rt;
+                    went != Outcome::Wrong,
+                    "case {place} is told wrong where call {nth} fails, after: {after}"
+                );
                 if went == Outcome::Failed {
                     failed += 1;
                 }

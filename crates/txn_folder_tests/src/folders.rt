@@ -5,12 +5,11 @@ use crate::steps::Call::{
     ReadElsewhere, ReadNewerBoundary, Update,
 };
 use crate::steps::{Call, first_other, folder_of, store_of};
-use std::fs;
-use std::io;
 use std::os::unix::fs::symlink;
 use std::process::Command;
 use std::test::Fail;
 use std::time::{Duration, SystemTime};
+use std::{fs, io};
 use txn_folder::store::FolderStore;
 
 /// Versions and the boundary, call by call.
@@ -145,7 +144,9 @@ fn make_odd(rt: &HostRuntime, root: &str) -> io::Result<()> {
     fs::create_dir_all(rt, folder.as_str())?;
     fs::create_dir_all(rt, boundary.as_str())?;
     symlink(rt, "elsewhere", link.as_str())?;
-    Command::new(alloc, "mkfifo")?.arg(fifo.as_str())?.status(rt)?;
+    Command::new(alloc, "mkfifo")?
+        .arg(fifo.as_str())?
+        .status(rt)?;
     Ok(())
 }
 
@@ -172,9 +173,17 @@ fn leftovers_alone_are_cleaned(rt: HostRuntime) -> Result<(), Fail> {
     let told = first_other_in(&rt, root, false, &listed)?;
     let counts = clean_twice(&rt, root)?;
     let left = (standing(&rt, root, FOREIGN)?, standing(&rt, root, LEFT)?);
-    let kept = first_other_in(&rt, root, false, &[(Read(1, b"0:1"), "got"), (ReadBoundary(b"0"), "got")])?;
+    let kept = first_other_in(
+        &rt,
+        root,
+        false,
+        &[(Read(1, b"0:1"), "got"), (ReadBoundary(b"0"), "got")],
+    )?;
     fs::remove_dir_all(&rt, root)?;
-    assert!(rt; (made, told, kept) == (None, None, None), "calls are answered otherwise");
+    assert!(rt;
+        (made, told, kept) == (None, None, None),
+        "calls are answered otherwise"
+    );
     assert!(rt; counts == (Some(0), Some(2)), "other files are cleaned");
     assert!(rt; left == (6, 0), "other files are left");
     Ok(())

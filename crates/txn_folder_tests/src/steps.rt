@@ -38,7 +38,11 @@ where
     let alloc = rt.alloc();
     let layout = layout_of(alloc)?;
     let folder = Folder::new(alloc, root, "test", "val")?;
-    let Layout { names, boundary, .. } = layout;
+    let Layout {
+        names,
+        boundary,
+        ..
+    } = layout;
     Ok(FolderStore::new(rt, folder, names, boundary, syncs))
 }
 
@@ -148,10 +152,8 @@ fn name_of(error: StoreError) -> &'static str {
 /// Whether these are the paths of these versions.
 fn are_versions(layout: &Layout<u8>, metas: &[ObjectMeta], ids: &[u64]) -> bool {
     metas.len() == ids.len()
-        && metas
-            .iter()
-            .zip(ids)
-            .all(|(meta, id)| layout.names.parse_id(&meta.location) == Some(*id))
+        && metas.iter().zip(ids).all(|(meta, id)| layout.names.parse_id(&meta.location)
+            == Some(*id))
 }
 
 /// What a reply says, in a word.
@@ -162,8 +164,7 @@ fn said(layout: &Layout<u8>, call: Call, reply: &Reply) -> &'static str {
         Reply::Get(Ok(_)) => "other bytes",
         Reply::List(Ok(page)) => match call {
             List(_, _, ids, more)
-                if page.more == more && are_versions(layout, page.metas.as_slice(), ids) =>
-            {
+                if page.more == more && are_versions(layout, page.metas.as_slice(), ids) => {
                 "listed"
             }
             _ => "other versions",

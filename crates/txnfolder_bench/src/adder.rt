@@ -57,7 +57,11 @@ impl Adder {
         let alloc = rt.alloc();
         let top = Path::root(alloc).join("root")?;
         let layout = Layout::new(alloc, &top, "test", "val", 0u8)?;
-        let Layout { names, boundary, .. } = Layout::new(alloc, &top, "test", "val", 0u8)?;
+        let Layout {
+            names,
+            boundary,
+            ..
+        } = Layout::new(alloc, &top, "test", "val", 0u8)?;
         let folder = Folder::new(alloc, root, name, "val")?;
         let store = FolderStore::new(rt.clone()?, folder, names, boundary, syncs);
         Ok(Adder {

@@ -41,7 +41,9 @@ fn say(rt: &HostRuntime, adder: &Adder, command: &Command, time: Duration) {
     let conflicts = adder.conflicts();
     let id = adder.id();
     let value = adder.value();
-    let _ = println!(rt; "times {times} nanoseconds each {each} conflicts {conflicts} last {id} value {value}");
+    let _ = println!(rt;
+        "times {times} nanoseconds each {each} conflicts {conflicts} last {id} value {value}"
+    );
 }
 
 fn run(rt: &HostRuntime, command: &Command) -> Result<(), Stopped> {
