@@ -1,5 +1,5 @@
 -- An entry is read back.
-use Rattle.std.proofs.Common.{◌≡◌, ◌≢◌, ℕ, ◌==◌, ◌+◌, ◌<◌, ◌≤◌, ◌^◌, Bool, true, false, cond, nat_lt, List, ◌∷◌, ◌++◌, length, get_or, Option, Some, None, refl, ap, sym, subst, ◌∙◌, arith, suc}
+use Rattle.std.proofs.Common.{◌≡◌, ◌≢◌, ℕ, ◌==◌, ◌+◌, ◌<◌, ◌≤◌, ◌^◌, Bool, true, false, cond, nat_lt, List, ◌∷◌, ◌++◌, length, get_or, Option, Some, None, Result, Ok, Err, IfOk, refl, ap, sym, subst, ◌∙◌, arith, suc}
 use Rattle.std.specs.Fmt.{decimal}
 use Rattle.std.specs.Prelude.{take, drop, slice_index}
 use Rattle.std.specs.List.{position_or_len, before_first, after_first}
@@ -50,11 +50,24 @@ not_plain bs h = by (decimal_read bs) refl
     by None is = refl
     by (Some n) is = let read = decimal_read_is bs n is in absurd (h (subst IsUtf8 (sym read.0) (IsUtf8-from_ascii (decimal n) (IsAscii-decimal n read.1))))
 
--- bytes that are cut at their first colon are those of what their parts say
-pub read_bytes : (bs payload : List ℕ) (at epoch : ℕ) → at ≡ position_or_len is_colon bs → at < length bs → Some epoch ≡ decimal_read (take at bs) → payload ≡ drop (at + 1) bs → bs ≡ entry_bytes (record { epoch = epoch; payload = payload })
-read_bytes bs payload at epoch at_is within reads payload_is =
-    let place : position_or_len is_colon bs < length bs = rw at_is at within in
-    let front : take (position_or_len is_colon bs) bs ≡ decimal epoch = sym (ap (λ i. take i bs) at_is) ∙ (decimal_read_is (take at bs) epoch (sym reads)).0 in
-    let rest : drop (position_or_len is_colon bs + 1) bs ≡ payload = sym (ap (λ i. drop (i + 1) bs) at_is) ∙ sym payload_is in
-    let colon : get_or bs (position_or_len is_colon bs) 0 ≡ 58 = eqb-true (get_or bs (position_or_len is_colon bs) 0) 58 (passes_at_first is_colon bs 0 place) in
-    split_at_first is_colon bs 0 place ∙ rw (front, rest, colon) refl
+-- what is read is the bytes of what it is read as
+entry_read_is : (bs : List ℕ) (v : Entry) → entry_read bs ≡ Some v → bs ≡ entry_bytes v
+entry_read_is bs v = by (nat_lt (position_or_len is_colon bs) (length bs)) refl
+  where
+    of_epoch : (o : Option ℕ) → decimal_read (before_first is_colon bs) ≡ o → with_payload (after_first is_colon bs) o ≡ Some v → (before_first is_colon bs ≡ decimal v.epoch) × (after_first is_colon bs ≡ v.payload)
+    of_epoch None is h = absurd (cc)
+    of_epoch (Some epoch) is h =
+        let same : record { epoch = epoch; payload = after_first is_colon bs } ≡ v = cc in
+        ((decimal_read_is (before_first is_colon bs) epoch is).0 ∙ ap (λ (e : Entry). decimal e.epoch) same, ap (λ (e : Entry). e.payload) same)
+
+    by : (b : Bool) → nat_lt (position_or_len is_colon bs) (length bs) ≡ b → (cond b (with_payload (after_first is_colon bs) (decimal_read (before_first is_colon bs))) None) ≡ Some v → bs ≡ entry_bytes v
+    by false is h = absurd (cc)
+    by true is h =
+        let inside = ltb-true (position_or_len is_colon bs) (length bs) is in
+        let parts = of_epoch (decimal_read (before_first is_colon bs)) refl h in
+        let colon : get_or bs (position_or_len is_colon bs) 0 ≡ 58 = eqb-true (get_or bs (position_or_len is_colon bs) 0) 58 (passes_at_first is_colon bs 0 inside) in
+        split_at_first is_colon bs 0 inside ∙ rw (parts.0, parts.1, colon) refl
+
+pub read_exactly : {E : Type 0} (bs : List ℕ) (r : Result Entry E) → IfOk r (λ v. entry_read bs ≡ Some v) → IfOk r (λ v. bs ≡ entry_bytes v)
+read_exactly bs (Ok v) h = entry_read_is bs v h
+read_exactly bs (Err e) h = tt

@@ -54,6 +54,24 @@ fn read_plain(bytes: &[u8]) -> Option<u64>
     }
 }
 
+/// The entry of these bytes. `Refused` comes exactly where they are not those of one.
+fn read_entry(bytes: &Bytes) -> Result<Entry, CodecFault>
+    ensures value { IfOk result (λ value. entry_read bytes.now ≡ Some value) }
+    ensures refused { IfErr result (OnRefused (entry_read bytes.now ≡ None)) }
+{
+    let at = colon_in(bytes.as_slice());
+    if at == bytes.len() {
+        return Err(CodecFault::Refused(anyhow!("bad entry")));
+    }
+    let Some(epoch) = read_plain(&bytes.as_slice()[..at]) else {
+        return Err(CodecFault::Refused(anyhow!("bad entry")));
+    };
+    match bytes.slice(at + 1..) {
+        Ok(payload) => Ok(Entry { epoch, payload }),
+        Err(_) => Err(CodecFault::NoMemory),
+    }
+}
+
 impl ObjectCodec<Entry> for EntryCodec {
     ghost encoded = { λ _ value. entry_bytes value };
 
@@ -72,17 +90,7 @@ impl ObjectCodec<Entry> for EntryCodec {
         // It reads the bytes of an entry, and nothing else.
         ensures exact { IfOk result (λ value. bytes.now ≡ entry_bytes value) }
     {
-        let at = colon_in(bytes.as_slice());
-        if at == bytes.len() {
-            return Err(CodecFault::Refused(anyhow!("bad entry")));
-        }
-        let Some(epoch) = read_plain(&bytes.as_slice()[..at]) else {
-            return Err(CodecFault::Refused(anyhow!("bad entry")));
-        };
-        match bytes.slice(at + 1..) {
-            Ok(payload) => Ok(Entry { epoch, payload }),
-            Err(_) => Err(CodecFault::NoMemory),
-        }
+        read_entry(bytes)
     }
 }
 
