@@ -1,0 +1,6 @@
+pub mod Files
+pub mod Replies
+pub mod Tokens
+pub mod Scans
+pub mod Findings
+pub mod Moments

@@ -1,0 +1,62 @@
+//! What a path of a request names, and the token of the file that stands there.
+ghost use Rattle.std.specs.Prelude.{◌≡◌, ◌↔◌, Some, None, ℕ, ◌<◌, ◌^◌, ◌≢◌};
+ghost use Rattle.txn_store.specs.VersionName.{version_path};
+ghost use Rattle.txn_folder.specs.Tokens.{place_token, time_number};
+
+use std::fs::Metadata;
+use std::os::unix::fs::MetadataExt;
+use txn_store::path::Path;
+use txn_store::store::Token;
+use txn_store::version_names::VersionNames;
+use txn_types::boundary::read_boundary;
+
+/// What a path of a request names.
+#[derive(Clone, Copy, Debug, PartialEq, Eq)]
+pub(crate) enum Place {
+    Version(u64),
+    Boundary,
+}
+
+/// What a path names, where versions and the boundary have these names.
+pub(crate) fn place_of(names: &VersionNames, boundary: &Path, path: &Path) -> Option<Place>
+    ensures version { (n : ℕ) → n < 2 ^ 64 → (result ≡ Some (Place.Version n)) ↔ (path.now ≡ version_path names.now n) }
+    ensures boundary { result ≡ Some Place.Boundary → path.now ≡ boundary.now }
+    ensures elsewhere { result ≡ None → path.now ≢ boundary.now }
+{
+    if let Some(id) = names.parse_id(path) {
+        return Some(Place::Version(id));
+    }
+    if *path == *boundary {
+        return Some(Place::Boundary);
+    }
+    None
+}
+
+/// The nanoseconds from 1970 on to a time, where it is not before and a u64 holds them.
+fn time_number(secs: i64, nanos: i64) -> Option<u64>
+    ensures { result ≡ time_number secs nanos }
+{
+    let secs = u64::try_from(secs).ok()?;
+    let nanos = u64::try_from(nanos).ok()?;
+    secs.checked_mul(1_000_000_000)?.checked_add(nanos)
+}
+
+/// The number that a file's time of change is.
+pub(crate) fn number_of(metadata: &Metadata) -> Option<u64> {
+    time_number(metadata.mtime(), metadata.mtime_nsec())
+}
+
+/// The token of the file at a place, of these bytes and with this time: a version's is its time, which its put has set, the
+/// boundary's the number that it says, which only rises. None matches where there is no such number.
+pub(crate) fn token_of(place: Place, bytes: &[u8], time: Option<u64>) -> Option<Token>
+    ensures { result ≡ place_token place bytes.now time }
+{
+    let number = match place {
+        Place::Version(_) => time,
+        Place::Boundary => read_boundary(bytes),
+    };
+    match number {
+        Some(number) => Some(Token::new(number)),
+        None => None,
+    }
+}

@@ -1,0 +1,67 @@
+//! Examinations of folders.
+
+use crate::failing::Failing;
+use crate::steps::folder_of;
+use std::cell::Cell;
+use std::test::Fail;
+use std::{fs, io};
+use txn_folder::doctor::{Check, examine};
+
+/// How many names a folder has.
+fn count(rt: &HostRuntime, folder: &str) -> io::Result<usize> {
+    Ok(fs::read_dir(rt, folder)?.count())
+}
+
+/// The report on a folder, and the first check that it does not pass.
+fn report(rt: &HostRuntime, folder: &str) -> io::Result<(String, Option<Check>)> {
+    let report = examine(rt, rt.alloc(), folder)?;
+    let text = format!(in rt.alloc(); "{report}")?;
+    Ok((text, report.first_failed()))
+}
+
+/// The check that fails first where this call of the system fails, and how many names are left.
+fn failing(rt: &HostRuntime, folder: &str, nth: u64) -> io::Result<(Option<Check>, usize)> {
+    let left = Cell::new(nth);
+    let failing = Failing {
+        rt,
+        left: &left,
+        after: false,
+    };
+    let report = examine(&failing, rt.alloc(), folder)?;
+    Ok((report.first_failed(), count(rt, folder)?))
+}
+
+const SERVES: &str = "keeps a file and its time to the nanosecond: yes
+links a file to a second name: yes
+refuses a link to a taken name: yes
+renames a file over another: yes
+locks a file against a second open: yes
+syncs files and folders: yes
+removes files: yes
+";
+
+#[test]
+fn folders_are_examined(rt: HostRuntime) -> Result<(), Fail> {
+    let root = folder_of(&rt, "doctor")?;
+    let root = root.as_str();
+    fs::create_dir(&rt, root)?;
+    let (text, failed) = report(&rt, root)?;
+    let left = count(&rt, root)?;
+    let linking = failing(&rt, root, 2)?;
+    let (_, missing) = report(&rt, "no such folder")?;
+    fs::remove_dir_all(&rt, root)?;
+    assert!(rt; text.as_str() == SERVES, "the report says {text}");
+    assert!(rt;
+        failed.is_none() && left == 0,
+        "a check fails, or a file is left"
+    );
+    assert!(rt;
+        linking == (Some(Check::Links), 0),
+        "another check fails, or a file is left"
+    );
+    assert!(rt;
+        missing == Some(Check::Keeps),
+        "a missing folder passes a check"
+    );
+    Ok(())
+}
