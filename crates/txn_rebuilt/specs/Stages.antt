@@ -33,6 +33,11 @@ module _ {T : Type 0} where
   Goes output more before begun stage after begun_then then =
       (text : T → List ℕ) → Shows output text → (recorded : List (Told T)) → Stands text recorded before begun stage → Stands text (recorded ++ more) after begun_then then
 
+  -- the recording tells nothing more, and the journal goes from one stage to another
+  abbrev pub GoesOn : (T → Option (List ℕ)) → List (JournalRow T) → ℕ → Stage → List (JournalRow T) → ℕ → Stage → Type 0
+  GoesOn output before begun stage after begun_then then =
+      (text : T → List ℕ) → Shows output text → (recorded : List (Told T)) → Stands text recorded before begun stage → Stands text recorded after begun_then then
+
   -- the stage that comes with an answer, or with none
   abbrev pub IsStageOf : (AnyAnswer T → List ℕ) → Option (AnyAnswer T) → Stage → Type 0
   IsStageOf text None stage = stage ≡ stages.Runs

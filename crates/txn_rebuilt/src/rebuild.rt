@@ -103,6 +103,7 @@ pub fn rebuild<T: Clone + fmt::Display + Drop, C: ObjectCodec<T> + Drop, E: Epoc
 }
 
 /// Has a client that has done nothing make the rows after the first, each reply with its place in the order.
+#[tactic(auto, using(crate::proofs::Following::leads_first, crate::proofs::Following::leads_more, crate::proofs::Following::leads_all, crate::proofs::Telling::same_more))]
 fn follow<'a, T: Clone + fmt::Display + Drop, C: ObjectCodec<T> + Drop, E: EpochField<T>>(
     alloc: Global,
     rebuilding: &mut Rebuilding<'a, T, C, E>,

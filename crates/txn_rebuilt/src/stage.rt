@@ -1,5 +1,5 @@
 //! A client that is made once more from its recording, row by row.
-ghost use Rattle.std.specs.Prelude.{◌≡◌, ◌==◌, ◌∷◌, [], ℕ, List, Option, Some, IfOk, OnOk, Decides, string_bytes};
+ghost use Rattle.std.specs.Prelude.{◌≡◌, ◌+◌, ◌∷◌, [], ℕ, List, Option, Some, IfOk, OnOk, Decides, string_bytes};
 ghost use Rattle.txn_types.specs.Clones.{IsExactClone};
 ghost use Rattle.txn_history.specs.Added.{told_of};
 ghost use Rattle.txn_history.specs.Seen.{Store};
@@ -8,7 +8,7 @@ ghost use Rattle.txn_view_history.specs.declared.event.AnyAnswer.{AnyAnswer};
 ghost use Rattle.txn_machine.specs.Doing.{asks_as};
 ghost use Rattle.txn_recorded.specs.Calls.{Shows, answer_text};
 ghost use Rattle.txn_rebuilt.specs.Told.{Told, Began, Asked, Replied, Failed, GaveUp, Answered, row_tells, journal_tells, TellsSame};
-ghost use Rattle.txn_rebuilt.specs.Stages.{Stands, Goes, IsStageOf, IsUnanswered, IsSameClient};
+ghost use Rattle.txn_rebuilt.specs.Stages.{Stands, Goes, GoesOn, IsStageOf, IsUnanswered, IsSameClient};
 ghost use Rattle.txn_rebuilt.specs.declared.stage.Stage.TheVariants as stages;
 
 use crate::fault::RowFault;
@@ -68,6 +68,20 @@ fn asks_this(ask: Option<Ask<'_>>, request: &Request) -> bool
     }
 }
 
+/// Whether an operation is the one that began last.
+fn is_last(op: u64, begun: u64) -> bool
+    ensures { Decides result (op ≡ begun) }
+{
+    op == begun
+}
+
+/// Whether an operation is the next to begin.
+fn is_next(op: u64, begun: u64) -> bool
+    ensures { Decides result (op ≡ begun + 1) }
+{
+    begun < op && op - begun == 1
+}
+
 /// Whether an operation asks to look.
 fn asks_look(ask: Option<Ask<'_>>) -> bool {
     match ask {
@@ -117,7 +131,7 @@ impl<'a, T: Clone + fmt::Display + Drop, C: ObjectCodec<T> + Drop, E: EpochField
     fn look(&mut self, alloc: Global) -> Result<(), RowFault>
         requires exact { IsExactClone T.is_clone }
         requires runs { self.old.stage ≡ stages.Runs }
-        ensures told { OnOk result (Goes T.output [] self.old.diary.rows self.old.begun self.old.stage self.new.diary.rows self.new.begun self.new.stage) }
+        ensures told { OnOk result (GoesOn T.output self.old.diary.rows self.old.begun self.old.stage self.new.diary.rows self.new.begun self.new.stage) }
         ensures same { OnOk result (IsSameClient self.old.diary self.new.diary) }
     {
         let told = self.diary.look(self.begun)?;
@@ -126,9 +140,10 @@ impl<'a, T: Clone + fmt::Display + Drop, C: ObjectCodec<T> + Drop, E: EpochField
     }
 
     /// The operation looks at its client's caches as often as it asks to.
+    #[tactic(auto, using(crate::proofs::Telling::goes_on_more, crate::proofs::Telling::same_more))]
     fn look_on(&mut self, alloc: Global) -> Result<(), RowFault>
         requires { IsExactClone T.is_clone }
-        ensures told { OnOk result (Goes T.output [] self.old.diary.rows self.old.begun self.old.stage self.new.diary.rows self.new.begun self.new.stage) }
+        ensures told { OnOk result (GoesOn T.output self.old.diary.rows self.old.begun self.old.stage self.new.diary.rows self.new.begun self.new.stage) }
         ensures same { OnOk result (IsSameClient self.old.diary self.new.diary) }
     {
         for _ in 0..u64::MAX {
@@ -146,7 +161,7 @@ impl<'a, T: Clone + fmt::Display + Drop, C: ObjectCodec<T> + Drop, E: EpochField
         ensures told { OnOk result (Goes T.output (Began op call.now ∷ []) self.old.diary.rows self.old.begun self.old.stage self.new.diary.rows self.new.begun self.new.stage) }
         ensures same { OnOk result (IsSameClient self.old.diary self.new.diary) }
     {
-        if !self.stage.is_idle() || self.begun.checked_add(1) != Some(op) {
+        if !self.stage.is_idle() || !is_next(op, self.begun) {
             return Err(RowFault::OutOfTurn);
         }
         let call = call.try_clone()?;
@@ -161,7 +176,7 @@ impl<'a, T: Clone + fmt::Display + Drop, C: ObjectCodec<T> + Drop, E: EpochField
         ensures told { OnOk result (Goes T.output (Asked op request.now ∷ []) self.old.diary.rows self.old.begun self.old.stage self.new.diary.rows self.new.begun self.new.stage) }
         ensures same { OnOk result (IsSameClient self.old.diary self.new.diary) }
     {
-        if !self.stage.is_running() || op != self.begun {
+        if !self.stage.is_running() || !is_last(op, self.begun) {
             return Err(RowFault::OutOfTurn);
         }
         if !asks_this(self.diary.asks(op), request) {
@@ -184,7 +199,7 @@ impl<'a, T: Clone + fmt::Display + Drop, C: ObjectCodec<T> + Drop, E: EpochField
         ensures same { OnOk result (IsSameClient self.old.diary self.new.diary) }
     {
         let asked = self.stage.asked()?;
-        if op != self.begun {
+        if !is_last(op, self.begun) {
             return Err(RowFault::OutOfTurn);
         }
         let Some(place) = place else {
@@ -208,7 +223,7 @@ impl<'a, T: Clone + fmt::Display + Drop, C: ObjectCodec<T> + Drop, E: EpochField
         ensures same { OnOk result (IsSameClient self.old.diary self.new.diary) }
     {
         let asked = self.stage.asked()?;
-        if op != self.begun {
+        if !is_last(op, self.begun) {
             return Err(RowFault::OutOfTurn);
         }
         if !asks_this(self.diary.asks(op), asked) {
@@ -224,7 +239,7 @@ impl<'a, T: Clone + fmt::Display + Drop, C: ObjectCodec<T> + Drop, E: EpochField
         ensures told { OnOk result (Goes T.output (GaveUp op ∷ []) self.old.diary.rows self.old.begun self.old.stage self.new.diary.rows self.new.begun self.new.stage) }
         ensures same { OnOk result (IsSameClient self.old.diary self.new.diary) }
     {
-        if !self.stage.is_running() || op != self.begun {
+        if !self.stage.is_running() || !is_last(op, self.begun) {
             return Err(RowFault::OutOfTurn);
         }
         let told = self.diary.give_up(op)?;
@@ -238,7 +253,7 @@ impl<'a, T: Clone + fmt::Display + Drop, C: ObjectCodec<T> + Drop, E: EpochField
         ensures told { OnOk result (Goes T.output (Answered op words.now ∷ []) self.old.diary.rows self.old.begun self.old.stage self.new.diary.rows self.new.begun self.new.stage) }
         ensures same { OnOk result (IsSameClient self.old.diary self.new.diary) }
     {
-        if op != self.begun {
+        if !is_last(op, self.begun) {
             return Err(RowFault::OutOfTurn);
         }
         match &self.stage {
@@ -276,6 +291,7 @@ impl<'a, T: Clone + fmt::Display + Drop, C: ObjectCodec<T> + Drop, E: EpochField
     }
 
     /// The client makes the next row of its recording. Of a reply, this is its place in the order, if it has one.
+    #[tactic(auto, using(crate::proofs::Telling::goes_then, crate::proofs::Telling::same_more))]
     pub fn take(
         &mut self,
         alloc: Global,

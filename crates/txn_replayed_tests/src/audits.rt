@@ -31,7 +31,7 @@ pub(crate) const TWO: [Scene; 8] = [
 ];
 
 /// Three clients: the boundary rises, a version is removed and made again, and a call of each kind is lost.
-pub(crate) const THREE: [Scene; 22] = [
+pub(crate) const THREE: [Scene; 23] = [
     (0, Deed::Write(None, 1), End::Answered),
     (1, Deed::Read, End::Answered),
     (1, Deed::Write(Some(1), 2), End::Answered),
@@ -43,6 +43,7 @@ pub(crate) const THREE: [Scene; 22] = [
     (2, Deed::List, End::Answered),
     (2, Deed::Unchecked(None, 7), End::Answered),
     (2, Deed::List, End::Answered),
+    (1, Deed::Read, End::Answered),
     (1, Deed::Delete(1), End::Answered),
     (2, Deed::Read, End::Answered),
     (1, Deed::Advance(2), End::Answered),

@@ -7,4 +7,6 @@ mod audits;
 #[cfg(test)]
 mod played;
 #[cfg(test)]
+mod reread;
+#[cfg(test)]
 mod tampered;

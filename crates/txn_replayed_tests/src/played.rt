@@ -11,6 +11,7 @@ use txn_lines::record::{Record, RecordCodec, RecordEpoch};
 use txn_recorded::calls::answer_text;
 use txn_recorded::row::Row;
 use txn_store::in_memory::InMemory;
+use txn_store::page::Listing;
 use txn_store::request::{Reply, Request};
 use txn_store::store::{Got, StoreError, Token};
 use std::ops::Bound;
@@ -59,7 +60,7 @@ pub(crate) enum Lie {
     MissesFile,
     /// It gives the token 1 again.
     RepeatsToken,
-    /// It leaves the last file out of a listing.
+    /// It leaves the first file out of a listing.
     ListsLess,
     /// It tells other bytes.
     ChangesBytes,
@@ -113,8 +114,10 @@ fn lied(alloc: Global, lie: Lie, request: &Request, reply: &Reply) -> Result<Opt
         (Lie::ListsLess, Request::List { .. }, Reply::List(Ok(page))) => {
             let mut page = page.try_clone()?;
             let mut metas = page.metas.into_vec();
-            drop(metas.pop());
-            page.metas = txn_store::page::Listing::from_vec(metas);
+            if !metas.is_empty() {
+                drop(metas.remove(0));
+            }
+            page.metas = Listing::from_vec(metas);
             Some(Reply::List(Ok(page)))
         }
         (Lie::ChangesBytes, Request::Get { .. }, Reply::Get(Ok(got))) => Some(Reply::Get(Ok(Got {

@@ -63,7 +63,7 @@ fn what_was_tampered_with_is_refused(rt: HostRuntime) -> Result<(), Fail> {
     rt.println(lied(a, 2, &TWO, Lie::LosesCreate, 1)?)?;
     rt.println(lied(a, 2, &TWO, Lie::MissesFile, 2)?)?;
     rt.println(lied(a, 2, &TWO, Lie::RepeatsToken, 1)?)?;
-    rt.println(lied(a, 2, &TWO, Lie::ListsLess, 2)?)?;
+    rt.println(lied(a, 2, &TWO, Lie::ListsLess, 1)?)?;
     rt.println(lied(a, 2, &TWO, Lie::ChangesBytes, 1)?)?;
     rt.println(lied(a, 3, &THREE, Lie::FallsBack, 3)?)?;
     rt.println(lied(a, 3, &THREE, Lie::KeepsFile, 1)?)?;

@@ -1,0 +1,42 @@
+-- A recording that is followed row by row.
+use Rattle.std.proofs.Common.{◌≡◌, ◌≤◌, ◌<◌, ◌+◌, ℕ, List, [], ◌∷◌, ◌++◌, Option, length, drop, get_or, refl, sym, ◌∙◌, ap, subst}
+use Rattle.std.proofs.lemmas.List.{append_assoc, append-nil, drop_more, drop_all}
+use Rattle.txn_journals.specs.declared.rows.JournalRow.{JournalRow}
+use Rattle.txn_recorded.specs.Calls.{Shows}
+use Rattle.txn_recorded.specs.declared.row.Row.{Row}
+use Rattle.txn_rebuilt.specs.declared.stage.Stage.{Stage}
+use Rattle.txn_rebuilt.specs.Told.{Told, row_tells, recording_tells}
+use Rattle.txn_rebuilt.specs.Stages.{Stands, Goes}
+
+module _ {T : Type 0} where
+  -- what has been told at a place, and with the rows that are left all that the recording tells after its first row
+  pub record IsOnTheWay (text : T → List ℕ) (rows : List (Row T)) (place : ℕ) (recorded : List (Told T)) (after : List (JournalRow T)) (begun : ℕ) (stage : Stage) : Type 0 where
+    pub so_far : List (Told T)
+    pub stands : Stands text so_far after begun stage
+    pub whole : so_far ++ recording_tells (drop place rows) ≡ recorded ++ recording_tells (drop 1 rows)
+
+  -- the rows before a place lead from one stage to another
+  abbrev pub Leads : (T → Option (List ℕ)) → List (Row T) → ℕ → List (JournalRow T) → ℕ → Stage → List (JournalRow T) → ℕ → Stage → Type 0
+  Leads output rows place before begun stage after begun_then then =
+      (text : T → List ℕ) → Shows output text → (recorded : List (Told T)) → Stands text recorded before begun stage → IsOnTheWay text rows place recorded after begun_then then
+
+  -- before the second row
+  pub leads_first : (output : T → Option (List ℕ)) (rows : List (Row T)) (before : List (JournalRow T)) (begun : ℕ) (stage : Stage) → Leads output rows 1 before begun stage before begun stage
+  leads_first output rows before begun stage text shows recorded stands = record { so_far = recorded; stands = stands; whole = refl }
+
+  -- one row more
+  pub leads_more : (output : T → Option (List ℕ)) (rows : List (Row T)) (place : ℕ) (row : Row T) (before now after : List (JournalRow T)) (k l m : ℕ) (s t u : Stage) → place < length rows → row ≡ get_or rows place row → Leads output rows place before k s now l t → Goes output (row_tells row) now l t after m u → Leads output rows (place + 1) before k s after m u
+  leads_more output rows place row before now after k l m s t u lt is leads goes text shows recorded stands =
+      let on = leads text shows recorded stands in
+      let rest = recording_tells (drop (place + 1) rows) in
+      record {
+        so_far = on.so_far ++ row_tells row;
+        stands = goes text shows on.so_far on.stands;
+        whole = append_assoc on.so_far (row_tells row) rest ∙ (ap (λ rs. on.so_far ++ recording_tells rs) (sym (drop_more rows place row lt ∙ ap (λ r. r ∷ drop (place + 1) rows) (sym is))) ∙ on.whole);
+      }
+
+  -- after the last row
+  pub leads_all : (output : T → Option (List ℕ)) (rows : List (Row T)) (place : ℕ) (before after : List (JournalRow T)) (k m : ℕ) (s u : Stage) → length rows ≤ place → Leads output rows place before k s after m u → Goes output (recording_tells (drop 1 rows)) before k s after m u
+  leads_all output rows place before after k m s u le leads text shows recorded stands =
+      let on = leads text shows recorded stands in
+      subst (λ told. Stands text told after m u) (sym (append-nil on.so_far) ∙ (ap (λ rs. on.so_far ++ recording_tells rs) (sym (drop_all place rows le)) ∙ on.whole)) on.stands

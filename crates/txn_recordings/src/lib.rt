@@ -1,0 +1,4 @@
+//! Reading what clients of a real store wrote down.
+#![tactic(auto)]
+
+pub mod read;
