@@ -1,6 +1,7 @@
 //! Updates that are made again after each conflict.
 ghost use Rattle.std.specs.Prelude.{◌≡◌};
-ghost use Rattle.txn_client.specs.Retrying.{tried};
+ghost use Rattle.std.specs.Fn.{FnReturnsAt};
+ghost use Rattle.txn_client.specs.Retrying.{trial_of, tried_plain};
 
 use crate::client::Client;
 use crate::recorder::Recorder;
@@ -40,14 +41,47 @@ enum Tried<T> {
     Answered(AnyAnswer<T>),
 }
 
+/// What the mutator asks for, of a value.
+fn candidate_of<T, F: Fn(&T) -> Result<Option<T>, AllocError>>(
+    mutator: &F,
+    value: &T,
+) -> Result<Option<T>, AllocError>
+    requires { F.IsAlwaysCallable mutator.now }
+    ensures { FnReturnsAt F.Fn mutator.now value.now result }
+{
+    mutator(value)
+}
+
+/// The refusal of a call whose base was overtaken.
+const CONFLICT: u8 = 5;
+
+/// What an answer without a view says.
+fn trial_of_plain<T>(answer: Answer<T>) -> Tried<T>
+    ensures { result ≡ tried_plain answer }
+{
+    match answer {
+        Answer::Refused(number) => {
+            if number == CONFLICT {
+                Tried::Conflict
+            } else {
+                Tried::Answered(AnyAnswer::Plain(Answer::Refused(number)))
+            }
+        }
+        Answer::Wrote(id) => Tried::Answered(AnyAnswer::Plain(Answer::Wrote(id))),
+        Answer::Read(found) => Tried::Answered(AnyAnswer::Plain(Answer::Read(found))),
+        Answer::Value(value) => Tried::Answered(AnyAnswer::Plain(Answer::Value(value))),
+        Answer::Ids(ids) => Tried::Answered(AnyAnswer::Plain(Answer::Ids(ids))),
+        Answer::Done => Tried::Answered(AnyAnswer::Plain(Answer::Done)),
+    }
+}
+
 /// What an answer says.
-fn tried<T>(answer: AnyAnswer<T>) -> Tried<T>
-    ensures { result ≡ tried answer }
+fn trial_of<T>(answer: AnyAnswer<T>) -> Tried<T>
+    ensures { result ≡ trial_of answer }
 {
     match answer {
         AnyAnswer::View(view, id, value) => Tried::Viewed(Viewed { view, id, value }),
-        AnyAnswer::Plain(Answer::Refused(5)) => Tried::Conflict,
-        AnyAnswer::Plain(answer) => Tried::Answered(AnyAnswer::Plain(answer)),
+        AnyAnswer::Plain(answer) => trial_of_plain(answer),
         AnyAnswer::Held(view, id, value, epoch) => {
             Tried::Answered(AnyAnswer::Held(view, id, value, epoch))
         }
@@ -87,19 +121,19 @@ impl<
         let mut viewed = viewed;
         for _ in 0..attempts {
             let view = viewed.view;
-            let candidate = match mutator(&viewed.value) {
+            let candidate = match candidate_of(mutator, &viewed.value) {
                 Ok(Some(candidate)) => candidate,
                 Ok(None) => return Ok(Applied::Unchanged),
                 Err(_) => return Err(Stop::NoMemory),
             };
             let updated = self.call(AnyCall::View(ViewCall::Update(view, candidate)), steps)?;
-            match tried(updated) {
+            match trial_of(updated) {
                 Tried::Viewed(viewed) => return Ok(Applied::Written(viewed)),
                 Tried::Conflict => {}
                 Tried::Answered(answer) => return Ok(Applied::Answered(answer)),
             }
             let refreshed = self.call(AnyCall::View(ViewCall::Refresh(view)), steps)?;
-            match tried(refreshed) {
+            match trial_of(refreshed) {
                 Tried::Viewed(newer) => viewed = newer,
                 Tried::Conflict => {
                     return Ok(Applied::Answered(AnyAnswer::Plain(Answer::Refused(5))));
