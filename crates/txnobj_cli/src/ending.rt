@@ -1,0 +1,140 @@
+//! How the program ends: why it goes no further, the words for that, and the status.
+
+use std::alloc::AllocError;
+use std::{fmt, io};
+use txn_client::stop::Stop;
+use txn_history::event::EventFault;
+use txn_store::path::PathFault;
+
+/// The status of a fault of the system.
+pub const FAULT: u8 = 1;
+/// The status of wrong words.
+pub const USAGE: u8 = 2;
+/// The status of a watch that saw nothing new, and of a folder that does not serve.
+pub const NOTHING: u8 = 3;
+/// The status of an audit that does not agree.
+pub const NOT_ONE_HISTORY: u8 = 4;
+/// A call's refusal n ends with this and n.
+const REFUSED: u8 = 10;
+/// A call that the client does not permit, by fault n, ends with this and n.
+const NOT_PERMITTED: u8 = 30;
+
+/// Why the program goes no further.
+#[derive(Debug, Drop)]
+pub enum Halt {
+    NoMemory,
+    /// The system's error.
+    Io(io::Error),
+    /// A store call failed: the step, and the system's error.
+    Store(String),
+    /// An object's name or a suffix that no file can have.
+    BadName,
+    /// Words that do not go together.
+    Words(&'static str),
+    /// A call was refused with this number.
+    Refused(u8),
+    /// The client does not permit the call.
+    NotPermitted(EventFault),
+    /// A call took too many steps.
+    NoEnd,
+}
+
+impl Halt {
+    /// The status that the program ends with.
+    pub fn status(&self) -> u8 {
+        match self {
+            Halt::NoMemory | Halt::Io(_) | Halt::Store(_) => FAULT,
+            Halt::BadName | Halt::Words(_) => USAGE,
+            Halt::Refused(number) => number.saturating_add(REFUSED),
+            Halt::NotPermitted(fault) => fault.number().saturating_add(NOT_PERMITTED),
+            Halt::NoEnd => REFUSED + 11,
+        }
+    }
+}
+
+/// What a refusal means, and what to do next.
+fn meaning(number: u8) -> &'static str {
+    match number {
+        2 => "the store failed: whether the write took effect is not known; read again",
+        4 => "there is no version yet: write the first with `init`",
+        5 => "a conflict: a newer version stands; read again, and write on that",
+        6 => "fenced: a greater epoch was claimed; this holder writes nothing more",
+        7 =>
+            "not in this state: a delete wants an id at or below the boundary, a holder's value its epoch",
+        8 => "the newest version's bytes are no value of this program",
+        9 => "no memory",
+        10 => "no id or epoch is left",
+        _ => "refused",
+    }
+}
+
+/// Why the client does not permit a call.
+fn reason(fault: EventFault) -> &'static str {
+    match fault {
+        EventFault::UnknownNumber => "there is no such view, or it is of the other kind",
+        EventFault::NotAsked => "the operation asks for something else",
+        EventFault::UnknownBase => "it read no version of this id: read first",
+        EventFault::BoundaryTooHigh => "the boundary stays below the newest version",
+        EventFault::EpochLowered =>
+            "the value's epoch is below that of the version that it is written on",
+        EventFault::ViewBusy => "the view is in use",
+        EventFault::NoMemory => "no memory",
+    }
+}
+
+impl fmt::Display for Halt {
+    fn fmt<W: fmt::Write>(&self, f: &mut fmt::Formatter<W>) -> fmt::Result {
+        match self {
+            Halt::NoMemory => write!(f, "no memory"),
+            Halt::Io(error) => write!(f, "{error}"),
+            Halt::Store(words) => write!(f, "{words}"),
+            Halt::BadName => write!(
+                f,
+                "a name or a suffix has letters, digits, `-`, `_` and `.` alone, and a suffix no `.`"
+            ),
+            Halt::Words(words) => write!(f, "{words}"),
+            Halt::Refused(number) => {
+                let words = meaning(*number);
+                write!(f, "{words}")
+            }
+            Halt::NotPermitted(fault) => {
+                let words = reason(*fault);
+                write!(f, "{words}")
+            }
+            Halt::NoEnd => write!(f, "others write all the time: try again"),
+        }
+    }
+}
+
+impl From<AllocError> for Halt {
+    fn from(_e: AllocError) -> Halt {
+        Halt::NoMemory
+    }
+}
+
+impl From<io::Error> for Halt {
+    fn from(error: io::Error) -> Halt {
+        Halt::Io(error)
+    }
+}
+
+impl From<PathFault> for Halt {
+    fn from(fault: PathFault) -> Halt {
+        match fault {
+            PathFault::NoMemory => Halt::NoMemory,
+            PathFault::BadSegment => Halt::BadName,
+        }
+    }
+}
+
+impl From<Stop> for Halt {
+    fn from(stop: Stop) -> Halt {
+        match stop {
+            Stop::Refused(EventFault::NoMemory) => Halt::NoMemory,
+            Stop::Refused(fault) => Halt::NotPermitted(fault),
+            Stop::StepsSpent => Halt::NoEnd,
+            Stop::Unrecorded(error) => Halt::Io(error),
+            Stop::NoMemory | Stop::Ended => Halt::NoMemory,
+        }
+    }
+}

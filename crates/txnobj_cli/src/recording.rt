@@ -1,0 +1,106 @@
+//! A recording that grows by whole rows, each by one write, as things happen.
+
+use std::alloc::{AllocError, Global};
+use std::fs::{File, OpenOptions};
+use std::io;
+use std::io::Write;
+use std::rt::Clock;
+use txn_client::recorder::Recorder;
+use txn_entries::entry::Entry;
+use txn_recorded::calls::{answer_row, begin_row};
+use txn_recorded::written::{ask_row, client_row, failed_row, give_up_row, reply_row};
+use txn_store::request::{Reply, Request};
+use txn_view_history::event::{AnyAnswer, AnyCall};
+
+/// Where a client's recording goes: to the end of a file, or nowhere.
+#[derive(Drop)]
+pub struct Recording {
+    rt: HostRuntime,
+    file: Option<File>,
+}
+
+impl Recording {
+    /// A recording of this client, of which the first row says it.
+    pub fn new(
+        rt: HostRuntime,
+        path: Option<&str>,
+        client: u64,
+        page: u64,
+    ) -> io::Result<Recording> {
+        let file = match path {
+            Some(path) => Some(
+                OpenOptions::new()
+                    .append(true)
+                    .create(true)
+                    .open(&rt, path)?,
+            ),
+            None => None,
+        };
+        let mut recording = Recording { rt, file };
+        let row = client_row(recording.alloc(), client, page);
+        recording.add(row)?;
+        Ok(recording)
+    }
+
+    fn alloc(&self) -> Global {
+        self.rt.alloc()
+    }
+
+    /// The nanoseconds of the machine's clock, which only rises.
+    fn now(&self) -> io::Result<u64> {
+        let time = self.rt.monotonic()?;
+        Ok(
+            time.as_secs()
+                .saturating_mul(1_000_000_000)
+                .saturating_add(u64::from(time.subsec_nanos())),
+        )
+    }
+
+    /// Adds a row and its line feed, by one write.
+    fn add(&mut self, row: Result<String, AllocError>) -> io::Result<()> {
+        let Some(file) = &mut self.file else {
+            return Ok(());
+        };
+        let mut row = row?;
+        row.push('\n')?;
+        file.write_all(row.as_bytes())
+    }
+}
+
+// What stands in a file no clause can say: what it was handed is no fact here.
+impl Recorder<Entry> for Recording {
+    ghost hands = { λ _ _ _. Unit {0} };
+
+    fn begun(&mut self, op: u64, call: &AnyCall<Entry>) -> io::Result<()> {
+        let row = begin_row(self.alloc(), op, call);
+        self.add(row)
+    }
+
+    fn asked(&mut self, op: u64, request: &Request) -> io::Result<()> {
+        let at = self.now()?;
+        let row = ask_row(self.alloc(), op, at, request);
+        self.add(row)
+    }
+
+    fn replied(&mut self, op: u64, reply: &Reply) -> io::Result<()> {
+        let at = self.now()?;
+        let row = reply_row(self.alloc(), op, at, reply);
+        self.add(row)
+    }
+
+    fn failed(&mut self, op: u64) -> io::Result<()> {
+        let at = self.now()?;
+        let row = failed_row(self.alloc(), op, at);
+        self.add(row)
+    }
+
+    fn gave_up(&mut self, op: u64) -> io::Result<()> {
+        let row = give_up_row(self.alloc(), op);
+        self.add(row)
+    }
+
+    fn answered(&mut self, op: u64, answer: &AnyAnswer<Entry>) -> io::Result<()> {
+        let row = answer_row(self.alloc(), op, answer);
+        self.add(row)
+    }
+}

@@ -1,0 +1,189 @@
+//! The commands.
+
+use crate::audit::audit;
+use crate::ending::{Halt, NOTHING};
+use crate::session::{Session, Version, store_of};
+use crate::values::bytes_of;
+use std::io::Write;
+use std::rt::Clock;
+use std::time::{Duration, SystemTime};
+use txn_entries::entry::Entry;
+use txn_folder::doctor::examine;
+use txn_lines::printed::Answered;
+use txn_lines::text_form::TextForm;
+use txn_view_history::event::AnyCall;
+use txnobj_words::options::{Command, Options, Source};
+
+/// How long a watch sleeps between two looks.
+const PAUSE: Duration = Duration::from_millis(100);
+/// How often it looks in a second.
+const LOOKS: u64 = 10;
+
+/// Does what the words ask for: the status.
+pub fn run(rt: &HostRuntime, options: &Options<'_>) -> Result<u8, Halt> {
+    match &options.command {
+        Command::Audit(files) => audit(rt, files.as_slice()),
+        Command::Doctor => doctor(rt, options),
+        Command::Clean(seconds) => clean(rt, options, *seconds),
+        Command::Shell => shell(rt, &mut Session::open(rt, options)?),
+        Command::Watch { after, seconds } => {
+            watch(rt, &mut Session::open(rt, options)?, *after, *seconds)
+        }
+        _ => once(rt, &mut Session::open(rt, options)?, &options.command),
+    }
+}
+
+/// One command of a client.
+fn once(rt: &HostRuntime, session: &mut Session, command: &Command<'_>) -> Result<u8, Halt> {
+    match command {
+        Command::Init(value) => {
+            let value = bytes_of(rt, *value)?;
+            say_number(rt, session.init(value)?)
+        }
+        Command::Get { id } => get(rt, session, *id),
+        Command::Put { value, base, epoch } => put(rt, session, *value, *base, *epoch),
+        Command::Claim { epoch } => {
+            let (id, epoch) = session.claim(*epoch)?;
+            println!(rt; "{id} {epoch}")?;
+            Ok(0)
+        }
+        Command::List => list(rt, session),
+        Command::History => history(rt, session),
+        Command::Advance(id) => {
+            session.advance(*id)?;
+            Ok(0)
+        }
+        Command::Delete(id) => {
+            session.delete(*id)?;
+            Ok(0)
+        }
+        Command::Collect => say_number(rt, session.collect()?),
+        _ => Err(Halt::Words("this is no command of a client")),
+    }
+}
+
+fn say_number(rt: &HostRuntime, number: u64) -> Result<u8, Halt> {
+    println!(rt; "{number}")?;
+    Ok(0)
+}
+
+fn say_version(rt: &HostRuntime, version: &Version) -> Result<u8, Halt> {
+    let id = version.id;
+    let epoch = version.entry.epoch;
+    println!(rt; "{id} {epoch}")?;
+    Ok(0)
+}
+
+fn get(rt: &HostRuntime, session: &mut Session, id: bool) -> Result<u8, Halt> {
+    let newest = session.newest()?;
+    if id {
+        return say_version(rt, &newest);
+    }
+    rt.stdout().write_all(newest.entry.payload.as_slice())?;
+    Ok(0)
+}
+
+fn put(
+    rt: &HostRuntime,
+    session: &mut Session,
+    value: Source<'_>,
+    base: Option<u64>,
+    epoch: Option<u64>,
+) -> Result<u8, Halt> {
+    let value = bytes_of(rt, value)?;
+    let id = match base {
+        Some(base) => session.put_on(base, epoch, value)?,
+        None => session.put(epoch, &value)?,
+    };
+    say_number(rt, id)
+}
+
+fn list(rt: &HostRuntime, session: &mut Session) -> Result<u8, Halt> {
+    for id in session.ids()?.as_slice() {
+        println!(rt; "{id}")?;
+    }
+    Ok(0)
+}
+
+fn history(rt: &HostRuntime, session: &mut Session) -> Result<u8, Halt> {
+    let ids = session.ids()?;
+    for id in ids.as_slice() {
+        if let Some(entry) = session.entry(*id)? {
+            println!(rt; "{id} {entry}")?;
+        }
+    }
+    Ok(0)
+}
+
+/// Waits for a version above this id.
+fn watch(rt: &HostRuntime, session: &mut Session, after: u64, seconds: u64) -> Result<u8, Halt> {
+    for _ in 0..seconds.saturating_mul(LOOKS).saturating_add(1) {
+        if let Some(newest) = session.read()? {
+            if after < newest.id {
+                return say_version(rt, &newest);
+            }
+        }
+        rt.sleep(PAUSE);
+    }
+    Ok(NOTHING)
+}
+
+/// Makes the call of each line, and prints its answer.
+fn shell(rt: &HostRuntime, session: &mut Session) -> Result<u8, Halt> {
+    for line in rt.lines(rt.alloc()) {
+        let line = line?;
+        match AnyCall::<Entry>::read_text(rt.alloc(), line.as_str())? {
+            None => println!(rt; "bad call")?,
+            Some(call) => make(rt, session, call)?,
+        }
+    }
+    Ok(0)
+}
+
+/// Makes a call, and prints its answer, or why it has none.
+fn make(rt: &HostRuntime, session: &mut Session, call: AnyCall<Entry>) -> Result<(), Halt> {
+    match session.call(call) {
+        Ok(answer) => {
+            let answered = Answered(answer);
+            println!(rt; "{answered}")?;
+            Ok(())
+        }
+        Err(Halt::NotPermitted(fault)) => {
+            let halt = Halt::NotPermitted(fault);
+            println!(rt; "not permitted: {halt}")?;
+            Ok(())
+        }
+        Err(Halt::Store(words)) => {
+            println!(rt; "refused 2 ObjectStoreError")?;
+            rt.eprintln(words)?;
+            Ok(())
+        }
+        Err(other) => Err(other),
+    }
+}
+
+/// Tests the folder of the options.
+fn doctor(rt: &HostRuntime, options: &Options<'_>) -> Result<u8, Halt> {
+    let Some(root) = options.root else {
+        return Err(Halt::Words("this wants --root DIR before the command"));
+    };
+    let report = examine(rt, rt.alloc(), root)?;
+    print!(rt; "{report}")?;
+    match report.first_failed() {
+        None => Ok(0),
+        Some(_) => Ok(NOTHING),
+    }
+}
+
+/// Removes what writers left that were killed.
+fn clean(rt: &HostRuntime, options: &Options<'_>, seconds: u64) -> Result<u8, Halt> {
+    let mut store = store_of(rt, options)?;
+    let now = SystemTime::now(rt)?;
+    let Some(before) = now.checked_sub(Duration::from_secs(seconds)) else {
+        return say_number(rt, 0);
+    };
+    match store.clean(before) {
+        Ok(removed) => say_number(rt, removed),
+        Err(fault) => Err(Halt::Store(format!(in rt.alloc(); "{fault}")?)),
+    }
+}

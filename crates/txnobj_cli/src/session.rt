@@ -1,0 +1,315 @@
+//! One client of one object in a folder.
+
+use crate::ending::Halt;
+use crate::recording::Recording;
+use bytes::Bytes;
+use std::alloc::{AllocError, Global};
+use std::ops::Bound;
+use std::rt::Clock;
+use txn_client::client::Client;
+use txn_client::retry::{Applied, Viewed};
+use txn_client::serve::Serve;
+use txn_clients::layout::world_layout;
+use txn_entries::entry::{Entry, EntryCodec, EntryEpoch};
+use txn_folder::folder::Folder;
+use txn_folder::store::FolderStore;
+use txn_history::event::{Answer, Call};
+use txn_history::ids::Ids;
+use txn_store::request::{Reply, Request};
+use txn_types::layout::Layout;
+use txn_view_history::event::{AnyAnswer, AnyCall, ViewCall};
+use txnobj_words::options::Options;
+
+/// The most looks and store calls of one call.
+const STEPS: u64 = 100_000;
+/// How often an update is made again after a conflict.
+const ATTEMPTS: u64 = 10_000;
+/// How many files a page of a listing has at most.
+const PAGE: u64 = 1_000;
+
+/// The store of a folder, as what a client calls.
+#[derive(Drop)]
+pub struct Shared(FolderStore<HostRuntime>);
+
+impl Serve for Shared {
+    fn serve(&mut self, alloc: Global, request: &Request) -> Reply {
+        self.0.serve(alloc, request)
+    }
+}
+
+/// A version: its id, and what it says.
+#[derive(Debug, Drop)]
+pub struct Version {
+    pub id: u64,
+    pub entry: Entry,
+}
+
+/// A client of one object.
+#[derive(Drop)]
+pub struct Session {
+    rt: HostRuntime,
+    client: Client<Entry, EntryCodec, EntryEpoch, Shared, Recording>,
+}
+
+/// The files of the object that the options name.
+fn folder_of(alloc: Global, options: &Options<'_>) -> Result<Folder, Halt> {
+    let (Some(root), Some(name)) = (options.root, options.name) else {
+        return Err(Halt::Words("this wants --root DIR and --name NAME before the command"));
+    };
+    Ok(Folder::new(alloc, root, name, options.suffix)?)
+}
+
+/// A client's number of its own: the nanoseconds since 1970.
+fn number_of(rt: &HostRuntime) -> Result<u64, Halt> {
+    let time = rt.since_1970()?;
+    let nanos = time
+        .as_secs()
+        .saturating_mul(1_000_000_000)
+        .saturating_add(u64::from(time.subsec_nanos()));
+    Ok(nanos.max(1))
+}
+
+/// The store of the object that the options name.
+pub fn store_of(rt: &HostRuntime, options: &Options<'_>) -> Result<FolderStore<HostRuntime>, Halt> {
+    let alloc = rt.alloc();
+    let folder = folder_of(alloc, options)?;
+    let layout: Layout<EntryCodec> = world_layout(alloc, EntryCodec, PAGE)?;
+    Ok(FolderStore::new(
+        rt.clone()?,
+        folder,
+        layout.names,
+        layout.boundary,
+        options.syncs,
+    ))
+}
+
+impl Session {
+    /// A client of the object that the options name.
+    pub fn open(rt: &HostRuntime, options: &Options<'_>) -> Result<Session, Halt> {
+        let alloc = rt.alloc();
+        let store = store_of(rt, options)?;
+        let number = match options.client {
+            Some(number) => number,
+            None => number_of(rt)?,
+        };
+        if number == 0 {
+            return Err(Halt::Words("a client's number is at least 1"));
+        }
+        let recording = Recording::new(rt.clone()?, options.diary, number, PAGE)?;
+        let client = Client::new(
+            alloc,
+            number,
+            EntryCodec,
+            EntryEpoch,
+            PAGE,
+            Shared(store),
+            recording,
+        )?;
+        Ok(Session {
+            rt: rt.clone()?,
+            client,
+        })
+    }
+
+    /// Makes a call.
+    pub fn call(&mut self, call: AnyCall<Entry>) -> Result<AnyAnswer<Entry>, Halt> {
+        match self.client.call(call, STEPS) {
+            Ok(AnyAnswer::Plain(Answer::Refused(2))) => Err(self.store_failed()),
+            Ok(answer) => Ok(answer),
+            Err(stop) => Err(Halt::from(stop)),
+        }
+    }
+
+    /// Why the last store call failed.
+    fn store_failed(&self) -> Halt {
+        match self.client.store().0.fault() {
+            Some(fault) => match format!(in self.rt.alloc(); "{fault}") {
+                Ok(words) => Halt::Store(words),
+                Err(_) => Halt::NoMemory,
+            },
+            None => Halt::Refused(2),
+        }
+    }
+
+    /// The newest version, read into a view of this number.
+    fn load(&mut self) -> Result<(u64, Version), Halt> {
+        match self.call(AnyCall::View(ViewCall::Load))? {
+            AnyAnswer::View(view, id, entry) => Ok((view, Version { id, entry })),
+            other => Err(refused(&other)),
+        }
+    }
+
+    /// The newest version.
+    pub fn newest(&mut self) -> Result<Version, Halt> {
+        let (_, version) = self.load()?;
+        Ok(version)
+    }
+
+    /// The newest version, where there is one.
+    pub fn read(&mut self) -> Result<Option<Version>, Halt> {
+        match self.call(AnyCall::Plain(Call::Read))? {
+            AnyAnswer::Plain(Answer::Read(Some((id, entry)))) => Ok(Some(Version { id, entry })),
+            AnyAnswer::Plain(Answer::Read(None)) => Ok(None),
+            other => Err(refused(&other)),
+        }
+    }
+
+    /// Writes the first version, in epoch 0: its id.
+    pub fn init(&mut self, payload: Bytes) -> Result<u64, Halt> {
+        let entry = Entry { epoch: 0, payload };
+        match self.call(AnyCall::View(ViewCall::Init(entry)))? {
+            AnyAnswer::View(_, id, _) => Ok(id),
+            other => Err(refused(&other)),
+        }
+    }
+
+    /// Writes a version on this one, if it is the newest, in its epoch: its id.
+    pub fn put_on(&mut self, base: u64, epoch: Option<u64>, payload: Bytes) -> Result<u64, Halt> {
+        let (view, newest) = self.load()?;
+        let now = newest.entry.epoch;
+        if let Some(halt) = fenced(epoch, now) {
+            return Err(halt);
+        }
+        if newest.id != base {
+            return Err(Halt::Refused(5));
+        }
+        let entry = Entry {
+            epoch: now,
+            payload,
+        };
+        match self.call(AnyCall::View(ViewCall::Update(view, entry)))? {
+            AnyAnswer::View(_, id, _) => Ok(id),
+            other => Err(refused(&other)),
+        }
+    }
+
+    /// Writes a version on the newest, in its epoch, again after each conflict: its id. A holder's is of its own epoch.
+    pub fn put(&mut self, epoch: Option<u64>, payload: &Bytes) -> Result<u64, Halt> {
+        let (view, newest) = self.load()?;
+        let viewed = Viewed {
+            view,
+            id: newest.id,
+            value: newest.entry,
+        };
+        let candidate = |now: &Entry| -> Result<Option<Entry>, AllocError> {
+            candidate_of(epoch, payload, now)
+        };
+        match self
+            .client
+            .maybe_apply_update(viewed, ATTEMPTS, STEPS, &candidate)?
+        {
+            Applied::Written(viewed) => Ok(viewed.id),
+            Applied::Unchanged => {
+                let newest = self.newest()?;
+                Err(fenced(epoch, newest.entry.epoch).unwrap_or(Halt::Refused(7)))
+            }
+            Applied::Answered(AnyAnswer::Plain(Answer::Refused(2))) => Err(self.store_failed()),
+            Applied::Answered(answer) => Err(refused(&answer)),
+            Applied::AttemptsSpent => Err(Halt::NoEnd),
+        }
+    }
+
+    /// Claims the next epoch, or this one: the id of the version that says so, and the epoch.
+    pub fn claim(&mut self, epoch: Option<u64>) -> Result<(u64, u64), Halt> {
+        let (view, _) = self.load()?;
+        let call = match epoch {
+            None => ViewCall::Claim(view),
+            Some(epoch) => ViewCall::ClaimAt(view, epoch),
+        };
+        match self.call(AnyCall::View(call))? {
+            AnyAnswer::Held(_, id, _, epoch) => Ok((id, epoch)),
+            other => Err(refused(&other)),
+        }
+    }
+
+    /// The ids of the stored versions, ascending.
+    pub fn ids(&mut self) -> Result<Ids, Halt> {
+        let call = Call::ListIds(Bound::Unbounded, Bound::Unbounded);
+        match self.call(AnyCall::Plain(call))? {
+            AnyAnswer::Plain(Answer::Ids(ids)) => Ok(ids),
+            other => Err(refused(&other)),
+        }
+    }
+
+    /// What a stored version says.
+    pub fn entry(&mut self, id: u64) -> Result<Option<Entry>, Halt> {
+        match self.call(AnyCall::Plain(Call::ReadUnchecked(id)))? {
+            AnyAnswer::Plain(Answer::Value(entry)) => Ok(entry),
+            other => Err(refused(&other)),
+        }
+    }
+
+    /// Makes a call that is answered as done.
+    fn done(&mut self, call: Call<Entry>) -> Result<(), Halt> {
+        match self.call(AnyCall::Plain(call))? {
+            AnyAnswer::Plain(Answer::Done) => Ok(()),
+            other => Err(refused(&other)),
+        }
+    }
+
+    /// Raises the boundary to an id below the newest.
+    pub fn advance(&mut self, id: u64) -> Result<(), Halt> {
+        self.read()?;
+        self.done(Call::Advance(id))
+    }
+
+    /// Removes a version at or below the boundary.
+    pub fn delete(&mut self, id: u64) -> Result<(), Halt> {
+        self.done(Call::Delete(id))
+    }
+
+    /// Removes all versions below the newest: how many.
+    pub fn collect(&mut self) -> Result<u64, Halt> {
+        let Some(newest) = self.read()? else {
+            return Ok(0);
+        };
+        if newest.id == 1 {
+            return Ok(0);
+        }
+        self.done(Call::Advance(newest.id.saturating_sub(1)))?;
+        let ids = self.ids()?;
+        let mut removed: u64 = 0;
+        for id in ids.as_slice() {
+            if *id < newest.id {
+                self.delete(*id)?;
+                removed = removed.saturating_add(1);
+            }
+        }
+        Ok(removed)
+    }
+}
+
+/// What the answer of a call says that was not answered as it wants.
+fn refused(answer: &AnyAnswer<Entry>) -> Halt {
+    match answer {
+        AnyAnswer::Plain(Answer::Refused(number)) => Halt::Refused(*number),
+        _ => Halt::Words("the answer is of another call"),
+    }
+}
+
+/// Why a holder of this epoch writes nothing where the newest version has that one.
+fn fenced(epoch: Option<u64>, now: u64) -> Option<Halt> {
+    let epoch = epoch?;
+    if epoch < now {
+        return Some(Halt::Refused(6));
+    }
+    if now < epoch {
+        return Some(Halt::Refused(7));
+    }
+    None
+}
+
+/// A version with this payload on that one, where the holder, if there is one, has its epoch.
+fn candidate_of(
+    epoch: Option<u64>,
+    payload: &Bytes,
+    now: &Entry,
+) -> Result<Option<Entry>, AllocError> {
+    if fenced(epoch, now.epoch).is_some() {
+        return Ok(None);
+    }
+    Ok(Some(Entry {
+        epoch: now.epoch,
+        payload: payload.clone()?,
+    }))
+}
