@@ -51,3 +51,7 @@ module _ (text written : List ℕ) (entry : Entry) (reads : (v : Entry) → IsEn
 
   pub other : pointwise nat_eq written text ≡ false → (v : Entry) → IsEntry v → (None ≡ Some v) ↔ (text ≡ entry_text v)
   other is v fits = (λ e. absurd (cc), λ e. let found = reads v fits e in let same : entry ≡ v = cc in absurd (other_text written text (sym is) (written_is ∙ ap entry_text same ∙ sym e)))
+
+-- an entry of an epoch that fits and of bytes
+pub fits_of : (epoch : ℕ) (payload bytes : List ℕ) → epoch < 2 ^ 64 → All (λ b. b < 256) bytes → payload ≡ bytes → IsEntry (record { epoch = epoch; payload = payload })
+fits_of epoch payload bytes fits small same = record { epoch = fits; payload = rw same small }

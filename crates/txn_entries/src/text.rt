@@ -1,5 +1,5 @@
 //! The text of an entry, for lines and command lines.
-ghost use Rattle.std.specs.Prelude.{◌≡◌, ◌↔◌, Some, IfOk, string_bytes};
+ghost use Rattle.std.specs.Prelude.{◌≡◌, ◌↔◌, Some, IfOk, IfSome, string_bytes};
 ghost use Rattle.txn_entries.specs.declared.entry.Entry.{Entry};
 ghost use Rattle.txn_entries.specs.Text.{entry_text, IsEntry};
 
@@ -40,7 +40,8 @@ pub fn encode(alloc: Global, entry: &Entry) -> Result<String, AllocError>
 
 /// The entry of a text, where it is the one text of that entry, and of no other text. The only error is want of memory.
 pub fn decode(alloc: Global, text: &str) -> Result<Option<Entry>, AllocError>
-    ensures { IfOk result (λ read. (v : Entry) → IsEntry v → (read ≡ Some v) ↔ (text.now ≡ entry_text v)) }
+    ensures entry { IfOk result (λ read. IfSome read IsEntry) }
+    ensures exact { IfOk result (λ read. (v : Entry) → IsEntry v → (read ≡ Some v) ↔ (text.now ≡ entry_text v)) }
 {
     let Some(entry) = read_loosely(alloc, text)? else {
         return Ok(None);
@@ -55,7 +56,8 @@ pub fn decode(alloc: Global, text: &str) -> Result<Option<Entry>, AllocError>
 
 /// The entry of a text that may have more escapes than it needs, or signs that are none.
 fn read_loosely(alloc: Global, text: &str) -> Result<Option<Entry>, AllocError>
-    ensures { IfOk result (λ read. (v : Entry) → IsEntry v → text.now ≡ entry_text v → read ≡ Some v) }
+    ensures entry { IfOk result (λ read. IfSome read IsEntry) }
+    ensures reads { IfOk result (λ read. (v : Entry) → IsEntry v → text.now ≡ entry_text v → read ≡ Some v) }
 {
     let Some((epoch, escaped)) = text.split_once(':') else {
         return Ok(None);
