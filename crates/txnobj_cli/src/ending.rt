@@ -1,6 +1,6 @@
 //! How the program ends: why it goes no further, the words for that, and the status.
 
-use std::alloc::AllocError;
+use std::alloc::{AllocError, AllocFailed};
 use std::{fmt, io};
 use txn_client::stop::Stop;
 use txn_history::event::EventFault;
@@ -108,6 +108,12 @@ impl fmt::Display for Halt {
 
 impl From<AllocError> for Halt {
     fn from(_e: AllocError) -> Halt {
+        Halt::NoMemory
+    }
+}
+
+impl<T: Drop> From<AllocFailed<T>> for Halt {
+    fn from(_e: AllocFailed<T>) -> Halt {
         Halt::NoMemory
     }
 }

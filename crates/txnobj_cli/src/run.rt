@@ -14,8 +14,8 @@ use txn_lines::text_form::TextForm;
 use txn_view_history::event::AnyCall;
 use txnobj_words::options::{Command, Options, Source};
 
-/// How long a watch sleeps between two looks.
-const PAUSE: Duration = Duration::from_millis(100);
+/// How long a watch sleeps between two looks, in milliseconds.
+const PAUSE: u64 = 100;
 /// How often it looks in a second.
 const LOOKS: u64 = 10;
 
@@ -123,7 +123,7 @@ fn watch(rt: &HostRuntime, session: &mut Session, after: u64, seconds: u64) -> R
                 return say_version(rt, &newest);
             }
         }
-        rt.sleep(PAUSE);
+        rt.sleep(Duration::from_millis(PAUSE));
     }
     Ok(NOTHING)
 }
