@@ -86,6 +86,13 @@ impl<
         &self.work.diary
     }
 
+    /// Its recorder.
+    pub fn recorder(&self) -> &R
+        ensures { result.now ≡ self.now.recorder }
+    {
+        &self.work.recorder
+    }
+
     /// The store that it calls.
     pub fn store(&self) -> &S {
         &self.work.store
@@ -95,7 +102,8 @@ impl<
     pub fn goes_on(&self) -> bool
         ensures { result ≡ self.now.goes_on }
     {
-        self.goes_on
+        let Client { goes_on, .. } = self;
+        *goes_on
     }
 
     /// Makes a call, which takes at most `steps` looks and store calls: the answer. What is asked is handed to the recorder

@@ -1,0 +1,5 @@
+//! Tests of clients that record themselves.
+#![tactic(auto)]
+
+#[cfg(test)]
+mod clients;
