@@ -1,0 +1,327 @@
+"""What tools/try-folder does."""
+from __future__ import annotations
+
+import argparse
+import os
+import random
+import re
+import shutil
+import subprocess
+import tempfile
+import threading
+import time
+
+PROCESSES, COUNTS = 8, 100
+VIEW = re.compile(r"(?:view|holder) (\d+) at (\d+) (\d+):(\d+)")
+
+
+class Wrong(Exception):
+    """Something that was told or left is not as it has to be."""
+
+
+def expect(holds, words):
+    if not holds:
+        raise Wrong(words)
+
+
+class Object:
+    """An object in a folder of its own, and the recordings of its clients."""
+
+    def __init__(self, program, root, name):
+        self.program, self.root, self.name = program, root, name
+        self.clients, self.lock, self.diaries = 0, threading.Lock(), []
+
+    def words(self, *command, recorded=True):
+        """The words of a command, as a client of its own, with a recording of its own."""
+        words = [self.program, "--root", self.root, "--name", self.name, "--no-sync"]
+        if recorded:
+            with self.lock:
+                self.clients += 1
+                diary = f"{self.root}/{self.name}-{self.clients}.diary"
+                self.diaries.append(diary)
+                words += ["--client", str(self.clients), "--diary", diary]
+        return [*words, *command]
+
+    def run(self, *command, recorded=True):
+        """Runs a command: its status, and what it prints."""
+        how = {"stdin": subprocess.DEVNULL, "capture_output": True, "text": True, "check": False}
+        ran = subprocess.run(self.words(*command, recorded=recorded), **how)
+        return ran.returncode, ran.stdout
+
+    def told(self, *command):
+        """What a command prints that has to end well."""
+        status, said = self.run(*command)
+        expect(status == 0, f"{' '.join(command)}: status {status}")
+        return said
+
+    def history(self):
+        """The stored versions: the payload of each id."""
+        rows = [line.split() for line in self.told("history").splitlines()]
+        return {int(id): int(text.split(":")[1]) for id, text in rows}
+
+    def audit(self, diaries=None):
+        said = subprocess.run([self.program, "audit", *(diaries or self.diaries)], capture_output=True, text=True, check=False)
+        return said.returncode, said.stdout
+
+
+class Shell:
+    """A process that keeps a view: a `txnobj shell`."""
+
+    def __init__(self, an_object):
+        pipe = {"stdin": subprocess.PIPE, "stdout": subprocess.PIPE, "stderr": subprocess.DEVNULL, "text": True}
+        self.process = subprocess.Popen(an_object.words("shell"), **pipe)
+
+    def ask(self, call):
+        """The answer to a call, or nothing where the process was killed."""
+        try:
+            self.process.stdin.write(f"{call}\n")
+            self.process.stdin.flush()
+            return self.process.stdout.readline().strip()
+        except (OSError, ValueError):
+            return ""
+
+    def kill(self):
+        self.process.kill()
+
+    def end(self):
+        try:
+            self.process.stdin.close()
+        except OSError:
+            pass
+        self.process.wait()
+        self.process.stdout.close()
+
+
+def together(works):
+    """Does these at once, and raises what one of them raised."""
+    raised = []
+
+    def guarded(work):
+        try:
+            work()
+        except Exception as error:  # pylint: disable=broad-except
+            raised.append(error)
+
+    threads = [threading.Thread(target=guarded, args=(it,)) for it in works]
+    for it in threads:
+        it.start()
+    for it in threads:
+        it.join()
+    if raised:
+        raise raised[0]
+
+
+def count_up(shell, times, acknowledged):
+    """Adds one to the payload so many times, again after each conflict. False where the process was killed."""
+    answer = shell.ask("load")
+    done = 0
+    while done < times:
+        found = VIEW.match(answer)
+        if not found:
+            return False
+        epoch, payload = found[3], int(found[4]) + 1
+        answer = shell.ask(f"update 1 {epoch}:{payload}")
+        if found := VIEW.match(answer):
+            acknowledged.append((int(found[2]), payload))
+            done += 1
+        elif answer.startswith("refused 5"):
+            answer = shell.ask("refresh 1")
+        else:
+            return False
+    return True
+
+
+def counts(program, root, _seconds):
+    """8 processes by 100 increments: exact, with no gap."""
+    it = Object(program, root, "counter")
+    expect(it.told("init", "0") == "1\n", "the first version is not 1")
+    acknowledged = []
+
+    def work():
+        shell = Shell(it)
+        expect(count_up(shell, COUNTS, acknowledged), "a count ended early")
+        shell.end()
+
+    together([work] * PROCESSES)
+    total = PROCESSES * COUNTS
+    expect(it.history() == {id: id - 1 for id in range(1, total + 2)}, "the versions are not the counts, one by one")
+    expect(sorted(acknowledged) == [(id, id - 1) for id in range(2, total + 2)], "not each count was acknowledged once")
+    agrees(it, total + 1)
+    return [f"{PROCESSES} by {COUNTS} counts are exact and gap-free, and audited"]
+
+
+def agrees(it, entries):
+    """The audit of an object's recordings agrees, and says how many entries there are."""
+    status, said = it.audit()
+    expect(status == 0 and said.startswith("one history: "), f"the audit says: {said.strip()[:400]}")
+    if entries is not None:
+        expect(f" {entries} entries," in f" {said[len('one history:'):].strip()}", f"the audit counts otherwise: {said.strip()}")
+
+
+def kills(program, root, seconds):
+    """Processes are killed at random moments: nothing acknowledged is lost, nothing torn, the boundary never falls."""
+    it = Object(program, root, "killed")
+    it.told("init", "0")
+    acknowledged, shells, until, killed = [], {}, time.monotonic() + seconds, [0]
+
+    def count(worker):
+        while time.monotonic() < until:
+            shells[worker] = Shell(it)
+            count_up(shells[worker], 1_000_000, acknowledged)
+            shells[worker].end()
+
+    def raise_boundary():
+        while time.monotonic() < until:
+            shell = shells["boundary"] = Shell(it)
+            for _ in range(20):
+                found = re.match(r"read (\d+) ", shell.ask("read"))
+                if not found or int(found[1]) < 12:
+                    break
+                behind = int(found[1]) - 10
+                shell.ask(f"advance {behind}")
+                shell.ask(f"delete {behind - 1}")
+            shell.end()
+
+    def kill():
+        chance = random.Random(1)
+        while time.monotonic() < until:
+            time.sleep(chance.uniform(0.02, 0.3))
+            for shell in chance.sample(list(shells.values()), k=min(1, len(shells))):
+                shell.kill()
+                killed[0] += 1
+        for shell in list(shells.values()):
+            shell.kill()
+
+    def watch():
+        last, file = 0, f"{root}/gc/killed.boundary"
+        while time.monotonic() < until:
+            if os.path.exists(file):
+                with open(file, encoding="ascii") as text:
+                    now = int(text.read())
+                expect(last <= now, f"the boundary fell from {last} to {now}")
+                last = now
+
+    together([*(lambda w=w: count(w) for w in range(4)), raise_boundary, kill, watch])
+    stored = it.history()
+    for id, payload in acknowledged:
+        expect(id not in stored or stored[id] == payload, f"version {id} says {stored.get(id)}, acknowledged was {payload}")
+    expect(max(stored) >= max(id for id, _ in acknowledged), "an acknowledged version is lost")
+    expect(all(payload == id - 1 for id, payload in stored.items()), "a stored version is not one more than the one before")
+    agrees(it, max(stored))
+    return [f"{killed[0]} kills in {seconds:.0f} s: nothing of {len(acknowledged)} acknowledged counts is lost, and audited"]
+
+
+def claims(program, root, _seconds):
+    """Two claim: the older is fenced."""
+    it = Object(program, root, "leader")
+    it.told("init", "none")
+    older, newer = Shell(it), Shell(it)
+    expect(older.ask("load") == "view 1 at 1 0:none", "the first version is not loaded")
+    expect(older.ask("claim 1") == "holder 1 at 2 1:none epoch 1", "the first claim is not held")
+    expect(newer.ask("load") == "view 1 at 2 1:none", "the claimed version is not loaded")
+    expect(newer.ask("claim 1") == "holder 1 at 3 2:none epoch 2", "the second claim is not held")
+    expect(newer.ask("holder_update 1 2:new") == "view 1 at 4 2:new", "the newer holder does not write")
+    expect(older.ask("holder_update 1 1:old").startswith("refused 5"), "the older holder wrote on an old version")
+    expect(older.ask("holder_refresh 1").startswith("refused 6"), "the older holder is not fenced")
+    expect(older.ask("holder_update 1 1:old").startswith("refused 6"), "the older holder is not fenced at once")
+    for shell in (older, newer):
+        shell.end()
+    expect(it.run("put", "--epoch", "1", "old")[0] == 16, "a put of the older epoch is not fenced")
+    expect(it.run("put", "--epoch", "2", "newer") == (0, "5\n"), "a put of the newer epoch is refused")
+    expect(it.run("get") == (0, "newer"), "the newest value is not read")
+    expect(it.run("put", "--base", "4", "late")[0] == 15, "a put on an old base is no conflict")
+    agrees(it, 5)
+    return ["the older of two claimers is fenced, and audited"]
+
+
+def collections(program, root, _seconds):
+    """Readers go on while old versions are removed."""
+    it = Object(program, root, "collected")
+    it.told("init", "0")
+    shell = Shell(it)
+    expect(count_up(shell, 60, []), "a count ended early")
+    done = threading.Event()
+
+    def read():
+        last = 0
+        while not done.is_set():
+            found = int(it.told("get"))
+            expect(last <= found, f"a read fell from {last} to {found}")
+            last = found
+
+    def collect():
+        try:
+            for _ in range(3):
+                expect(count_up(shell, 10, []), "a count ended early")
+                it.told("collect")
+        finally:
+            done.set()
+
+    together([read, read, collect])
+    shell.end()
+    expect(it.history() == {91: 90}, "old versions are left")
+    agrees(it, 91)
+    return ["reads go on during collections, and are audited"]
+
+
+# What is changed in a recording, and each time has to be refused: a pattern that its rows have, and what stands in its place.
+TAMPERED = {
+    "bytes that were read": (r"^(reply \d+ \d+ got \d+ )..(?=[0-9a-f]+$)", r"\g<1>39"),
+    "a token of a put": (r"^(reply \d+ \d+ put )\d+$", r"\g<1>77"),
+    "an answer": (r"^(answer \d+ view \d+ at \d+ \d+:)\d+$", r"\g<1>123456"),
+    "the client's number": (r"^(client )\d+ ", r"\g<1>1 "),
+    "a version that is told missing": (r"^(reply \d+ \d+ )got \d+ [0-9a-f]+$", r"\g<1>not found"),
+}
+
+
+def tampering(program, root, _seconds):
+    """A recording that was changed is refused."""
+    it = Object(program, root, "tampered")
+    it.told("init", "0")
+    shell = Shell(it)
+    expect(count_up(shell, 3, []), "a count ended early")
+    shell.end()
+    agrees(it, 4)
+    changed, refused = it.diaries[-1], []
+    with open(changed, encoding="utf-8") as file:
+        text = file.read()
+    for what, (old, new) in TAMPERED.items():
+        other, count = re.subn(old, new, text, count=1, flags=re.M)
+        expect(count == 1, f"the recording has no row for: {what}")
+        with open(changed, "w", encoding="utf-8") as file:
+            file.write(other)
+        status, said = it.audit()
+        expect(status == 4 and said.startswith("not one history: "), f"{what} was changed, and the audit says: {said.strip()}")
+        refused.append(f"a recording is refused in which was changed: {what}")
+    with open(changed, "w", encoding="utf-8") as file:
+        file.write(text)
+    agrees(it, 4)
+    return refused
+
+
+def main(words, usage):
+    form = argparse.RawDescriptionHelpFormatter
+    parser = argparse.ArgumentParser(prog="tools/try-folder", description=usage, formatter_class=form)
+    parser.add_argument("programs", nargs="+", metavar="PROGRAM")
+    parser.add_argument("--seconds", type=float, default=60, metavar="N", help="how long processes are killed")
+    parser.add_argument("--keep", action="store_true", help="leave the folders, and say where")
+    given = parser.parse_args(words)
+    passed = failed = 0
+    for program in given.programs:
+        program = os.path.abspath(program)
+        for check in (counts, kills, claims, collections, tampering):
+            root = tempfile.mkdtemp(prefix="try-folder-")
+            try:
+                for line in check(program, root, given.seconds):
+                    print(f"{os.path.basename(program)}: {line}", flush=True)
+                    passed += 1
+            except Wrong as wrong:
+                print(f"FAILED: {os.path.basename(program)}, {check.__name__}: {wrong}", flush=True)
+                failed += 1
+            finally:
+                if given.keep:
+                    print(f"left in {root}", flush=True)
+                else:
+                    shutil.rmtree(root, ignore_errors=True)
+    print(f"{passed} passed, {failed} failed")
+    return 1 if failed else 0
