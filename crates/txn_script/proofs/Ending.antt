@@ -115,12 +115,11 @@ module _ {T C : Type 0} (rules : Rules T C) (s : State T) (values : List T) (ids
 
   -- and then the views
   pub ends_with : (old out new : Option (List ℕ)) (first second third fourth : List ℕ) → Ended rules s values ids pins → PrintedBefore old out first second third fourth → Appends (append_known out fourth) new views_part → (text : List ℕ) × EndsWith rules s text × Appends old new text
-  ends_with old out new first second third fourth are before last =
-      (
-        front_of_views ++ views_part,
-        record { values = values; ids = ids; pins = pins; entries = are.entries; erased = are.erased; pinned = are.pinned; whole = before_views views_part },
-        appends_both old (append_known out fourth) new front_of_views views_part (printed_before old out first second third fourth before) last,
-      )
+  ends_with old out new first second third fourth are before last = (
+    front_of_views ++ views_part,
+    record { values = values; ids = ids; pins = pins; entries = are.entries; erased = are.erased; pinned = are.pinned; whole = before_views views_part },
+    appends_both old (append_known out fourth) new front_of_views views_part (printed_before old out first second third fourth before) last,
+  )
 
   -- a stop within the lines of the views
   pub stops_in_views : (stop : Stop) (old out new : Option (List ℕ)) (first second third fourth : List ℕ) → Ended rules s values ids pins → PrintedBefore old out first second third fourth → StopsWithin stop views_part (append_known out fourth) new → StopsInEnd rules stop s old new
