@@ -48,6 +48,16 @@ module _ {T : Type 0} (text : T → List ℕ) where
   pub entries_step : (i : ℕ) (values : List T) (d : T) → i < length values → entries_text text (i + 1) (drop i values) ≡ with_feed (entry_text text (i + 1) (get_or values i d)) ++ entries_text text (i + 1 + 1) (drop (i + 1) values)
   entries_step i values d lt = ap (entries_text text (i + 1)) (drop-cons values i d lt) ∙ rw add-one refl
 
+  -- one more entry was printed
+  pub entry_printed : (values : List T) (i : ℕ) (d : T) (a b c : Option (List ℕ)) (old mid new before : List ℕ) → i < length values → Appends a (append_known b old) before → mid ≡ old ++ with_feed (entry_text text (i + 1) (get_or values i d)) → Appends (append_known b mid) (append_known c new) [] → before ++ entries_text text (i + 1) (drop i values) ≡ entries_text text 1 values
+      → (printed : List ℕ) × Appends a (append_known c new) printed × (printed ++ entries_text text (i + 1 + 1) (drop (i + 1) values) ≡ entries_text text 1 values)
+  entry_printed values i d a b c old mid new before lt so_far grown written whole =
+      let line = with_feed (entry_text text (i + 1) (get_or values i d)) in (
+        before ++ line,
+        gathers_line a b c old mid new before line so_far grown written,
+        append_assoc before line (entries_text text (i + 1 + 1) (drop (i + 1) values)) ∙ ap (λ more. before ++ more) (sym (entries_step i values d lt)) ∙ whole,
+      )
+
   pub views_step : (i : ℕ) (views : List (Option (View T))) → i < length views → views_text text (i + 1) (drop i views) ≡ view_line text (i + 1) (get_or views i None) ++ views_text text (i + 1 + 1) (drop (i + 1) views)
   views_step i views lt = ap (views_text text (i + 1)) (drop-cons views i None lt) ∙ rw add-one refl
 

@@ -18,7 +18,7 @@ returns-clause-ok g c =
     let values = c.deref.result.now in
     let ids = c.in-Ok-erased.erased.items in
     let pins = option_map (λ (line : PinnedLine). line.0.items) c.in-Ok-pinned.pinned in
-    let are : Ended r s values ids pins = record { entries = ap (λ (values : List g.T.type). map Some values) c.deref.ensures.value ∙ c.in-Ok.ensures; erased = c.in-Ok-erased.ensures; pinned = c.in-Ok-pinned.ensures } in
+    let are : Ended r s values ids pins = record { entries = ap (λ (values : List g.row.T.Denot). map Some values) c.deref.ensures.value ∙ c.in-Ok.ensures; erased = c.in-Ok-erased.ensures; pinned = c.in-Ok-pinned.ensures } in
     let held = append_known (g.W.Write.contents c.args.out.now) c.args.printer.now.text.items in
     let out = g.W.Write.contents c.print_entries.new.out in
     let first = c.print_entries.new.printer.text.items in
@@ -34,7 +34,7 @@ returns-clause-err g c =
     let values = c.deref.result.now in
     let ids = c.in-Ok-erased.erased.items in
     let pins = option_map (λ (line : PinnedLine). line.0.items) c.in-Ok-pinned.pinned in
-    let are : Ended r s values ids pins = record { entries = ap (λ (values : List g.T.type). map Some values) c.deref.ensures.value ∙ c.in-Ok.ensures; erased = c.in-Ok-erased.ensures; pinned = c.in-Ok-pinned.ensures } in
+    let are : Ended r s values ids pins = record { entries = ap (λ (values : List g.row.T.Denot). map Some values) c.deref.ensures.value ∙ c.in-Ok.ensures; erased = c.in-Ok-erased.ensures; pinned = c.in-Ok-pinned.ensures } in
     let held = append_known (g.W.Write.contents c.args.out.now) c.args.printer.now.text.items in
     let out = g.W.Write.contents c.print_entries.new.out in
     let first = c.print_entries.new.printer.text.items in
@@ -50,7 +50,7 @@ returns-in_err-print_entries-clause-err g c =
     let values = c.deref.result.now in
     let ids = c.in-Ok-erased.erased.items in
     let pins = option_map (λ (line : PinnedLine). line.0.items) c.in-Ok-pinned.pinned in
-    let are : Ended r s values ids pins = record { entries = ap (λ (values : List g.T.type). map Some values) c.deref.ensures.value ∙ c.in-Ok.ensures; erased = c.in-Ok-erased.ensures; pinned = c.in-Ok-pinned.ensures } in
+    let are : Ended r s values ids pins = record { entries = ap (λ (values : List g.row.T.Denot). map Some values) c.deref.ensures.value ∙ c.in-Ok.ensures; erased = c.in-Ok-erased.ensures; pinned = c.in-Ok-pinned.ensures } in
     let held = append_known (g.W.Write.contents c.args.out.now) c.args.printer.now.text.items in
     let out = g.W.Write.contents c.print_entries.new.out in
     let first = c.print_entries.new.printer.text.items in
@@ -66,7 +66,7 @@ returns-in_err-print_line-clause-err g c =
     let values = c.deref.result.now in
     let ids = c.in-Ok-erased.erased.items in
     let pins = option_map (λ (line : PinnedLine). line.0.items) c.in-Ok-pinned.pinned in
-    let are : Ended r s values ids pins = record { entries = ap (λ (values : List g.T.type). map Some values) c.deref.ensures.value ∙ c.in-Ok.ensures; erased = c.in-Ok-erased.ensures; pinned = c.in-Ok-pinned.ensures } in
+    let are : Ended r s values ids pins = record { entries = ap (λ (values : List g.row.T.Denot). map Some values) c.deref.ensures.value ∙ c.in-Ok.ensures; erased = c.in-Ok-erased.ensures; pinned = c.in-Ok-pinned.ensures } in
     let held = append_known (g.W.Write.contents c.args.out.now) c.args.printer.now.text.items in
     let out = g.W.Write.contents c.print_entries.new.out in
     let first = c.print_entries.new.printer.text.items in
@@ -81,7 +81,7 @@ returns-in_err-print_line-2-clause-err g c =
     let values = c.deref.result.now in
     let ids = c.in-Ok-erased.erased.items in
     let pins = option_map (λ (line : PinnedLine). line.0.items) c.in-Ok-pinned.pinned in
-    let are : Ended r s values ids pins = record { entries = ap (λ (values : List g.T.type). map Some values) c.deref.ensures.value ∙ c.in-Ok.ensures; erased = c.in-Ok-erased.ensures; pinned = c.in-Ok-pinned.ensures } in
+    let are : Ended r s values ids pins = record { entries = ap (λ (values : List g.row.T.Denot). map Some values) c.deref.ensures.value ∙ c.in-Ok.ensures; erased = c.in-Ok-erased.ensures; pinned = c.in-Ok-pinned.ensures } in
     let held = append_known (g.W.Write.contents c.args.out.now) c.args.printer.now.text.items in
     let out = g.W.Write.contents c.print_entries.new.out in
     let first = c.print_entries.new.printer.text.items in
@@ -97,7 +97,7 @@ returns-in_err-print_pinned-clause-err g c =
     let values = c.deref.result.now in
     let ids = c.in-Ok-erased.erased.items in
     let pins = option_map (λ (line : PinnedLine). line.0.items) c.in-Ok-pinned.pinned in
-    let are : Ended r s values ids pins = record { entries = ap (λ (values : List g.T.type). map Some values) c.deref.ensures.value ∙ c.in-Ok.ensures; erased = c.in-Ok-erased.ensures; pinned = c.in-Ok-pinned.ensures } in
+    let are : Ended r s values ids pins = record { entries = ap (λ (values : List g.row.T.Denot). map Some values) c.deref.ensures.value ∙ c.in-Ok.ensures; erased = c.in-Ok-erased.ensures; pinned = c.in-Ok-pinned.ensures } in
     let held = append_known (g.W.Write.contents c.args.out.now) c.args.printer.now.text.items in
     let out = g.W.Write.contents c.print_entries.new.out in
     let first = c.print_entries.new.printer.text.items in
