@@ -23,6 +23,7 @@ SCRIPTS = (
     "views/an_update_that_the_boundary_reached_before_its_check",
     "views/an_update_lands_after_its_client_crashed",
     "holders/a_claim_that_lands_later",
+    "manifest/a_sweep_of_what_is_needed",
 )
 # The tests that hold whichever growth is refused, by the crate whose tests they are.
 TESTS = {
@@ -132,6 +133,10 @@ class Script:
 
     def __init__(self, player, program, stem):
         self.player, self.program, self.name = player, program, os.path.basename(stem)
+        self.arguments = ["script"]
+        if os.path.isfile(f"{stem}.args"):
+            with open(f"{stem}.args", encoding="utf-8") as file:
+                self.arguments = file.read().splitlines()
         with open(f"{stem}.txt", encoding="utf-8") as file:
             self.lines = file.read().splitlines()
         with open(f"{stem}.stdout", encoding="utf-8") as file:
@@ -141,7 +146,7 @@ class Script:
         return self.played(self.lines, nth)
 
     def played(self, lines, nth=0):
-        return self.player.run([self.program, "script"], "".join(f"{it}\n" for it in lines), nth)
+        return self.player.run([self.program, *self.arguments], "".join(f"{it}\n" for it in lines), nth)
 
     def is_well(self, ran):
         return ran == self.wanted

@@ -5,7 +5,7 @@ use Rattle.std.proofs.lemmas.List.{length-map}
 use Rattle.std.proofs.lemmas.Option.{slice_get-map, slice_get-get_or, slice_get_within, same_Some}
 use Rattle.txn_lines.specs.declared.record.Record.{Record}
 use Rattle.txn_lines.specs.Record.{record_text, record_read}
-use Rattle.txn_script.specs.Script.{record_epoch, record_with}
+use Rattle.txn_script.specs.Records.{record_epoch, record_with}
 use Rattle.txn_journals.specs.Journals.{Replays}
 use Rattle.txn_journals.specs.Verdict.{Diary, clients_in}
 use Rattle.txn_journals.specs.Shares.{AreDiaries}

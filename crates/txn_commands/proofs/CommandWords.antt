@@ -28,17 +28,32 @@ three_words f (a ∷ m ∷ n ∷ o ∷ more) mode count least most is at = absur
 one_not_two : (a b c : List ℕ) → (a ∷ []) ≡ (b ∷ c ∷ []) → ⊥
 one_not_two a b c e = let lengths : length (a ∷ []) ≡ length (b ∷ c ∷ []) = ap length e in absurd (omega (arith, lengths))
 
+-- a word that is another
+other_word : (mode want other : List ℕ) → mode ≡ want → want ≢ other → (mode ∷ []) ≡ (other ∷ []) → ⊥
+other_word mode want other is apart e = apart (sym is ∙ first_same mode other e)
+  where
+    first_same : (a b : List ℕ) → (a ∷ []) ≡ (b ∷ []) → a ≡ b
+    first_same a b same = cc
+
 last_of_two : (a b c : List ℕ) → (a ∷ b ∷ []) ≡ (a ∷ c ∷ []) → b ≡ c
 last_of_two a b c e = cc
 
 pub asks_for_script : (words : List (List ℕ)) (mode : List ℕ) → words ≡ mode ∷ [] → mode ≡ codes "script" → (command : Command) → IsCommand command
     → (Some commands.Script ≡ Some command) ↔ (words ≡ command_words command)
 asks_for_script words mode is script commands.Script fits = (λ _. is ∙ ap (λ m. m ∷ []) script, λ _. refl)
+asks_for_script words mode is script commands.Manifest fits = (λ e. cc, λ e. absurd (other_word mode (codes "script") (codes "manifest") script (λ same. cc) (sym is ∙ e)))
 asks_for_script words mode is script (commands.Threads n) fits = (λ e. cc, λ e. absurd (one_not_two mode (codes "threads") (count_text n) (sym is ∙ e)))
+
+pub asks_for_manifest : (words : List (List ℕ)) (mode : List ℕ) → words ≡ mode ∷ [] → mode ≡ codes "manifest" → (command : Command) → IsCommand command
+    → (Some commands.Manifest ≡ Some command) ↔ (words ≡ command_words command)
+asks_for_manifest words mode is manifest commands.Script fits = (λ e. cc, λ e. absurd (other_word mode (codes "manifest") (codes "script") manifest (λ same. cc) (sym is ∙ e)))
+asks_for_manifest words mode is manifest commands.Manifest fits = (λ _. is ∙ ap (λ m. m ∷ []) manifest, λ _. refl)
+asks_for_manifest words mode is manifest (commands.Threads n) fits = (λ e. cc, λ e. absurd (one_not_two mode (codes "threads") (count_text n) (sym is ∙ e)))
 
 pub asks_for_threads : (words : List (List ℕ)) (mode count : List ℕ) (m : ℕ) → words ≡ mode ∷ count ∷ [] → mode ≡ codes "threads" → ((n : ℕ) → IsCount n → (Some m ≡ Some n) ↔ (count ≡ count_text n)) → (command : Command) → IsCommand command
     → (Some (commands.Threads m) ≡ Some command) ↔ (words ≡ command_words command)
 asks_for_threads words mode count m is threads exact commands.Script fits = (λ e. cc, λ e. absurd (one_not_two (codes "script") mode count (sym e ∙ is)))
+asks_for_threads words mode count m is threads exact commands.Manifest fits = (λ e. cc, λ e. absurd (one_not_two (codes "manifest") mode count (sym e ∙ is)))
 asks_for_threads words mode count m is threads exact (commands.Threads n) fits = (
   λ e. let same : Some m ≡ Some n = cc in is ∙ (ap (λ t. t ∷ count ∷ []) threads ∙ ap (λ t. codes "threads" ∷ t ∷ []) ((exact n fits).0 same)),
   λ e. let same : count ≡ count_text n = last_of_two (codes "threads") count (count_text n) (sym (is ∙ ap (λ t. t ∷ count ∷ []) threads) ∙ e) in

@@ -5,7 +5,7 @@ use Rattle.txn_lines.specs.declared.record.Record.{Record}
 use Rattle.txn_lines.specs.declared.record.RecordCodec.{RecordCodec}
 use Rattle.txn_lines.specs.declared.record.RecordEpoch.{RecordEpoch}
 use Rattle.txn_lines.specs.Record.{record_text, record_read}
-use Rattle.txn_script.specs.Script.{record_epoch, record_with}
+use Rattle.txn_script.specs.Records.{record_epoch, record_with}
 use Rattle.txn_journals.specs.declared.rows.LogRow.{LogRow}
 use Rattle.txn_journals.specs.declared.fault.AuditFault.{AuditFault}
 use Rattle.txn_journals.specs.Logs.{IsLog}

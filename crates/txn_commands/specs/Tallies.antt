@@ -5,7 +5,7 @@ use Rattle.txn_lines.specs.declared.record.RecordCodec.{RecordCodec}
 use Rattle.txn_lines.specs.declared.record.RecordEpoch.{RecordEpoch}
 use Rattle.txn_threads.specs.declared.kept.Share.{Share}
 use Rattle.txn_lines.specs.Record.{record_text, record_read}
-use Rattle.txn_script.specs.Script.{record_epoch, record_with}
+use Rattle.txn_script.specs.Records.{record_epoch, record_with}
 use Rattle.txn_history.specs.History.{history}
 use Rattle.txn_threads.specs.Kept.{KeptState, Replays, CameOnce, Agree}
 use Rattle.txn_lines.specs.declared.stop.Stop.TheVariants as stops

@@ -7,6 +7,8 @@ ghost use Rattle.txn_commands.specs.Commands.{command_words, IsCommand, IsCount,
 pub enum Command {
     /// `script`: to run the script on the standard input.
     Script,
+    /// `manifest`: to run the script of manifests on the standard input.
+    Manifest,
     /// `threads N`: to run so many workers, 1 to 8.
     Threads(u64),
 }
@@ -30,6 +32,7 @@ pub fn command_of(words: &[String]) -> Option<Command>
 {
     match words {
         [_program, mode] if mode.as_str() == "script" => Some(Command::Script),
+        [_program, mode] if mode.as_str() == "manifest" => Some(Command::Manifest),
         [_program, mode, count] if mode.as_str() == "threads" => {
             Some(Command::Threads(count_of(count.as_str())?))
         }

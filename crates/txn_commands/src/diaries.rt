@@ -2,7 +2,7 @@
 
 ghost use Rattle.std.specs.Prelude.{◌≡◌, ◌≤◌, All, IfOk, IfErr, map};
 ghost use Rattle.txn_lines.specs.Record.{record_text, record_read};
-ghost use Rattle.txn_script.specs.Script.{record_epoch, record_with};
+ghost use Rattle.txn_script.specs.Records.{record_epoch, record_with};
 ghost use Rattle.txn_journals.specs.Shares.{AreDiaries};
 ghost use Rattle.txn_commands.specs.Tallies.{IsHaltOf};
 ghost use Rattle.txn_commands.specs.Audits.{as_diary, AreClients, IsAudited};

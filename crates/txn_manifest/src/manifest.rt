@@ -8,7 +8,7 @@ ghost use Rattle.txn_manifest.specs.Pins.{ArePins};
 ghost use Rattle.txn_manifest.specs.Text.{manifest_text, pins_read, manifest_read, IsManifest};
 ghost use Rattle.txn_manifest.specs.Refusal.{IsBadManifest};
 
-use crate::pins::Pins;
+use crate::pins::{Commas, Pins};
 use anyhow::anyhow;
 use bytes::Bytes;
 use std::alloc::{AllocError, Global};
@@ -42,7 +42,7 @@ impl fmt::Display for Manifest {
     fn fmt<W: fmt::Write>(&self, f: &mut fmt::Formatter<W>) -> fmt::Result {
         let epoch = self.epoch;
         let payload = self.payload;
-        let pins = &self.pins;
+        let pins = Commas(self.pins.as_slice());
         write!(f, "{epoch}:{payload}:{pins}")
     }
 }
@@ -110,7 +110,10 @@ impl ObjectCodec<Manifest> for ManifestCodec {
     ghost decoded = { λ _ bytes. manifest_read bytes };
 
     fn encode(&self, alloc: Global, value: &Manifest) -> Result<Bytes, AllocError> {
-        Bytes::from_string(format!(in alloc; "{value}")?)
+        let epoch = value.epoch;
+        let payload = value.payload;
+        let pins = Commas(value.pins.as_slice());
+        Bytes::from_string(format!(in alloc; "{epoch}:{payload}:{pins}")?)
     }
 
     fn decode(&self, alloc: Global, bytes: &Bytes) -> Result<Manifest, CodecFault>
@@ -131,13 +134,13 @@ impl ObjectCodec<Manifest> for ManifestCodec {
 /// A script speaks of manifests by their texts. A manifest has as many pins as there is memory for, so its text has no bound.
 impl TextForm for Manifest {
     ghost use Rattle.txn_manifest.specs.Text.{manifest_text, IsManifest};
-    ghost use Rattle.txn_manifest.proofs.TextLemmas.{text_utf8};
+    ghost use Rattle.txn_manifest.specs.TextLaws.{manifest_utf8};
 
     ghost text = { manifest_text };
 
     ghost fits = { IsManifest };
 
-    ghost is_utf8 = { text_utf8 };
+    ghost is_utf8 = { manifest_utf8 };
 
     fn read_text(alloc: Global, words: &str) -> Result<Option<Manifest>, AllocError> {
         read_manifest(alloc, words.as_bytes())

@@ -6,7 +6,7 @@ use Rattle.std.specs.Str.{IsUtf8}
 use Rattle.txn_lines.specs.Numerals.{pair_text}
 use Rattle.txn_lines.specs.TextLaws.{numbered_utf8, after_word, pair_utf8, call_utf8}
 use Rattle.txn_manifest.specs.Text.{manifest_text, IsManifest}
-use Rattle.txn_manifest.proofs.TextLemmas.{text_utf8}
+use Rattle.txn_manifest.specs.TextLaws.{manifest_utf8}
 use Rattle.txn_manifest_script.specs.declared.call.OwnCall.{OwnCall}
 use Rattle.txn_manifest_script.specs.declared.call.OwnCall.TheVariants.{Checkpoint, Release, SetPayload, Fence, Sweep}
 use Rattle.txn_manifest_script.specs.declared.call.ManifestCall.{ManifestCall}
@@ -21,5 +21,5 @@ own_utf8 (Fence view) ok = numbered_utf8 (codes "fence") view refl ok
 own_utf8 (Sweep view id) ok = after_word (codes "sweep") (pair_text view id) refl (pair_utf8 view id ok)
 
 pub manifest_call_utf8 : (call : ManifestCall) → ManifestCallFits call → IsUtf8 (manifest_call_text call)
-manifest_call_utf8 (Any call) ok = call_utf8 manifest_text IsManifest text_utf8 call ok
+manifest_call_utf8 (Any call) ok = call_utf8 manifest_text IsManifest manifest_utf8 call ok
 manifest_call_utf8 (Own call) ok = own_utf8 call ok

@@ -3,5 +3,5 @@
 #![tactic(auto)]
 
 pub mod call;
-pub mod scripted;
 pub mod script;
+pub mod scripted;

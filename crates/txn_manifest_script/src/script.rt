@@ -9,7 +9,7 @@ use crate::scripted::Scripted;
 use std::alloc::Global;
 use std::io::{Read, Write};
 use txn_manifest::manifest::Manifest;
-use txn_script::script::{print_world, status_of};
+use txn_script::script::{exit_status, print_world};
 
 /// Runs a script of manifests, and gives the exit status: 0, 2 for a bad line, 1 for another fault, which is named
 /// on `err`.
@@ -28,5 +28,5 @@ pub fn run_manifest<R: Read + Drop, W: Write, E: Write>(
         × IsPrintedBefore manifest_rules n (R.remaining reader) (W.contents out.old) (W.contents out.new) }
 {
     let ended = print_world::<Manifest, ManifestCall, Scripted, R, W>(alloc, reader, out);
-    status_of(ended, err)
+    exit_status(ended, err)
 }

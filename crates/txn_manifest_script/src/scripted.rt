@@ -1,8 +1,9 @@
 //! Worlds of manifests, as scripts run them.
 
-ghost use Rattle.std.specs.Prelude.{◌≡◌};
+ghost use Rattle.std.specs.Prelude.{◌≡◌, IfOk};
+ghost use Rattle.txn_script.specs.Running.{CameOf};
 ghost use Rattle.txn_lines.specs.Printed.{named_fault_text};
-ghost use Rattle.txn_manifest_script.specs.Manifests.{manifest_fault_name, manifest_fault_text};
+ghost use Rattle.txn_manifest_script.specs.Manifests.{manifest_fault_name, manifest_fault_text, manifest_world};
 
 use crate::call::{ManifestCall, as_manifests, event_of};
 use std::alloc::{AllocError, Global};
@@ -52,7 +53,9 @@ impl ScriptWorld<Manifest, ManifestCall> for Scripted {
         })
     }
 
-    fn take(&mut self, event: EventOf<ManifestCall>) -> Result<Came<Manifest>, AllocError> {
+    fn take(&mut self, event: EventOf<ManifestCall>) -> Result<Came<Manifest>, AllocError>
+        ensures { IfOk result (λ came. CameOf manifest_world self.old.world.state event came self.new.world.state) }
+    {
         match self.world.take(event_of(event)) {
             Ok(told) => Ok(Came::Told(told)),
             Err(ManifestFault::World(EventFault::NoMemory)) => Err(AllocError),

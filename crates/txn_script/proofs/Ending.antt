@@ -48,6 +48,16 @@ module _ {T : Type 0} (text : T → List ℕ) where
   pub entries_step : (i : ℕ) (values : List T) (d : T) → i < length values → entries_text text (i + 1) (drop i values) ≡ with_feed (entry_text text (i + 1) (get_or values i d)) ++ entries_text text (i + 1 + 1) (drop (i + 1) values)
   entries_step i values d lt = ap (entries_text text (i + 1)) (drop-cons values i d lt) ∙ rw add-one refl
 
+  -- one more entry was printed
+  pub entry_printed : (values : List T) (i : ℕ) (d : T) (a b c : Option (List ℕ)) (old mid new before : List ℕ) → i < length values → Appends a (append_known b old) before → mid ≡ old ++ with_feed (entry_text text (i + 1) (get_or values i d)) → Appends (append_known b mid) (append_known c new) [] → before ++ entries_text text (i + 1) (drop i values) ≡ entries_text text 1 values
+      → (printed : List ℕ) × Appends a (append_known c new) printed × (printed ++ entries_text text (i + 1 + 1) (drop (i + 1) values) ≡ entries_text text 1 values)
+  entry_printed values i d a b c old mid new before lt so_far grown written whole =
+      let line = with_feed (entry_text text (i + 1) (get_or values i d)) in (
+        before ++ line,
+        gathers_line a b c old mid new before line so_far grown written,
+        append_assoc before line (entries_text text (i + 1 + 1) (drop (i + 1) values)) ∙ ap (λ more. before ++ more) (sym (entries_step i values d lt)) ∙ whole,
+      )
+
   pub views_step : (i : ℕ) (views : List (Option (View T))) → i < length views → views_text text (i + 1) (drop i views) ≡ view_line text (i + 1) (get_or views i None) ++ views_text text (i + 1 + 1) (drop (i + 1) views)
   views_step i views lt = ap (views_text text (i + 1)) (drop-cons views i None lt) ∙ rw add-one refl
 
@@ -115,12 +125,11 @@ module _ {T C : Type 0} (rules : Rules T C) (s : State T) (values : List T) (ids
 
   -- and then the views
   pub ends_with : (old out new : Option (List ℕ)) (first second third fourth : List ℕ) → Ended rules s values ids pins → PrintedBefore old out first second third fourth → Appends (append_known out fourth) new views_part → (text : List ℕ) × EndsWith rules s text × Appends old new text
-  ends_with old out new first second third fourth are before last =
-      (
-        front_of_views ++ views_part,
-        record { values = values; ids = ids; pins = pins; entries = are.entries; erased = are.erased; pinned = are.pinned; whole = before_views views_part },
-        appends_both old (append_known out fourth) new front_of_views views_part (printed_before old out first second third fourth before) last,
-      )
+  ends_with old out new first second third fourth are before last = (
+    front_of_views ++ views_part,
+    record { values = values; ids = ids; pins = pins; entries = are.entries; erased = are.erased; pinned = are.pinned; whole = before_views views_part },
+    appends_both old (append_known out fourth) new front_of_views views_part (printed_before old out first second third fourth before) last,
+  )
 
   -- a stop within the lines of the views
   pub stops_in_views : (stop : Stop) (old out new : Option (List ℕ)) (first second third fourth : List ℕ) → Ended rules s values ids pins → PrintedBefore old out first second third fourth → StopsWithin stop views_part (append_known out fourth) new → StopsInEnd rules stop s old new

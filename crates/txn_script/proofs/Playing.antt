@@ -84,14 +84,14 @@ module _ {T C : Type 0} (rules : Rules T C) where
       }
 
   -- What was printed so far, and what is left of the input.
-  abbrev pub Playing : Option (List ℕ) → Option (List ℕ) → ℕ → Option (List ℕ) → Option (List ℕ) → Stage → Type 0
+  abbrev pub Playing : Option (List ℕ) → Option (List ℕ) → ℕ → Option (List ℕ) → Option (List ℕ) → Stage T → Type 0
   Playing old new number out now world = IfSome old (λ input. (left : List ℕ) × (text : List ℕ) × (new ≡ Some left) × Taking input number left (Some world) text × Appends out now text)
 
   pub play_first : (old new out : Option (List ℕ)) (n m clients : ℕ) (world : State T) → n ≡ 0 → Opens rules old n new m clients world → Playing old new m out out (record { state = world; opened = Some clients })
   play_first None new out n m clients world zero opens = tt
   play_first (Some input) new out n m clients world zero opens =
       let after = opens.0 in
-      let stage : Stage = record { state = opening clients 1000; opened = Some clients } in
+      let stage : Stage T = record { state = opening clients 1000; opened = Some clients } in
       let start : Taking input n input None [] = subst (λ k. Taking input k input None []) (sym zero) (nothing_taken input) in
       let taken : Taking input m after (Some stage) ([] ++ []) = take_next input input after n m None (Some stage) [] [] (lines.Clients clients) start opens.4 (opens.2, opens.3) (refl, refl) in
       (after, [], opens.1, subst (λ (s : State T). Taking input m after (Some (record { state = s; opened = Some clients })) []) (sym opens.5) taken, appends_nothing out)

@@ -1,14 +1,14 @@
 -- The steps of a run, one turn after another.
 use Rattle.std.proofs.Common.{◌≡◌, ℕ, suc, ◌-◌, ◌<◌, ◌≤◌, ◌+◌, List, [], ◌++◌, true, false, inl, inr, refl, sym, ◌∙◌, ap, subst, arith}
 use Rattle.std.proofs.lemmas.List.{append-nil, append_assoc}
-use Rattle.txn_view_history.specs.declared.event.AnyAnswer.{AnyAnswer}
 use Rattle.txn_view_history.specs.Trace.{AnyTold}
 use Rattle.txn_history.specs.declared.event.EventOf.{EventOf}
 use Rattle.txn_history.specs.declared.event.ToldOf.TheVariants as told
 use Rattle.txn_any_machine.specs.Machine.{State}
-use Rattle.txn_lines.specs.Printed.{answer_text}
-use Rattle.txn_script.specs.Printed.{with_feed}
+use Rattle.txn_script.specs.declared.kind.Came.{Came}
+use Rattle.txn_script.specs.declared.kind.Came.TheVariants.{Told}
 use Rattle.txn_script.specs.Rules.{Rules}
+use Rattle.txn_script.specs.Running.{CameOf}
 use Rattle.txn_script.specs.Script.{Steps, RunsOperation, goes_on, told_text}
 
 -- what is told with no answer is not printed
@@ -61,6 +61,5 @@ module _ {T C : Type 0} (rules : Rules T C) where
   pub quiet_step : (old new : State T) (event : EventOf C) (t : AnyTold T) → rules.world.takes old event t new → true ≡ goes_on t → Steps rules old event true [] new
   quiet_step old new event t h e = inl (t, h, e, sym (going_nothing rules.value_text t e))
 
-  -- what is told and printed
-  pub answered_step : (old new : State T) (event : EventOf C) (t : AnyTold T) (op : ℕ) (answer : AnyAnswer T) → rules.world.takes old event t new → t ≡ told.Answered op answer → Steps rules old event false (with_feed (answer_text rules.value_text op answer)) new
-  answered_step old new event t op answer h e = inl (t, h, sym (ap goes_on e), sym (ap (told_text rules.value_text) e))
+  pub quiet_came : (old new : State T) (event : EventOf C) (came : Came T) (t : AnyTold T) → CameOf rules.world old event came new → came ≡ Told t → goes_on t ≡ true → Steps rules old event true [] new
+  quiet_came old new event came t h is going = quiet_step old new event t (subst (λ (c : Came T). CameOf rules.world old event c new) is h) (sym going)

@@ -1,5 +1,5 @@
 -- What a script prints, as a relation of its bytes over the steps of its world.
-use Rattle.std.specs.Prelude.{◌≡◌, ℕ, zero, suc, List, [], ◌∷◌, ◌++◌, ◌+◌, ◌≤◌, ◌⊎◌, Bool, true, false, map, Option, Some, None, IfSome, length}
+use Rattle.std.specs.Prelude.{◌≡◌, ℕ, zero, suc, List, [], ◌∷◌, ◌++◌, ◌+◌, ◌≤◌, ◌⊎◌, Bool, true, false, map, Option, Some, None, IfSome, Result, Ok, Err, length}
 use Rattle.std.specs.Io.KnownBytes.{Appends}
 use Rattle.txn_history.specs.declared.event.EventOf.{EventOf}
 use Rattle.txn_history.specs.declared.event.ToldOf.TheVariants as told
@@ -12,7 +12,7 @@ use Rattle.txn_lines.specs.declared.stop.Stop.{Stop}
 use Rattle.txn_lines.specs.declared.stop.Stop.TheVariants as stops
 use Rattle.txn_lines.specs.Lines.{lines_of, is_skipped, kept}
 use Rattle.txn_lines.specs.Grammar.{line_text, LineFits, Says}
-use Rattle.txn_lines.specs.Printed.{answer_text}
+use Rattle.txn_lines.specs.Printed.{answer_text, status_of}
 use Rattle.txn_script.specs.Printed.{with_feed, end_text}
 use Rattle.txn_script.specs.Rules.{Rules}
 
@@ -63,6 +63,11 @@ MayStand (Some stage) (lines.Clients count) = ⊥
 MayStand (Some stage) (lines.Page size) = IsPage stage.opened size
 MayStand (Some stage) (lines.Event event) = Unit {0}
 MayStand (Some stage) (lines.Run op) = Unit {0}
+
+-- the exit status of a script that ended so
+abbrev pub ended_status : {A : Type 0} → Result A Stop → ℕ
+ended_status (Ok done) = 0
+ended_status (Err stop) = status_of stop
 
 module _ {T C : Type 0} (rules : Rules T C) where
   -- a text says a line

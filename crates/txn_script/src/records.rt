@@ -1,6 +1,8 @@
 //! Worlds of records, as scripts run them.
 
-ghost use Rattle.std.specs.Prelude.{◌≡◌};
+ghost use Rattle.std.specs.Prelude.{IfOk};
+ghost use Rattle.txn_script.specs.Records.{record_world};
+ghost use Rattle.txn_script.specs.Running.{CameOf};
 
 use crate::kind::{Came, ScriptWorld};
 use std::alloc::{AllocError, Global};
@@ -26,7 +28,9 @@ impl ScriptWorld<Record, AnyCall<Record>> for World<Record, RecordCodec, RecordE
         World::new(alloc, RecordCodec, RecordEpoch, clients, page)
     }
 
-    fn take(&mut self, event: AnyEvent<Record>) -> Result<Came<Record>, AllocError> {
+    fn take(&mut self, event: AnyEvent<Record>) -> Result<Came<Record>, AllocError>
+        ensures { IfOk result (λ came. CameOf record_world self.old.state event came self.new.state) }
+    {
         match World::take(self, event) {
             Ok(told) => Ok(Came::Told(told)),
             Err(EventFault::NoMemory) => Err(AllocError),

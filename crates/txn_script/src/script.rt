@@ -1,13 +1,13 @@
 //! The run of a script: each line in its turn, what it prints, and the end lines.
 
-ghost use Rattle.std.specs.Prelude.{◌≡◌, ℕ, ◌≤◌, ◌++◌, ◌∷◌, [], List, Some, None, IfOk, IfErr, IfSome, IfNone, OnOk, Ok, Err};
+ghost use Rattle.std.specs.Prelude.{◌≡◌, ℕ, ◌≤◌, ◌++◌, ◌∷◌, [], List, Some, None, IfOk, IfErr, IfSome, IfNone, OnOk};
 ghost use Rattle.std.specs.Option.{option_map};
 ghost use Rattle.std.specs.Io.KnownBytes.{Appends};
 ghost use Rattle.txn_lines.specs.declared.line.Line.{Line};
 ghost use Rattle.txn_script.specs.Printed.{with_feed, pinned_line, entries_text, view_line, views_text};
 ghost use Rattle.txn_script.specs.Rules.{rules_of};
 ghost use Rattle.txn_script.specs.Records.{record_rules};
-ghost use Rattle.txn_script.specs.Script.{IsClients, Steps, RunsOperation, PageSteps, EventSteps, MayStand, EndsWith, IsPrinted, IsPrintedBefore, StopsAfter};
+ghost use Rattle.txn_script.specs.Script.{IsClients, Steps, RunsOperation, PageSteps, EventSteps, MayStand, EndsWith, IsPrinted, IsPrintedBefore, StopsAfter, ended_status};
 ghost use Rattle.txn_lines.specs.Reading.{reader_of, number_of, OnBadLine};
 ghost use Rattle.txn_script.specs.Reading.{Opens, OpensBad};
 ghost use Rattle.txn_script.specs.Printing.{held, Gathers, IsUnchanged, StopsLine, StopsWithin, StopsInEnd};
@@ -22,7 +22,9 @@ use std::mem;
 use txn_history::event::EventOf;
 use txn_lines::line::Line;
 use txn_lines::lines::Lines;
-use txn_lines::printed::{AnswerLine, Answered, BoundaryLine, EntryLine, ErasedLine, PinnedLine, ViewLine};
+use txn_lines::printed::{
+    AnswerLine, Answered, BoundaryLine, EntryLine, ErasedLine, PinnedLine, ViewLine,
+};
 use txn_lines::record::{Record, RecordCodec, RecordEpoch};
 use txn_lines::stop::Stop;
 use txn_lines::text_form::{LineValue, TextForm};
@@ -213,10 +215,10 @@ fn print_pinned(pinned: Option<PinnedLine>, printer: &mut Printer) -> Result<(),
     ensures err { IfErr result
         (λ stop. (stop ≡ Stop.NoMemory) × IsUnchanged printer.old printer.new) }
 {
-    match pinned {
-        None => Ok(()),
-        Some(line) => printer.print_line(line),
-    }
+    let Some(line) = pinned else {
+        return Ok(());
+    };
+    printer.print_line(line)
 }
 
 /// Prints what is left at the end.
@@ -309,13 +311,7 @@ fn play<T: LineValue, C: TextForm, K: ScriptWorld<T, C>, R: BufRead, W: Write>(
 /// Reads a script of worlds of the kind `K` and prints what it does, both through buffers. `BadLine` comes only where that
 /// line may not stand there, and leaves what the lines before it print. The other stops are a failed read, a failed write and
 /// want of memory.
-pub fn print_world<
-    T: LineValue,
-    C: TextForm,
-    K: ScriptWorld<T, C>,
-    R: Read + Drop,
-    W: Write,
->(
+pub fn print_world<T: LineValue, C: TextForm, K: ScriptWorld<T, C>, R: Read + Drop, W: Write>(
     alloc: Global,
     reader: R,
     out: &mut W,
@@ -341,11 +337,10 @@ pub fn print_world<
 }
 
 /// The exit status of a script that ended so: 0, 2 for a bad line, 1 for another fault. A fault is named on `err`.
-pub fn status_of<E: Write>(ended: Result<(), Stop>, err: &mut E) -> u8
-    ensures status { result ≤ 2 }
+pub fn exit_status<E: Write>(ended: Result<(), Stop>, err: &mut E) -> u8
+    ensures status { result ≡ ended_status ended }
+    // Nothing is said where nothing went wrong.
     ensures silent { result ≡ 0 → err.new ≡ err.old }
-    ensures done { result ≡ 0 → ended ≡ Ok () }
-    ensures bad_line { result ≡ 2 → (n : ℕ) × (ended ≡ Err (Stop.BadLine n)) }
 {
     match ended {
         Ok(()) => 0,
@@ -392,5 +387,5 @@ pub fn run_script<R: Read + Drop, W: Write, E: Write>(
         × IsPrintedBefore record_rules n (R.remaining reader) (W.contents out.old) (W.contents out.new) }
 {
     let ended = print_script(alloc, reader, out);
-    status_of(ended, err)
+    exit_status(ended, err)
 }

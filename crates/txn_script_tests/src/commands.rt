@@ -15,6 +15,8 @@ use txn_lines::stop::Stop;
 /// Words, the program's name first, and what they ask for.
 const WORDS: &[(&[&str], Option<Command>)] = &[
     (&["txnworld", "script"], Some(Command::Script)),
+    (&["txnworld", "manifest"], Some(Command::Manifest)),
+    (&["txnworld", "manifest", "2"], None),
     (&["txnworld"], None),
     (&[], None),
     (&["txnworld", "Script"], None),

@@ -4,13 +4,14 @@ use std::alloc::{AllocError, Global};
 use std::ops::Bound;
 use std::test::Fail;
 use txn_history::event::{Answer, Call, EventFault, Failure};
-use txn_lines::line::{Line, read_line};
+use txn_lines::line::Line;
 use txn_lines::lines::Lines;
 use txn_lines::printed::{
     AnswerLine, Answered, BoundaryLine, EntryLine, ErasedLine, FaultLine, ViewLine,
 };
 use txn_lines::record::{Record, RecordCodec, RecordEpoch, read_record};
 use txn_lines::stop::Stop;
+use txn_lines::text_form::TextForm;
 use txn_types::codec::{CodecFault, ObjectCodec};
 use txn_types::epoch::EpochField;
 use txn_view_history::event::{AnyAnswer, AnyCall, AnyEvent, ViewCall};
@@ -106,20 +107,31 @@ const BAD: &[&str] = &[
     "clients two",
 ];
 
+/// A line of a script of records.
+type RecordLine = Line<AnyCall<Record>>;
+
 /// Whether a text says an event.
-fn says(text: &str, wanted: &AnyEvent<Record>) -> bool {
-    match read_line(text) {
-        Some(Line::Event(event)) => event == *wanted,
+fn says(alloc: Global, text: &str, wanted: &AnyEvent<Record>) -> bool {
+    let line: Result<Option<RecordLine>, AllocError> = TextForm::read_text(alloc, text);
+    match line {
+        Ok(Some(Line::Event(event))) => event == *wanted,
         _ => false,
     }
 }
 
 /// The call that a text has client 1 begin.
-fn begun(text: &str) -> Option<AnyCall<Record>> {
-    match read_line(text)? {
-        Line::Event(AnyEvent::Begin(1, call)) => Some(call),
+fn begun(alloc: Global, text: &str) -> Option<AnyCall<Record>> {
+    let line: Result<Option<RecordLine>, AllocError> = TextForm::read_text(alloc, text);
+    match line {
+        Ok(Some(Line::Event(AnyEvent::Begin(1, call)))) => Some(call),
         _ => None,
     }
+}
+
+/// Whether a text says nothing.
+fn says_nothing(alloc: Global, text: &str) -> bool {
+    let line: Result<Option<RecordLine>, AllocError> = TextForm::read_text(alloc, text);
+    matches!(line, Ok(None))
 }
 
 /// Whether it is this call without a view.
@@ -141,22 +153,22 @@ fn is_on_views(call: Option<AnyCall<Record>>, wanted: &ViewCall<Record>) -> bool
 #[test]
 fn a_line_says_its_event(rt: HostRuntime) -> Result<(), Fail> {
     for (text, wanted) in PLAIN_CALLS {
-        assert!(rt; is_plain(begun(text), wanted), "{text:?}");
+        assert!(rt; is_plain(begun(rt.alloc(), text), wanted), "{text:?}");
     }
     for (text, wanted) in VIEW_CALLS {
-        assert!(rt; is_on_views(begun(text), wanted), "{text:?}");
+        assert!(rt; is_on_views(begun(rt.alloc(), text), wanted), "{text:?}");
     }
     for (text, wanted) in EVENTS {
-        assert!(rt; says(text, wanted), "{text:?}");
+        assert!(rt; says(rt.alloc(), text, wanted), "{text:?}");
     }
     for text in BAD {
-        assert!(rt; read_line(text).is_none(), "{text:?}");
+        assert!(rt; says_nothing(rt.alloc(), text), "{text:?}");
     }
     Ok(())
 }
 
 /// Whether the next line is `run` of this operation.
-fn runs(line: Result<Option<Line>, Stop>, op: u64) -> bool {
+fn runs(line: Result<Option<RecordLine>, Stop>, op: u64) -> bool {
     match line {
         Ok(Some(Line::Run(number))) => number == op,
         _ => false,
@@ -164,7 +176,7 @@ fn runs(line: Result<Option<Line>, Stop>, op: u64) -> bool {
 }
 
 /// Whether the next line is none, and the reader's number is this one.
-fn stops(line: Result<Option<Line>, Stop>, number: u64) -> bool {
+fn stops(line: Result<Option<RecordLine>, Stop>, number: u64) -> bool {
     match line {
         Err(stop) => stop == Stop::BadLine(number),
         Ok(_) => false,
@@ -243,7 +255,7 @@ fn answers_and_faults_are_printed(rt: HostRuntime) -> Result<(), Fail> {
         assert_eq!(rt; format!(in rt.alloc(); "{line}")?.as_str(), want);
     }
     for (fault, want) in FAULTS {
-        let line = FaultLine(fault);
+        let line = FaultLine::of_world(fault);
         assert_eq!(rt; format!(in rt.alloc(); "{line}")?.as_str(), want);
     }
     Ok(())
@@ -253,7 +265,7 @@ fn answers_and_faults_are_printed(rt: HostRuntime) -> Result<(), Fail> {
 fn the_last_lines_are_printed(rt: HostRuntime) -> Result<(), Fail> {
     let entry = EntryLine {
         number: 2,
-        value: RECORD,
+        value: &RECORD,
     };
     assert_eq!(rt; format!(in rt.alloc(); "{entry}")?.as_str(), "entry 2 3:7");
     let boundary = BoundaryLine(4);

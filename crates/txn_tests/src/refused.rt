@@ -3,10 +3,10 @@
 //! for that of a claim.
 use crate::schedules::are;
 use crate::workers::{Records, kept_by};
+use crate::worlds::event_of;
 use std::alloc::{AllocError, Global};
 use std::test::Fail;
 use txn_caches::ask::Ask;
-use txn_lines::line::{Line, read_line};
 use txn_lines::printed::{BoundaryLine, EntryLine, ErasedLine, ViewLine};
 use txn_lines::record::{Record, RecordCodec, RecordEpoch};
 use txn_threads::kept::Share;
@@ -227,7 +227,7 @@ fn told(
     share: &mut Share,
     line: &str,
 ) -> Result<String, AllocError> {
-    let Some(Line::Event(event)) = read_line(line) else {
+    let Ok(event) = event_of(alloc, line) else {
         return format!(in alloc; "no event");
     };
     match kept.take(share, event) {
@@ -373,7 +373,7 @@ fn end_lines(
     for (index, entry) in world.entries(alloc)?.iter().enumerate() {
         let line = EntryLine {
             number: index + 1,
-            value: *entry,
+            value: entry,
         };
         lines.push(format!(in alloc; "{line}")?)?;
     }

@@ -199,11 +199,11 @@ const SCHEDULES: &[Schedule] = &[
 ];
 
 /// Does what a schedule says.
-fn play(world: &mut Records, steps: &[Step]) -> Result<(), Fail> {
+fn play(alloc: Global, world: &mut Records, steps: &[Step]) -> Result<(), Fail> {
     for step in steps {
         match step {
             Step::Line(line) => {
-                if world.take(event_of(line)?).is_err() {
+                if world.take(event_of(alloc, line)?).is_err() {
                     return Err("a refused event")?;
                 }
             }
@@ -220,7 +220,7 @@ fn done(alloc: Global, clients: u64, steps: &[Step]) -> Result<Records, Fail>
     requires few { clients ≤ 64 }
 {
     let mut world = World::new(alloc, RecordCodec, RecordEpoch, clients, PAGE)?;
-    play(&mut world, steps)?;
+    play(alloc, &mut world, steps)?;
     Ok(world)
 }
 

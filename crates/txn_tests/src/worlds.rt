@@ -9,8 +9,9 @@ use txn_any_machine::laws::{one_history, rows_go_on, views_go_on};
 use txn_any_machine::refusals::{claims_are_refused_by_their_base, failures_are_taken};
 use txn_caches::ask::Ask;
 use txn_history::event::{Answer, Call};
-use txn_lines::line::{Line, read_line};
+use txn_lines::line::Line;
 use txn_lines::record::{Record, RecordCodec, RecordEpoch};
+use txn_lines::text_form::TextForm;
 use txn_types::codec::ObjectCodec;
 use txn_types::epoch::EpochField;
 use txn_types::layout::PAGE;
@@ -28,8 +29,9 @@ use txn_world::world::World;
 pub(crate) type Records = World<Record, RecordCodec, RecordEpoch>;
 
 /// The event that a line says.
-pub(crate) fn event_of(line: &str) -> Result<AnyEvent<Record>, Fail> {
-    match read_line(line) {
+pub(crate) fn event_of(alloc: Global, line: &str) -> Result<AnyEvent<Record>, Fail> {
+    let line: Option<Line<AnyCall<Record>>> = TextForm::read_text(alloc, line)?;
+    match line {
         Some(Line::Event(event)) => Ok(event),
         _ => Err("no event")?,
     }
@@ -217,7 +219,7 @@ const TOLD: &[ToldRow] = &[
 
 /// What a world tells of the event of a line.
 fn told(alloc: Global, world: &mut Records, line: &str) -> Result<String, Fail> {
-    Ok(match world.take(event_of(line)?) {
+    Ok(match world.take(event_of(alloc, line)?) {
         Ok(told) => format!(in alloc; "{told:?}")?,
         Err(fault) => format!(in alloc; "{fault:?}")?,
     })

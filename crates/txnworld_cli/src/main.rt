@@ -7,6 +7,7 @@ use std::{env, io};
 use txn_commands::command::{Command, command_of};
 use txn_commands::threads::run_threads;
 use txn_lines::stop::Stop;
+use txn_manifest_script::script::run_manifest;
 use txn_script::script::run_script;
 
 /// The status of wrong arguments.
@@ -31,13 +32,14 @@ fn main(rt: HostRuntime) -> ExitCode {
         },
     };
     let Some(command) = command_of(&words) else {
-        let _ = err.writeln("usage: txnworld script | txnworld threads N");
+        let _ = err.writeln("usage: txnworld script | txnworld threads N | txnworld manifest");
         return ExitCode::from(USAGE);
     };
     let mut out = io::writer(&rt);
     let alloc = rt.alloc();
     let status = match command {
         Command::Script => run_script(alloc, rt.reader(), &mut out, &mut err),
+        Command::Manifest => run_manifest(alloc, rt.reader(), &mut out, &mut err),
         Command::Threads(workers) => run_threads(&rt, alloc, workers, &mut out, &mut err),
     };
     ExitCode::from(status)

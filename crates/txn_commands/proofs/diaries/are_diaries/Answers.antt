@@ -1,7 +1,7 @@
 use Rattle.std.proofs.Common.{◌≡◌, ◌∙◌, ap, arith, List, map, reverse, subst}
 use Rattle.std.proofs.lemmas.List.{take_all}
 use Rattle.txn_lines.specs.Record.{record_text, record_read}
-use Rattle.txn_script.specs.Script.{record_epoch, record_with}
+use Rattle.txn_script.specs.Records.{record_epoch, record_with}
 use Rattle.txn_journals.specs.Journals.{Replays}
 use Rattle.txn_journals.specs.Shares.{AreDiaries}
 use Rattle.txn_commands.specs.Audits.{RecordDiary, as_diary}

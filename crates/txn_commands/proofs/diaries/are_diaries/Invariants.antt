@@ -1,6 +1,6 @@
 use Rattle.std.proofs.Common.{map, take}
 use Rattle.txn_lines.specs.Record.{record_text, record_read}
-use Rattle.txn_script.specs.Script.{record_epoch, record_with}
+use Rattle.txn_script.specs.Records.{record_epoch, record_with}
 use Rattle.txn_journals.specs.Shares.{AreDiaries}
 use Rattle.txn_commands.specs.Audits.{as_diary}
 use Rattle.txn_commands.proofs.diaries.are_diaries.Given as goal

@@ -40,7 +40,7 @@ returns-in_default-clause-ok g c =
     let held = append_known (g.W.Write.contents c.args.out.now) c.args.printer.now.text.items in
     let now = append_known (g.W.Write.contents c.loop-line.out) c.loop-line.printer.text.items in
     let later = append_known (g.W.Write.contents c.print_end.new.out) c.print_end.new.printer.text.items in
-    let read = subst (λ (found : Option (Line g.C.type)). ReadsNextLine (rules_of g.C.TextForm.text g.C.TextForm.fits g.T.TextForm.text g.K.ScriptWorld.rules) before c.loop-line.lines.number after c.next_line.new.self.number found) c.in_default.is c.in_ok-line.ensures.ok in
+    let read = subst (λ (found : Option (Line g.row.C.Denot)). ReadsNextLine (rules_of g.C.TextForm.text g.C.TextForm.fits g.T.TextForm.text g.K.ScriptWorld.rules) before c.loop-line.lines.number after c.next_line.new.self.number found) c.in_default.is c.in_ok-line.ensures.ok in
     on_ok_weaker c.print_end.result (play_end (rules_of g.C.TextForm.text g.C.TextForm.fits g.T.TextForm.text g.K.ScriptWorld.rules) start before after held now later c.loop-line.lines.number c.next_line.new.self.number (record { state = g.K.ScriptWorld.state c.loop-line.world; opened = c.loop-line.opened }) c.loop-line.invariant.playing read) c.print_end.ensures.ok
 
 pub returns-in_default-clause-stop : goal.returns-in_default-clause-stop
@@ -51,7 +51,7 @@ returns-in_default-clause-stop g c =
     let held = append_known (g.W.Write.contents c.args.out.now) c.args.printer.now.text.items in
     let now = append_known (g.W.Write.contents c.loop-line.out) c.loop-line.printer.text.items in
     let later = append_known (g.W.Write.contents c.print_end.new.out) c.print_end.new.printer.text.items in
-    let read = subst (λ (found : Option (Line g.C.type)). ReadsNextLine (rules_of g.C.TextForm.text g.C.TextForm.fits g.T.TextForm.text g.K.ScriptWorld.rules) before c.loop-line.lines.number after c.next_line.new.self.number found) c.in_default.is c.in_ok-line.ensures.ok in
+    let read = subst (λ (found : Option (Line g.row.C.Denot)). ReadsNextLine (rules_of g.C.TextForm.text g.C.TextForm.fits g.T.TextForm.text g.K.ScriptWorld.rules) before c.loop-line.lines.number after c.next_line.new.self.number found) c.in_default.is c.in_ok-line.ensures.ok in
     MatchResult-weaker c.print_end.result c.print_end.ensures.err (λ x h. h) (λ stop is. stops_end (rules_of g.C.TextForm.text g.C.TextForm.fits g.T.TextForm.text g.K.ScriptWorld.rules) stop start before after held now later c.loop-line.lines.number c.next_line.new.self.number (record { state = g.K.ScriptWorld.state c.loop-line.world; opened = c.loop-line.opened }) c.loop-line.invariant.playing read is)
 
 pub returns-in_err-take_line-clause-stop : goal.returns-in_err-take_line-clause-stop
@@ -62,7 +62,7 @@ returns-in_err-take_line-clause-stop g c =
     let held = append_known (g.W.Write.contents c.args.out.now) c.args.printer.now.text.items in
     let now = append_known (g.W.Write.contents c.loop-line.out) c.loop-line.printer.text.items in
     let number = c.next_line.new.self.number in
-    let read = subst (λ (found : Option (Line g.C.type)). ReadsNextLine (rules_of g.C.TextForm.text g.C.TextForm.fits g.T.TextForm.text g.K.ScriptWorld.rules) before c.loop-line.lines.number after number found) c.in-Some.is c.in_ok-line.ensures.ok in
+    let read = subst (λ (found : Option (Line g.row.C.Denot)). ReadsNextLine (rules_of g.C.TextForm.text g.C.TextForm.fits g.T.TextForm.text g.K.ScriptWorld.rules) before c.loop-line.lines.number after number found) c.in-Some.is c.in_ok-line.ensures.ok in
     let stop = c.in_err-take_line.field-0.0 in
     let is = c.in_err-take_line.ensures.err in
     let p = err_from_is_err_and c.from_residual-in_err-take_line.result c.from_residual-in_err-take_line.ensures.1 in
@@ -87,7 +87,7 @@ loop-line-preserved g c =
     let held = append_known (g.W.Write.contents c.args.out.now) c.args.printer.now.text.items in
     let now = append_known (g.W.Write.contents c.loop-line.out) c.loop-line.printer.text.items in
     let later = append_known (g.W.Write.contents c.write_full.new.out) c.write_full.new.self.text.items in
-    let read = subst (λ (found : Option (Line g.C.type)). ReadsNextLine (rules_of g.C.TextForm.text g.C.TextForm.fits g.T.TextForm.text g.K.ScriptWorld.rules) before c.loop-line.lines.number after c.next_line.new.self.number found) c.in-Some.is c.in_ok-line.ensures.ok in
+    let read = subst (λ (found : Option (Line g.row.C.Denot)). ReadsNextLine (rules_of g.C.TextForm.text g.C.TextForm.fits g.T.TextForm.text g.K.ScriptWorld.rules) before c.loop-line.lines.number after c.next_line.new.self.number found) c.in-Some.is c.in_ok-line.ensures.ok in
     let step = c.in_ok-take_line.ensures.ok in
     let grown : Appends now later step.0 = subst (Appends now later) (append-nil step.0) (appends_both now (append_known (g.W.Write.contents c.loop-line.out) c.take_line.new.printer.text.items) later step.0 [] (gathers (g.W.Write.contents c.loop-line.out) c.loop-line.printer.text.items c.take_line.new.printer.text.items step.0 step.2) c.in_ok-write_full.ensures.ok) in
     record {

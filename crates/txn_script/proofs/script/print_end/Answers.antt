@@ -18,7 +18,7 @@ returns-clause-ok g c =
     let values = c.deref.result.now in
     let ids = c.in-Ok-erased.erased.items in
     let pins = option_map (λ (line : PinnedLine). line.0.items) c.in-Ok-pinned.pinned in
-    let are : Ended r s values ids pins = record { entries = ap (λ (values : List g.T.type). map Some values) c.deref.ensures.value ∙ c.in-Ok.ensures; erased = c.in-Ok-erased.ensures; pinned = c.in-Ok-pinned.ensures } in
+    let are : Ended r s values ids pins = record { entries = ap (λ (values : List g.row.T.Denot). map Some values) c.deref.ensures.value ∙ c.in-Ok.ensures; erased = c.in-Ok-erased.ensures; pinned = c.in-Ok-pinned.ensures } in
     let held = append_known (g.W.Write.contents c.args.out.now) c.args.printer.now.text.items in
     let out = g.W.Write.contents c.print_entries.new.out in
     let first = c.print_entries.new.printer.text.items in
@@ -27,7 +27,6 @@ returns-clause-ok g c =
     let now = append_known (g.W.Write.contents c.print_views.new.out) c.print_views.new.printer.text.items in
     on_ok_weaker c.print_views.result (ends_with r s values ids pins held out now first c.print_line.new.self.text.items c.print_line-2.new.self.text.items c.print_pinned.new.printer.text.items are before) c.print_views.ensures.ok
 
-
 pub returns-clause-err : goal.returns-clause-err
 returns-clause-err g c =
     let r = (rules_of g.C.TextForm.text g.C.TextForm.fits g.T.TextForm.text g.K.ScriptWorld.rules) in
@@ -35,7 +34,7 @@ returns-clause-err g c =
     let values = c.deref.result.now in
     let ids = c.in-Ok-erased.erased.items in
     let pins = option_map (λ (line : PinnedLine). line.0.items) c.in-Ok-pinned.pinned in
-    let are : Ended r s values ids pins = record { entries = ap (λ (values : List g.T.type). map Some values) c.deref.ensures.value ∙ c.in-Ok.ensures; erased = c.in-Ok-erased.ensures; pinned = c.in-Ok-pinned.ensures } in
+    let are : Ended r s values ids pins = record { entries = ap (λ (values : List g.row.T.Denot). map Some values) c.deref.ensures.value ∙ c.in-Ok.ensures; erased = c.in-Ok-erased.ensures; pinned = c.in-Ok-pinned.ensures } in
     let held = append_known (g.W.Write.contents c.args.out.now) c.args.printer.now.text.items in
     let out = g.W.Write.contents c.print_entries.new.out in
     let first = c.print_entries.new.printer.text.items in
@@ -44,7 +43,6 @@ returns-clause-err g c =
     let now = append_known (g.W.Write.contents c.print_views.new.out) c.print_views.new.printer.text.items in
     MatchResult-weaker c.print_views.result c.print_views.ensures.err (λ x h. h) (λ stop is. stops_in_views r s values ids pins stop held out now first c.print_line.new.self.text.items c.print_line-2.new.self.text.items c.print_pinned.new.printer.text.items are before is)
 
-
 pub returns-in_err-print_entries-clause-err : goal.returns-in_err-print_entries-clause-err
 returns-in_err-print_entries-clause-err g c =
     let r = (rules_of g.C.TextForm.text g.C.TextForm.fits g.T.TextForm.text g.K.ScriptWorld.rules) in
@@ -52,7 +50,7 @@ returns-in_err-print_entries-clause-err g c =
     let values = c.deref.result.now in
     let ids = c.in-Ok-erased.erased.items in
     let pins = option_map (λ (line : PinnedLine). line.0.items) c.in-Ok-pinned.pinned in
-    let are : Ended r s values ids pins = record { entries = ap (λ (values : List g.T.type). map Some values) c.deref.ensures.value ∙ c.in-Ok.ensures; erased = c.in-Ok-erased.ensures; pinned = c.in-Ok-pinned.ensures } in
+    let are : Ended r s values ids pins = record { entries = ap (λ (values : List g.row.T.Denot). map Some values) c.deref.ensures.value ∙ c.in-Ok.ensures; erased = c.in-Ok-erased.ensures; pinned = c.in-Ok-pinned.ensures } in
     let held = append_known (g.W.Write.contents c.args.out.now) c.args.printer.now.text.items in
     let out = g.W.Write.contents c.print_entries.new.out in
     let first = c.print_entries.new.printer.text.items in
@@ -61,7 +59,6 @@ returns-in_err-print_entries-clause-err g c =
     let p = err_from_is_err_and c.from_residual.result c.from_residual.ensures.1 in
     rw (p.1, p.2) (part_front r s values ids pins c.in_err-print_entries.field-0.0 held held now [] (entries_text g.T.TextForm.text 1 values) after are refl (appends_nothing held) c.in_err-print_entries.ensures.err)
 
-
 pub returns-in_err-print_line-clause-err : goal.returns-in_err-print_line-clause-err
 returns-in_err-print_line-clause-err g c =
     let r = (rules_of g.C.TextForm.text g.C.TextForm.fits g.T.TextForm.text g.K.ScriptWorld.rules) in
@@ -69,14 +66,13 @@ returns-in_err-print_line-clause-err g c =
     let values = c.deref.result.now in
     let ids = c.in-Ok-erased.erased.items in
     let pins = option_map (λ (line : PinnedLine). line.0.items) c.in-Ok-pinned.pinned in
-    let are : Ended r s values ids pins = record { entries = ap (λ (values : List g.T.type). map Some values) c.deref.ensures.value ∙ c.in-Ok.ensures; erased = c.in-Ok-erased.ensures; pinned = c.in-Ok-pinned.ensures } in
+    let are : Ended r s values ids pins = record { entries = ap (λ (values : List g.row.T.Denot). map Some values) c.deref.ensures.value ∙ c.in-Ok.ensures; erased = c.in-Ok-erased.ensures; pinned = c.in-Ok-pinned.ensures } in
     let held = append_known (g.W.Write.contents c.args.out.now) c.args.printer.now.text.items in
     let out = g.W.Write.contents c.print_entries.new.out in
     let first = c.print_entries.new.printer.text.items in
     let err = c.in_err-print_line.ensures.err in
     let p = err_from_is_err_and c.from_residual-in_err-print_line.result c.from_residual-in_err-print_line.ensures.1 in
     rw (p.1, p.2) (stops_at_boundary r s values ids pins c.in_err-print_line.field-0.0 held out first c.print_line.new.self.text.items are err.0 err.1 c.in_ok-print_entries.ensures.ok)
-
 
 pub returns-in_err-print_line-2-clause-err : goal.returns-in_err-print_line-2-clause-err
 returns-in_err-print_line-2-clause-err g c =
@@ -85,7 +81,7 @@ returns-in_err-print_line-2-clause-err g c =
     let values = c.deref.result.now in
     let ids = c.in-Ok-erased.erased.items in
     let pins = option_map (λ (line : PinnedLine). line.0.items) c.in-Ok-pinned.pinned in
-    let are : Ended r s values ids pins = record { entries = ap (λ (values : List g.T.type). map Some values) c.deref.ensures.value ∙ c.in-Ok.ensures; erased = c.in-Ok-erased.ensures; pinned = c.in-Ok-pinned.ensures } in
+    let are : Ended r s values ids pins = record { entries = ap (λ (values : List g.row.T.Denot). map Some values) c.deref.ensures.value ∙ c.in-Ok.ensures; erased = c.in-Ok-erased.ensures; pinned = c.in-Ok-pinned.ensures } in
     let held = append_known (g.W.Write.contents c.args.out.now) c.args.printer.now.text.items in
     let out = g.W.Write.contents c.print_entries.new.out in
     let first = c.print_entries.new.printer.text.items in
@@ -94,7 +90,6 @@ returns-in_err-print_line-2-clause-err g c =
     let p = err_from_is_err_and c.from_residual-in_err-print_line-2.result c.from_residual-in_err-print_line-2.ensures.1 in
     rw (p.1, p.2) (stops_at_erased r s values ids pins c.in_err-print_line-2.field-0.0 held out first c.print_line.new.self.text.items c.print_line-2.new.self.text.items are err.0 err.1 c.in_ok-print_entries.ensures.ok printed)
 
-
 pub returns-in_err-print_pinned-clause-err : goal.returns-in_err-print_pinned-clause-err
 returns-in_err-print_pinned-clause-err g c =
     let r = (rules_of g.C.TextForm.text g.C.TextForm.fits g.T.TextForm.text g.K.ScriptWorld.rules) in
@@ -102,7 +97,7 @@ returns-in_err-print_pinned-clause-err g c =
     let values = c.deref.result.now in
     let ids = c.in-Ok-erased.erased.items in
     let pins = option_map (λ (line : PinnedLine). line.0.items) c.in-Ok-pinned.pinned in
-    let are : Ended r s values ids pins = record { entries = ap (λ (values : List g.T.type). map Some values) c.deref.ensures.value ∙ c.in-Ok.ensures; erased = c.in-Ok-erased.ensures; pinned = c.in-Ok-pinned.ensures } in
+    let are : Ended r s values ids pins = record { entries = ap (λ (values : List g.row.T.Denot). map Some values) c.deref.ensures.value ∙ c.in-Ok.ensures; erased = c.in-Ok-erased.ensures; pinned = c.in-Ok-pinned.ensures } in
     let held = append_known (g.W.Write.contents c.args.out.now) c.args.printer.now.text.items in
     let out = g.W.Write.contents c.print_entries.new.out in
     let first = c.print_entries.new.printer.text.items in
@@ -110,4 +105,3 @@ returns-in_err-print_pinned-clause-err g c =
     let err = c.in_err-print_pinned.ensures.err in
     let p = err_from_is_err_and c.from_residual-in_err-print_pinned.result c.from_residual-in_err-print_pinned.ensures.1 in
     rw (p.1, p.2) (stops_at_pinned r s values ids pins c.in_err-print_pinned.field-0.0 held out first c.print_line.new.self.text.items c.print_line-2.new.self.text.items c.print_pinned.new.printer.text.items are err.0 err.1 c.in_ok-print_entries.ensures.ok printed c.in_ok-print_line-2.ensures.ok)
-

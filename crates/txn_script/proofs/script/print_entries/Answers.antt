@@ -6,7 +6,7 @@ use Rattle.std.proofs.lemmas.List.{append_assoc}
 use Rattle.txn_lines.specs.Printed.{entry_text}
 use Rattle.txn_script.specs.Printed.{with_feed, entries_text}
 use Rattle.std.specs.Io.KnownBytes.{Appends, append_known}
-use Rattle.txn_script.proofs.Ending.{appends_nothing, gathers_line, entries_step}
+use Rattle.txn_script.proofs.Ending.{appends_nothing, entry_printed}
 use Rattle.txn_script.proofs.script.print_entries.Goals as goal
 
 pub loop-index-init : goal.loop-index-init
@@ -15,19 +15,13 @@ loop-index-init g c = ([], appends_nothing (append_known (g.W.Write.contents c.a
 pub loop-index-preserved : goal.loop-index-preserved
 loop-index-preserved g c =
     let before = c.loop-index.invariant in
-    let none = c.loop-index.entry in
-    let line = with_feed (entry_text g.T.TextForm.text (c.loop-index.index + 1) (get_or c.args.entries.now c.loop-index.index none)) in
-    let rest = entries_text g.T.TextForm.text (c.loop-index.index + 1 + 1) (drop (c.loop-index.index + 1) c.args.entries.now) in (
-      before.0 ++ line,
-      gathers_line (append_known (g.W.Write.contents c.args.out.now) c.args.printer.now.text.items) (g.W.Write.contents c.loop-index.out) (g.W.Write.contents c.write_full.new.out) c.loop-index.printer.text.items c.print_line.new.self.text.items c.write_full.new.self.text.items before.0 line before.1 c.in_ok-print_line.ensures.ok c.in_ok-write_full.ensures.ok,
-      append_assoc before.0 line rest ∙ ap (λ more. before.0 ++ more) (sym (entries_step g.T.TextForm.text c.loop-index.index c.args.entries.now none c.loop-index-test.true)) ∙ before.2,
-    )
+    entry_printed g.T.TextForm.text c.args.entries.now c.loop-index.index c.index-entries-index.result (append_known (g.W.Write.contents c.args.out.now) c.args.printer.now.text.items) (g.W.Write.contents c.loop-index.out) (g.W.Write.contents c.write_full.new.out) c.loop-index.printer.text.items c.print_line.new.self.text.items c.write_full.new.self.text.items before.0 c.loop-index-test.true before.1 (c.in_ok-print_line.ensures.ok ∙ ap (λ (value : g.row.T.Denot). c.loop-index.printer.text.items ++ with_feed (entry_text g.T.TextForm.text (c.loop-index.index + 1) value)) c.index-entries-index.is) c.in_ok-write_full.ensures.ok before.2
 
 pub returns-clause-ok : goal.returns-clause-ok
 returns-clause-ok g c =
     let before = c.loop-index.invariant in
     let none_left = drop_of_length-le c.args.entries.now c.loop-index-test.false in
-    let whole = sym (append-nil before.0) ∙ sym (ap (λ (values : List g.T.type). before.0 ++ entries_text g.T.TextForm.text (c.loop-index.index + 1) values) none_left) ∙ before.2 in
+    let whole = sym (append-nil before.0) ∙ sym (ap (λ (values : List g.row.T.Denot). before.0 ++ entries_text g.T.TextForm.text (c.loop-index.index + 1) values) none_left) ∙ before.2 in
     subst (Appends (append_known (g.W.Write.contents c.args.out.now) c.args.printer.now.text.items) (append_known (g.W.Write.contents c.loop-index.out) c.loop-index.printer.text.items)) whole before.1
 
 pub returns-in_err-print_line-clause-err : goal.returns-in_err-print_line-clause-err

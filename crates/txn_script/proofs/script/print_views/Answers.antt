@@ -20,7 +20,7 @@ loop-index-preserved g c =
     let within : index < length views = omega (arith, c.loop-index-test.true, c.views-index-end.ensures, length-map s.views seen_view) in
     let line = view_line g.T.TextForm.text (index + 1) (get_or views index None) in
     let rest = views_text g.T.TextForm.text (index + 1 + 1) (drop (index + 1) views) in
-    let printed = c.in_ok-print_view.ensures.ok ∙ ap (λ (view : Option (View g.T.type)). c.loop-index.printer.text.items ++ view_line g.T.TextForm.text (index + 1) view) (view_there s index within) in (
+    let printed = c.in_ok-print_view.ensures.ok ∙ ap (λ (view : Option (View g.row.T.Denot)). c.loop-index.printer.text.items ++ view_line g.T.TextForm.text (index + 1) view) (view_there s index within) in (
       before.0 ++ line,
       gathers_line (append_known (g.W.Write.contents c.args.out.now) c.args.printer.now.text.items) (g.W.Write.contents c.loop-index.out) (g.W.Write.contents c.write_full.new.out) c.loop-index.printer.text.items c.print_view.new.printer.text.items c.write_full.new.self.text.items before.0 line before.1 printed c.in_ok-write_full.ensures.ok,
       append_assoc before.0 line rest ∙ ap (λ more. before.0 ++ more) (sym (views_step g.T.TextForm.text index views within)) ∙ before.2,
@@ -34,7 +34,7 @@ returns-clause-ok g c =
     let views = seen_views s.views in
     let past : length views ≤ index = omega (arith, c.loop-index-test.false, c.views-index-end.ensures, length-map s.views seen_view) in
     let none_left = drop_of_length-le views past in
-    let whole = sym (append-nil before.0) ∙ sym (ap (λ (left : List (Option (View g.T.type))). before.0 ++ views_text g.T.TextForm.text (index + 1) left) none_left) ∙ before.2 in
+    let whole = sym (append-nil before.0) ∙ sym (ap (λ (left : List (Option (View g.row.T.Denot))). before.0 ++ views_text g.T.TextForm.text (index + 1) left) none_left) ∙ before.2 in
     subst (Appends (append_known (g.W.Write.contents c.args.out.now) c.args.printer.now.text.items) (append_known (g.W.Write.contents c.loop-index.out) c.loop-index.printer.text.items)) whole before.1
 
 pub returns-in_err-print_view-clause-err : goal.returns-in_err-print_view-clause-err
