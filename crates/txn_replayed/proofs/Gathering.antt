@@ -1,12 +1,15 @@
 -- The diaries of recordings, one more at a time.
-use Rattle.std.proofs.Common.{◌≡◌, ◌≤◌, ◌<◌, ◌+◌, ℕ, List, [], ◌∷◌, ◌++◌, Option, map, take, length, get_or, reverse, sym, ◌∙◌, ap, subst}
+use Rattle.std.proofs.Common.{◌≡◌, ◌≤◌, ◌<◌, ◌+◌, ℕ, List, [], ◌∷◌, ◌++◌, Option, Some, map, take, length, get_or, slice_get, reverse, sym, ◌∙◌, ap, subst}
 use Rattle.std.proofs.lemmas.List.{take_more, take-map, take_all, map-append}
 use Rattle.txn_journals.specs.Journals.{Replays}
 use Rattle.txn_journals.specs.Verdict.{Diary}
 use Rattle.txn_journals.specs.Shares.{AreDiaries}
 use Rattle.txn_diary.specs.Diaries.{DiaryState}
+use Rattle.txn_recorded.specs.Calls.{Shows, answer_text}
 use Rattle.txn_recorded.specs.declared.row.Row.{Row}
-use Rattle.txn_replayed.specs.OneHistory.{IsOf, AreOf}
+use Rattle.txn_recorded.specs.declared.row.Row.TheVariants as kinds
+use Rattle.txn_rebuilt.specs.Told.{TellsSame, recording_tells, journal_tells}
+use Rattle.txn_replayed.specs.OneHistory.{as_diary, IsOf, AreOf}
 
 -- one more of a list, as something else
 as_more : {D X : Type 0} (as : D → X) (ds next : List D) (d : D) → next ≡ ds ++ d ∷ [] → map as next ≡ map as ds ++ as d ∷ []
@@ -50,3 +53,8 @@ module _ {T C E : Type 0} (encoded : C → T → List ℕ) (decoded : C → List
       subst (λ n. Replays n (encoded codec) (decoded codec) (epoch_of epochs) (with_epoch epochs) d.client (reverse d.rows) d.part) p
       (subst (λ k. Replays d.page (encoded k) (decoded k) (epoch_of epochs) (with_epoch epochs) d.client (reverse d.rows) d.part) c
       (subst (λ f. Replays d.page (encoded d.codec) (decoded d.codec) (epoch_of f) (with_epoch f) d.client (reverse d.rows) d.part) e r))
+
+module _ {T C E : Type 0} where
+  -- a diary that was made from these rows
+  pub is_of : (page : ℕ) (output : T → Option (List ℕ)) (rows items : List (Row T)) (d : DiaryState T C E) → rows ≡ items → slice_get rows 0 ≡ Some (kinds.Client d.client page) → ((text : T → List ℕ) → Shows output text → TellsSame (recording_tells rows) (journal_tells (answer_text text) 0 d.rows)) → IsOf page output items (as_diary d)
+  is_of page output rows items d at client tells = subst (λ rs. IsOf page output rs (as_diary d)) at (record { client = client; tells = tells })

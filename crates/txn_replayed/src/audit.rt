@@ -56,7 +56,7 @@ fn refusal_of(recording: usize, row: usize, fault: RowFault) -> Refusal {
 }
 
 /// The diary of a recording whose page is this.
-#[tactic(auto, using(crate::proofs::Gathering::replays_at))]
+#[tactic(auto, using(crate::proofs::Gathering::replays_at, crate::proofs::Gathering::is_of))]
 fn diary_of<
     T: Clone + fmt::Display + Drop,
     C: ObjectCodec<T> + Copy + Drop,
