@@ -1,12 +1,14 @@
 -- A recording that is followed row by row.
-use Rattle.std.proofs.Common.{◌≡◌, ◌≤◌, ◌<◌, ◌+◌, ℕ, List, [], ◌∷◌, ◌++◌, Option, length, drop, get_or, refl, sym, ◌∙◌, ap, subst}
+use Rattle.std.proofs.Common.{◌≡◌, ◌≤◌, ◌<◌, ◌+◌, ℕ, List, [], ◌∷◌, ◌++◌, Option, Some, length, drop, get_or, slice_get, refl, sym, ◌∙◌, ap, subst}
 use Rattle.std.proofs.lemmas.List.{append_assoc, append-nil, drop_more, drop_all}
 use Rattle.txn_journals.specs.declared.rows.JournalRow.{JournalRow}
-use Rattle.txn_recorded.specs.Calls.{Shows}
+use Rattle.txn_recorded.specs.Calls.{Shows, answer_text}
 use Rattle.txn_recorded.specs.declared.row.Row.{Row}
+use Rattle.txn_recorded.specs.declared.row.Row.TheVariants as kinds
 use Rattle.txn_rebuilt.specs.declared.stage.Stage.{Stage}
-use Rattle.txn_rebuilt.specs.Told.{Told, row_tells, recording_tells}
-use Rattle.txn_rebuilt.specs.Stages.{Stands, Goes}
+use Rattle.txn_rebuilt.specs.declared.stage.Stage.TheVariants as stages
+use Rattle.txn_rebuilt.specs.Told.{Told, row_tells, recording_tells, journal_tells}
+use Rattle.txn_rebuilt.specs.Stages.{all_begun, IsAt, Stands, Goes}
 
 module _ {T : Type 0} where
   -- what has been told at a place, and with the rows that are left all that the recording tells after its first row
@@ -40,3 +42,15 @@ module _ {T : Type 0} where
   leads_all output rows place before after k m s u le leads text shows recorded stands =
       let on = leads text shows recorded stands in
       subst (λ told. Stands text told after m u) (sym (append-nil on.so_far) ∙ (ap (λ rs. on.so_far ++ recording_tells rs) (sym (drop_all place rows le)) ∙ on.whole)) on.stands
+
+  -- before the second row nothing has been told
+  pub opened_stands : (text : T → List ℕ) (before : List (JournalRow T)) (begun : ℕ) (stage : Stage) → before ≡ [] → begun ≡ 0 → stage ≡ stages.Idle → Stands text [] before begun stage
+  opened_stands text before begun stage rows count idle =
+      (ap (all_begun 0) rows ∙ sym count, subst (IsAt begun [] (journal_tells (answer_text text) 0 before)) (sym idle) (sym (ap (journal_tells (answer_text text) 0) rows)))
+
+  -- a first row that names the client tells nothing
+  pub tells_all : (rows : List (Row T)) (client page : ℕ) → slice_get rows 0 ≡ Some (kinds.Client client page) → recording_tells (drop 1 rows) ≡ recording_tells rows
+  tells_all [] client page e = cc
+  tells_all (row ∷ rows) client page e =
+      let is : row ≡ kinds.Client client page = cc in
+      ap (λ r. row_tells r ++ recording_tells rows) (sym is)

@@ -1,10 +1,10 @@
 -- A journal with one row more, and what is then known of its client.
-use Rattle.std.proofs.Common.{◌≡◌, ℕ, ◌+◌, List, [], ◌∷◌, ◌++◌, true, false, Option, Some, None, string_bytes, refl, sym, ◌∙◌, ap, subst}
+use Rattle.std.proofs.Common.{◌≡◌, ℕ, ◌+◌, List, [], ◌∷◌, ◌++◌, false, Option, Some, None, string_bytes, refl, sym, ◌∙◌, ap, subst}
 use Rattle.std.proofs.lemmas.List.{append_assoc, append-nil}
 use Rattle.std.specs.Borrow.{Bor}
 use Rattle.txn_store.specs.declared.request.Request.{Request}
 use Rattle.txn_store.specs.declared.request.Reply.{Reply}
-use Rattle.txn_history.specs.Seen.{Ask, Store}
+use Rattle.txn_history.specs.Seen.{Store}
 use Rattle.txn_view_history.specs.declared.event.AnyCall.{AnyCall}
 use Rattle.txn_view_history.specs.declared.event.AnyAnswer.{AnyAnswer}
 use Rattle.txn_journals.specs.declared.rows.Act.{Act}
@@ -18,7 +18,7 @@ use Rattle.txn_journals.specs.Journals.{goes_on, Follows, FailsAt}
 use Rattle.txn_clients.specs.Operations.{asked_of}
 use Rattle.txn_diary.specs.Diaries.{DiaryState, asked_in}
 use Rattle.txn_diary.proofs.Stepping.{asks_alive}
-use Rattle.txn_diary.specs.Reading.{op_of, begun_by}
+use Rattle.txn_diary.specs.Reading.{begun_by}
 use Rattle.txn_recorded.specs.Calls.{answer_text}
 use Rattle.txn_rebuilt.specs.declared.stage.Stage.{Stage}
 use Rattle.txn_rebuilt.specs.declared.stage.Stage.TheVariants as stages
@@ -70,10 +70,10 @@ module _ {T : Type 0} where
       let tells : recorded ≡ journal_tells words 0 rows ++ Asked begun asked.now ∷ [] = subst (IsAt begun recorded (journal_tells words 0 rows)) asks stands.1 in
       let row : ℕ → JournalRow T = λ n. record { step = steps.Act n (acts.Receive receipt); answer = answer } in
       acted text rows next begun (acts.Receive receipt) answer (recorded ++ Replied op reply ∷ []) stage (adds ∙ ap (λ n. rows ++ row n ∷ []) last) stands.0
-        (ap (λ xs. xs ++ Replied op reply ∷ []) tells ∙ (append_assoc (journal_tells words 0 rows) (Asked begun asked.now ∷ []) (Replied op reply ∷ [])
-        ∙ (ap (λ n. journal_tells words 0 rows ++ Asked begun asked.now ∷ Replied n reply ∷ []) last
-        ∙ (ap (λ r. journal_tells words 0 rows ++ Asked begun r ∷ Replied begun reply ∷ []) (sym request)
-        ∙ ap (λ r. journal_tells words 0 rows ++ Asked begun receipt.request ∷ Replied begun r ∷ []) (sym given))))) is
+      (ap (λ xs. xs ++ Replied op reply ∷ []) tells ∙ (append_assoc (journal_tells words 0 rows) (Asked begun asked.now ∷ []) (Replied op reply ∷ [])
+      ∙ (ap (λ n. journal_tells words 0 rows ++ Asked begun asked.now ∷ Replied n reply ∷ []) last
+      ∙ (ap (λ r. journal_tells words 0 rows ++ Asked begun r ∷ Replied begun reply ∷ []) (sym request)
+      ∙ ap (λ r. journal_tells words 0 rows ++ Asked begun receipt.request ∷ Replied begun r ∷ []) (sym given))))) is
 
   -- its store call failed
   pub failed : (text : T → List ℕ) (rows next : List (JournalRow T)) (begun op : ℕ) (request : Request) (asked : Bor Request) (answer : Option (AnyAnswer T)) (recorded : List (Told T)) (before stage : Stage) → next ≡ rows ++ record { step = steps.Act op (acts.Fails request); answer = answer } ∷ [] → op ≡ begun → request ≡ asked.now → before ≡ stages.Asks asked → Stands text recorded rows begun before → IsStageOf (answer_text text) answer stage → Stands text (recorded ++ Failed op ∷ []) next begun stage
@@ -82,9 +82,9 @@ module _ {T : Type 0} where
       let tells : recorded ≡ journal_tells words 0 rows ++ Asked begun asked.now ∷ [] = subst (IsAt begun recorded (journal_tells words 0 rows)) asks stands.1 in
       let row : ℕ → JournalRow T = λ n. record { step = steps.Act n (acts.Fails request); answer = answer } in
       acted text rows next begun (acts.Fails request) answer (recorded ++ Failed op ∷ []) stage (adds ∙ ap (λ n. rows ++ row n ∷ []) last) stands.0
-        (ap (λ xs. xs ++ Failed op ∷ []) tells ∙ (append_assoc (journal_tells words 0 rows) (Asked begun asked.now ∷ []) (Failed op ∷ [])
-        ∙ (ap (λ n. journal_tells words 0 rows ++ Asked begun asked.now ∷ Failed n ∷ []) last
-        ∙ ap (λ r. journal_tells words 0 rows ++ Asked begun r ∷ Failed begun ∷ []) (sym same)))) is
+      (ap (λ xs. xs ++ Failed op ∷ []) tells ∙ (append_assoc (journal_tells words 0 rows) (Asked begun asked.now ∷ []) (Failed op ∷ [])
+      ∙ (ap (λ n. journal_tells words 0 rows ++ Asked begun asked.now ∷ Failed n ∷ []) last
+      ∙ ap (λ r. journal_tells words 0 rows ++ Asked begun r ∷ Failed begun ∷ []) (sym same)))) is
 
   -- it is given up
   pub gave_up : (text : T → List ℕ) (rows next : List (JournalRow T)) (begun op : ℕ) (left : Option Request) (answer : Option (AnyAnswer T)) (recorded : List (Told T)) (before : Stage) → next ≡ rows ++ record { step = steps.Act op (acts.GiveUp left); answer = answer } ∷ [] → op ≡ begun → answer ≡ None → before ≡ stages.Runs → Stands text recorded rows begun before → Stands text (recorded ++ GaveUp op ∷ []) next begun stages.Runs
@@ -93,7 +93,7 @@ module _ {T : Type 0} where
       let tells : recorded ≡ journal_tells words 0 rows = subst (IsAt begun recorded (journal_tells words 0 rows)) runs stands.1 in
       let row : ℕ → Option (AnyAnswer T) → JournalRow T = λ n a. record { step = steps.Act n (acts.GiveUp left); answer = a } in
       acted text rows next begun (acts.GiveUp left) None (recorded ++ GaveUp op ∷ []) stages.Runs (adds ∙ (ap (λ n. rows ++ row n answer ∷ []) last ∙ ap (λ a. rows ++ row begun a ∷ []) none)) stands.0
-        (ap (λ xs. xs ++ GaveUp op ∷ []) tells ∙ ap (λ n. journal_tells words 0 rows ++ GaveUp n ∷ []) last) refl
+      (ap (λ xs. xs ++ GaveUp op ∷ []) tells ∙ ap (λ n. journal_tells words 0 rows ++ GaveUp n ∷ []) last) refl
 
   -- A call begins, and is answered or not.
   pub began : (text : T → List ℕ) (rows next : List (JournalRow T)) (begun op : ℕ) (call : AnyCall T) (answer : Option (AnyAnswer T)) (recorded : List (Told T)) (stage : Stage) → next ≡ rows ++ record { step = steps.Begin call; answer = answer } ∷ [] → all_begun 0 rows ≡ begun → op ≡ begun + 1 → recorded ≡ journal_tells (answer_text text) 0 rows → IsStageOf (answer_text text) answer stage → Stands text (recorded ++ Began op call ∷ []) next op stage
@@ -103,7 +103,7 @@ module _ {T : Type 0} where
       let here : all_begun 0 rows + 1 ≡ op = ap (λ n. n + 1) count ∙ sym number in (
         ap (all_begun 0) adds ∙ (begun_more 0 rows row ∙ here),
         at_stage words op (recorded ++ Began op call ∷ []) (journal_tells words 0 next) (journal_tells words 0 rows) (Began op call ∷ []) answer stage (ap (λ xs. xs ++ Began op call ∷ []) tells)
-          (ap (journal_tells words 0) adds ∙ (tells_more words 0 rows row ∙ ap (λ n. journal_tells words 0 rows ++ ((Began n call ∷ []) ++ answer_tells words n answer)) here)) is,
+            (ap (journal_tells words 0) adds ∙ (tells_more words 0 rows row ∙ ap (λ n. journal_tells words 0 rows ++ ((Began n call ∷ []) ++ answer_tells words n answer)) here)) is,
       )
 
   -- a client that is killed tells nothing more

@@ -3,5 +3,4 @@
 
 pub mod fault;
 pub mod rebuild;
-
 mod stage;

@@ -118,9 +118,7 @@ fn follow<'a, T: Clone + fmt::Display + Drop, C: ObjectCodec<T> + Drop, E: Epoch
     for place in 1..rows.len() {
         let row = &rows[place];
         let at = places.get(replies).copied();
-        if is_reply(row) {
-            replies += 1;
-        }
+        replies = counted(replies, row);
         if let Err(fault) = rebuilding.take(alloc, row, at) {
             return Err((place, fault));
         }
@@ -128,7 +126,10 @@ fn follow<'a, T: Clone + fmt::Display + Drop, C: ObjectCodec<T> + Drop, E: Epoch
     Ok(())
 }
 
-/// Whether a row is a reply.
-fn is_reply<T>(row: &Row<T>) -> bool {
-    matches!(row, Row::Reply(_, _, _))
+/// So many replies, and one more where a row is a reply.
+fn counted<T>(replies: usize, row: &Row<T>) -> usize {
+    match row {
+        Row::Reply(_, _, _) => replies.saturating_add(1),
+        _ => replies,
+    }
 }

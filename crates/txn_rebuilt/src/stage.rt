@@ -124,9 +124,12 @@ pub(crate) struct Rebuilding<'a, T: Clone, C: ObjectCodec<T> + Drop, E: EpochFie
     pub stage: Stage<'a>,
 }
 
-impl<'a, T: Clone + fmt::Display + Drop, C: ObjectCodec<T> + Drop, E: EpochField<T>>
-    Rebuilding<'a, T, C, E>
-{
+impl<'a, T: Clone + fmt::Display + Drop, C: ObjectCodec<T> + Drop, E: EpochField<T>> Rebuilding<
+    'a,
+    T,
+    C,
+    E,
+> {
     /// The operation looks at its client's caches once.
     fn look(&mut self, alloc: Global) -> Result<(), RowFault>
         requires exact { IsExactClone T.is_clone }
@@ -269,12 +272,7 @@ impl<'a, T: Clone + fmt::Display + Drop, C: ObjectCodec<T> + Drop, E: EpochField
     }
 
     /// The client makes a row, but for the looks after it. Of a reply, this is its place in the order, if it has one.
-    fn make(
-        &mut self,
-        alloc: Global,
-        row: &'a Row<T>,
-        place: Option<u64>,
-    ) -> Result<(), RowFault>
+    fn make(&mut self, alloc: Global, row: &'a Row<T>, place: Option<u64>) -> Result<(), RowFault>
         requires { IsExactClone T.is_clone }
         ensures told { OnOk result (Goes T.output (row_tells row.now) self.old.diary.rows self.old.begun self.old.stage self.new.diary.rows self.new.begun self.new.stage) }
         ensures same { OnOk result (IsSameClient self.old.diary self.new.diary) }
@@ -303,7 +301,8 @@ impl<'a, T: Clone + fmt::Display + Drop, C: ObjectCodec<T> + Drop, E: EpochField
         ensures same { OnOk result (IsSameClient self.old.diary self.new.diary) }
     {
         self.make(alloc, row, place)?;
-        self.look_on(alloc)
+        self.look_on(alloc)?;
+        Ok(())
     }
 
     /// The recording ends. A client of which an operation runs, or an answer is not written, was killed.

@@ -331,11 +331,7 @@ fn is_text(written: &str, text: &str) -> bool
 pub fn read_row<
     T: fmt::Display + Drop,
     F: Fn(Global, &str) -> Result<Option<AnyCall<T>>, AllocError>,
->(
-    alloc: Global,
-    text: &str,
-    read_call: &F,
-) -> Result<Row<T>, TextFault>
+>(alloc: Global, text: &str, read_call: &F) -> Result<Row<T>, TextFault>
     requires { F.IsAlwaysCallable read_call.now }
     // What is read is the row that the text is written of.
     ensures { (shown : T → List ℕ) → Shows T.output shown → IfOk result (λ row. text.now ≡ row_text shown row) }

@@ -1,14 +1,21 @@
--- The diaries of recordings, one more at a time, and what an audit of them promises.
-use Rattle.std.proofs.Common.{◌≡◌, ◌<◌, ◌+◌, ℕ, List, [], ◌∷◌, ◌++◌, Option, take, length, get_or, reverse, sym, ◌∙◌, ap, subst}
-use Rattle.std.proofs.lemmas.List.{take_more}
+-- The diaries of recordings, one more at a time.
+use Rattle.std.proofs.Common.{◌≡◌, ◌≤◌, ◌<◌, ◌+◌, ℕ, List, [], ◌∷◌, ◌++◌, Option, Some, map, take, length, get_or, slice_get, reverse, sym, ◌∙◌, ap, subst}
+use Rattle.std.proofs.lemmas.List.{take_more, take-map, take_all, map-append}
 use Rattle.txn_journals.specs.Journals.{Replays}
 use Rattle.txn_journals.specs.Verdict.{Diary}
 use Rattle.txn_journals.specs.Shares.{AreDiaries}
+use Rattle.txn_diary.specs.Diaries.{DiaryState}
+use Rattle.txn_recorded.specs.Calls.{Shows, answer_text}
 use Rattle.txn_recorded.specs.declared.row.Row.{Row}
-use Rattle.txn_replayed.specs.OneHistory.{IsOf, AreOf}
+use Rattle.txn_recorded.specs.declared.row.Row.TheVariants as kinds
+use Rattle.txn_rebuilt.specs.Told.{TellsSame, recording_tells, journal_tells}
+use Rattle.txn_replayed.specs.OneHistory.{as_diary, IsOf, AreOf}
+
+-- one more of a list, as something else
+as_more : {D X : Type 0} (as : D → X) (ds next : List D) (d : D) → next ≡ ds ++ d ∷ [] → map as next ≡ map as ds ++ as d ∷ []
+as_more as ds next d adds = ap (map as) adds ∙ map-append as ds (d ∷ [])
 
 module _ {T : Type 0} (page : ℕ) (output : T → Option (List ℕ)) where
-  -- one diary more
   of_more : (recordings : List (List (Row T))) (ds : List (Diary T)) (rows : List (Row T)) (d : Diary T) → AreOf page output recordings ds → IsOf page output rows d → AreOf page output (recordings ++ rows ∷ []) (ds ++ d ∷ [])
   of_more [] [] rows d are is = (is, tt)
   of_more [] (e ∷ ds) rows d are is = absurd are
@@ -16,10 +23,19 @@ module _ {T : Type 0} (page : ℕ) (output : T → Option (List ℕ)) where
   of_more (r ∷ rs) (e ∷ ds) rows d are is = (are.0, of_more rs ds rows d are.1 is)
 
   -- the diary of the recording at this place
-  pub of_next : (all : List (List (Row T))) (i : ℕ) (ds next : List (Diary T)) (rows : List (Row T)) (d : Diary T) → i < length all → get_or all i rows ≡ rows → next ≡ ds ++ d ∷ [] → AreOf page output (take i all) ds → IsOf page output rows d → AreOf page output (take (i + 1) all) next
-  of_next all i ds next rows d lt at adds are is =
-      subst (AreOf page output (take (i + 1) all)) (sym adds)
-      (subst (λ rs. AreOf page output rs (ds ++ d ∷ [])) (sym (take_more all i rows lt ∙ ap (λ r. take i all ++ r ∷ []) at)) (of_more (take i all) ds rows d are is))
+  pub of_next : {V D : Type 0} (rows_of : V → List (Row T)) (as : D → Diary T) (recordings : List V) (i : ℕ) (ds next : List D) (v : V) (d : D) → i < length recordings → v ≡ get_or recordings i v → next ≡ ds ++ d ∷ [] → AreOf page output (take i (map rows_of recordings)) (map as ds) → IsOf page output (rows_of v) (as d) → AreOf page output (take (i + 1) (map rows_of recordings)) (map as next)
+  of_next rows_of as recordings i ds next v d lt at adds are is =
+      let all = map rows_of recordings in
+      let more : take (i + 1) all ≡ take i all ++ rows_of v ∷ [] =
+          take-map rows_of (i + 1) recordings ∙ (ap (map rows_of) (take_more recordings i v lt ∙ ap (λ x. take i recordings ++ x ∷ []) (sym at))
+          ∙ (map-append rows_of (take i recordings) (v ∷ []) ∙ ap (λ xs. xs ++ rows_of v ∷ []) (sym (take-map rows_of i recordings)))) in
+      subst (AreOf page output (take (i + 1) all)) (sym (as_more as ds next d adds))
+      (subst (λ rs. AreOf page output rs (map as ds ++ as d ∷ [])) (sym more) (of_more (take i all) (map as ds) (rows_of v) (as d) are is))
+
+  -- after the last recording
+  pub of_all : {V D : Type 0} (rows_of : V → List (Row T)) (as : D → Diary T) (recordings : List V) (i : ℕ) (ds : List D) → length recordings ≤ i → AreOf page output (take i (map rows_of recordings)) (map as ds) → AreOf page output (map rows_of recordings) (map as ds)
+  of_all rows_of as recordings i ds le are =
+      subst (λ rs. AreOf page output rs (map as ds)) (take-map rows_of i recordings ∙ ap (map rows_of) (take_all i recordings le)) are
 
 module _ {T : Type 0} (page : ℕ) (encode : T → List ℕ) (decode : List ℕ → Option T) (get_epoch : T → ℕ) (set_epoch : T → ℕ → T) where
   diary_more : (ds : List (Diary T)) (d : Diary T) → AreDiaries page encode decode get_epoch set_epoch ds → Replays page encode decode get_epoch set_epoch d.client (reverse d.rows) d.part → AreDiaries page encode decode get_epoch set_epoch (ds ++ d ∷ [])
@@ -27,5 +43,18 @@ module _ {T : Type 0} (page : ℕ) (encode : T → List ℕ) (decode : List ℕ 
   diary_more (e ∷ ds) d are is = (are.0, diary_more ds d are.1 is)
 
   -- one diary more
-  pub diaries_next : (ds next : List (Diary T)) (d : Diary T) → next ≡ ds ++ d ∷ [] → AreDiaries page encode decode get_epoch set_epoch ds → Replays page encode decode get_epoch set_epoch d.client (reverse d.rows) d.part → AreDiaries page encode decode get_epoch set_epoch next
-  diaries_next ds next d adds are is = subst (AreDiaries page encode decode get_epoch set_epoch) (sym adds) (diary_more ds d are is)
+  pub diaries_next : {D : Type 0} (as : D → Diary T) (ds next : List D) (d : D) → next ≡ ds ++ d ∷ [] → AreDiaries page encode decode get_epoch set_epoch (map as ds) → Replays page encode decode get_epoch set_epoch (as d).client (reverse (as d).rows) (as d).part → AreDiaries page encode decode get_epoch set_epoch (map as next)
+  diaries_next as ds next d adds are is = subst (AreDiaries page encode decode get_epoch set_epoch) (sym (as_more as ds next d adds)) (diary_more (map as ds) (as d) are is)
+
+module _ {T C E : Type 0} (encoded : C → T → List ℕ) (decoded : C → List ℕ → Option T) (epoch_of : E → T → ℕ) (with_epoch : E → T → ℕ → T) where
+  -- a journal replays with the page, the codec and the field of epochs that its client has
+  pub replays_at : (d : DiaryState T C E) (page : ℕ) (codec : C) (epochs : E) → d.page ≡ page → d.codec ≡ codec → d.epochs ≡ epochs → Replays d.page (encoded d.codec) (decoded d.codec) (epoch_of d.epochs) (with_epoch d.epochs) d.client (reverse d.rows) d.part → Replays page (encoded codec) (decoded codec) (epoch_of epochs) (with_epoch epochs) d.client (reverse d.rows) d.part
+  replays_at d page codec epochs p c e r =
+      subst (λ n. Replays n (encoded codec) (decoded codec) (epoch_of epochs) (with_epoch epochs) d.client (reverse d.rows) d.part) p
+      (subst (λ k. Replays d.page (encoded k) (decoded k) (epoch_of epochs) (with_epoch epochs) d.client (reverse d.rows) d.part) c
+      (subst (λ f. Replays d.page (encoded d.codec) (decoded d.codec) (epoch_of f) (with_epoch f) d.client (reverse d.rows) d.part) e r))
+
+module _ {T C E : Type 0} where
+  -- a diary that was made from these rows
+  pub is_of : (page : ℕ) (output : T → Option (List ℕ)) (rows items : List (Row T)) (d : DiaryState T C E) → rows ≡ items → slice_get rows 0 ≡ Some (kinds.Client d.client page) → ((text : T → List ℕ) → Shows output text → TellsSame (recording_tells rows) (journal_tells (answer_text text) 0 d.rows)) → IsOf page output items (as_diary d)
+  is_of page output rows items d at client tells = subst (λ rs. IsOf page output rs (as_diary d)) at (record { client = client; tells = tells })

@@ -1,6 +1,7 @@
 //! The audit of recordings.
-ghost use Rattle.std.specs.Prelude.{◌≡◌, ◌≤◌, IfOk, map};
+ghost use Rattle.std.specs.Prelude.{◌≡◌, ◌≤◌, IfOk, map, reverse};
 ghost use Rattle.txn_types.specs.Clones.{IsExactClone};
+ghost use Rattle.txn_journals.specs.Journals.{Replays};
 ghost use Rattle.txn_journals.specs.Shares.{AreDiaries};
 ghost use Rattle.txn_replayed.specs.OneHistory.{as_diary, IsOf, AreOf, IsOneHistoryOf};
 
@@ -35,7 +36,13 @@ fn page_of<T>(recordings: &[Vec<Row<T>>]) -> u64
         return 1;
     };
     match rows.first() {
-        Some(Row::Client(_, page)) if *page != 0 => *page,
+        Some(Row::Client(_, page)) => {
+            if *page == 0 {
+                1
+            } else {
+                *page
+            }
+        }
         _ => 1,
     }
 }
@@ -49,6 +56,7 @@ fn refusal_of(recording: usize, row: usize, fault: RowFault) -> Refusal {
 }
 
 /// The diary of a recording whose page is this.
+#[tactic(auto, using(crate::proofs::Gathering::replays_at, crate::proofs::Gathering::is_of))]
 fn diary_of<
     T: Clone + fmt::Display + Drop,
     C: ObjectCodec<T> + Copy + Drop,
@@ -59,18 +67,19 @@ fn diary_of<
     epochs: E,
     page: u64,
     recording: usize,
-    rows: &[Row<T>],
+    rows: &Vec<Row<T>>,
     places: &[u64],
 ) -> Result<Diary<T, C, E>, Refusal>
     requires exact { IsExactClone T.is_clone }
     requires paged { 1 ≤ page }
-    ensures of { IfOk result (λ diary. IsOf page T.output rows.now (as_diary diary)) }
-    ensures page { IfOk result (λ diary. diary.page ≡ page) }
-    ensures codec { IfOk result (λ diary. diary.codec ≡ codec) }
-    ensures epochs { IfOk result (λ diary. diary.epochs ≡ epochs) }
+    ensures of { IfOk result (λ diary. IsOf page T.output rows.now.items (as_diary diary)) }
+    ensures replays { IfOk result (λ diary. Replays page (C.encoded codec) (C.decoded codec) (E.epoch_of epochs) (E.with_epoch epochs) diary.client (reverse diary.rows) diary.part) }
 {
-    match rebuild(alloc, codec, epochs, page, rows, places) {
-        Ok(diary) => Ok(diary),
+    match rebuild(alloc, codec, epochs, page, rows.as_slice(), places) {
+        Ok(diary) => {
+            let _ = diary.rows();
+            Ok(diary)
+        }
         Err((row, fault)) => Err(refusal_of(recording, row, fault)),
     }
 }
@@ -103,10 +112,9 @@ fn diaries_of<
 {
     let mut diaries = Vec::new(alloc);
     for recording in 0..recordings.len() {
-        let rows = recordings[recording].as_slice();
+        let rows = &recordings[recording];
         let places = places_in(places, recording);
         let diary = diary_of(alloc, codec, epochs, page, recording, rows, places)?;
-        let _ = diary.rows();
         diaries.push(diary)?;
     }
     Ok(diaries)

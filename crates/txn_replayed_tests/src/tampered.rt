@@ -57,18 +57,73 @@ fn tampered(
     said(alloc, recordings.as_slice())
 }
 
+/// A lie, after how many calls that the store could have lied to it comes, in the play of three clients or of two, and what an
+/// audit then says.
+const LIES: [(Lie, u64, bool, &str); 7] = [
+    (
+        Lie::LosesCreate,
+        1,
+        false,
+        "recording 1, line 9: no honest store replied so to call 6: the files answer otherwise",
+    ),
+    (
+        Lie::MissesFile,
+        2,
+        false,
+        "no order: each of these came before the next, and the last before the first: recording 2, line 21; recording 1, line 21;",
+    ),
+    (
+        Lie::RepeatsToken,
+        1,
+        false,
+        "no order: each of these came before the next, and the last before the first: recording 2, line 11; recording 2, line 3;",
+    ),
+    (
+        Lie::ListsLess,
+        1,
+        false,
+        "no order: each of these came before the next, and the last before the first: recording 2, line 17; recording 1, line 3;",
+    ),
+    (
+        Lie::ChangesBytes,
+        1,
+        false,
+        "recording 1, line 13: no honest store replied so to call 8: the files answer otherwise",
+    ),
+    (
+        Lie::FallsBack,
+        3,
+        true,
+        "no order: each of these came before the next, and the last before the first: recording 3, line 29; recording 2, line 39;",
+    ),
+    (
+        Lie::KeepsFile,
+        1,
+        true,
+        "no order: each of these came before the next, and the last before the first: recording 2, line 35; recording 1, line 3;",
+    ),
+];
+
 #[test]
-fn what_was_tampered_with_is_refused(rt: HostRuntime) -> Result<(), Fail> {
-    let a = rt.alloc();
-    rt.println(lied(a, 2, &TWO, Lie::LosesCreate, 1)?)?;
-    rt.println(lied(a, 2, &TWO, Lie::MissesFile, 2)?)?;
-    rt.println(lied(a, 2, &TWO, Lie::RepeatsToken, 1)?)?;
-    rt.println(lied(a, 2, &TWO, Lie::ListsLess, 1)?)?;
-    rt.println(lied(a, 2, &TWO, Lie::ChangesBytes, 1)?)?;
-    rt.println(lied(a, 3, &THREE, Lie::FallsBack, 3)?)?;
-    rt.println(lied(a, 3, &THREE, Lie::KeepsFile, 1)?)?;
-    rt.println(tampered(a, &number_twice)?)?;
-    rt.println(tampered(a, &other_answer)?)?;
-    rt.println(tampered(a, &without_row)?)?;
+fn lies_are_refused(rt: HostRuntime) -> Result<(), Fail> {
+    for (lie, honest, three, expected) in &LIES {
+        let found = if *three {
+            lied(rt.alloc(), 3, &THREE, *lie, *honest)?
+        } else {
+            lied(rt.alloc(), 2, &TWO, *lie, *honest)?
+        };
+        assert_eq!(rt; found.as_str(), *expected);
+    }
+    Ok(())
+}
+
+#[test]
+fn recordings_that_were_tampered_with_are_refused(rt: HostRuntime) -> Result<(), Fail> {
+    let found = tampered(rt.alloc(), &number_twice)?;
+    assert_eq!(rt; found.as_str(), "two recordings are of one client");
+    let found = tampered(rt.alloc(), &other_answer)?;
+    assert_eq!(rt; found.as_str(), "recording 1, line 25: the operation was answered otherwise");
+    let found = tampered(rt.alloc(), &without_row)?;
+    assert_eq!(rt; found.as_str(), "recording 2, line 3: out of turn");
     Ok(())
 }

@@ -1,8 +1,7 @@
-use Rattle.std.proofs.Common.{◌≤◌}
 use Rattle.txn_rebuilt.specs.Stages.{IsSameClient}
 use Rattle.txn_rebuilt.proofs.Following.{Leads}
 use Rattle.txn_rebuilt.proofs.rebuild.follow.Given as goal
 
--- what the rows so far tell is told, the client is the same, and there were no more replies than rows
+-- what the rows so far tell is told, and the client is the same
 abbrev pub invariant-loop-place : goal.invariant-loop-place
-invariant-loop-place g l = Leads g.T.Display.output l.rows l.place l.fn.rebuilding.diary.rows l.fn.rebuilding.begun l.fn.rebuilding.stage l.rebuilding.diary.rows l.rebuilding.begun l.rebuilding.stage × IsSameClient l.fn.rebuilding.diary l.rebuilding.diary × (l.replies ≤ l.place)
+invariant-loop-place g l = Leads g.T.Display.output l.rows l.place l.fn.rebuilding.diary.rows l.fn.rebuilding.begun l.fn.rebuilding.stage l.rebuilding.diary.rows l.rebuilding.begun l.rebuilding.stage × IsSameClient l.fn.rebuilding.diary l.rebuilding.diary

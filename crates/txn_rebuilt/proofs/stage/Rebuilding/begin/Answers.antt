@@ -1,4 +1,4 @@
-use Rattle.std.proofs.Common.{sym, ◌∙◌, ap, subst, ◌++◌, ◌∷◌, [], ◌+◌, length}
+use Rattle.std.proofs.Common.{◌∙◌, ap, subst, ◌++◌, ◌∷◌, [], ◌+◌, length}
 use Rattle.txn_history.specs.declared.event.ToldOf.TheVariants as told
 use Rattle.txn_journals.specs.declared.rows.Step.TheVariants as steps
 use Rattle.txn_recorded.specs.Calls.{answer_text}

@@ -1,4 +1,4 @@
-use Rattle.std.proofs.Common.{sym, ◌∙◌, ap}
+use Rattle.std.proofs.Common.{sym, ◌∙◌}
 use Rattle.txn_history.specs.declared.event.ToldOf.TheVariants as told
 use Rattle.txn_rebuilt.proofs.Telling.{failed, failed_request}
 use Rattle.txn_rebuilt.proofs.stage.Rebuilding.fail.Goals as goal

@@ -16,4 +16,4 @@ pub returns-in-GiveUp-clause-told : goal.returns-in-GiveUp-clause-told
 returns-in-GiveUp-clause-told g c = rw c.in-GiveUp.is c.give_up.ensures.told
 
 pub returns-in-Answer-clause-told : goal.returns-in-Answer-clause-told
-returns-in-Answer-clause-told g c = rw c.in-Answer.is c.answer.ensures.told
+returns-in-Answer-clause-told g c = rw c.in-Answer.is (rw c.as_str.ensures.value at c.answer.ensures.told)

@@ -1,4 +1,3 @@
-use Rattle.std.proofs.Common.{sym, ◌∙◌, ap}
 use Rattle.txn_history.specs.declared.event.ToldOf.TheVariants as told
 use Rattle.txn_rebuilt.proofs.Telling.{replied}
 use Rattle.txn_rebuilt.proofs.stage.Rebuilding.reply.Goals as goal

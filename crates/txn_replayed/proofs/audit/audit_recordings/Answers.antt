@@ -1,0 +1,24 @@
+use Rattle.std.proofs.Common.{map, reverse, subst, arith, Ok}
+use Rattle.txn_journals.specs.Logs.{IsLog}
+use Rattle.txn_journals.specs.Verdict.{IsDue, clients_in}
+use Rattle.txn_replayed.specs.OneHistory.{as_diary}
+use Rattle.txn_replayed.proofs.audit.audit_recordings.Goals as goal
+
+pub returns : goal.returns
+returns g c =
+    let page = c.page_of-page.result in
+    let ds = map as_diary c.in_ok-diaries.diaries.items in
+    let log = c.in_ok-log.log in
+    let store = c.log.ensures.leads.0 in
+    let is_log = subst (λ rows. IsLog (reverse rows) store) c.log.ensures.rows c.log.ensures.leads.1 in
+    let agrees = subst (λ diaries. IsDue log (map as_diary diaries) (Ok tt)) c.as_slice.ensures.value c.in_ok-audit.ensures in
+    record {
+      page = page;
+      paged = c.page_of-page.ensures;
+      store = store;
+      is_log = is_log;
+      told = c.in_ok-diaries.ensures.told;
+      diaries = c.in_ok-diaries.ensures.diaries;
+      agrees = agrees;
+      shares = c.clients_share_only_the_store.ensures page (clients_in ds) log ds store c.page_of-page.ensures (omega arith) is_log c.in_ok-diaries.ensures.diaries agrees;
+    }
