@@ -2,5 +2,4 @@
 #![tactic(auto)]
 
 pub mod entry;
-pub mod line;
 pub mod text;

@@ -9,6 +9,7 @@ use percent_encoding::{AsciiSet, CONTROLS, ascii_set, percent_decode, percent_en
 use std::alloc::{AllocError, Global};
 use std::fmt;
 use txn_lines::numerals::read_decimal;
+use txn_lines::text_form::{LineValue, TextForm};
 
 /// The bytes that a text does not show as they are, beside those outside ASCII: the controls, the space and `%`.
 pub const ESCAPED: AsciiSet = ascii_set!(CONTROLS.add(b' ').add(b'%'));
@@ -52,6 +53,32 @@ pub fn decode(alloc: Global, text: &str) -> Result<Option<Entry>, AllocError>
     } else {
         Ok(None)
     }
+}
+
+impl TextForm for Entry {
+    ghost use Rattle.txn_entries.specs.Text.{entry_text, IsEntry};
+    ghost use Rattle.txn_entries.specs.TextLaws.{entry_utf8};
+
+    ghost text = { entry_text };
+
+    ghost fits = { IsEntry };
+
+    ghost is_utf8 = { entry_utf8 };
+
+    fn read_text(alloc: Global, words: &str) -> Result<Option<Entry>, AllocError> {
+        decode(alloc, words)
+    }
+
+    /// A payload has no bound.
+    fn most_bytes() -> Option<usize> {
+        None
+    }
+}
+
+impl LineValue for Entry {
+    ghost use Rattle.std.proofs.Common.{refl};
+
+    ghost shows = { λ v. refl };
 }
 
 /// The entry of a text that may have more escapes than it needs, or signs that are none.
