@@ -12,8 +12,8 @@ use Rattle.txn_rebuilt.specs.Told.{TellsSame, recording_tells, journal_tells}
 use Rattle.txn_replayed.specs.OneHistory.{as_diary, IsOf, AreOf}
 
 -- one more of a list, as something else
-as_more : {D X : Type 0} (as : D → X) (ds next : List D) (d : D) → next ≡ ds ++ d ∷ [] → map as next ≡ map as ds ++ as d ∷ []
-as_more as ds next d adds = ap (map as) adds ∙ map-append as ds (d ∷ [])
+as_more : {D X : Type 0} (see : D → X) (ds next : List D) (d : D) → next ≡ ds ++ d ∷ [] → map see next ≡ map see ds ++ see d ∷ []
+as_more see ds next d adds = ap (map see) adds ∙ map-append see ds (d ∷ [])
 
 module _ {T : Type 0} (page : ℕ) (output : T → Option (List ℕ)) where
   of_more : (recordings : List (List (Row T))) (ds : List (Diary T)) (rows : List (Row T)) (d : Diary T) → AreOf page output recordings ds → IsOf page output rows d → AreOf page output (recordings ++ rows ∷ []) (ds ++ d ∷ [])
@@ -23,19 +23,19 @@ module _ {T : Type 0} (page : ℕ) (output : T → Option (List ℕ)) where
   of_more (r ∷ rs) (e ∷ ds) rows d are is = (are.0, of_more rs ds rows d are.1 is)
 
   -- the diary of the recording at this place
-  pub of_next : {V D : Type 0} (rows_of : V → List (Row T)) (as : D → Diary T) (recordings : List V) (i : ℕ) (ds next : List D) (v : V) (d : D) → i < length recordings → v ≡ get_or recordings i v → next ≡ ds ++ d ∷ [] → AreOf page output (take i (map rows_of recordings)) (map as ds) → IsOf page output (rows_of v) (as d) → AreOf page output (take (i + 1) (map rows_of recordings)) (map as next)
-  of_next rows_of as recordings i ds next v d lt at adds are is =
+  pub of_next : {V D : Type 0} (rows_of : V → List (Row T)) (see : D → Diary T) (recordings : List V) (i : ℕ) (ds next : List D) (v : V) (d : D) → i < length recordings → v ≡ get_or recordings i v → next ≡ ds ++ d ∷ [] → AreOf page output (take i (map rows_of recordings)) (map see ds) → IsOf page output (rows_of v) (see d) → AreOf page output (take (i + 1) (map rows_of recordings)) (map see next)
+  of_next rows_of see recordings i ds next v d lt at adds are is =
       let all = map rows_of recordings in
       let more : take (i + 1) all ≡ take i all ++ rows_of v ∷ [] =
-          take-map rows_of (i + 1) recordings ∙ (ap (map rows_of) (take_more recordings i v lt ∙ ap (λ x. take i recordings ++ x ∷ []) (sym at))
-          ∙ (map-append rows_of (take i recordings) (v ∷ []) ∙ ap (λ xs. xs ++ rows_of v ∷ []) (sym (take-map rows_of i recordings)))) in
-      subst (AreOf page output (take (i + 1) all)) (sym (as_more as ds next d adds))
-      (subst (λ rs. AreOf page output rs (map as ds ++ as d ∷ [])) (sym more) (of_more (take i all) (map as ds) (rows_of v) (as d) are is))
+      take-map rows_of (i + 1) recordings ∙ (ap (map rows_of) (take_more recordings i v lt ∙ ap (λ x. take i recordings ++ x ∷ []) (sym at))
+      ∙ (map-append rows_of (take i recordings) (v ∷ []) ∙ ap (λ xs. xs ++ rows_of v ∷ []) (sym (take-map rows_of i recordings)))) in
+      subst (AreOf page output (take (i + 1) all)) (sym (as_more see ds next d adds))
+      (subst (λ rs. AreOf page output rs (map see ds ++ see d ∷ [])) (sym more) (of_more (take i all) (map see ds) (rows_of v) (see d) are is))
 
   -- after the last recording
-  pub of_all : {V D : Type 0} (rows_of : V → List (Row T)) (as : D → Diary T) (recordings : List V) (i : ℕ) (ds : List D) → length recordings ≤ i → AreOf page output (take i (map rows_of recordings)) (map as ds) → AreOf page output (map rows_of recordings) (map as ds)
-  of_all rows_of as recordings i ds le are =
-      subst (λ rs. AreOf page output rs (map as ds)) (take-map rows_of i recordings ∙ ap (map rows_of) (take_all i recordings le)) are
+  pub of_all : {V D : Type 0} (rows_of : V → List (Row T)) (see : D → Diary T) (recordings : List V) (i : ℕ) (ds : List D) → length recordings ≤ i → AreOf page output (take i (map rows_of recordings)) (map see ds) → AreOf page output (map rows_of recordings) (map see ds)
+  of_all rows_of see recordings i ds le are =
+      subst (λ rs. AreOf page output rs (map see ds)) (take-map rows_of i recordings ∙ ap (map rows_of) (take_all i recordings le)) are
 
 module _ {T : Type 0} (page : ℕ) (encode : T → List ℕ) (decode : List ℕ → Option T) (get_epoch : T → ℕ) (set_epoch : T → ℕ → T) where
   diary_more : (ds : List (Diary T)) (d : Diary T) → AreDiaries page encode decode get_epoch set_epoch ds → Replays page encode decode get_epoch set_epoch d.client (reverse d.rows) d.part → AreDiaries page encode decode get_epoch set_epoch (ds ++ d ∷ [])
@@ -43,8 +43,8 @@ module _ {T : Type 0} (page : ℕ) (encode : T → List ℕ) (decode : List ℕ 
   diary_more (e ∷ ds) d are is = (are.0, diary_more ds d are.1 is)
 
   -- one diary more
-  pub diaries_next : {D : Type 0} (as : D → Diary T) (ds next : List D) (d : D) → next ≡ ds ++ d ∷ [] → AreDiaries page encode decode get_epoch set_epoch (map as ds) → Replays page encode decode get_epoch set_epoch (as d).client (reverse (as d).rows) (as d).part → AreDiaries page encode decode get_epoch set_epoch (map as next)
-  diaries_next as ds next d adds are is = subst (AreDiaries page encode decode get_epoch set_epoch) (sym (as_more as ds next d adds)) (diary_more (map as ds) (as d) are is)
+  pub diaries_next : {D : Type 0} (see : D → Diary T) (ds next : List D) (d : D) → next ≡ ds ++ d ∷ [] → AreDiaries page encode decode get_epoch set_epoch (map see ds) → Replays page encode decode get_epoch set_epoch (see d).client (reverse (see d).rows) (see d).part → AreDiaries page encode decode get_epoch set_epoch (map see next)
+  diaries_next see ds next d adds are is = subst (AreDiaries page encode decode get_epoch set_epoch) (sym (as_more see ds next d adds)) (diary_more (map see ds) (see d) are is)
 
 module _ {T C E : Type 0} (encoded : C → T → List ℕ) (decoded : C → List ℕ → Option T) (epoch_of : E → T → ℕ) (with_epoch : E → T → ℕ → T) where
   -- a journal replays with the page, the codec and the field of epochs that its client has

@@ -1,6 +1,5 @@
 -- What an audit of recordings promises where it agrees. All lists have the oldest first.
 use Rattle.std.specs.Prelude.{◌≡◌, ◌≤◌, ℕ, List, [], ◌∷◌, Option, Some, Ok, reverse, slice_get}
-use Rattle.std.specs.Vec.{Vec}
 use Rattle.txn_store.specs.Store.{State as StoreState}
 use Rattle.txn_journals.specs.declared.rows.LogRow.{LogRow}
 use Rattle.txn_journals.specs.Logs.{IsLog}

@@ -36,13 +36,7 @@ fn page_of<T>(recordings: &[Vec<Row<T>>]) -> u64
         return 1;
     };
     match rows.first() {
-        Some(Row::Client(_, page)) => {
-            if *page == 0 {
-                1
-            } else {
-                *page
-            }
-        }
+        Some(Row::Client(_, page)) => { if *page == 0 { 1 } else { *page } }
         _ => 1,
     }
 }
@@ -56,7 +50,6 @@ fn refusal_of(recording: usize, row: usize, fault: RowFault) -> Refusal {
 }
 
 /// The diary of a recording whose page is this.
-#[tactic(auto, using(crate::proofs::Gathering::replays_at, crate::proofs::Gathering::is_of))]
 fn diary_of<
     T: Clone + fmt::Display + Drop,
     C: ObjectCodec<T> + Copy + Drop,

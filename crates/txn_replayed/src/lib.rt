@@ -4,5 +4,4 @@
 
 pub mod audit;
 pub mod refusal;
-
 mod replay;

@@ -81,7 +81,10 @@ impl fmt::Display for Refusal {
                 write!(f, "recording {recording}, line {row}: {fault}")
             }
             Refusal::Circle(calls) => {
-                write!(f, "no order: each of these came before the next, and the last before the first:")?;
+                write!(
+                    f,
+                    "no order: each of these came before the next, and the last before the first:"
+                )?;
                 for call in calls.as_slice() {
                     let recording = call.recording.saturating_add(1);
                     let row = call.row.saturating_add(1);
@@ -93,7 +96,10 @@ impl fmt::Display for Refusal {
                 let recording = at.recording.saturating_add(1);
                 let row = at.row.saturating_add(1);
                 let name = name_of(*fault);
-                write!(f, "recording {recording}, line {row}: no honest store replied so to call {place}: {name}")
+                write!(
+                    f,
+                    "recording {recording}, line {row}: no honest store replied so to call {place}: {name}"
+                )
             }
             Refusal::Differs(fault) => {
                 let said = difference(*fault);

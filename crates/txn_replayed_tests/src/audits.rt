@@ -66,6 +66,9 @@ fn audited(alloc: Global, clients: u64, scenes: &[Scene]) -> Result<String, Allo
 #[test]
 fn honest_recordings_pass(rt: HostRuntime) -> Result<(), Fail> {
     assert_eq!(rt; audited(rt.alloc(), 2, &TWO)?.as_str(), "one history of 2");
-    assert_eq!(rt; audited(rt.alloc(), 3, &THREE)?.as_str(), "one history of 3");
+    assert_eq!(rt;
+        audited(rt.alloc(), 3, &THREE)?.as_str(),
+        "one history of 3"
+    );
     Ok(())
 }

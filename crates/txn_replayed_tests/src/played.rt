@@ -3,6 +3,7 @@ ghost use Rattle.std.specs.Prelude.{◌≤◌};
 
 use bytes::Bytes;
 use std::alloc::{AllocError, Global};
+use std::ops::Bound;
 use txn_caches::ask::Ask;
 use txn_diary::diary::Diary;
 use txn_history::event::{Call, EventFault};
@@ -14,7 +15,6 @@ use txn_store::in_memory::InMemory;
 use txn_store::page::Listing;
 use txn_store::request::{Reply, Request};
 use txn_store::store::{Got, StoreError, Token};
-use std::ops::Bound;
 use txn_view_history::event::{AnyCall, AnyTold};
 
 /// How many files a page of a listing has.
@@ -103,7 +103,12 @@ fn call_of(deed: Deed) -> AnyCall<Record> {
 }
 
 /// The lie in place of an honest reply, where the store can lie so.
-fn lied(alloc: Global, lie: Lie, request: &Request, reply: &Reply) -> Result<Option<Reply>, AllocError> {
+fn lied(
+    alloc: Global,
+    lie: Lie,
+    request: &Request,
+    reply: &Reply,
+) -> Result<Option<Reply>, AllocError> {
     Ok(match (lie, request, reply) {
         (Lie::MissesFile, Request::Get { .. }, Reply::Get(Ok(_))) => {
             Some(Reply::Get(Err(StoreError::NotFound)))
@@ -120,10 +125,12 @@ fn lied(alloc: Global, lie: Lie, request: &Request, reply: &Reply) -> Result<Opt
             page.metas = Listing::from_vec(metas);
             Some(Reply::List(Ok(page)))
         }
-        (Lie::ChangesBytes, Request::Get { .. }, Reply::Get(Ok(got))) => Some(Reply::Get(Ok(Got {
-            bytes: Bytes::copy_from_slice(alloc, b"0:77")?,
-            token: got.token,
-        }))),
+        (Lie::ChangesBytes, Request::Get { .. }, Reply::Get(Ok(got))) => Some(Reply::Get(Ok(
+            Got {
+                bytes: Bytes::copy_from_slice(alloc, b"0:77")?,
+                token: got.token,
+            },
+        ))),
         (Lie::FallsBack, Request::Get { .. }, Reply::Get(Ok(got))) => {
             if got.bytes.len() < 3 {
                 Some(Reply::Get(Ok(Got {

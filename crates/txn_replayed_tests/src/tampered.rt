@@ -122,7 +122,10 @@ fn recordings_that_were_tampered_with_are_refused(rt: HostRuntime) -> Result<(),
     let found = tampered(rt.alloc(), &number_twice)?;
     assert_eq!(rt; found.as_str(), "two recordings are of one client");
     let found = tampered(rt.alloc(), &other_answer)?;
-    assert_eq!(rt; found.as_str(), "recording 1, line 25: the operation was answered otherwise");
+    assert_eq!(rt;
+        found.as_str(),
+        "recording 1, line 25: the operation was answered otherwise"
+    );
     let found = tampered(rt.alloc(), &without_row)?;
     assert_eq!(rt; found.as_str(), "recording 2, line 3: out of turn");
     Ok(())

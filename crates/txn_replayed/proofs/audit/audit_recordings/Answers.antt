@@ -9,9 +9,9 @@ returns g c =
     let page = c.page_of-page.result in
     let ds = map as_diary c.in_ok-diaries.diaries.items in
     let log = c.in_ok-log.log in
-    let store = c.log.ensures.leads.0 in
-    let is_log = subst (λ rows. IsLog (reverse rows) store) c.log.ensures.rows c.log.ensures.leads.1 in
-    let agrees = subst (λ diaries. IsDue log (map as_diary diaries) (Ok tt)) c.as_slice.ensures.value c.in_ok-audit.ensures in
+    let store = c.log-2.ensures.leads.0 in
+    let is_log = subst (λ rows. IsLog (reverse rows) store) c.log-2.ensures.rows c.log-2.ensures.leads.1 in
+    let agrees = subst (λ diaries. IsDue log (map as_diary diaries) (Ok tt)) c.as_slice-3.ensures.value c.in_ok-audit.ensures in
     record {
       page = page;
       paged = c.page_of-page.ensures;

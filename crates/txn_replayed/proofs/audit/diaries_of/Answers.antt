@@ -1,4 +1,4 @@
-use Rattle.std.proofs.Common.{arith, map}
+use Rattle.std.proofs.Common.{arith}
 use Rattle.txn_replayed.specs.OneHistory.{as_diary}
 use Rattle.txn_replayed.proofs.Gathering.{of_next, of_all, diaries_next}
 use Rattle.txn_replayed.proofs.audit.diaries_of.Goals as goal
