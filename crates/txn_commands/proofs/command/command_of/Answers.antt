@@ -14,5 +14,8 @@ pub returns-in_ok-count_of-in-len3-clause-exact : goal.returns-in_ok-count_of-in
 returns-in_ok-count_of-in-len3-clause-exact c =
     asks_for_threads _ (string_bytes c.mode-item-then-words-lt4.result) (string_bytes c.count-item.result) c.in_ok-count_of-in-len3.field-0
     (three_words string_bytes c.args.words.now c.mode-item-then-words-lt4.result c.count-item.result c.in-len3.len_at_least c.in-len3.len_below c.mode-item-then-words-lt4.is c.count-item.is)
-    (said c.eq-then-words-lt4.result (string_bytes c.mode-item-then-words-lt4.result) _ c.if-eq-2.true (c.eq-then-words-lt4.ensures ∙ ap (λ t. pointwise nat_eq t _) c.as_str-then-words-lt4.ensures.value))
+    (said c.eq-then-words-lt4.result (string_bytes c.mode-item-then-words-lt4.result) _ c.if-eq-3.true (c.eq-then-words-lt4.ensures ∙ ap (λ t. pointwise nat_eq t _) c.as_str-then-words-lt4.ensures.value))
     (λ n fits. subst (λ t. (Some c.in_ok-count_of-in-len3.field-0 ≡ Some n) ↔ (t ≡ count_text n)) c.as_str-in-len3.ensures.value (c.in_ok-count_of-in-len3.ensures.exact n fits))
+
+pub returns-in-len2-2-clause-exact : goal.returns-in-len2-2-clause-exact
+returns-in-len2-2-clause-exact c = ?
