@@ -111,11 +111,12 @@ def together(works):
         raise raised[0]
 
 
-def count_up(shell, times, acknowledged):
-    """Adds one to the payload so many times, again after each conflict. False where the process was killed."""
+def count_up(shell, times, acknowledged, until=float("inf")):
+    """Adds one to the payload so many times, again after each conflict, or until a time. False where the process was
+    killed."""
     answer = shell.ask("load")
     done = 0
-    while done < times:
+    while done < times and time.monotonic() < until:
         found = VIEW.match(answer)
         if not found:
             return False
@@ -167,7 +168,7 @@ def kills(program, root, seconds):
     def count(worker):
         while time.monotonic() < until:
             shells[worker] = Shell(it)
-            count_up(shells[worker], 1_000_000, acknowledged)
+            count_up(shells[worker], 1_000_000, acknowledged, until)
             shells[worker].end()
 
     def raise_boundary():
