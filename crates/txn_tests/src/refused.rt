@@ -3,13 +3,15 @@
 //! for that of a claim.
 use crate::schedules::are;
 use crate::workers::{Records, kept_by};
-use crate::worlds::event_of;
 use std::alloc::{AllocError, Global};
 use std::test::Fail;
 use txn_caches::ask::Ask;
+use txn_lines::line::Line;
 use txn_lines::printed::{BoundaryLine, EntryLine, ErasedLine, ViewLine};
 use txn_lines::record::{Record, RecordCodec, RecordEpoch};
+use txn_lines::text_form::TextForm;
 use txn_threads::kept::Share;
+use txn_view_history::event::AnyCall;
 use txn_view_history::trace::AnyRow;
 use txn_view_history::view::View;
 use txn_world::world::World;
@@ -227,7 +229,8 @@ fn told(
     share: &mut Share,
     line: &str,
 ) -> Result<String, AllocError> {
-    let Ok(event) = event_of(alloc, line) else {
+    let line: Option<Line<AnyCall<Record>>> = TextForm::read_text(alloc, line)?;
+    let Some(Line::Event(event)) = line else {
         return format!(in alloc; "no event");
     };
     match kept.take(share, event) {
