@@ -20,6 +20,8 @@ from refuse_growths import TESTS_ENDING
 BUILDS = ("", ".by-rattle")
 # The program whose scripts the cases are. What any other prints, `rt ci` holds against its own stdout.
 PROGRAM_OF_CASES = "txnworld_cli"
+# The program of which processes are let work on one folder.
+PROGRAM_OF_FOLDERS = "txnobj_cli"
 # How the name of a crate of tests ends.
 TESTS = "_tests"
 LAST_LINE = re.compile(r"(\d+) passed, (\d+) failed")
@@ -172,6 +174,13 @@ def refusal_steps(root, programs):
         yield step("refused growths", [f"{root}/tools/refuse-growths", *builds], root, count_of_refusals)
 
 
+def folder_steps(root, programs):
+    """Lets processes of the program work on one folder at once, where LLVM's build of it was made."""
+    build = builds_of(root, PROGRAM_OF_FOLDERS)[0]
+    if PROGRAM_OF_FOLDERS in programs and os.path.isfile(build):
+        yield step("processes on a folder", [f"{root}/tools/try-folder", build], root)
+
+
 def table(steps):
     """The steps as lines: counts, real time and processor time."""
     width = max(len(it.name) for it in steps)
@@ -212,6 +221,7 @@ def steps_of(root, top, given):
     programs = programs_in(top) if given.crates else sorted({*programs_in(top), PROGRAM_OF_CASES})
     yield from case_steps(top, programs)
     yield from refusal_steps(top, programs)
+    yield from folder_steps(top, programs)
 
 
 def arguments_of(words, usage):

@@ -4,19 +4,15 @@ use crate::audits::{THREE, said};
 use crate::played::{Lie, play};
 use std::alloc::{AllocError, Global};
 use std::test::Fail;
-use txn_lines::line::{Line, read_line};
 use txn_lines::record::Record;
+use txn_lines::text_form::TextForm;
 use txn_recorded::row::Row;
 use txn_recordings::read::{read_row, text_of};
-use txn_view_history::event::{AnyCall, AnyEvent};
+use txn_view_history::event::AnyCall;
 
 /// The call that words say.
 fn read_call(alloc: Global, words: &str) -> Result<Option<AnyCall<Record>>, AllocError> {
-    let line = format!(in alloc; "begin 1 {words}")?;
-    match read_line(line.as_str()) {
-        Some(Line::Event(AnyEvent::Begin(_, call))) => Ok(Some(call)),
-        _ => Ok(None),
-    }
+    AnyCall::<Record>::read_text(alloc, words)
 }
 
 /// The rows that are read of the texts of rows, as far as they are.
