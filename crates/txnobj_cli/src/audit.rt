@@ -129,6 +129,9 @@ fn held(rt: &HostRuntime, files: &[&str], recordings: &Recordings) -> Result<u8,
         Ok(found) => one_history(rt, &found),
         Err(refusal) => {
             println!(rt; "not one history: {refusal}")?;
+            println!(rt;
+                "(an audit wants a recording of each client that wrote, from the first version on)"
+            )?;
             say_places(rt, files, recordings.places.as_slice())?;
             Ok(NOT_ONE_HISTORY)
         }
