@@ -11,7 +11,8 @@ use Rattle.txn_view_history.specs.declared.event.AnyCall.{AnyCall}
 use Rattle.txn_view_history.specs.declared.event.AnyCall.TheVariants as any_calls
 use Rattle.txn_view_history.specs.declared.event.AnyAnswer.{AnyAnswer}
 use Rattle.txn_view_history.specs.declared.event.AnyAnswer.TheVariants as any_answers
-use Rattle.txn_lines.specs.Grammar.{base_text, bound_text, list_text, claim_text}
+use Rattle.txn_lines.specs.Grammar.{base_text, bound_text, list_text}
+use Rattle.txn_lines.specs.Numerals.{pair_text}
 use Rattle.txn_lines.specs.Printed.{refusal_name, listed_text}
 use Rattle.txn_recorded.specs.Written.{◌then◌}
 
@@ -39,7 +40,7 @@ module _ {T : Type 0} (text : T → List ℕ) where
   view_call_text (view_calls.Refresh view) = codes "refresh" then decimal view
   view_call_text (view_calls.Update view value) = codes "update" then decimal view then text value
   view_call_text (view_calls.Claim view) = codes "claim" then decimal view
-  view_call_text (view_calls.ClaimAt view epoch) = codes "claim_at" then claim_text view epoch
+  view_call_text (view_calls.ClaimAt view epoch) = codes "claim_at" then pair_text view epoch
   view_call_text (view_calls.HolderRefresh view) = codes "holder_refresh" then decimal view
   view_call_text (view_calls.HolderUpdate view value) = codes "holder_update" then decimal view then text value
 
