@@ -44,7 +44,7 @@ class Object:
 
     def run(self, *command, recorded=True):
         """Runs a command: its status, and what it prints."""
-        how = {"stdin": subprocess.DEVNULL, "capture_output": True, "text": True, "check": False}
+        how = {"stdin": subprocess.DEVNULL, "capture_output": True, "text": True, "check": False, "timeout": 60}
         ran = subprocess.run(self.words(*command, recorded=recorded), **how)
         return ran.returncode, ran.stdout
 
@@ -265,6 +265,20 @@ def collections(program, root, _seconds):
     return ["reads go on during collections, and are audited"]
 
 
+def odd_files(program, root, _seconds):
+    """What is no regular file at a version's name is a fault of the system, and nothing hangs or is lost."""
+    it = Object(program, root, "odd")
+    it.told("init", "0")
+    os.mkfifo(f"{root}/odd/00000000000000000002.val")
+    for command in (("put", "1"), ("get",), ("list",), ("collect",)):
+        expect(it.run(*command)[0] == 1, f"{' '.join(command)} beside a fifo is no fault of the system")
+    os.remove(f"{root}/odd/00000000000000000002.val")
+    expect(it.run("put", "1") == (0, "2\n"), "a put is refused after the fifo is gone")
+    expect(it.run("get") == (0, "1"), "the newest value is not read")
+    agrees(it, 2)
+    return ["a fifo at a version's name is a fault, and nothing hangs"]
+
+
 # What is changed in a recording, and each time has to be refused: a pattern that its rows have, and what stands in its place.
 TAMPERED = {
     "bytes that were read": (r"^(reply \d+ \d+ got \d+ )..(?=[0-9a-f]+$)", r"\g<1>39"),
@@ -310,7 +324,7 @@ def main(words, usage):
     passed = failed = 0
     for program in given.programs:
         program = os.path.abspath(program)
-        for check in (counts, kills, claims, collections, tampering):
+        for check in (counts, kills, claims, collections, odd_files, tampering):
             root = tempfile.mkdtemp(prefix="try-folder-")
             try:
                 for line in check(program, root, given.seconds):

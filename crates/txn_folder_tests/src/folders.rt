@@ -6,7 +6,6 @@ use crate::steps::Call::{
 };
 use crate::steps::{Call, first_other, folder_of, store_of};
 use std::os::unix::fs::symlink;
-use std::process::Command;
 use std::test::Fail;
 use std::time::{Duration, SystemTime};
 use std::{fs, io};
@@ -134,19 +133,17 @@ fn clean_twice(rt: &HostRuntime, root: &str) -> io::Result<(Option<u64>, Option<
     Ok((first, cleaned(&mut store, new)))
 }
 
-/// Puts a link, a fifo and a folder at the names of versions, and a folder at that of the boundary.
+/// Puts a link to nothing, a link to a device and a folder at the names of versions, and a folder at that of the boundary.
 fn make_odd(rt: &HostRuntime, root: &str) -> io::Result<()> {
     let alloc = rt.alloc();
     let link = format!(in alloc; "{root}/test/00000000000000000001.val")?;
-    let fifo = format!(in alloc; "{root}/test/00000000000000000002.val")?;
+    let device = format!(in alloc; "{root}/test/00000000000000000002.val")?;
     let folder = format!(in alloc; "{root}/test/00000000000000000003.val")?;
     let boundary = format!(in alloc; "{root}/gc/test.boundary")?;
     fs::create_dir_all(rt, folder.as_str())?;
     fs::create_dir_all(rt, boundary.as_str())?;
     symlink(rt, "elsewhere", link.as_str())?;
-    Command::new(alloc, "mkfifo")?
-        .arg(fifo.as_str())?
-        .status(rt)?;
+    symlink(rt, "/dev/null", device.as_str())?;
     Ok(())
 }
 
