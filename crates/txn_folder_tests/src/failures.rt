@@ -150,7 +150,7 @@ fn went(
 
 #[test]
 fn each_call_of_the_system_fails(rt: HostRuntime) -> Result<(), Fail> {
-    let mut failed = 0;
+    let mut failed: u64 = 0;
     for (place, case) in CASES.iter().enumerate() {
         for nth in 0..16 {
             for after in [false, true] {
@@ -164,7 +164,7 @@ fn each_call_of_the_system_fails(rt: HostRuntime) -> Result<(), Fail> {
                     "case {place} is told wrong where call {nth} fails, after: {after}"
                 );
                 if went == Outcome::Failed {
-                    failed += 1;
+                    failed = failed.saturating_add(1);
                 }
             }
         }

@@ -105,11 +105,11 @@ fn write_all(rt: &HostRuntime, root: &str, names: &[&str]) -> io::Result<()> {
 
 /// How many of these stand.
 fn standing(rt: &HostRuntime, root: &str, names: &[&str]) -> io::Result<usize> {
-    let mut count = 0;
+    let mut count: usize = 0;
     for name in names {
         let file = format!(in rt.alloc(); "{root}/{name}")?;
         if fs::exists(rt, file.as_str())? {
-            count += 1;
+            count = count.saturating_add(1);
         }
     }
     Ok(count)
