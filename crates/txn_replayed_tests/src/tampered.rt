@@ -47,13 +47,26 @@ fn without_row(recordings: &mut Vec<Vec<Row<Record>>>) {
     }
 }
 
+/// How recordings are tampered with.
+#[derive(Clone, Copy)]
+enum Tampering {
+    NumberTwice,
+    OtherAnswer,
+    WithoutRow,
+}
+
+fn tamper(recordings: &mut Vec<Vec<Row<Record>>>, tampering: Tampering) {
+    match tampering {
+        Tampering::NumberTwice => number_twice(recordings),
+        Tampering::OtherAnswer => other_answer(recordings),
+        Tampering::WithoutRow => without_row(recordings),
+    }
+}
+
 /// What an audit says of recordings of two clients that were tampered with.
-fn tampered(
-    alloc: Global,
-    tamper: &impl Fn(&mut Vec<Vec<Row<Record>>>),
-) -> Result<String, AllocError> {
+fn tampered(alloc: Global, tampering: Tampering) -> Result<String, AllocError> {
     let mut recordings = play(alloc, 2, &TWO, Lie::None, 0)?;
-    tamper(&mut recordings);
+    tamper(&mut recordings, tampering);
     said(alloc, recordings.as_slice())
 }
 
@@ -119,14 +132,14 @@ fn lies_are_refused(rt: HostRuntime) -> Result<(), Fail> {
 
 #[test]
 fn recordings_that_were_tampered_with_are_refused(rt: HostRuntime) -> Result<(), Fail> {
-    let found = tampered(rt.alloc(), &number_twice)?;
+    let found = tampered(rt.alloc(), Tampering::NumberTwice)?;
     assert_eq!(rt; found.as_str(), "two recordings are of one client");
-    let found = tampered(rt.alloc(), &other_answer)?;
+    let found = tampered(rt.alloc(), Tampering::OtherAnswer)?;
     assert_eq!(rt;
         found.as_str(),
         "recording 1, line 25: the operation was answered otherwise"
     );
-    let found = tampered(rt.alloc(), &without_row)?;
+    let found = tampered(rt.alloc(), Tampering::WithoutRow)?;
     assert_eq!(rt; found.as_str(), "recording 2, line 3: out of turn");
     Ok(())
 }
