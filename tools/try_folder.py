@@ -162,7 +162,8 @@ def agrees(it, entries):
 
 
 def kills(program, root, seconds):
-    """Processes are killed at random moments: nothing acknowledged is lost, nothing torn, the boundary never falls."""
+    """Processes are killed at random moments: nothing acknowledged is lost, nothing torn, the boundary never falls, and what
+    all recorded is one history."""
     it = Object(program, root, "killed")
     it.told("init", "0")
     acknowledged, shells, until, killed = [], {}, time.monotonic() + seconds, [0]
@@ -210,7 +211,8 @@ def kills(program, root, seconds):
         expect(id not in stored or stored[id] == payload, f"version {id} says {stored.get(id)}, acknowledged was {payload}")
     expect(max(stored) >= max(id for id, _ in acknowledged), "an acknowledged version is lost")
     expect(all(payload == id - 1 for id, payload in stored.items()), "a stored version is not one more than the one before")
-    return [f"{killed[0]} kills in {seconds:.0f} s: nothing of {len(acknowledged)} acknowledged counts is lost"]
+    agrees(it, max(stored))
+    return [f"{killed[0]} kills in {seconds:.0f} s: nothing of {len(acknowledged)} acknowledged counts is lost, and audited"]
 
 
 def claims(program, root, _seconds):
@@ -237,7 +239,7 @@ def claims(program, root, _seconds):
 
 
 def collections(program, root, _seconds):
-    """Readers go on while old versions are removed."""
+    """Readers go on while old versions are removed, and what all recorded is one history."""
     it = Object(program, root, "collected")
     it.told("init", "0")
     shell = Shell(it)
@@ -262,7 +264,8 @@ def collections(program, root, _seconds):
     together([read, read, collect])
     shell.end()
     expect(it.history() == {91: 90}, "old versions are left")
-    return ["reads go on during collections"]
+    agrees(it, 91)
+    return ["reads go on during collections, and audited"]
 
 
 def odd_files(program, root, _seconds):
@@ -279,37 +282,74 @@ def odd_files(program, root, _seconds):
     return ["a fifo at a version's name is a fault, and nothing hangs"]
 
 
-# What is changed in a recording, and each time has to be refused: a pattern that its rows have, and what stands in its place.
+def script_of(an_object):
+    """Three clients: one makes the object, one updates it, raises its boundary and deletes, and one reads it then."""
+    an_object.told("init", "0")
+    shell = Shell(an_object)
+    for call in ("load", "update 1 0:1", "update 1 0:2", "update 1 0:3", "advance 2", "delete 1", "advance 3", "list - -"):
+        answer = shell.ask(call)
+        expect(answer and not answer.startswith(("refused", "not permitted")), f"{call}: {answer}")
+    shell.end()
+    expect(an_object.told("get") == "3", "the newest value is not read")
+
+
+def changed(pattern, by, count=1):
+    """A change of a recording: each place of this pattern."""
+    return lambda text, _others: re.subn(pattern, by, text, count=count, flags=re.M)
+
+
+def put_back(text, others):
+    """The file that was deleted is told in front of a listing's others."""
+    token = re.search(r"^reply \d+ \d+ put (\d+)$", others[0], re.M)[1]
+    file = re.search(r"^ask \d+ \d+ create (\S+) ", others[0], re.M)[1]
+    return re.subn(r"^(reply \d+ \d+ list last) ", rf"\g<1> {file}:{token}:3 ", text, flags=re.M)
+
+
+def stale(text, others):
+    """A read that began after the last update tells what was newest before it."""
+    tokens = re.findall(r"^reply \d+ \d+ put (\d{9,})$", others[1], re.M)
+    text, listed = re.subn(r"^(reply \d+ \d+ list last .*) \S+$", r"\g<1>", text, flags=re.M)
+    text, asked = re.subn(r"^(ask \d+ \d+ get \S+/0{19})4(\.val -)$", r"\g<1>3\g<2>", text, flags=re.M)
+    text, replied = re.subn(r"^(reply \d+ \d+ get )\d{9,} 303a33$", rf"\g<1>{tokens[1]} 303a32", text, flags=re.M)
+    text, answered = re.subn(r"^(answer \d+ view 1 at )4 0:3$", r"\g<1>3 0:2", text, flags=re.M)
+    return text, min(listed, asked, replied, answered)
+
+
+# What is changed in which recording of the three, and each time has to be refused.
 TAMPERED = {
-    "bytes that were read": (r"^(reply \d+ \d+ get \d+ )..(?=[0-9a-f]+$)", r"\g<1>39"),
-    "a token that another put was given": (r"^(reply \d+ \d+ put (\d+)\n[\s\S]*?reply \d+ \d+ put )\d+$", r"\g<1>\g<2>"),
-    "an answer": (r"^(answer \d+ view \d+ at \d+ \d+:)\d+$", r"\g<1>123456"),
-    "the client's number": (r"^(client )\d+ ", r"\g<1>1 "),
-    "a version that is told missing": (r"^(reply \d+ \d+ get )\d+ [0-9a-f]+$", r"\g<1>NotFound"),
+    "a create that was lost": (1, changed(r"^(reply \d+ \d+ put )\d{9,}$", r"\g<1>AlreadyExists")),
+    "a stale read": (2, stale),
+    "a token that another put was given": (1, changed(r"^(reply \d+ \d+ put (\d+)\n[\s\S]*?reply \d+ \d+ put )\d+$", r"\g<1>\g<2>")),
+    "a listing that misses one": (1, changed(r"^(reply \d+ \d+ list last \S+) \S+( \S+\nanswer \d+ ids 2) 3( 4)$", r"\g<1>\g<2>\g<3>")),
+    "bytes that were read": (2, changed(r"^(reply \d+ \d+ get \d+ 303a3)3$([\s\S]*^answer \d+ view 1 at 4 0:)3$", r"\g<1>9\g<2>9")),
+    "an answer": (1, changed(r"^(answer \d+ view \d+ at \d+ \d+:)\d+$", r"\g<1>123456")),
+    "a boundary that falls": (2, changed(r"^(reply \d+ \d+ get )3 33$", r"\g<1>2 32")),
+    "a delete that was undone": (2, put_back),
+    "the client's number": (1, changed(r"^(client )\d+ ", r"\g<1>1 ")),
+    "a row that is gone": (1, changed(r"^reply 2 .*\n", "")),
 }
 
 
 def tampering(program, root, _seconds):
-    """A recording that was changed is refused."""
+    """A recording that was changed is refused, and the place is named."""
     it = Object(program, root, "tampered")
-    it.told("init", "0")
-    shell = Shell(it)
-    expect(count_up(shell, 3, []), "a count ended early")
-    shell.end()
+    script_of(it)
     agrees(it, 4)
-    changed, refused = it.diaries[-1], []
-    with open(changed, encoding="utf-8") as file:
-        text = file.read()
-    for what, (old, new) in TAMPERED.items():
-        other, count = re.subn(old, new, text, count=1, flags=re.M)
+    texts, refused = [], []
+    for diary in it.diaries:
+        with open(diary, encoding="utf-8") as file:
+            texts.append(file.read())
+    for what, (number, change) in TAMPERED.items():
+        other, count = change(texts[number], texts)
         expect(count == 1, f"the recording has no row for: {what}")
-        with open(changed, "w", encoding="utf-8") as file:
+        with open(it.diaries[number], "w", encoding="utf-8") as file:
             file.write(other)
         status, said = it.audit()
-        expect(status == 4 and said.startswith("not one history: "), f"{what} was changed, and the audit says: {said.strip()}")
+        expect(status == 4 and said.startswith("not one history: "), f"{what}: the audit says: {said.strip()}")
+        expect(re.search(r"^recording \d+ is ", said, re.M), f"{what}: the audit names no recording: {said.strip()}")
         refused.append(f"a recording is refused in which was changed: {what}")
-    with open(changed, "w", encoding="utf-8") as file:
-        file.write(text)
+        with open(it.diaries[number], "w", encoding="utf-8") as file:
+            file.write(texts[number])
     agrees(it, 4)
     return refused
 

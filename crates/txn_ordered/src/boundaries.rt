@@ -49,16 +49,20 @@ fn was_refused(call: &Asked<'_>, error: StoreError) -> bool {
     }
 }
 
-/// The first call of which nobody knows whether it took effect and which this holds of.
+/// The call asked first of which nobody knows whether it took effect and which this holds of.
 fn loose<F: Fn(&Asked<'_>) -> bool>(calls: &[Asked<'_>], fates: &[Fate], is: &F) -> Option<usize>
     requires { F.IsAlwaysCallable is.now }
 {
+    let mut first: Option<(u64, usize)> = None;
     for place in 0..calls.len() {
         if !has_place(fates, place) && is(&calls[place]) {
-            return Some(place);
+            let from = calls[place].from;
+            if first.is_none_or(|(before, _)| from < before) {
+                first = Some((from, place));
+            }
         }
     }
-    None
+    first.map(|(_, place)| place)
 }
 
 impl Boundaries {

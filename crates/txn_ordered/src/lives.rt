@@ -39,6 +39,8 @@ struct Sight<'a> {
     token: u64,
     bytes: Option<&'a Bytes>,
     at: u64,
+    /// When its reply was there.
+    until: u64,
 }
 
 /// Adds what one call saw.
@@ -51,6 +53,7 @@ fn add_sights<'a>(sights: &mut Vec<Sight<'a>>, call: &Asked<'a>) -> Result<(), A
                     token: got.token.number(),
                     bytes: Some(&got.bytes),
                     at: call.from,
+                    until: call.until,
                 })?;
             }
         }
@@ -62,6 +65,7 @@ fn add_sights<'a>(sights: &mut Vec<Sight<'a>>, call: &Asked<'a>) -> Result<(), A
                         token: meta.token.number(),
                         bytes: None,
                         at: call.from,
+                        until: call.until,
                     })?;
                 }
             }
@@ -82,17 +86,20 @@ fn may_make(call: &Asked<'_>, id: u64, bytes: Option<&Bytes>) -> bool {
     }
 }
 
-/// The first call of which nobody knows whether it took effect, and which may have made what was seen.
+/// The call asked first of which nobody knows whether it took effect, and which may have made what was seen by then. One that
+/// was asked later could not have made it where this could not.
 fn loose_maker(
     calls: &[Asked<'_>],
     fates: &[Fate],
     loose: &[usize],
     id: u64,
     bytes: Option<&Bytes>,
+    until: u64,
 ) -> Option<usize> {
     for place in loose {
         if let Some(call) = calls.get(*place) {
-            if !has_place(fates, *place) && may_make(call, id, bytes) {
+            let in_time = call.from < until;
+            if in_time && !has_place(fates, *place) && may_make(call, id, bytes) {
                 return Some(*place);
             }
         }
@@ -100,13 +107,18 @@ fn loose_maker(
     None
 }
 
-/// The creates of versions whose reply nobody saw.
+/// The creates of versions whose reply nobody saw, in the order in which they were asked.
 fn loose_creates(alloc: Global, calls: &[Asked<'_>]) -> Result<Vec<usize>, AllocError> {
-    let mut loose = Vec::new(alloc);
+    let mut asked = Vec::new(alloc);
     for place in 0..calls.len() {
         if !calls[place].is_answered() && calls[place].creates().is_some() {
-            loose.push(place)?;
+            asked.push((calls[place].from, place))?;
         }
+    }
+    asked.sort_unstable();
+    let mut loose = Vec::with_capacity(alloc, asked.len())?;
+    for (_, place) in asked.as_slice() {
+        loose.push(*place)?;
     }
     Ok(loose)
 }
@@ -149,7 +161,14 @@ impl Lives {
     ) -> Result<(), AllocError> {
         for sight in sights {
             if !self.of_token.contains_key(&sight.token) {
-                let maker = loose_maker(calls, fates.as_slice(), loose, sight.id, sight.bytes);
+                let maker = loose_maker(
+                    calls,
+                    fates.as_slice(),
+                    loose,
+                    sight.id,
+                    sight.bytes,
+                    sight.until,
+                );
                 if let Some(place) = maker {
                     land(fates, place, Some(sight.token));
                     self.add(calls, sight.id, Some(sight.token), place)?;
@@ -173,7 +192,9 @@ impl Lives {
                 call.reply,
             ) {
                 if !ids.contains_key(&id) {
-                    if let Some(place) = loose_maker(calls, fates.as_slice(), loose, id, None) {
+                    let until = call.until;
+                    let maker = loose_maker(calls, fates.as_slice(), loose, id, None, until);
+                    if let Some(place) = maker {
                         land(fates, place, None);
                         self.add(calls, id, None, place)?;
                         ids.insert(id, ())?;

@@ -7,6 +7,7 @@ use crate::landings::{Fate, has_place};
 use crate::lives::{Life, Lives};
 use crate::removals::{Concern, missing};
 use std::alloc::{AllocError, Global};
+use txn_store::page::Page;
 use txn_store::path::Path;
 use txn_store::request::{Reply, Request};
 use txn_store::store::{PutMode, StoreError, Token};
@@ -46,6 +47,16 @@ impl<'a> Precedence<'a> {
         let place = self.raised.partition_point(|raised| raised.0 <= number);
         match self.raised.get(place) {
             Some((_, call)) => Some(*call),
+            None => None,
+        }
+    }
+
+    /// The call that made the first version above one.
+    fn maker_above(&self, id: u64) -> Option<usize> {
+        let lives = self.lives.lives.as_slice();
+        let place = lives.partition_point(|life| life.id <= id);
+        match lives.get(place) {
+            Some(life) => Some(life.made_by),
             None => None,
         }
     }
@@ -284,8 +295,22 @@ impl<'a> Precedence<'a> {
             for (id, below) in missing.as_slice() {
                 self.absent(graph, at, call, *id, *below)?;
             }
+            self.goes_on(graph, at, page)?;
         }
         Ok(())
+    }
+
+    /// A page that more follows was told after a version above its last one was made: versions are made in the order of their
+    /// ids, and the newest stands.
+    fn goes_on(&self, graph: &mut Graph, at: usize, page: &Page) -> Result<(), AllocError> {
+        let last = if page.more { page.metas.as_slice().last() } else { None };
+        match last {
+            Some(meta) => match version_of(&meta.location) {
+                Some(id) => graph.edge(self.maker_above(id), Some(at)),
+                None => Ok(()),
+            },
+            None => Ok(()),
+        }
     }
 
     /// What a call shows.

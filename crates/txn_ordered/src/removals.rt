@@ -86,12 +86,16 @@ fn unseen(alloc: Global, calls: &[Asked<'_>], ids: &[u64]) -> Result<Vec<Concern
     Ok(unseen)
 }
 
-/// The deletes, by versions, each with when its reply was there.
-fn all_deletes(alloc: Global, calls: &[Asked<'_>]) -> Result<Vec<(u64, u64, usize)>, AllocError> {
+/// A delete: its version, when its reply was there, when it was asked, and its place among the calls.
+type Delete = (u64, u64, u64, usize);
+
+/// The deletes, by versions, then by when their replies were there, then by when they were asked.
+fn all_deletes(alloc: Global, calls: &[Asked<'_>]) -> Result<Vec<Delete>, AllocError> {
     let mut deletes = Vec::new(alloc);
     for place in 0..calls.len() {
-        if let Some(id) = calls[place].removes() {
-            deletes.push((id, calls[place].until, place))?;
+        let call = &calls[place];
+        if let Some(id) = call.removes() {
+            deletes.push((id, call.until, call.from, place))?;
         }
     }
     deletes.sort_unstable();
@@ -138,8 +142,7 @@ fn may_remove(call: &Asked<'_>, life: &Life, next: Option<Life>, ended: Option<u
 /// What is known of all deletes.
 #[derive(Drop)]
 struct Deletes {
-    /// By versions, and then by when their replies were there.
-    all: Vec<(u64, u64, usize)>,
+    all: Vec<Delete>,
     /// Whether a call removed some life already.
     taken: Vec<bool>,
 }
@@ -165,7 +168,7 @@ impl Deletes {
         let all = self.all.as_slice();
         let start = all.partition_point(|delete| delete.0 < life.id);
         for place in start..all.len() {
-            let (id, _, at) = all[place];
+            let (id, _, _, at) = all[place];
             if id != life.id {
                 return None;
             }
@@ -230,7 +233,7 @@ impl Deletes {
     /// The deletes that were answered and removed nothing.
     fn idle(&self, alloc: Global, fates: &[Fate]) -> Result<Vec<Concern>, AllocError> {
         let mut idle = Vec::new(alloc);
-        for (id, _, place) in self.all.as_slice() {
+        for (id, _, _, place) in self.all.as_slice() {
             if fate_of(fates, *place) == Fate::Answered && !self.is_taken(*place) {
                 idle.push((*id, *place))?;
             }

@@ -50,6 +50,17 @@ impl From<AuditFault> for Refusal {
     }
 }
 
+impl Refusal {
+    /// Whether what is said names a recording, which are counted from 0.
+    pub fn names(&self, recording: usize) -> bool {
+        match self {
+            Refusal::Row(at, _) | Refusal::Dishonest(at, _, _) => at.recording == recording,
+            Refusal::Circle(calls) => calls.iter().any(|at| at.recording == recording),
+            Refusal::Differs(_) | Refusal::NoMemory => false,
+        }
+    }
+}
+
 /// What is said of a reply that no honest store gave.
 fn name_of(fault: LogFault) -> &'static str {
     match fault {

@@ -7,11 +7,13 @@ use std::io::Read;
 use txn_clients::layout::world_layout;
 use txn_entries::entry::{Entry, EntryCodec, EntryEpoch};
 use txn_journals::audited::Logged;
+use txn_journals::fault::AuditFault;
 use txn_journals::rows::LogRow;
 use txn_lines::text_form::TextForm;
 use txn_recorded::row::Row;
 use txn_recordings::read::{TextFault, read_row};
 use txn_replayed::audit::{OneHistory, audit_recordings};
+use txn_replayed::refusal::Refusal;
 use txn_store::request::{Reply, Request};
 use txn_store::version_names::VersionNames;
 use txn_types::boundary::read_boundary;
@@ -132,19 +134,55 @@ fn held(rt: &HostRuntime, files: &[&str], recordings: &Recordings) -> Result<u8,
             println!(rt;
                 "(an audit wants a recording of each client that wrote, from the first version on)"
             )?;
-            say_places(rt, files, recordings.places.as_slice())?;
+            say_places(rt, files, recordings, &refusal)?;
             Ok(NOT_ONE_HISTORY)
         }
     }
 }
 
-/// Says which recording is which.
-fn say_places(rt: &HostRuntime, files: &[&str], places: &[(usize, usize)]) -> Result<(), Halt> {
-    for (recording, (file, line)) in places.iter().enumerate() {
-        if let Some(file) = files.get(*file) {
-            let recording = recording.saturating_add(1);
-            let line = line.saturating_add(1);
-            println!(rt; "recording {recording} is {file} from line {line}")?;
+/// Whether recordings are of one client.
+fn are_twins(one: &[Row<Entry>], other: &[Row<Entry>]) -> bool {
+    match (one.first(), other.first()) {
+        (Some(Row::Client(client, _)), Some(Row::Client(number, _))) => client == number,
+        _ => false,
+    }
+}
+
+/// Whether a recording is of the client of another.
+fn has_twin(rows: &[Vec<Row<Entry>>], recording: usize) -> bool {
+    let Some(one) = rows.get(recording) else {
+        return false;
+    };
+    for (number, other) in rows.iter().enumerate() {
+        if number != recording && are_twins(one.as_slice(), other.as_slice()) {
+            return true;
+        }
+    }
+    false
+}
+
+/// Whether a refusal is of a recording.
+fn is_of(refusal: &Refusal, rows: &[Vec<Row<Entry>>], recording: usize) -> bool {
+    match refusal {
+        Refusal::Differs(AuditFault::ClientTwice) => has_twin(rows, recording),
+        _ => refusal.names(recording),
+    }
+}
+
+/// Says which file each recording is that a refusal is of.
+fn say_places(
+    rt: &HostRuntime,
+    files: &[&str],
+    recordings: &Recordings,
+    refusal: &Refusal,
+) -> Result<(), Halt> {
+    for (recording, (file, line)) in recordings.places.iter().enumerate() {
+        if is_of(refusal, recordings.rows.as_slice(), recording) {
+            if let Some(file) = files.get(*file) {
+                let recording = recording.saturating_add(1);
+                let line = line.saturating_add(1);
+                println!(rt; "recording {recording} is {file} from line {line}")?;
+            }
         }
     }
     Ok(())
