@@ -354,6 +354,20 @@ def tampering(program, root, _seconds):
     return refused
 
 
+def recordings(program, _root, _seconds):
+    """An audit says of each folder of recordings what its file `said` says."""
+    cases, told = f"{os.path.dirname(os.path.dirname(os.path.realpath(__file__)))}/cases/recordings", []
+    for name in sorted(os.listdir(cases)):
+        diaries = sorted(it for it in os.listdir(f"{cases}/{name}") if it.endswith(".diary"))
+        how = {"cwd": f"{cases}/{name}", "capture_output": True, "text": True, "check": False, "timeout": 60}
+        ran = subprocess.run([program, "audit", *diaries], **how)
+        with open(f"{cases}/{name}/said", encoding="utf-8") as file:
+            expect(ran.stdout == file.read(), f"{name}: the audit says: {ran.stdout.strip()}")
+        told.append(f"recordings are audited as is written beside them: {name}")
+    expect(told, "there are no recordings")
+    return told
+
+
 def main(words, usage):
     form = argparse.RawDescriptionHelpFormatter
     parser = argparse.ArgumentParser(prog="tools/try-folder", description=usage, formatter_class=form)
@@ -364,7 +378,7 @@ def main(words, usage):
     passed = failed = 0
     for program in given.programs:
         program = os.path.abspath(program)
-        for check in (counts, kills, claims, collections, odd_files, tampering):
+        for check in (counts, kills, claims, collections, odd_files, tampering, recordings):
             root = tempfile.mkdtemp(prefix="try-folder-")
             try:
                 for line in check(program, root, given.seconds):
