@@ -175,6 +175,7 @@ def kills(program, root, seconds):
             shells[worker].end()
 
     def raise_boundary():
+        removed = 0
         while time.monotonic() < until:
             shell = shells["boundary"] = Shell(it)
             for _ in range(20):
@@ -183,7 +184,8 @@ def kills(program, root, seconds):
                     break
                 behind = int(found[1]) - 10
                 shell.ask(f"advance {behind}")
-                shell.ask(f"delete {behind - 1}")
+                while removed + 1 < behind and shell.ask(f"delete {removed + 1}"):
+                    removed += 1
             shell.end()
 
     def kill():

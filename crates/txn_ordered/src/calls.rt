@@ -4,6 +4,7 @@ use bytes::Bytes;
 use std::alloc::{AllocError, Global};
 use txn_recorded::row::Row;
 use txn_store::digits::read_digits;
+use txn_store::page::Page;
 use txn_store::path::Path;
 use txn_store::request::{Reply, Request};
 use txn_store::store::PutMode;
@@ -151,6 +152,19 @@ impl<'a> Asked<'a> {
             },
             _ => None,
         }
+    }
+
+    /// The version after which it lists, 0 for all, and the page that it was told, where it lists.
+    pub fn lists(&self) -> Option<(u64, &'a Page)> {
+        let (Request::List { after, .. }, Some(Reply::List(Ok(page)))) = (self.request, self.reply)
+        else {
+            return None;
+        };
+        let low = match after {
+            Some(path) => version_of(path).unwrap_or(0),
+            None => 0,
+        };
+        Some((low, page))
     }
 
     /// The bytes that it puts.

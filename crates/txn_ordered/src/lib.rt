@@ -12,4 +12,5 @@ mod lives;
 pub mod order;
 mod precedence;
 mod removals;
+mod standing;
 mod times;

@@ -6,7 +6,7 @@ use crate::graph::Graph;
 use crate::landings::{Fate, fate_of, fates};
 use crate::lives::{Lives, lived};
 use crate::precedence::{Precedence, raised};
-use crate::removals::{ids, remove};
+use crate::removals::remove;
 use crate::times::{link_times, times};
 use std::alloc::{AllocError, AllocFailed, Global};
 use txn_recorded::row::Row;
@@ -134,8 +134,8 @@ fn in_order(
 }
 
 /// An order of the calls in these recordings, each a list of rows, by what the replies show and by the times. A call whose reply
-/// nobody saw has a place where a reply shows that it took effect, and none elsewhere. It takes time by the number of calls, but
-/// for listings, which it holds against all versions.
+/// nobody saw has a place where a reply shows that it took effect, and none elsewhere. It takes time by the number of calls and
+/// what they tell; a listing is held against the versions that may have stood meanwhile.
 ///
 /// # Errors
 ///
@@ -146,14 +146,7 @@ pub fn order<T>(alloc: Global, recordings: &[Vec<Row<T>>]) -> Result<Vec<Placed>
     let mut fates = fates(alloc, calls.as_slice())?;
     let boundaries = written(alloc, calls.as_slice(), &mut fates)?;
     let mut lives = lived(alloc, calls.as_slice(), &mut fates)?;
-    let ids = ids(alloc, &lives)?;
-    let idle = remove(
-        alloc,
-        calls.as_slice(),
-        &mut fates,
-        &mut lives,
-        ids.as_slice(),
-    )?;
+    let idle = remove(alloc, calls.as_slice(), &mut fates, &mut lives)?;
     let raised = raised(alloc, &boundaries)?;
     let times = times(alloc, calls.as_slice(), fates.as_slice())?;
     let mut graph = Graph::new(alloc, calls.len().saturating_add(times.len()))?;
@@ -161,7 +154,6 @@ pub fn order<T>(alloc: Global, recordings: &[Vec<Row<T>>]) -> Result<Vec<Placed>
         calls: calls.as_slice(),
         fates: fates.as_slice(),
         lives: &lives,
-        ids: ids.as_slice(),
         raised: raised.as_slice(),
         boundaries: &boundaries,
     };

@@ -5,7 +5,8 @@ use crate::calls::{Asked, Name, name_of, number_in, version_of};
 use crate::graph::Graph;
 use crate::landings::{Fate, has_place};
 use crate::lives::{Life, Lives};
-use crate::removals::{Concern, missing};
+use crate::removals::Concern;
+use crate::standing::Standing;
 use std::alloc::{AllocError, Global};
 use txn_store::page::Page;
 use txn_store::path::Path;
@@ -18,7 +19,6 @@ pub(crate) struct Precedence<'a> {
     pub calls: &'a [Asked<'a>],
     pub fates: &'a [Fate],
     pub lives: &'a Lives,
-    pub ids: &'a [u64],
     /// The boundaries that were written, ascending, each with its call.
     pub raised: &'a [(u64, usize)],
     pub boundaries: &'a Boundaries,
@@ -284,18 +284,40 @@ impl<'a> Precedence<'a> {
         graph: &mut Graph,
         at: usize,
         call: &Asked<'_>,
+        standing: &Standing,
     ) -> Result<(), AllocError> {
-        if let Some(Reply::List(Ok(page))) = call.reply {
-            for meta in page.metas.as_slice() {
-                if version_of(&meta.location).is_some() {
-                    self.saw(graph, at, self.lives.with_token(meta.token.number()))?;
-                }
+        let Some((low, page)) = call.lists() else {
+            return Ok(());
+        };
+        let mut told = Vec::new(alloc);
+        for meta in page.metas.as_slice() {
+            if let Some(id) = version_of(&meta.location) {
+                self.saw(graph, at, self.lives.with_token(meta.token.number()))?;
+                told.push(id)?;
             }
-            let missing = missing(alloc, call, self.ids)?;
-            for (id, below) in missing.as_slice() {
-                self.absent(graph, at, call, *id, *below)?;
+        }
+        let missing = standing.left_out(alloc, low, told.as_slice(), page.more)?;
+        for (id, below) in missing.as_slice() {
+            self.absent(graph, at, call, *id, *below)?;
+        }
+        self.goes_on(graph, at, page)
+    }
+
+    /// What all listings show.
+    fn listings(&self, alloc: Global, graph: &mut Graph) -> Result<(), AllocError> {
+        let mut asked = Vec::new(alloc);
+        for at in 0..self.calls.len() {
+            if self.calls[at].lists().is_some() {
+                asked.push((self.calls[at].from, at))?;
             }
-            self.goes_on(graph, at, page)?;
+        }
+        asked.sort_unstable();
+        let mut standing = Standing::new(alloc, self.calls, self.lives)?;
+        for (_, at) in asked.as_slice() {
+            if let Some(call) = self.calls.get(*at) {
+                standing.move_to(call)?;
+                self.list(alloc, graph, *at, call, &standing)?;
+            }
         }
         Ok(())
     }
@@ -313,10 +335,9 @@ impl<'a> Precedence<'a> {
         }
     }
 
-    /// What a call shows.
+    /// What a call shows that is no listing.
     fn call(
         &self,
-        alloc: Global,
         graph: &mut Graph,
         at: usize,
         call: &Asked<'_>,
@@ -327,8 +348,7 @@ impl<'a> Precedence<'a> {
                 if_none_match,
             } => self.get(graph, at, call, path, *if_none_match),
             Request::Put { path, mode, .. } => self.put(graph, at, call, path, *mode),
-            Request::List { .. } => self.list(alloc, graph, at, call),
-            Request::Delete { .. } => Ok(()),
+            Request::List { .. } | Request::Delete { .. } => Ok(()),
         }
     }
 
@@ -350,9 +370,9 @@ impl<'a> Precedence<'a> {
             let call = &self.calls[at];
             if has_place(self.fates, at) {
                 graph.edge(call.before, Some(at))?;
-                self.call(alloc, graph, at, call)?;
+                self.call(graph, at, call)?;
             }
         }
-        Ok(())
+        self.listings(alloc, graph)
     }
 }

@@ -4,66 +4,62 @@ use crate::calls::{Asked, version_of};
 use crate::landings::{Fate, fate_of, land};
 use crate::lives::{Life, Lives};
 use std::alloc::{AllocError, Global};
-use txn_store::page::Page;
 use txn_store::request::{Reply, Request};
 use txn_store::store::StoreError;
 
 /// A version, and a call that is about it.
 pub(crate) type Concern = (u64, usize);
 
-/// A version that a listing did not tell, and whether it told one above it.
-pub(crate) type Missing = (u64, bool);
-
-/// The versions that have a life, ascending.
-pub(crate) fn ids(alloc: Global, lives: &Lives) -> Result<Vec<u64>, AllocError> {
-    let mut ids = Vec::new(alloc);
-    let mut last = None;
-    for life in lives.lives.as_slice() {
-        if last != Some(life.id) {
-            ids.push(life.id)?;
-            last = Some(life.id);
-        }
-    }
-    Ok(ids)
+/// A listing: when it was asked, when its reply was there, and two versions between which it told all that stood.
+#[derive(Clone, Copy)]
+struct Extent {
+    from: u64,
+    until: u64,
+    low: u64,
+    top: u64,
 }
 
-/// The versions that a page tells.
-fn told(alloc: Global, page: &Page) -> Result<Vec<u64>, AllocError> {
-    let mut told = Vec::new(alloc);
-    for meta in page.metas.as_slice() {
-        if let Some(id) = version_of(&meta.location) {
-            told.push(id)?;
+/// The listings, by when they were asked.
+fn extents(alloc: Global, calls: &[Asked<'_>]) -> Result<Vec<Extent>, AllocError> {
+    let mut extents = Vec::new(alloc);
+    for call in calls {
+        if let Some((low, page)) = call.lists() {
+            let top = match page.metas.as_slice().last() {
+                Some(meta) => version_of(&meta.location).unwrap_or(low),
+                None => low,
+            };
+            extents.push(Extent {
+                from: call.from,
+                until: call.until,
+                low,
+                top,
+            })?;
         }
     }
-    Ok(told)
+    extents.sort_by_key(|extent| extent.from)?;
+    Ok(extents)
 }
 
-/// The versions that a listing would have told, if they had been there.
-pub(crate) fn missing(
-    alloc: Global,
-    call: &Asked<'_>,
-    ids: &[u64],
-) -> Result<Vec<Missing>, AllocError> {
-    let mut missing = Vec::new(alloc);
-    if let (Request::List { after, .. }, Some(Reply::List(Ok(page)))) = (call.request, call.reply) {
-        let told = told(alloc, page)?;
-        let low = match after {
-            Some(path) => version_of(path).unwrap_or(0),
-            None => 0,
-        };
-        let top = told.last().copied().unwrap_or(low);
-        for id in ids {
-            let within = *id < top || !page.more;
-            if low < *id && within && told.binary_search(id).is_err() {
-                missing.push((*id, *id < top))?;
-            }
+/// When the first listing was there that was asked after a life had begun and was seen last, and reached over its version.
+fn passed(extents: &[Extent], life: &Life) -> Option<u64> {
+    let after = life.last.max(life.from);
+    let start = extents.partition_point(|extent| extent.from <= after);
+    let mut first: Option<u64> = None;
+    for place in start..extents.len() {
+        let extent = extents[place];
+        if first.is_some_and(|until| until <= extent.from) {
+            return first;
+        }
+        let reaches = extent.low < life.id && life.id < extent.top;
+        if reaches && extent.until > life.until {
+            first = Some(first.unwrap_or(extent.until).min(extent.until));
         }
     }
-    Ok(missing)
+    first
 }
 
-/// The calls that did not see a version, by versions: gets that found nothing, and listings that told one above it.
-fn unseen(alloc: Global, calls: &[Asked<'_>], ids: &[u64]) -> Result<Vec<Concern>, AllocError> {
+/// The gets that found nothing, by their versions.
+fn unseen(alloc: Global, calls: &[Asked<'_>]) -> Result<Vec<Concern>, AllocError> {
     let mut unseen = Vec::new(alloc);
     for place in 0..calls.len() {
         let call = &calls[place];
@@ -75,15 +71,18 @@ fn unseen(alloc: Global, calls: &[Asked<'_>], ids: &[u64]) -> Result<Vec<Concern
                 unseen.push((id, place))?;
             }
         }
-        let missing = missing(alloc, call, ids)?;
-        for (id, below) in missing.as_slice() {
-            if *below {
-                unseen.push((*id, place))?;
-            }
-        }
     }
     unseen.sort_unstable();
     Ok(unseen)
+}
+
+/// The earlier of two times, where they are known.
+fn earlier(one: Option<u64>, other: Option<u64>) -> Option<u64> {
+    match (one, other) {
+        (Some(one), Some(other)) => Some(one.min(other)),
+        (None, other) => other,
+        (one, None) => one,
+    }
 }
 
 /// A delete: its version, when its reply was there, when it was asked, and its place among the calls.
@@ -102,28 +101,42 @@ fn all_deletes(alloc: Global, calls: &[Asked<'_>]) -> Result<Vec<Delete>, AllocE
     Ok(deletes)
 }
 
-/// When a life had ended at the latest: where a call after it did not see its version, or the version was made again.
-fn ended(calls: &[Asked<'_>], life: &Life, next: Option<Life>, unseen: &[Concern]) -> Option<u64> {
-    let mut ended = match next {
-        Some(next) => Some(next.until),
-        None => None,
-    };
-    let start = unseen.partition_point(|concern| concern.0 < life.id);
-    for place in start..unseen.len() {
-        let (id, at) = unseen[place];
-        if id != life.id {
-            return ended;
-        }
-        if let Some(call) = calls.get(at) {
-            if call.from > life.last && call.from > life.from && call.until > life.until {
-                ended = Some(match ended {
-                    Some(before) => before.min(call.until),
-                    None => call.until,
-                });
+/// What calls show that did not see a version: the gets that found nothing, by versions, and the listings.
+#[derive(Drop)]
+struct Absences {
+    gets: Vec<Concern>,
+    listings: Vec<Extent>,
+}
+
+impl Absences {
+    /// When the first get was there that was asked after a life was seen last, and found nothing.
+    fn not_found(&self, calls: &[Asked<'_>], life: &Life) -> Option<u64> {
+        let gets = self.gets.as_slice();
+        let mut first = None;
+        let start = gets.partition_point(|concern| concern.0 < life.id);
+        for place in start..gets.len() {
+            let (id, at) = gets[place];
+            if id != life.id {
+                return first;
+            }
+            if let Some(call) = calls.get(at) {
+                if call.from > life.last && call.from > life.from && call.until > life.until {
+                    first = earlier(first, Some(call.until));
+                }
             }
         }
+        first
     }
-    ended
+
+    /// When a life had ended at the latest: where a call after it did not see its version, or the version was made again.
+    fn ended(&self, calls: &[Asked<'_>], life: &Life, next: Option<Life>) -> Option<u64> {
+        let again = match next {
+            Some(next) => Some(next.until),
+            None => None,
+        };
+        let listed = passed(self.listings.as_slice(), life);
+        earlier(again, earlier(self.not_found(calls, life), listed))
+    }
 }
 
 /// Whether a delete may have removed a life, which had ended by a time, where one is known.
@@ -208,14 +221,14 @@ impl Deletes {
         calls: &[Asked<'_>],
         fates: &mut Vec<Fate>,
         lives: &mut Lives,
-        unseen: &[Concern],
+        absences: &Absences,
         place: usize,
     ) {
         let Some(life) = lives.lives.get(place).copied() else {
             return;
         };
         let next = lives.at(place.saturating_add(1), life.id);
-        let ended = ended(calls, &life, next, unseen);
+        let ended = absences.ended(calls, &life, next);
         let Some(at) = self.remover(calls, fates.as_slice(), &life, next, ended) else {
             return;
         };
@@ -248,15 +261,17 @@ pub(crate) fn remove(
     calls: &[Asked<'_>],
     fates: &mut Vec<Fate>,
     lives: &mut Lives,
-    ids: &[u64],
 ) -> Result<Vec<Concern>, AllocError> {
-    let unseen = unseen(alloc, calls, ids)?;
+    let absences = Absences {
+        gets: unseen(alloc, calls)?,
+        listings: extents(alloc, calls)?,
+    };
     let mut deletes = Deletes {
         all: all_deletes(alloc, calls)?,
         taken: vec![in alloc; false; calls.len()]?,
     };
     for place in 0..lives.lives.len() {
-        deletes.end_life(calls, fates, lives, unseen.as_slice(), place);
+        deletes.end_life(calls, fates, lives, &absences, place);
     }
     deletes.idle(alloc, fates.as_slice())
 }

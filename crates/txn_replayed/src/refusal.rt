@@ -1,4 +1,7 @@
 //! Why recordings are not audited.
+ghost use Rattle.std.specs.Prelude.{◌≡◌};
+ghost use Rattle.std.specs.List.{list_any};
+ghost use Rattle.txn_replayed.specs.Named.{is_of, names};
 
 use std::alloc::{AllocError, AllocFailed};
 use std::fmt;
@@ -50,13 +53,29 @@ impl From<AuditFault> for Refusal {
     }
 }
 
+/// Whether one of these calls is of a recording.
+fn is_of_one(calls: &[CallPlace], recording: usize) -> bool
+    ensures { result ≡ list_any (is_of recording) calls.now }
+{
+    for call in calls {
+        if call.recording == recording {
+            return true;
+        }
+    }
+    false
+}
+
 impl Refusal {
-    /// Whether what is said names a recording, which are counted from 0.
-    pub fn names(&self, recording: usize) -> bool {
+    /// Whether it names a call of a recording. Recordings are counted from 0.
+    pub fn names(&self, recording: usize) -> bool
+        ensures { result ≡ names self.now recording }
+    {
         match self {
-            Refusal::Row(at, _) | Refusal::Dishonest(at, _, _) => at.recording == recording,
-            Refusal::Circle(calls) => calls.iter().any(|at| at.recording == recording),
-            Refusal::Differs(_) | Refusal::NoMemory => false,
+            Refusal::Row(at, _) => at.recording == recording,
+            Refusal::Dishonest(at, _, _) => at.recording == recording,
+            Refusal::Circle(calls) => is_of_one(calls.as_slice(), recording),
+            Refusal::Differs(_) => false,
+            Refusal::NoMemory => false,
         }
     }
 }
