@@ -1,5 +1,5 @@
 -- The recordings that a refusal names, which are counted from 0.
-use Rattle.std.specs.Prelude.{ℕ, Bool, false, List, ◌==◌}
+use Rattle.std.specs.Prelude.{ℕ, Bool, false, ◌==◌}
 use Rattle.std.specs.List.{list_any}
 use Rattle.txn_ordered.specs.declared.order.CallPlace.{CallPlace}
 use Rattle.txn_replayed.specs.declared.refusal.Refusal.{Refusal}

@@ -57,12 +57,7 @@ impl From<AuditFault> for Refusal {
 fn is_of_one(calls: &[CallPlace], recording: usize) -> bool
     ensures { result ≡ list_any (is_of recording) calls.now }
 {
-    for call in calls {
-        if call.recording == recording {
-            return true;
-        }
-    }
-    false
+    calls.iter().any(|call| call.recording == recording)
 }
 
 impl Refusal {
