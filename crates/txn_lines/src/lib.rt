@@ -1,6 +1,7 @@
 //! The lines of scripts: what each says, how they are read, and the printed forms of what comes of them.
 #![tactic(auto)]
 
+pub mod called;
 mod calls;
 pub mod line;
 pub mod lines;

@@ -74,14 +74,14 @@ impl<T: LineValue> fmt::Display for PlainAnswered<'_, T> {
 }
 
 /// An answer as it is printed.
-#[derive(Debug, Drop)]
-pub struct Answered<T>(pub AnyAnswer<T>);
+#[derive(Clone, Copy, Debug)]
+pub struct Answered<'a, T>(pub &'a AnyAnswer<T>);
 
-impl<T: LineValue> fmt::Display for Answered<T> {
-    ghost output = { λ answered. Some (answered_text T.text answered.0) };
+impl<T: LineValue> fmt::Display for Answered<'_, T> {
+    ghost output = { λ answered. Some (answered_text T.text answered.0.now) };
 
     fn fmt<W: fmt::Write>(&self, f: &mut fmt::Formatter<W>) -> fmt::Result {
-        match &self.0 {
+        match self.0 {
             AnyAnswer::Plain(answer) => {
                 let answered = PlainAnswered(answer);
                 write!(f, "{answered}")
@@ -95,14 +95,14 @@ impl<T: LineValue> fmt::Display for Answered<T> {
 }
 
 /// The line of an answer.
-#[derive(Debug, Drop)]
-pub struct AnswerLine<T> {
+#[derive(Clone, Copy, Debug)]
+pub struct AnswerLine<'a, T> {
     pub op: u64,
-    pub answered: Answered<T>,
+    pub answered: Answered<'a, T>,
 }
 
-impl<T: LineValue> fmt::Display for AnswerLine<T> {
-    ghost output = { λ line. Some (answer_text T.text line.op line.answered.0) };
+impl<T: LineValue> fmt::Display for AnswerLine<'_, T> {
+    ghost output = { λ line. Some (answer_text T.text line.op line.answered.0.now) };
 
     fn fmt<W: fmt::Write>(&self, f: &mut fmt::Formatter<W>) -> fmt::Result {
         let op = self.op;

@@ -59,7 +59,7 @@ fn take_event<T: LineValue, C: TextForm, K: ScriptWorld<T, C>>(
     };
     match came {
         Came::Told(AnyTold::Answered(op, answer)) => {
-            let answered = Answered(answer);
+            let answered = Answered(&answer);
             printer.print_line(AnswerLine { op, answered })?;
             Ok(false)
         }

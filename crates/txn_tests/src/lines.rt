@@ -245,12 +245,13 @@ fn erased_line(alloc: Global, ids: &[u64]) -> Result<ErasedLine, AllocError> {
 #[test]
 fn answers_and_faults_are_printed(rt: HostRuntime) -> Result<(), Fail> {
     for (answer, want) in ANSWERS {
-        let answered = Answered(AnyAnswer::Plain(answer));
+        let answer = AnyAnswer::Plain(answer);
+        let answered = Answered(&answer);
         let line = AnswerLine { op: 7, answered };
         assert_eq!(rt; format!(in rt.alloc(); "{line}")?.as_str(), want);
     }
     for (answer, want) in VIEW_ANSWERS {
-        let answered = Answered(answer);
+        let answered = Answered(&answer);
         let line = AnswerLine { op: 7, answered };
         assert_eq!(rt; format!(in rt.alloc(); "{line}")?.as_str(), want);
     }

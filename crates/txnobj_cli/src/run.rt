@@ -144,7 +144,7 @@ fn shell(rt: &HostRuntime, session: &mut Session) -> Result<u8, Halt> {
 fn make(rt: &HostRuntime, session: &mut Session, call: AnyCall<Entry>) -> Result<(), Halt> {
     match session.call(call) {
         Ok(answer) => {
-            let answered = Answered(answer);
+            let answered = Answered(&answer);
             println!(rt; "{answered}")?;
             Ok(())
         }

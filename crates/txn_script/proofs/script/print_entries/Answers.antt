@@ -1,8 +1,7 @@
-use Rattle.std.proofs.Common.{[], ◌+◌, ◌++◌, drop, drop_of_length-le, get_or, List, sym, refl, ◌∙◌, ap, subst}
+use Rattle.std.proofs.Common.{[], ◌+◌, ◌++◌, drop, drop_of_length-le, List, sym, refl, ◌∙◌, ap, subst}
 use Rattle.std.proofs.Common.{ℕ, inr}
 use Rattle.std.proofs.lemmas.Result.{err_from_is_err_and}
 use Rattle.std.proofs.lemmas.List.{append-nil}
-use Rattle.std.proofs.lemmas.List.{append_assoc}
 use Rattle.txn_lines.specs.Printed.{entry_text}
 use Rattle.txn_script.specs.Printed.{with_feed, entries_text}
 use Rattle.std.specs.Io.KnownBytes.{Appends, append_known}
