@@ -19,7 +19,7 @@ use Rattle.txn_clients.specs.Operations.{asked_of}
 use Rattle.txn_diary.specs.Diaries.{DiaryState, asked_in}
 use Rattle.txn_diary.proofs.Stepping.{asks_alive}
 use Rattle.txn_diary.specs.Reading.{begun_by}
-use Rattle.txn_recorded.specs.Calls.{answer_text}
+use Rattle.txn_lines.specs.Printed.{answered_text}
 use Rattle.txn_rebuilt.specs.declared.stage.Stage.{Stage}
 use Rattle.txn_rebuilt.specs.declared.stage.Stage.TheVariants as stages
 use Rattle.txn_rebuilt.specs.Told.{Told, Began, Asked, Replied, Failed, GaveUp, Answered, act_tells, answer_tells, entry_tells, journal_tells, TellsSame, Whole, EndsAsking, LacksAnswer}
@@ -49,24 +49,24 @@ module _ {T : Type 0} where
   at_stage text op recorded journaled before more (Some answer) (stages.Asks request) r j is = elim is [ ]
 
   -- An operation acts, and is answered or not.
-  pub acted : (text : T → List ℕ) (rows next : List (JournalRow T)) (begun : ℕ) (act : Act) (answer : Option (AnyAnswer T)) (recorded : List (Told T)) (stage : Stage) → next ≡ rows ++ record { step = steps.Act begun act; answer = answer } ∷ [] → all_begun 0 rows ≡ begun → recorded ≡ journal_tells (answer_text text) 0 rows ++ act_tells begun act → IsStageOf (answer_text text) answer stage → Stands text recorded next begun stage
+  pub acted : (text : T → List ℕ) (rows next : List (JournalRow T)) (begun : ℕ) (act : Act) (answer : Option (AnyAnswer T)) (recorded : List (Told T)) (stage : Stage) → next ≡ rows ++ record { step = steps.Act begun act; answer = answer } ∷ [] → all_begun 0 rows ≡ begun → recorded ≡ journal_tells (answered_text text) 0 rows ++ act_tells begun act → IsStageOf (answered_text text) answer stage → Stands text recorded next begun stage
   acted text rows next begun act answer recorded stage adds count tells is =
-      let words = answer_text text in
+      let words = answered_text text in
       let row : JournalRow T = record { step = steps.Act begun act; answer = answer } in (
         ap (all_begun 0) adds ∙ (begun_more 0 rows row ∙ count),
         at_stage words begun recorded (journal_tells words 0 next) (journal_tells words 0 rows) (act_tells begun act) answer stage tells (ap (journal_tells words 0) adds ∙ tells_more words 0 rows row) is,
       )
 
   -- it looks
-  pub looked : (text : T → List ℕ) (rows next : List (JournalRow T)) (begun : ℕ) (answer : Option (AnyAnswer T)) (recorded : List (Told T)) (before stage : Stage) → next ≡ rows ++ record { step = steps.Act begun acts.Look; answer = answer } ∷ [] → before ≡ stages.Runs → Stands text recorded rows begun before → IsStageOf (answer_text text) answer stage → Stands text recorded next begun stage
+  pub looked : (text : T → List ℕ) (rows next : List (JournalRow T)) (begun : ℕ) (answer : Option (AnyAnswer T)) (recorded : List (Told T)) (before stage : Stage) → next ≡ rows ++ record { step = steps.Act begun acts.Look; answer = answer } ∷ [] → before ≡ stages.Runs → Stands text recorded rows begun before → IsStageOf (answered_text text) answer stage → Stands text recorded next begun stage
   looked text rows next begun answer recorded before stage adds runs stands is =
-      let tells : recorded ≡ journal_tells (answer_text text) 0 rows = subst (IsAt begun recorded (journal_tells (answer_text text) 0 rows)) runs stands.1 in
-      acted text rows next begun acts.Look answer recorded stage adds stands.0 (tells ∙ sym (append-nil (journal_tells (answer_text text) 0 rows))) is
+      let tells : recorded ≡ journal_tells (answered_text text) 0 rows = subst (IsAt begun recorded (journal_tells (answered_text text) 0 rows)) runs stands.1 in
+      acted text rows next begun acts.Look answer recorded stage adds stands.0 (tells ∙ sym (append-nil (journal_tells (answered_text text) 0 rows))) is
 
   -- it takes the reply to what it asked
-  pub replied : (text : T → List ℕ) (rows next : List (JournalRow T)) (begun op : ℕ) (receipt : Receipt) (asked : Bor Request) (reply : Reply) (answer : Option (AnyAnswer T)) (recorded : List (Told T)) (before stage : Stage) → next ≡ rows ++ record { step = steps.Act op (acts.Receive receipt); answer = answer } ∷ [] → op ≡ begun → receipt.request ≡ asked.now → receipt.reply ≡ reply → before ≡ stages.Asks asked → Stands text recorded rows begun before → IsStageOf (answer_text text) answer stage → Stands text (recorded ++ Replied op reply ∷ []) next begun stage
+  pub replied : (text : T → List ℕ) (rows next : List (JournalRow T)) (begun op : ℕ) (receipt : Receipt) (asked : Bor Request) (reply : Reply) (answer : Option (AnyAnswer T)) (recorded : List (Told T)) (before stage : Stage) → next ≡ rows ++ record { step = steps.Act op (acts.Receive receipt); answer = answer } ∷ [] → op ≡ begun → receipt.request ≡ asked.now → receipt.reply ≡ reply → before ≡ stages.Asks asked → Stands text recorded rows begun before → IsStageOf (answered_text text) answer stage → Stands text (recorded ++ Replied op reply ∷ []) next begun stage
   replied text rows next begun op receipt asked reply answer recorded before stage adds last request given asks stands is =
-      let words = answer_text text in
+      let words = answered_text text in
       let tells : recorded ≡ journal_tells words 0 rows ++ Asked begun asked.now ∷ [] = subst (IsAt begun recorded (journal_tells words 0 rows)) asks stands.1 in
       let row : ℕ → JournalRow T = λ n. record { step = steps.Act n (acts.Receive receipt); answer = answer } in
       acted text rows next begun (acts.Receive receipt) answer (recorded ++ Replied op reply ∷ []) stage (adds ∙ ap (λ n. rows ++ row n ∷ []) last) stands.0
@@ -76,9 +76,9 @@ module _ {T : Type 0} where
       ∙ ap (λ r. journal_tells words 0 rows ++ Asked begun receipt.request ∷ Replied begun r ∷ []) (sym given))))) is
 
   -- its store call failed
-  pub failed : (text : T → List ℕ) (rows next : List (JournalRow T)) (begun op : ℕ) (request : Request) (asked : Bor Request) (answer : Option (AnyAnswer T)) (recorded : List (Told T)) (before stage : Stage) → next ≡ rows ++ record { step = steps.Act op (acts.Fails request); answer = answer } ∷ [] → op ≡ begun → request ≡ asked.now → before ≡ stages.Asks asked → Stands text recorded rows begun before → IsStageOf (answer_text text) answer stage → Stands text (recorded ++ Failed op ∷ []) next begun stage
+  pub failed : (text : T → List ℕ) (rows next : List (JournalRow T)) (begun op : ℕ) (request : Request) (asked : Bor Request) (answer : Option (AnyAnswer T)) (recorded : List (Told T)) (before stage : Stage) → next ≡ rows ++ record { step = steps.Act op (acts.Fails request); answer = answer } ∷ [] → op ≡ begun → request ≡ asked.now → before ≡ stages.Asks asked → Stands text recorded rows begun before → IsStageOf (answered_text text) answer stage → Stands text (recorded ++ Failed op ∷ []) next begun stage
   failed text rows next begun op request asked answer recorded before stage adds last same asks stands is =
-      let words = answer_text text in
+      let words = answered_text text in
       let tells : recorded ≡ journal_tells words 0 rows ++ Asked begun asked.now ∷ [] = subst (IsAt begun recorded (journal_tells words 0 rows)) asks stands.1 in
       let row : ℕ → JournalRow T = λ n. record { step = steps.Act n (acts.Fails request); answer = answer } in
       acted text rows next begun (acts.Fails request) answer (recorded ++ Failed op ∷ []) stage (adds ∙ ap (λ n. rows ++ row n ∷ []) last) stands.0
@@ -89,16 +89,16 @@ module _ {T : Type 0} where
   -- it is given up
   pub gave_up : (text : T → List ℕ) (rows next : List (JournalRow T)) (begun op : ℕ) (left : Option Request) (answer : Option (AnyAnswer T)) (recorded : List (Told T)) (before : Stage) → next ≡ rows ++ record { step = steps.Act op (acts.GiveUp left); answer = answer } ∷ [] → op ≡ begun → answer ≡ None → before ≡ stages.Runs → Stands text recorded rows begun before → Stands text (recorded ++ GaveUp op ∷ []) next begun stages.Runs
   gave_up text rows next begun op left answer recorded before adds last none runs stands =
-      let words = answer_text text in
+      let words = answered_text text in
       let tells : recorded ≡ journal_tells words 0 rows = subst (IsAt begun recorded (journal_tells words 0 rows)) runs stands.1 in
       let row : ℕ → Option (AnyAnswer T) → JournalRow T = λ n a. record { step = steps.Act n (acts.GiveUp left); answer = a } in
       acted text rows next begun (acts.GiveUp left) None (recorded ++ GaveUp op ∷ []) stages.Runs (adds ∙ (ap (λ n. rows ++ row n answer ∷ []) last ∙ ap (λ a. rows ++ row begun a ∷ []) none)) stands.0
       (ap (λ xs. xs ++ GaveUp op ∷ []) tells ∙ ap (λ n. journal_tells words 0 rows ++ GaveUp n ∷ []) last) refl
 
   -- A call begins, and is answered or not.
-  pub began : (text : T → List ℕ) (rows next : List (JournalRow T)) (begun op : ℕ) (call : AnyCall T) (answer : Option (AnyAnswer T)) (recorded : List (Told T)) (stage : Stage) → next ≡ rows ++ record { step = steps.Begin call; answer = answer } ∷ [] → all_begun 0 rows ≡ begun → op ≡ begun + 1 → recorded ≡ journal_tells (answer_text text) 0 rows → IsStageOf (answer_text text) answer stage → Stands text (recorded ++ Began op call ∷ []) next op stage
+  pub began : (text : T → List ℕ) (rows next : List (JournalRow T)) (begun op : ℕ) (call : AnyCall T) (answer : Option (AnyAnswer T)) (recorded : List (Told T)) (stage : Stage) → next ≡ rows ++ record { step = steps.Begin call; answer = answer } ∷ [] → all_begun 0 rows ≡ begun → op ≡ begun + 1 → recorded ≡ journal_tells (answered_text text) 0 rows → IsStageOf (answered_text text) answer stage → Stands text (recorded ++ Began op call ∷ []) next op stage
   began text rows next begun op call answer recorded stage adds count number tells is =
-      let words = answer_text text in
+      let words = answered_text text in
       let row : JournalRow T = record { step = steps.Begin call; answer = answer } in
       let here : all_begun 0 rows + 1 ≡ op = ap (λ n. n + 1) count ∙ sym number in (
         ap (all_begun 0) adds ∙ (begun_more 0 rows row ∙ here),
@@ -122,12 +122,12 @@ module _ {T : Type 0} where
   ended_at op recorded journaled (stages.Asks request) is = EndsAsking op request.now is
   ended_at op recorded journaled (stages.Answers words) is = LacksAnswer op (string_bytes words) is
 
-  pub ended : (text : T → List ℕ) (rows : List (JournalRow T)) (begun : ℕ) (recorded : List (Told T)) (stage : Stage) → Stands text recorded rows begun stage → TellsSame recorded (journal_tells (answer_text text) 0 rows)
-  ended text rows begun recorded stage stands = ended_at begun recorded (journal_tells (answer_text text) 0 rows) stage stands.1
+  pub ended : (text : T → List ℕ) (rows : List (JournalRow T)) (begun : ℕ) (recorded : List (Told T)) (stage : Stage) → Stands text recorded rows begun stage → TellsSame recorded (journal_tells (answered_text text) 0 rows)
+  ended text rows begun recorded stage stands = ended_at begun recorded (journal_tells (answered_text text) 0 rows) stage stands.1
 
-  pub killed_ended : (text : T → List ℕ) (rows next : List (JournalRow T)) (step : Step T) (answer : Option (AnyAnswer T)) (begun : ℕ) (recorded : List (Told T)) (stage : Stage) → next ≡ rows ++ record { step = step; answer = answer } ∷ [] → goes_on step ≡ false → answer ≡ None → Stands text recorded rows begun stage → TellsSame recorded (journal_tells (answer_text text) 0 next)
+  pub killed_ended : (text : T → List ℕ) (rows next : List (JournalRow T)) (step : Step T) (answer : Option (AnyAnswer T)) (begun : ℕ) (recorded : List (Told T)) (stage : Stage) → next ≡ rows ++ record { step = step; answer = answer } ∷ [] → goes_on step ≡ false → answer ≡ None → Stands text recorded rows begun stage → TellsSame recorded (journal_tells (answered_text text) 0 next)
   killed_ended text rows next step answer begun recorded stage adds e none stands =
-      subst (TellsSame recorded) (sym (killed_adds (answer_text text) rows next step answer adds e none)) (ended text rows begun recorded stage stands)
+      subst (TellsSame recorded) (sym (killed_adds (answered_text text) rows next step answer adds e none)) (ended text rows begun recorded stage stands)
 
 module _ {T : Type 0} (page : ℕ) (encode : T → List ℕ) (decode : List ℕ → Option T) (get_epoch : T → ℕ) (set_epoch : T → ℕ → T) where
   -- a kill answers nothing
@@ -145,12 +145,12 @@ module _ {T C E : Type 0} where
 
 module _ {T : Type 0} where
   -- a client goes on, and goes on
-  pub goes_on_more : (output : T → Option (List ℕ)) (one two three : List (JournalRow T)) (k l m : ℕ) (s t u : Stage) → GoesOn output one k s two l t → GoesOn output two l t three m u → GoesOn output one k s three m u
-  goes_on_more output one two three k l m s t u first second text shows recorded stands = second text shows recorded (first text shows recorded stands)
+  pub goes_on_more : (text : T → List ℕ) (one two three : List (JournalRow T)) (k l m : ℕ) (s t u : Stage) → GoesOn text one k s two l t → GoesOn text two l t three m u → GoesOn text one k s three m u
+  goes_on_more text one two three k l m s t u first second recorded stands = second recorded (first recorded stands)
 
   -- a client makes a row, and goes on
-  pub goes_then : (output : T → Option (List ℕ)) (more : List (Told T)) (one two three : List (JournalRow T)) (k l m : ℕ) (s t u : Stage) → Goes output more one k s two l t → GoesOn output two l t three m u → Goes output more one k s three m u
-  goes_then output more one two three k l m s t u first second text shows recorded stands = second text shows (recorded ++ more) (first text shows recorded stands)
+  pub goes_then : (text : T → List ℕ) (more : List (Told T)) (one two three : List (JournalRow T)) (k l m : ℕ) (s t u : Stage) → Goes text more one k s two l t → GoesOn text two l t three m u → Goes text more one k s three m u
+  goes_then text more one two three k l m s t u first second recorded stands = second (recorded ++ more) (first recorded stands)
 
 module _ {T C E : Type 0} where
   -- the same client, and the same again

@@ -6,7 +6,7 @@ use Rattle.txn_view_history.specs.declared.event.AnyAnswer.{AnyAnswer}
 use Rattle.txn_journals.specs.declared.rows.JournalRow.{JournalRow}
 use Rattle.txn_diary.specs.Reading.{begun_by}
 use Rattle.txn_diary.specs.Diaries.{DiaryState}
-use Rattle.txn_recorded.specs.Calls.{Shows, answer_text}
+use Rattle.txn_lines.specs.Printed.{answered_text}
 use Rattle.txn_rebuilt.specs.declared.stage.Stage.{Stage}
 use Rattle.txn_rebuilt.specs.declared.stage.Stage.TheVariants as stages
 use Rattle.txn_rebuilt.specs.Told.{Told, Asked, Answered, journal_tells}
@@ -26,17 +26,17 @@ module _ {T : Type 0} where
 
   -- a journal of so many operations, by what a recording has told, where values have this text
   abbrev pub Stands : (T → List ℕ) → List (Told T) → List (JournalRow T) → ℕ → Stage → Type 0
-  Stands text recorded rows begun stage = (all_begun 0 rows ≡ begun) × IsAt begun recorded (journal_tells (answer_text text) 0 rows) stage
+  Stands text recorded rows begun stage = (all_begun 0 rows ≡ begun) × IsAt begun recorded (journal_tells (answered_text text) 0 rows) stage
 
-  -- the recording tells this more, and the journal goes from one stage to another
-  abbrev pub Goes : (T → Option (List ℕ)) → List (Told T) → List (JournalRow T) → ℕ → Stage → List (JournalRow T) → ℕ → Stage → Type 0
-  Goes output more before begun stage after begun_then then =
-      (text : T → List ℕ) → Shows output text → (recorded : List (Told T)) → Stands text recorded before begun stage → Stands text (recorded ++ more) after begun_then then
+  -- the recording tells this more, and the journal goes from one stage to another, where values have this text
+  abbrev pub Goes : (T → List ℕ) → List (Told T) → List (JournalRow T) → ℕ → Stage → List (JournalRow T) → ℕ → Stage → Type 0
+  Goes text more before begun stage after begun_then then =
+      (recorded : List (Told T)) → Stands text recorded before begun stage → Stands text (recorded ++ more) after begun_then then
 
   -- the recording tells nothing more, and the journal goes from one stage to another
-  abbrev pub GoesOn : (T → Option (List ℕ)) → List (JournalRow T) → ℕ → Stage → List (JournalRow T) → ℕ → Stage → Type 0
-  GoesOn output before begun stage after begun_then then =
-      (text : T → List ℕ) → Shows output text → (recorded : List (Told T)) → Stands text recorded before begun stage → Stands text recorded after begun_then then
+  abbrev pub GoesOn : (T → List ℕ) → List (JournalRow T) → ℕ → Stage → List (JournalRow T) → ℕ → Stage → Type 0
+  GoesOn text before begun stage after begun_then then =
+      (recorded : List (Told T)) → Stands text recorded before begun stage → Stands text recorded after begun_then then
 
   -- the stage that comes with an answer, or with none
   abbrev pub IsStageOf : (AnyAnswer T → List ℕ) → Option (AnyAnswer T) → Stage → Type 0

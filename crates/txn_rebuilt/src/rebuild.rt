@@ -1,7 +1,7 @@
 //! A client's diary, made once more from its recording.
-ghost use Rattle.std.specs.Prelude.{◌≡◌, ◌≤◌, ℕ, List, Some, IfOk, OnOk, slice_get, drop};
+ghost use Rattle.std.specs.Prelude.{◌≡◌, ◌≤◌, Some, IfOk, OnOk, slice_get, drop};
 ghost use Rattle.txn_types.specs.Clones.{IsExactClone};
-ghost use Rattle.txn_recorded.specs.Calls.{Shows, answer_text};
+ghost use Rattle.txn_lines.specs.Printed.{answered_text};
 ghost use Rattle.txn_recorded.specs.declared.row.Row.TheVariants as kinds;
 ghost use Rattle.txn_rebuilt.specs.Told.{recording_tells, journal_tells, TellsSame};
 ghost use Rattle.txn_rebuilt.specs.Stages.{Goes, IsSameClient, IsOpened};
@@ -9,8 +9,8 @@ ghost use Rattle.txn_rebuilt.specs.Stages.{Goes, IsSameClient, IsOpened};
 use crate::fault::RowFault;
 use crate::stage::{Rebuilding, Stage};
 use std::alloc::Global;
-use std::fmt;
 use txn_diary::diary::Diary;
+use txn_lines::text_form::LineValue;
 use txn_recorded::row::Row;
 use txn_types::codec::ObjectCodec;
 use txn_types::epoch::EpochField;
@@ -67,7 +67,7 @@ fn opened<'a, T: Clone, C: ObjectCodec<T> + Drop, E: EpochField<T>>(
 /// run, and for a row of another kind than what comes next; `OtherRequest` for a request that the operation does not ask for;
 /// `OtherPage` for a first row with another page; `OtherAnswer` for an answer that it was not told; `NoPlace` for a reply without a place; `Refused` for what the client does not
 /// permit; `NoMemory` where a growth was refused.
-pub fn rebuild<T: Clone + fmt::Display + Drop, C: ObjectCodec<T> + Drop, E: EpochField<T>>(
+pub fn rebuild<T: Clone + LineValue, C: ObjectCodec<T> + Drop, E: EpochField<T>>(
     alloc: Global,
     codec: C,
     epochs: E,
@@ -83,7 +83,7 @@ pub fn rebuild<T: Clone + fmt::Display + Drop, C: ObjectCodec<T> + Drop, E: Epoc
     ensures codec { IfOk result (λ diary. diary.codec ≡ codec) }
     ensures epochs { IfOk result (λ diary. diary.epochs ≡ epochs) }
     // Its journal tells what the recording tells.
-    ensures tells { IfOk result (λ diary. (text : T → List ℕ) → Shows T.output text → TellsSame (recording_tells rows.now) (journal_tells (answer_text text) 0 diary.rows)) }
+    ensures tells { IfOk result (λ diary. TellsSame (recording_tells rows.now) (journal_tells (answered_text T.text) 0 diary.rows)) }
 {
     let client = match client_of(rows, page) {
         Ok(client) => client,
@@ -104,14 +104,14 @@ pub fn rebuild<T: Clone + fmt::Display + Drop, C: ObjectCodec<T> + Drop, E: Epoc
 
 /// Has a client that has done nothing make the rows after the first, each reply with its place in the order.
 #[tactic(auto, using(crate::proofs::Following::leads_first, crate::proofs::Following::leads_more, crate::proofs::Following::leads_all, crate::proofs::Telling::same_more))]
-fn follow<'a, T: Clone + fmt::Display + Drop, C: ObjectCodec<T> + Drop, E: EpochField<T>>(
+fn follow<'a, T: Clone + LineValue, C: ObjectCodec<T> + Drop, E: EpochField<T>>(
     alloc: Global,
     rebuilding: &mut Rebuilding<'a, T, C, E>,
     rows: &'a [Row<T>],
     places: &[u64],
 ) -> Result<(), (usize, RowFault)>
     requires { IsExactClone T.is_clone }
-    ensures told { OnOk result (Goes T.output (recording_tells (drop 1 rows.now)) rebuilding.old.diary.rows rebuilding.old.begun rebuilding.old.stage rebuilding.new.diary.rows rebuilding.new.begun rebuilding.new.stage) }
+    ensures told { OnOk result (Goes T.text (recording_tells (drop 1 rows.now)) rebuilding.old.diary.rows rebuilding.old.begun rebuilding.old.stage rebuilding.new.diary.rows rebuilding.new.begun rebuilding.new.stage) }
     ensures same { OnOk result (IsSameClient rebuilding.old.diary rebuilding.new.diary) }
 {
     let mut replies = 0;

@@ -6,19 +6,19 @@ ghost use Rattle.txn_history.specs.Seen.{Store};
 ghost use Rattle.txn_view_history.specs.Trace.{AnyTold};
 ghost use Rattle.txn_view_history.specs.declared.event.AnyAnswer.{AnyAnswer};
 ghost use Rattle.txn_machine.specs.Doing.{asks_as};
-ghost use Rattle.txn_recorded.specs.Calls.{Shows, answer_text};
+ghost use Rattle.txn_lines.specs.Printed.{answered_text};
 ghost use Rattle.txn_rebuilt.specs.Told.{Told, Began, Asked, Replied, Failed, GaveUp, Answered, row_tells, journal_tells, TellsSame};
 ghost use Rattle.txn_rebuilt.specs.Stages.{Stands, Goes, GoesOn, IsStageOf, IsUnanswered, IsSameClient};
 ghost use Rattle.txn_rebuilt.specs.declared.stage.Stage.TheVariants as stages;
 
 use crate::fault::RowFault;
 use std::alloc::Global;
-use std::fmt;
 use txn_caches::ask::Ask;
 use txn_diary::diary::Diary;
 use txn_journals::rows::Receipt;
 use txn_journals::same::same_request;
-use txn_recorded::calls::answer_text;
+use txn_lines::printed;
+use txn_lines::text_form::LineValue;
 use txn_recorded::row::Row;
 use txn_store::request::{Reply, Request};
 use txn_types::codec::ObjectCodec;
@@ -39,16 +39,13 @@ pub(crate) enum Stage<'a> {
 }
 
 /// The stage that comes with what a client is told.
-fn stage_of<'a, T: fmt::Display + Drop>(
-    alloc: Global,
-    told: AnyTold<T>,
-) -> Result<Stage<'a>, RowFault>
-    ensures { (text : T → List ℕ) → Shows T.output text → (otherwise : AnyTold T) (op : ℕ) (answer : Option (AnyAnswer T)) → IsUnanswered otherwise → told ≡ told_of otherwise op answer → IfOk result (IsStageOf (answer_text text) answer) }
+fn stage_of<'a, T: LineValue>(alloc: Global, told: AnyTold<T>) -> Result<Stage<'a>, RowFault>
+    ensures { (otherwise : AnyTold T) (op : ℕ) (answer : Option (AnyAnswer T)) → IsUnanswered otherwise → told ≡ told_of otherwise op answer → IfOk result (IsStageOf (answered_text T.text) answer) }
 {
     match told {
         AnyTold::Answered(_, answer) => {
-            let words = answer_text(alloc, &answer)?;
-            Ok(Stage::Answers(words))
+            let answered = printed::Answered(&answer);
+            Ok(Stage::Answers(format!(in alloc; "{answered}")?))
         }
         told => {
             drop(told);
@@ -124,17 +121,12 @@ pub(crate) struct Rebuilding<'a, T: Clone, C: ObjectCodec<T> + Drop, E: EpochFie
     pub stage: Stage<'a>,
 }
 
-impl<'a, T: Clone + fmt::Display + Drop, C: ObjectCodec<T> + Drop, E: EpochField<T>> Rebuilding<
-    'a,
-    T,
-    C,
-    E,
-> {
+impl<'a, T: Clone + LineValue, C: ObjectCodec<T> + Drop, E: EpochField<T>> Rebuilding<'a, T, C, E> {
     /// The operation looks at its client's caches once.
     fn look(&mut self, alloc: Global) -> Result<(), RowFault>
         requires exact { IsExactClone T.is_clone }
         requires runs { self.old.stage ≡ stages.Runs }
-        ensures told { OnOk result (GoesOn T.output self.old.diary.rows self.old.begun self.old.stage self.new.diary.rows self.new.begun self.new.stage) }
+        ensures told { OnOk result (GoesOn T.text self.old.diary.rows self.old.begun self.old.stage self.new.diary.rows self.new.begun self.new.stage) }
         ensures same { OnOk result (IsSameClient self.old.diary self.new.diary) }
     {
         let told = self.diary.look(self.begun)?;
@@ -146,7 +138,7 @@ impl<'a, T: Clone + fmt::Display + Drop, C: ObjectCodec<T> + Drop, E: EpochField
     #[tactic(auto, using(crate::proofs::Telling::goes_on_more, crate::proofs::Telling::same_more))]
     fn look_on(&mut self, alloc: Global) -> Result<(), RowFault>
         requires { IsExactClone T.is_clone }
-        ensures told { OnOk result (GoesOn T.output self.old.diary.rows self.old.begun self.old.stage self.new.diary.rows self.new.begun self.new.stage) }
+        ensures told { OnOk result (GoesOn T.text self.old.diary.rows self.old.begun self.old.stage self.new.diary.rows self.new.begun self.new.stage) }
         ensures same { OnOk result (IsSameClient self.old.diary self.new.diary) }
     {
         for _ in 0..u64::MAX {
@@ -161,7 +153,7 @@ impl<'a, T: Clone + fmt::Display + Drop, C: ObjectCodec<T> + Drop, E: EpochField
     /// A call begins.
     fn begin(&mut self, alloc: Global, op: u64, call: &AnyCall<T>) -> Result<(), RowFault>
         requires { IsExactClone T.is_clone }
-        ensures told { OnOk result (Goes T.output (Began op call.now ∷ []) self.old.diary.rows self.old.begun self.old.stage self.new.diary.rows self.new.begun self.new.stage) }
+        ensures told { OnOk result (Goes T.text (Began op call.now ∷ []) self.old.diary.rows self.old.begun self.old.stage self.new.diary.rows self.new.begun self.new.stage) }
         ensures same { OnOk result (IsSameClient self.old.diary self.new.diary) }
     {
         if !self.stage.is_idle() || !is_next(op, self.begun) {
@@ -176,7 +168,7 @@ impl<'a, T: Clone + fmt::Display + Drop, C: ObjectCodec<T> + Drop, E: EpochField
 
     /// The operation asks the store.
     fn ask(&mut self, op: u64, request: &'a Request) -> Result<(), RowFault>
-        ensures told { OnOk result (Goes T.output (Asked op request.now ∷ []) self.old.diary.rows self.old.begun self.old.stage self.new.diary.rows self.new.begun self.new.stage) }
+        ensures told { OnOk result (Goes T.text (Asked op request.now ∷ []) self.old.diary.rows self.old.begun self.old.stage self.new.diary.rows self.new.begun self.new.stage) }
         ensures same { OnOk result (IsSameClient self.old.diary self.new.diary) }
     {
         if !self.stage.is_running() || !is_last(op, self.begun) {
@@ -198,7 +190,7 @@ impl<'a, T: Clone + fmt::Display + Drop, C: ObjectCodec<T> + Drop, E: EpochField
         place: Option<u64>,
     ) -> Result<(), RowFault>
         requires { IsExactClone T.is_clone }
-        ensures told { OnOk result (Goes T.output (Replied op reply.now ∷ []) self.old.diary.rows self.old.begun self.old.stage self.new.diary.rows self.new.begun self.new.stage) }
+        ensures told { OnOk result (Goes T.text (Replied op reply.now ∷ []) self.old.diary.rows self.old.begun self.old.stage self.new.diary.rows self.new.begun self.new.stage) }
         ensures same { OnOk result (IsSameClient self.old.diary self.new.diary) }
     {
         let asked = self.stage.asked()?;
@@ -222,7 +214,7 @@ impl<'a, T: Clone + fmt::Display + Drop, C: ObjectCodec<T> + Drop, E: EpochField
 
     /// The operation's store call failed.
     fn fail(&mut self, alloc: Global, op: u64) -> Result<(), RowFault>
-        ensures told { OnOk result (Goes T.output (Failed op ∷ []) self.old.diary.rows self.old.begun self.old.stage self.new.diary.rows self.new.begun self.new.stage) }
+        ensures told { OnOk result (Goes T.text (Failed op ∷ []) self.old.diary.rows self.old.begun self.old.stage self.new.diary.rows self.new.begun self.new.stage) }
         ensures same { OnOk result (IsSameClient self.old.diary self.new.diary) }
     {
         let asked = self.stage.asked()?;
@@ -239,7 +231,7 @@ impl<'a, T: Clone + fmt::Display + Drop, C: ObjectCodec<T> + Drop, E: EpochField
 
     /// The client gives the operation up.
     fn give_up(&mut self, op: u64) -> Result<(), RowFault>
-        ensures told { OnOk result (Goes T.output (GaveUp op ∷ []) self.old.diary.rows self.old.begun self.old.stage self.new.diary.rows self.new.begun self.new.stage) }
+        ensures told { OnOk result (Goes T.text (GaveUp op ∷ []) self.old.diary.rows self.old.begun self.old.stage self.new.diary.rows self.new.begun self.new.stage) }
         ensures same { OnOk result (IsSameClient self.old.diary self.new.diary) }
     {
         if !self.stage.is_running() || !is_last(op, self.begun) {
@@ -253,7 +245,7 @@ impl<'a, T: Clone + fmt::Display + Drop, C: ObjectCodec<T> + Drop, E: EpochField
 
     /// The operation's answer is written.
     fn answer(&mut self, op: u64, words: &str) -> Result<(), RowFault>
-        ensures told { OnOk result (Goes T.output (Answered op words.now ∷ []) self.old.diary.rows self.old.begun self.old.stage self.new.diary.rows self.new.begun self.new.stage) }
+        ensures told { OnOk result (Goes T.text (Answered op words.now ∷ []) self.old.diary.rows self.old.begun self.old.stage self.new.diary.rows self.new.begun self.new.stage) }
         ensures same { OnOk result (IsSameClient self.old.diary self.new.diary) }
     {
         if !is_last(op, self.begun) {
@@ -274,7 +266,7 @@ impl<'a, T: Clone + fmt::Display + Drop, C: ObjectCodec<T> + Drop, E: EpochField
     /// The client makes a row, but for the looks after it. Of a reply, this is its place in the order, if it has one.
     fn make(&mut self, alloc: Global, row: &'a Row<T>, place: Option<u64>) -> Result<(), RowFault>
         requires { IsExactClone T.is_clone }
-        ensures told { OnOk result (Goes T.output (row_tells row.now) self.old.diary.rows self.old.begun self.old.stage self.new.diary.rows self.new.begun self.new.stage) }
+        ensures told { OnOk result (Goes T.text (row_tells row.now) self.old.diary.rows self.old.begun self.old.stage self.new.diary.rows self.new.begun self.new.stage) }
         ensures same { OnOk result (IsSameClient self.old.diary self.new.diary) }
     {
         match row {
@@ -297,7 +289,7 @@ impl<'a, T: Clone + fmt::Display + Drop, C: ObjectCodec<T> + Drop, E: EpochField
         place: Option<u64>,
     ) -> Result<(), RowFault>
         requires { IsExactClone T.is_clone }
-        ensures told { OnOk result (Goes T.output (row_tells row.now) self.old.diary.rows self.old.begun self.old.stage self.new.diary.rows self.new.begun self.new.stage) }
+        ensures told { OnOk result (Goes T.text (row_tells row.now) self.old.diary.rows self.old.begun self.old.stage self.new.diary.rows self.new.begun self.new.stage) }
         ensures same { OnOk result (IsSameClient self.old.diary self.new.diary) }
     {
         self.make(alloc, row, place)?;
@@ -307,7 +299,7 @@ impl<'a, T: Clone + fmt::Display + Drop, C: ObjectCodec<T> + Drop, E: EpochField
 
     /// The recording ends. A client of which an operation runs, or an answer is not written, was killed.
     pub fn finish(&mut self) -> Result<(), RowFault>
-        ensures told { OnOk result ((text : T → List ℕ) → Shows T.output text → (recorded : List (Told T)) → Stands text recorded self.old.diary.rows self.old.begun self.old.stage → TellsSame recorded (journal_tells (answer_text text) 0 self.new.diary.rows)) }
+        ensures told { OnOk result ((recorded : List (Told T)) → Stands T.text recorded self.old.diary.rows self.old.begun self.old.stage → TellsSame recorded (journal_tells (answered_text T.text) 0 self.new.diary.rows)) }
         ensures same { OnOk result (IsSameClient self.old.diary self.new.diary) }
     {
         if !self.stage.is_idle() {

@@ -1,4 +1,4 @@
--- The text of what a client asks of the store, and of what the store replies. Words are divided by one space, numbers are plain decimals, and bytes are hex digits in lower case.
+-- The text of each row. Words are divided by one space, numbers are plain decimals, and bytes are hex digits in lower case; calls and answers are in the words of scripts.
 use Rattle.std.specs.Prelude.{ℕ, List, [], ◌∷◌, ◌++◌, Bool, true, false, Option, Some, None, Result, Ok, Err, codes, decimal}
 use Rattle.hex.specs.Hex.{encode_lower}
 use Rattle.txn_store.specs.Paths.{Segments, shown}
@@ -13,6 +13,10 @@ use Rattle.txn_store.specs.declared.request.Request.{Request}
 use Rattle.txn_store.specs.declared.request.Request.TheVariants as requests
 use Rattle.txn_store.specs.declared.request.Reply.{Reply}
 use Rattle.txn_store.specs.declared.request.Reply.TheVariants as replies
+use Rattle.txn_view_history.specs.declared.event.AnyCall.{AnyCall}
+use Rattle.txn_view_history.specs.declared.event.AnyAnswer.{AnyAnswer}
+use Rattle.txn_lines.specs.Grammar.{call_text}
+use Rattle.txn_lines.specs.Printed.{answered_text}
 
 -- a space, and what comes after it
 infixr 5 ◌then◌
@@ -114,3 +118,13 @@ failed_row_text op at = codes "failed" then decimal op then decimal at
 -- an operation that is given up
 abbrev pub give_up_row_text : ℕ → List ℕ
 give_up_row_text op = codes "giveup" then decimal op
+
+-- the rows of calls, by the text of a value
+module _ {T : Type 0} (text : T → List ℕ) where
+  -- a call that begins as the operation of this number
+  abbrev pub begin_row_text : ℕ → AnyCall T → List ℕ
+  begin_row_text op call = codes "begin" then decimal op then call_text text call
+
+  -- the answer of an operation
+  abbrev pub answer_row_text : ℕ → AnyAnswer T → List ℕ
+  answer_row_text op answer = codes "answer" then decimal op then answered_text text answer

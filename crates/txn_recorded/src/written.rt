@@ -3,15 +3,19 @@ ghost use Rattle.std.specs.Prelude.{◌≡◌, ◌++◌, ◌∷◌, Ok, IfOk, On
 ghost use Rattle.std.specs.Option.{option_copied};
 ghost use Rattle.txn_store.specs.declared.request.Request.TheVariants as requests;
 ghost use Rattle.txn_store.specs.declared.request.Reply.TheVariants as replies;
-ghost use Rattle.txn_recorded.specs.Written.{put_text, request_text, error_text, meta_text, metas_text, reply_text, client_row_text, ask_row_text, reply_row_text, failed_row_text, give_up_row_text};
+ghost use Rattle.txn_recorded.specs.Written.{put_text, request_text, error_text, meta_text, metas_text, reply_text, client_row_text, ask_row_text, reply_row_text, failed_row_text, give_up_row_text, begin_row_text, answer_row_text};
 
 use bytes::Bytes;
 use std::alloc::{AllocError, Global};
 use std::fmt::Write;
+use txn_lines::called::Called;
+use txn_lines::printed::Answered;
+use txn_lines::text_form::LineValue;
 use txn_store::page::Page;
 use txn_store::path::Path;
 use txn_store::request::{Reply, Request};
 use txn_store::store::{Got, ObjectMeta, PutMode, StoreError, Token};
+use txn_view_history::event::{AnyAnswer, AnyCall};
 
 /// What a put asks for.
 fn put_text(alloc: Global, path: &Path, bytes: &Bytes, mode: &PutMode) -> Result<String, AllocError>
@@ -227,4 +231,28 @@ pub fn give_up_row(alloc: Global, op: u64) -> Result<String, AllocError>
     ensures { IfOk result (λ text. string_bytes text ≡ give_up_row_text op) }
 {
     format!(in alloc; "giveup {op}")
+}
+
+/// The row of a call that begins as the operation of this number.
+pub fn begin_row<T: LineValue>(
+    alloc: Global,
+    op: u64,
+    call: &AnyCall<T>,
+) -> Result<String, AllocError>
+    ensures { IfOk result (λ text. string_bytes text ≡ begin_row_text T.text op call.now) }
+{
+    let called = Called(call);
+    format!(in alloc; "begin {op} {called}")
+}
+
+/// The row of the answer of an operation.
+pub fn answer_row<T: LineValue>(
+    alloc: Global,
+    op: u64,
+    answer: &AnyAnswer<T>,
+) -> Result<String, AllocError>
+    ensures { IfOk result (λ text. string_bytes text ≡ answer_row_text T.text op answer.now) }
+{
+    let answered = Answered(answer);
+    format!(in alloc; "answer {op} {answered}")
 }

@@ -2,8 +2,7 @@
 use Rattle.std.specs.Prelude.{ℕ, List, codes, decimal, string_bytes}
 use Rattle.txn_recorded.specs.declared.row.Row.{Row}
 use Rattle.txn_recorded.specs.declared.row.Row.TheVariants as kinds
-use Rattle.txn_recorded.specs.Written.{◌then◌, client_row_text, ask_row_text, reply_row_text, failed_row_text, give_up_row_text}
-use Rattle.txn_recorded.specs.Calls.{begin_row_text}
+use Rattle.txn_recorded.specs.Written.{◌then◌, client_row_text, ask_row_text, reply_row_text, failed_row_text, give_up_row_text, begin_row_text}
 
 module _ {T : Type 0} (text : T → List ℕ) where
   abbrev pub row_text : Row T → List ℕ

@@ -1,16 +1,14 @@
 //! How the text of a row is read: a text is read as a row only where it is the text that is written of that row.
-ghost use Rattle.std.specs.Prelude.{◌≡◌, ℕ, List, IfOk, Decides, string_bytes};
-ghost use Rattle.txn_recorded.specs.Calls.{Shows};
+ghost use Rattle.std.specs.Prelude.{◌≡◌, IfOk, Decides, string_bytes};
 ghost use Rattle.txn_recordings.specs.Rows.{row_text};
 
 use bytes::Bytes;
 use hex::FromHexError;
 use std::alloc::{AllocError, AllocFailed, Global};
-use std::fmt;
 use txn_lines::numerals::read_decimal;
-use txn_recorded::calls::begin_row;
+use txn_lines::text_form::LineValue;
 use txn_recorded::row::Row;
-use txn_recorded::written::{ask_row, client_row, failed_row, give_up_row, reply_row};
+use txn_recorded::written::{ask_row, begin_row, client_row, failed_row, give_up_row, reply_row};
 use txn_store::page::{Listing, Page};
 use txn_store::path::{Path, PathFault};
 use txn_store::request::{Reply, Request};
@@ -301,8 +299,8 @@ fn guess<T, F: Fn(Global, &str) -> Result<Option<AnyCall<T>>, AllocError>>(
 }
 
 /// The text of a row, without its line feed. The only error is want of memory.
-pub fn text_of<T: fmt::Display>(alloc: Global, row: &Row<T>) -> Result<String, AllocError>
-    ensures { (text : T → List ℕ) → Shows T.output text → IfOk result (λ words. string_bytes words ≡ row_text text row.now) }
+pub fn text_of<T: LineValue>(alloc: Global, row: &Row<T>) -> Result<String, AllocError>
+    ensures { IfOk result (λ words. string_bytes words ≡ row_text T.text row.now) }
 {
     match row {
         Row::Client(client, page) => client_row(alloc, *client, *page),
@@ -328,13 +326,14 @@ fn is_text(written: &str, text: &str) -> bool
 /// # Errors
 ///
 /// `BadRow` where the text is not what is written of the row that it seems to be, `NoMemory` where a growth was refused.
-pub fn read_row<
-    T: fmt::Display + Drop,
-    F: Fn(Global, &str) -> Result<Option<AnyCall<T>>, AllocError>,
->(alloc: Global, text: &str, read_call: &F) -> Result<Row<T>, TextFault>
+pub fn read_row<T: LineValue, F: Fn(Global, &str) -> Result<Option<AnyCall<T>>, AllocError>>(
+    alloc: Global,
+    text: &str,
+    read_call: &F,
+) -> Result<Row<T>, TextFault>
     requires { F.IsAlwaysCallable read_call.now }
     // What is read is the row that the text is written of.
-    ensures { (shown : T → List ℕ) → Shows T.output shown → IfOk result (λ row. text.now ≡ row_text shown row) }
+    ensures { IfOk result (λ row. text.now ≡ row_text T.text row) }
 {
     let row = guess(alloc, text, read_call)?;
     let written = text_of(alloc, &row)?;

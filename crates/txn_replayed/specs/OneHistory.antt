@@ -6,7 +6,7 @@ use Rattle.txn_journals.specs.Logs.{IsLog}
 use Rattle.txn_journals.specs.Verdict.{Diary, IsDue, clients_in}
 use Rattle.txn_journals.specs.Shares.{AreDiaries, ShareOnlyTheStore}
 use Rattle.txn_diary.specs.Diaries.{DiaryState}
-use Rattle.txn_recorded.specs.Calls.{Shows, answer_text}
+use Rattle.txn_lines.specs.Printed.{answered_text}
 use Rattle.txn_recorded.specs.declared.row.Row.{Row}
 use Rattle.txn_recorded.specs.declared.row.Row.TheVariants as kinds
 use Rattle.txn_rebuilt.specs.Told.{TellsSame, recording_tells, journal_tells}
@@ -15,11 +15,11 @@ use Rattle.txn_rebuilt.specs.Told.{TellsSame, recording_tells, journal_tells}
 abbrev pub as_diary : {T C E : Type 0} → DiaryState T C E → Diary T
 as_diary d = record { client = d.client; rows = d.rows; part = d.part }
 
-module _ {T : Type 0} (page : ℕ) (output : T → Option (List ℕ)) where
+module _ {T : Type 0} (page : ℕ) (text : T → List ℕ) where
   -- A diary is that of a recording: its client is the one that the recording's first row names, with this page, and its journal tells what the recording tells.
   pub record IsOf (rows : List (Row T)) (d : Diary T) : Type 0 where
     pub client : slice_get rows 0 ≡ Some (kinds.Client d.client page)
-    pub tells : (text : T → List ℕ) → Shows output text → TellsSame (recording_tells rows) (journal_tells (answer_text text) 0 d.rows)
+    pub tells : TellsSame (recording_tells rows) (journal_tells (answered_text text) 0 d.rows)
 
   -- the diaries are those of the recordings, one by one
   abbrev pub AreOf : List (List (Row T)) → List (Diary T) → Type 0
@@ -27,14 +27,14 @@ module _ {T : Type 0} (page : ℕ) (output : T → Option (List ℕ)) where
   AreOf (rows ∷ recordings) (d ∷ ds) = IsOf rows d × AreOf recordings ds
   AreOf _ _ = ⊥
 
-module _ {T : Type 0} (output : T → Option (List ℕ)) (encode : T → List ℕ) (decode : List ℕ → Option T) (get_epoch : T → ℕ) (set_epoch : T → ℕ → T) where
+module _ {T : Type 0} (text : T → List ℕ) (encode : T → List ℕ) (decode : List ℕ → Option T) (get_epoch : T → ℕ) (set_epoch : T → ℕ → T) where
   -- The recordings are one history: there are diaries, one for each recording, that tell what the recordings tell, and a log that an honest store has, whose rows of each client are the replies that its recording has, and whose landings are of what the clients left; and so the clients shared only the store.
   pub record IsOneHistoryOf (recordings : List (List (Row T))) (log : List LogRow) (ds : List (Diary T)) : Type 0 where
     pub page : ℕ
     pub paged : 1 ≤ page
     pub store : StoreState
     pub is_log : IsLog (reverse log) store
-    pub told : AreOf page output recordings ds
+    pub told : AreOf page text recordings ds
     pub diaries : AreDiaries page encode decode get_epoch set_epoch ds
     pub agrees : IsDue log ds (Ok tt)
     pub shares : ShareOnlyTheStore page encode decode get_epoch set_epoch (clients_in ds) log ds store

@@ -8,11 +8,11 @@ ghost use Rattle.txn_replayed.specs.OneHistory.{as_diary, IsOf, AreOf, IsOneHist
 use crate::refusal::Refusal;
 use crate::replay::{places_of, replay};
 use std::alloc::Global;
-use std::fmt;
 use txn_audit::audit::audit;
 use txn_diary::diary::Diary;
 use txn_journals::audited::Logged;
 use txn_journals::laws::clients_share_only_the_store;
+use txn_lines::text_form::LineValue;
 use txn_logged::honest::HonestLog;
 use txn_ordered::order::{CallPlace, order};
 use txn_rebuilt::fault::RowFault;
@@ -50,11 +50,7 @@ fn refusal_of(recording: usize, row: usize, fault: RowFault) -> Refusal {
 }
 
 /// The diary of a recording whose page is this.
-fn diary_of<
-    T: Clone + fmt::Display + Drop,
-    C: ObjectCodec<T> + Copy + Drop,
-    E: EpochField<T> + Copy,
->(
+fn diary_of<T: Clone + LineValue, C: ObjectCodec<T> + Copy + Drop, E: EpochField<T> + Copy>(
     alloc: Global,
     codec: C,
     epochs: E,
@@ -65,7 +61,7 @@ fn diary_of<
 ) -> Result<Diary<T, C, E>, Refusal>
     requires exact { IsExactClone T.is_clone }
     requires paged { 1 ≤ page }
-    ensures of { IfOk result (λ diary. IsOf page T.output rows.now.items (as_diary diary)) }
+    ensures of { IfOk result (λ diary. IsOf page T.text rows.now.items (as_diary diary)) }
     ensures replays { IfOk result (λ diary. Replays page (C.encoded codec) (C.decoded codec) (E.epoch_of epochs) (E.with_epoch epochs) diary.client (reverse diary.rows) diary.part) }
 {
     match rebuild(alloc, codec, epochs, page, rows.as_slice(), places) {
@@ -86,11 +82,7 @@ fn places_in(places: &[Vec<u64>], recording: usize) -> &[u64] {
 }
 
 /// The diaries of recordings whose page is this, each recording's replies with these places in the order.
-fn diaries_of<
-    T: Clone + fmt::Display + Drop,
-    C: ObjectCodec<T> + Copy + Drop,
-    E: EpochField<T> + Copy,
->(
+fn diaries_of<T: Clone + LineValue, C: ObjectCodec<T> + Copy + Drop, E: EpochField<T> + Copy>(
     alloc: Global,
     codec: C,
     epochs: E,
@@ -100,7 +92,7 @@ fn diaries_of<
 ) -> Result<Vec<Diary<T, C, E>>, Refusal>
     requires exact { IsExactClone T.is_clone }
     requires paged { 1 ≤ page }
-    ensures told { IfOk result (λ diaries. AreOf page T.output (map (λ rows. rows.items) recordings.now) (map as_diary diaries.items)) }
+    ensures told { IfOk result (λ diaries. AreOf page T.text (map (λ rows. rows.items) recordings.now) (map as_diary diaries.items)) }
     ensures diaries { IfOk result (λ diaries. AreDiaries page (C.encoded codec) (C.decoded codec) (E.epoch_of epochs) (E.with_epoch epochs) (map as_diary diaries.items)) }
 {
     let mut diaries = Vec::new(alloc);
@@ -124,7 +116,7 @@ fn diaries_of<
 /// `Dishonest` for the first reply in the order that no honest store gave; `Differs` where the diaries and the log differ, as where
 /// two recordings are of one client; `NoMemory` where a growth was refused.
 pub fn audit_recordings<
-    T: Clone + fmt::Display + Drop,
+    T: Clone + LineValue,
     C: ObjectCodec<T> + Copy + Drop,
     E: EpochField<T> + Copy,
 >(
@@ -134,7 +126,7 @@ pub fn audit_recordings<
     recordings: &[Vec<Row<T>>],
 ) -> Result<OneHistory<T, C, E>, Refusal>
     requires { IsExactClone T.is_clone }
-    ensures { IfOk result (λ found. IsOneHistoryOf T.output (C.encoded codec) (C.decoded codec) (E.epoch_of epochs) (E.with_epoch epochs) (map (λ rows. rows.items) recordings.now) found.log (map as_diary found.diaries.items)) }
+    ensures { IfOk result (λ found. IsOneHistoryOf T.text (C.encoded codec) (C.decoded codec) (E.epoch_of epochs) (E.with_epoch epochs) (map (λ rows. rows.items) recordings.now) found.log (map as_diary found.diaries.items)) }
 {
     let page = page_of(recordings);
     let order = order(alloc, recordings)?;

@@ -8,8 +8,8 @@ use txn_caches::ask::Ask;
 use txn_diary::diary::Diary;
 use txn_history::event::{Call, EventFault};
 use txn_journals::rows::Receipt;
+use txn_lines::printed::Answered;
 use txn_lines::record::{Record, RecordCodec, RecordEpoch};
-use txn_recorded::calls::answer_text;
 use txn_recorded::row::Row;
 use txn_store::in_memory::InMemory;
 use txn_store::page::Listing;
@@ -221,7 +221,8 @@ impl Player {
     ) -> Result<bool, AllocError> {
         match told {
             Ok(AnyTold::Answered(op, answer)) => {
-                let words = answer_text(alloc, &answer)?;
+                let answered = Answered(&answer);
+                let words = format!(in alloc; "{answered}")?;
                 self.rows.push(Row::Answer(op, words))?;
                 Ok(false)
             }

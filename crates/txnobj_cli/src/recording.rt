@@ -7,8 +7,9 @@ use std::io::Write;
 use std::rt::Clock;
 use txn_client::recorder::Recorder;
 use txn_entries::entry::Entry;
-use txn_recorded::calls::{answer_row, begin_row};
-use txn_recorded::written::{ask_row, client_row, failed_row, give_up_row, reply_row};
+use txn_recorded::written::{
+    answer_row, ask_row, begin_row, client_row, failed_row, give_up_row, reply_row,
+};
 use txn_store::request::{Reply, Request};
 use txn_view_history::event::{AnyAnswer, AnyCall};
 

@@ -8,7 +8,7 @@ loop-place-preserved g c =
     let old = c.args.rebuilding.now in
     let now = c.loop-place.rebuilding in
     let new = c.take.new.self in (
-      leads_more g.T.Display.output c.args.rows.now c.loop-place.place c.index-rows-place.result old.diary.rows now.diary.rows new.diary.rows old.begun now.begun new.begun old.stage now.stage new.stage c.loop-place-test.true c.index-rows-place.is c.loop-place.invariant.0 c.in_default.ensures.told,
+      leads_more g.T.TextForm.text c.args.rows.now c.loop-place.place c.index-rows-place.result old.diary.rows now.diary.rows new.diary.rows old.begun now.begun new.begun old.stage now.stage new.stage c.loop-place-test.true c.index-rows-place.is c.loop-place.invariant.0 c.in_default.ensures.told,
       same_more old.diary now.diary new.diary c.loop-place.invariant.1 c.in_default.ensures.same,
     )
 
@@ -16,4 +16,4 @@ pub returns-clause-told : goal.returns-clause-told
 returns-clause-told g c =
     let old = c.args.rebuilding.now in
     let now = c.loop-place.rebuilding in
-    leads_all g.T.Display.output c.args.rows.now c.loop-place.place old.diary.rows now.diary.rows old.begun now.begun old.stage now.stage (omega (arith, c.loop-place-test.false)) c.loop-place.invariant.0
+    leads_all g.T.TextForm.text c.args.rows.now c.loop-place.place old.diary.rows now.diary.rows old.begun now.begun old.stage now.stage (omega (arith, c.loop-place-test.false)) c.loop-place.invariant.0
