@@ -1,5 +1,5 @@
 -- Why a manifest was not entered, and why a collection failed, by what the calls inside failed for.
-use Rattle.std.proofs.Common.{◌≡◌, ℕ, ◌≤◌, List, ◌⊎◌, inl, inr, refl, sym, subst}
+use Rattle.std.proofs.Common.{◌≡◌, ℕ, ◌≤◌, List, ◌⊎◌, inl, inr, refl, subst}
 use Rattle.txn_store.specs.Store.{State}
 use Rattle.txn_types.specs.declared.error.TransactionalObjectError.{TransactionalObjectError}
 use Rattle.txn_types.specs.Callbacks.{error_of_callback}

@@ -1,4 +1,4 @@
-use Rattle.std.proofs.Common.{◌≡◌, ℕ, ◌+◌, List, ◌∷◌, ◌++◌, drop, get_or, decimal, sym, ◌∙◌, ap, refl}
+use Rattle.std.proofs.Common.{◌+◌, ◌∷◌, ◌++◌, drop, get_or, decimal, sym, ◌∙◌, ap, refl}
 use Rattle.std.proofs.lemmas.List.{append_assoc}
 use Rattle.std.proofs.Output.{has_written_append}
 use Rattle.txn_manifest.specs.Text.{pins_text}
