@@ -1,4 +1,5 @@
 //! A manifest store over a store in memory.
+use crate::kept::pin_and_collect;
 use slatedb_txn_obj::object_store::ObjectStoreSequencedStorageProtocol;
 use slatedb_txn_obj::{
     FenceableTransactionalObject, MonotonicId, NoInvariant, SequencedStorageProtocol,
@@ -165,18 +166,6 @@ fn a_collection_spares_what_is_pinned(rt: HostRuntime) -> Result<(), Fail> {
     Ok(())
 }
 
-/// A holder pins its version, goes on, and collects.
-fn collected(
-    manifests: &mut ManifestStore<NoInvariant>,
-    protocol: &mut Versions,
-    store: &mut InMemory,
-) -> Result<u64, TransactionalObjectError> {
-    let mut turns = Turns::new(20);
-    manifests.checkpoint(protocol, store)?;
-    manifests.set_payload(protocol, store, 5)?;
-    manifests.collect(protocol, store, &mut turns)
-}
-
 /// Whether a version is stored. The read is made once more where it fails.
 fn is_stored(protocol: &mut Versions, store: &mut InMemory, id: u64) -> bool {
     for _ in 0..2 {
@@ -201,7 +190,7 @@ fn keeps_its_pins(
     true
 }
 
-/// Whether a run ends as it is to: with two versions removed, or for want of memory; and what is pinned is stored.
+/// Whether a run ends as it is to: with the claimed version pinned, or for want of memory; and what is pinned is stored.
 fn ends_well(
     alloc: Global,
     protocol: &mut Versions,
@@ -209,8 +198,8 @@ fn ends_well(
 ) -> Result<bool, TransactionalObjectError> {
     let mut turns = Turns::new(20);
     let mut manifests = opened(alloc, protocol, store, &mut turns)?;
-    let is_well = match collected(&mut manifests, protocol, store) {
-        Ok(count) => count == 2,
+    let is_well = match pin_and_collect(&mut manifests, protocol, store, &mut turns, 5) {
+        Ok(kept) => kept == 2,
         Err(error) => error.number() == 9,
     };
     Ok(is_well && keeps_its_pins(&manifests, protocol, store))
