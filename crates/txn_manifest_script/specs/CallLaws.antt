@@ -1,7 +1,6 @@
 -- What says a call of a script of manifests is text.
-use Rattle.std.proofs.Common.{List, ℕ, refl}
+use Rattle.std.proofs.Common.{refl}
 use Rattle.std.specs.Prelude.{codes}
-use Rattle.std.specs.Fmt.{decimal}
 use Rattle.std.specs.Str.{IsUtf8}
 use Rattle.txn_lines.specs.Numerals.{pair_text}
 use Rattle.txn_lines.specs.TextLaws.{numbered_utf8, after_word, pair_utf8, call_utf8}

@@ -1,5 +1,5 @@
 -- Scripts of manifests: a world of manifests, with what the newest pins.
-use Rattle.std.specs.Prelude.{◌≡◌, ℕ, List, [], Option, Some, codes}
+use Rattle.std.specs.Prelude.{◌≡◌, ℕ, List, [], Some, codes}
 use Rattle.std.specs.Option.{option_map}
 use Rattle.txn_history.specs.History.{newest, IsEntry}
 use Rattle.txn_view_history.specs.Trace.{AnyRow}
