@@ -1,10 +1,8 @@
 //! A manifest as the text `epoch:payload:pins`.
-ghost use Rattle.std.specs.Prelude.{◌≡◌, ◌↔◌, ◌==◌, ◌∷◌, [], ◌++◌, Some, None, Ok, IfSome, IfOk, IfErr, OnOk, map};
+ghost use Rattle.std.specs.Prelude.{◌≡◌, ◌↔◌, ◌==◌, Some, None, Ok, IfSome, IfOk, IfErr, map};
 ghost use Rattle.std.specs.List.{slice_split};
-ghost use Rattle.std.specs.Fmt.{decimal};
 ghost use Rattle.txn_types.specs.Refusal.{OnRefused};
 ghost use Rattle.txn_manifest.specs.declared.manifest.Manifest.{Manifest};
-ghost use Rattle.txn_manifest.specs.Pins.{ArePins};
 ghost use Rattle.txn_manifest.specs.Text.{manifest_text, pins_read, manifest_read, IsManifest};
 ghost use Rattle.txn_manifest.specs.Refusal.{IsBadManifest};
 

@@ -1,9 +1,7 @@
 //! A holder that pins its version, goes on, and collects.
-ghost use Rattle.std.specs.Prelude.{◌≡◌, ◌+◌, ℕ, List, IfOk, OnOk};
+ghost use Rattle.std.specs.Prelude.{◌≡◌, ℕ, List, IfOk, OnOk};
 ghost use Rattle.slatedb_txn_obj.specs.Views.{IsVersion};
 ghost use Rattle.txn_manifest.specs.declared.manifest.Manifest.{Manifest};
-ghost use Rattle.txn_manifest.specs.Manifest.{with_pins, with_payload};
-ghost use Rattle.txn_manifest.specs.Pins.{pins_with};
 ghost use Rattle.txn_manifest.specs.Stores.{StandsBy};
 ghost use Rattle.txn_manifest_tests.specs.Kept.{LeavesPinned};
 
