@@ -325,7 +325,11 @@ impl<'a> Precedence<'a> {
     /// A page that more follows was told after a version above its last one was made: versions are made in the order of their
     /// ids, and the newest stands.
     fn goes_on(&self, graph: &mut Graph, at: usize, page: &Page) -> Result<(), AllocError> {
-        let last = if page.more { page.metas.as_slice().last() } else { None };
+        let last = if page.more {
+            page.metas.as_slice().last()
+        } else {
+            None
+        };
         match last {
             Some(meta) => match version_of(&meta.location) {
                 Some(id) => graph.edge(self.maker_above(id), Some(at)),
@@ -336,12 +340,7 @@ impl<'a> Precedence<'a> {
     }
 
     /// What a call shows that is no listing.
-    fn call(
-        &self,
-        graph: &mut Graph,
-        at: usize,
-        call: &Asked<'_>,
-    ) -> Result<(), AllocError> {
+    fn call(&self, graph: &mut Graph, at: usize, call: &Asked<'_>) -> Result<(), AllocError> {
         match call.request {
             Request::Get {
                 path,

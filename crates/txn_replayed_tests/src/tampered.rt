@@ -4,8 +4,9 @@ use crate::audits::{THREE, TWO, said};
 use crate::played::{Lie, Scene, play};
 use std::alloc::{AllocError, Global};
 use std::test::Fail;
-use txn_lines::record::Record;
+use txn_lines::record::{Record, RecordCodec, RecordEpoch};
 use txn_recorded::row::Row;
+use txn_replayed::audit::audit_recordings;
 
 /// What an audit says where the store lies so, after so many calls that it could have lied to.
 fn lied(
@@ -63,11 +64,28 @@ fn tamper(recordings: &mut Vec<Vec<Row<Record>>>, tampering: Tampering) {
     }
 }
 
-/// What an audit says of recordings of two clients that were tampered with.
-fn tampered(alloc: Global, tampering: Tampering) -> Result<String, AllocError> {
+/// Recordings of two clients that were tampered with.
+fn tampered_with(alloc: Global, tampering: Tampering) -> Result<Vec<Vec<Row<Record>>>, AllocError> {
     let mut recordings = play(alloc, 2, &TWO, Lie::None, 0)?;
     tamper(&mut recordings, tampering);
+    Ok(recordings)
+}
+
+/// What an audit says of recordings of two clients that were tampered with.
+fn tampered(alloc: Global, tampering: Tampering) -> Result<String, AllocError> {
+    let recordings = tampered_with(alloc, tampering)?;
     said(alloc, recordings.as_slice())
+}
+
+/// Whether a refusal of such recordings names the first, and whether the second.
+fn named(alloc: Global, tampering: Tampering) -> Result<(bool, bool), AllocError> {
+    let recordings = tampered_with(alloc, tampering)?;
+    Ok(
+        match audit_recordings(alloc, RecordCodec, RecordEpoch, recordings.as_slice()) {
+            Ok(_) => (false, false),
+            Err(refusal) => (refusal.names(0), refusal.names(1)),
+        },
+    )
 }
 
 /// A lie, after how many calls that the store could have lied to it comes, in the play of three clients or of two, and what an
@@ -141,5 +159,13 @@ fn recordings_that_were_tampered_with_are_refused(rt: HostRuntime) -> Result<(),
     );
     let found = tampered(rt.alloc(), Tampering::WithoutRow)?;
     assert_eq!(rt; found.as_str(), "recording 2, line 3: out of turn");
+    Ok(())
+}
+
+#[test]
+fn refusals_name_recordings(rt: HostRuntime) -> Result<(), Fail> {
+    assert_eq!(rt; named(rt.alloc(), Tampering::NumberTwice)?, (false, false));
+    assert_eq!(rt; named(rt.alloc(), Tampering::OtherAnswer)?, (true, false));
+    assert_eq!(rt; named(rt.alloc(), Tampering::WithoutRow)?, (false, true));
     Ok(())
 }
