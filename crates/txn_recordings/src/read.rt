@@ -6,7 +6,7 @@ use bytes::Bytes;
 use hex::FromHexError;
 use std::alloc::{AllocError, AllocFailed, Global};
 use txn_lines::numerals::read_decimal;
-use txn_lines::text_form::LineValue;
+use txn_lines::text_form::{LineValue, TextForm};
 use txn_recorded::row::Row;
 use txn_recorded::written::{ask_row, begin_row, client_row, failed_row, give_up_row, reply_row};
 use txn_store::page::{Listing, Page};
@@ -245,32 +245,22 @@ fn read_replied<T>(alloc: Global, op: u64, text: &str) -> Result<Row<T>, TextFau
 }
 
 /// A call that begins.
-fn read_begin<T, F: Fn(Global, &str) -> Result<Option<AnyCall<T>>, AllocError>>(
-    alloc: Global,
-    op: u64,
-    text: &str,
-    read_call: &F,
-) -> Result<Row<T>, TextFault>
-    requires { F.IsAlwaysCallable read_call.now }
-{
-    match read_call(alloc, text)? {
+fn read_begin<T: LineValue>(alloc: Global, op: u64, text: &str) -> Result<Row<T>, TextFault> {
+    match AnyCall::<T>::read_text(alloc, text)? {
         Some(call) => Ok(Row::Begin(op, call)),
         None => Err(TextFault::BadRow),
     }
 }
 
 /// A row of the operation that its second word names.
-fn read_of<T, F: Fn(Global, &str) -> Result<Option<AnyCall<T>>, AllocError>>(
+fn read_of<T: LineValue>(
     alloc: Global,
     word: &str,
     op: u64,
     rest: &str,
-    read_call: &F,
-) -> Result<Row<T>, TextFault>
-    requires { F.IsAlwaysCallable read_call.now }
-{
+) -> Result<Row<T>, TextFault> {
     match word {
-        "begin" => read_begin(alloc, op, rest, read_call),
+        "begin" => read_begin(alloc, op, rest),
         "ask" => read_ask(alloc, op, rest),
         "reply" => read_replied(alloc, op, rest),
         "failed" => Ok(Row::Failed(op, number(rest)?)),
@@ -280,20 +270,14 @@ fn read_of<T, F: Fn(Global, &str) -> Result<Option<AnyCall<T>>, AllocError>>(
 }
 
 /// The row that a text may be: a text that is not what is written of a row is read as some row, or as none.
-fn guess<T, F: Fn(Global, &str) -> Result<Option<AnyCall<T>>, AllocError>>(
-    alloc: Global,
-    text: &str,
-    read_call: &F,
-) -> Result<Row<T>, TextFault>
-    requires { F.IsAlwaysCallable read_call.now }
-{
+fn guess<T: LineValue>(alloc: Global, text: &str) -> Result<Row<T>, TextFault> {
     let (word, rest) = cut(text)?;
     match word {
         "client" => read_client(rest),
         "giveup" => Ok(Row::GiveUp(number(rest)?)),
         _ => {
             let (op, rest) = cut(rest)?;
-            read_of(alloc, word, number(op)?, rest, read_call)
+            read_of(alloc, word, number(op)?, rest)
         }
     }
 }
@@ -320,22 +304,16 @@ fn is_text(written: &str, text: &str) -> bool
     written == text
 }
 
-/// The row that a text, without its line feed, is written of. How the text of a call is read says `read_call`: it tells none
-/// where it is the text of no call.
+/// The row that a text, without its line feed, is written of.
 ///
 /// # Errors
 ///
 /// `BadRow` where the text is not what is written of the row that it seems to be, `NoMemory` where a growth was refused.
-pub fn read_row<T: LineValue, F: Fn(Global, &str) -> Result<Option<AnyCall<T>>, AllocError>>(
-    alloc: Global,
-    text: &str,
-    read_call: &F,
-) -> Result<Row<T>, TextFault>
-    requires { F.IsAlwaysCallable read_call.now }
+pub fn read_row<T: LineValue>(alloc: Global, text: &str) -> Result<Row<T>, TextFault>
     // What is read is the row that the text is written of.
     ensures { IfOk result (λ row. text.now ≡ row_text T.text row) }
 {
-    let row = guess(alloc, text, read_call)?;
+    let row = guess(alloc, text)?;
     let written = text_of(alloc, &row)?;
     if !is_text(written.as_str(), text) {
         return Err(TextFault::BadRow);

@@ -5,22 +5,15 @@ use crate::played::{Lie, play};
 use std::alloc::{AllocError, Global};
 use std::test::Fail;
 use txn_lines::record::Record;
-use txn_lines::text_form::TextForm;
 use txn_recorded::row::Row;
 use txn_recordings::read::{read_row, text_of};
-use txn_view_history::event::AnyCall;
-
-/// The call that words say.
-fn read_call(alloc: Global, words: &str) -> Result<Option<AnyCall<Record>>, AllocError> {
-    AnyCall::<Record>::read_text(alloc, words)
-}
 
 /// The rows that are read of the texts of rows, as far as they are.
 fn reread(alloc: Global, rows: &[Row<Record>]) -> Result<Vec<Row<Record>>, AllocError> {
     let mut again = Vec::new(alloc);
     for row in rows {
         let text = text_of(alloc, row)?;
-        if let Ok(row) = read_row(alloc, text.as_str(), &read_call) {
+        if let Ok(row) = read_row(alloc, text.as_str()) {
             again.push(row)?;
         }
     }
@@ -39,7 +32,7 @@ fn audited_again(alloc: Global) -> Result<String, AllocError> {
 
 /// Whether a text is read as a row.
 fn is_row(alloc: Global, text: &str) -> bool {
-    read_row::<Record, _>(alloc, text, &read_call).is_ok()
+    read_row::<Record>(alloc, text).is_ok()
 }
 
 #[test]

@@ -9,7 +9,6 @@ use txn_entries::entry::{Entry, EntryCodec, EntryEpoch};
 use txn_journals::audited::Logged;
 use txn_journals::fault::AuditFault;
 use txn_journals::rows::LogRow;
-use txn_lines::text_form::TextForm;
 use txn_recorded::row::Row;
 use txn_recordings::read::{TextFault, read_row};
 use txn_replayed::audit::{OneHistory, audit_recordings};
@@ -18,7 +17,6 @@ use txn_store::request::{Reply, Request};
 use txn_store::version_names::VersionNames;
 use txn_types::boundary::read_boundary;
 use txn_types::layout::Layout;
-use txn_view_history::event::AnyCall;
 
 /// Recordings, each with the place of its file among the arguments and the line of its first row, from 0.
 #[derive(Drop)]
@@ -39,11 +37,6 @@ fn text_of(rt: &HostRuntime, path: &str) -> Result<String, Halt> {
         Ok(text) => Ok(text),
         Err(_) => Err(Halt::Words("a recording is text")),
     }
-}
-
-/// How the text of a call is read.
-fn read_call(alloc: Global, words: &str) -> Result<Option<AnyCall<Entry>>, AllocError> {
-    AnyCall::<Entry>::read_text(alloc, words)
 }
 
 impl Recordings {
@@ -80,7 +73,7 @@ impl Recordings {
             if words.is_empty() {
                 continue;
             }
-            match read_row(alloc, words, &read_call) {
+            match read_row(alloc, words) {
                 Ok(row) => {
                     if cut.is_some() && !matches!(row, Row::Client(_, _)) {
                         return Ok(cut);
