@@ -166,7 +166,7 @@ def kills(program, root, seconds):
     all recorded is one history."""
     it = Object(program, root, "killed")
     it.told("init", "0")
-    acknowledged, shells, until, killed = [], {}, time.monotonic() + seconds, [0]
+    acknowledged, shells, until, killed, removed = [], {}, time.monotonic() + seconds, [0], [0]
 
     def count(worker):
         while time.monotonic() < until:
@@ -175,7 +175,6 @@ def kills(program, root, seconds):
             shells[worker].end()
 
     def raise_boundary():
-        removed = 0
         while time.monotonic() < until:
             shell = shells["boundary"] = Shell(it)
             for _ in range(20):
@@ -184,8 +183,10 @@ def kills(program, root, seconds):
                     break
                 behind = int(found[1]) - 10
                 shell.ask(f"advance {behind}")
-                while removed + 1 < behind and shell.ask(f"delete {removed + 1}"):
-                    removed += 1
+                while removed[0] + 1 < behind:
+                    removed[0] += 1
+                    if not shell.ask(f"delete {removed[0]}"):
+                        break
             shell.end()
 
     def kill():
@@ -210,7 +211,8 @@ def kills(program, root, seconds):
     together([*(lambda w=w: count(w) for w in range(4)), raise_boundary, kill, watch])
     stored = it.history()
     for id, payload in acknowledged:
-        expect(id not in stored or stored[id] == payload, f"version {id} says {stored.get(id)}, acknowledged was {payload}")
+        gone = id <= removed[0] and id not in stored
+        expect(gone or stored.get(id) == payload, f"version {id} says {stored.get(id)}, acknowledged was {payload}")
     expect(max(stored) >= max(id for id, _ in acknowledged), "an acknowledged version is lost")
     expect(all(payload == id - 1 for id, payload in stored.items()), "a stored version is not one more than the one before")
     agrees(it, max(stored))

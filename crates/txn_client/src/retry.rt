@@ -8,7 +8,7 @@ use crate::recorder::Recorder;
 use crate::serve::Serve;
 use crate::stop::Stop;
 use std::alloc::AllocError;
-use txn_history::event::Answer;
+use txn_history::event::{Answer, EventFault};
 use txn_types::codec::ObjectCodec;
 use txn_types::epoch::EpochField;
 use txn_view_history::event::{AnyAnswer, AnyCall, ViewCall};
@@ -124,7 +124,7 @@ impl<
             let candidate = match candidate_of(mutator, &viewed.value) {
                 Ok(Some(candidate)) => candidate,
                 Ok(None) => return Ok(Applied::Unchanged),
-                Err(_) => return Err(Stop::NoMemory),
+                Err(_) => return Err(Stop::Refused(EventFault::NoMemory)),
             };
             let updated = self.call(AnyCall::View(ViewCall::Update(view, candidate)), steps)?;
             match trial_of(updated) {

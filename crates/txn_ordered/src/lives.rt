@@ -98,7 +98,7 @@ fn loose_maker(
 ) -> Option<usize> {
     for place in loose {
         if let Some(call) = calls.get(*place) {
-            let in_time = call.from < until;
+            let in_time = call.from <= until;
             if in_time && !has_place(fates, *place) && may_make(call, id, bytes) {
                 return Some(*place);
             }

@@ -1,9 +1,7 @@
 //! The audit of recordings, from their files.
 
-use crate::ending::{Halt, NOT_ONE_HISTORY};
+use crate::ending::{Halt, NOT_ONE_HISTORY, bytes_in};
 use std::alloc::{AllocError, Global};
-use std::fs;
-use std::io::Read;
 use txn_clients::layout::world_layout;
 use txn_entries::entry::{Entry, EntryCodec, EntryEpoch};
 use txn_journals::audited::Logged;
@@ -29,10 +27,19 @@ struct Recordings {
 #[derive(Clone, Copy)]
 struct BadRow(usize);
 
-/// The lines of a file that are whole.
+/// How many of these bytes are whole lines: those up to the last line feed.
+pub fn whole_lines(bytes: &[u8]) -> usize {
+    match bytes.iter().rposition(|byte| *byte == b'\n') {
+        Some(place) => place.saturating_add(1),
+        None => 0,
+    }
+}
+
+/// The lines of a file that are whole. What follows the last line feed was cut off as its client was killed.
 fn text_of(rt: &HostRuntime, path: &str) -> Result<String, Halt> {
-    let mut bytes = Vec::new(rt.alloc());
-    fs::open(rt, path)?.read_to_end(&mut bytes)?;
+    let mut bytes = bytes_in(rt, path)?;
+    let whole = whole_lines(bytes.as_slice());
+    bytes.truncate(whole);
     match String::from_utf8(bytes) {
         Ok(text) => Ok(text),
         Err(_) => Err(Halt::Words("a recording is text")),
@@ -60,36 +67,23 @@ impl Recordings {
         }
     }
 
-    /// Adds the rows of a file. A row that was cut off as its client was killed says nothing: it stands last, or before the
-    /// first row of the file's next recording.
+    /// Adds the rows of a file.
     fn add_file(
         &mut self,
         alloc: Global,
         file: usize,
         text: &str,
     ) -> Result<Option<BadRow>, AllocError> {
-        let mut cut = None;
         for (line, words) in text.lines().enumerate() {
-            if words.is_empty() {
-                continue;
-            }
+            let bad = Some(BadRow(line.saturating_add(1)));
             match read_row(alloc, words) {
                 Ok(row) => {
-                    if cut.is_some() && !matches!(row, Row::Client(_, _)) {
-                        return Ok(cut);
-                    }
-                    cut = None;
                     if !self.add(alloc, (file, line), row)? {
-                        return Ok(Some(BadRow(line.saturating_add(1))));
+                        return Ok(bad);
                     }
                 }
                 Err(TextFault::NoMemory) => return Err(AllocError),
-                Err(TextFault::BadRow) => {
-                    if cut.is_some() {
-                        return Ok(cut);
-                    }
-                    cut = Some(BadRow(line.saturating_add(1)));
-                }
+                Err(TextFault::BadRow) => return Ok(bad),
             }
         }
         Ok(None)

@@ -1,7 +1,8 @@
 //! How the program ends: why it goes no further, the words for that, and the status.
 
-use std::alloc::{AllocError, AllocFailed};
-use std::{fmt, io};
+use std::alloc::{AllocError, AllocFailed, Global};
+use std::io::Read;
+use std::{fmt, fs, io};
 use txn_client::stop::Stop;
 use txn_history::event::EventFault;
 use txn_store::path::PathFault;
@@ -25,6 +26,10 @@ pub enum Halt {
     NoMemory,
     /// The system's error.
     Io(io::Error),
+    /// The system's error at a file, and that file.
+    File(String),
+    /// A row of the recording could not be written.
+    Unrecorded(io::Error),
     /// A store call failed: the step, and the system's error.
     Store(String),
     /// An object's name or a suffix that no file can have.
@@ -43,7 +48,8 @@ impl Halt {
     /// The status that the program ends with.
     pub fn status(&self) -> u8 {
         match self {
-            Halt::NoMemory | Halt::Io(_) | Halt::Store(_) => FAULT,
+            Halt::NoMemory | Halt::Io(_) | Halt::File(_) | Halt::Unrecorded(_) | Halt::Store(_) =>
+                FAULT,
             Halt::BadName | Halt::Words(_) => USAGE,
             Halt::Refused(number) => number.saturating_add(REFUSED),
             Halt::NotPermitted(fault) => fault.number().saturating_add(NOT_PERMITTED),
@@ -87,6 +93,11 @@ impl fmt::Display for Halt {
         match self {
             Halt::NoMemory => write!(f, "no memory"),
             Halt::Io(error) => write!(f, "{error}"),
+            Halt::File(words) => write!(f, "{words}"),
+            Halt::Unrecorded(error) => write!(
+                f,
+                "writing the recording: {error}; what was asked for may have taken effect: read again"
+            ),
             Halt::Store(words) => write!(f, "{words}"),
             Halt::BadName => write!(
                 f,
@@ -103,6 +114,27 @@ impl fmt::Display for Halt {
             }
             Halt::NoEnd => write!(f, "others write all the time: try again"),
         }
+    }
+}
+
+/// The system's error at a file.
+pub fn at_file(alloc: Global, path: &str, error: &io::Error) -> Halt {
+    match format!(in alloc; "{path}: {error}") {
+        Ok(words) => Halt::File(words),
+        Err(_) => Halt::NoMemory,
+    }
+}
+
+/// What a file holds.
+pub fn bytes_in(rt: &HostRuntime, path: &str) -> Result<Vec<u8>, Halt> {
+    let mut bytes = Vec::new(rt.alloc());
+    let mut file = match fs::open(rt, path) {
+        Ok(file) => file,
+        Err(error) => return Err(at_file(rt.alloc(), path, &error)),
+    };
+    match file.read_to_end(&mut bytes) {
+        Ok(_) => Ok(bytes),
+        Err(error) => Err(at_file(rt.alloc(), path, &error)),
     }
 }
 
@@ -139,7 +171,7 @@ impl From<Stop> for Halt {
             Stop::Refused(EventFault::NoMemory) => Halt::NoMemory,
             Stop::Refused(fault) => Halt::NotPermitted(fault),
             Stop::StepsSpent => Halt::NoEnd,
-            Stop::Unrecorded(error) => Halt::Io(error),
+            Stop::Unrecorded(error) => Halt::Unrecorded(error),
             Stop::NoMemory | Stop::Ended => Halt::NoMemory,
         }
     }

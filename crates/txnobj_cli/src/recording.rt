@@ -1,10 +1,12 @@
 //! A recording that grows by whole rows, each by one write, as things happen.
 
+use crate::audit::whole_lines;
+use crate::ending::{Halt, at_file, bytes_in};
 use std::alloc::{AllocError, Global};
-use std::fs::{File, OpenOptions};
-use std::io;
-use std::io::Write;
+use std::fs::{File, OpenFile, OpenOptions, TryLockError};
+use std::io::{Read, Seek, SeekFrom, Write};
 use std::rt::Clock;
+use std::{fs, io};
 use txn_client::recorder::Recorder;
 use txn_entries::entry::Entry;
 use txn_recorded::written::{
@@ -20,6 +22,39 @@ pub struct Recording {
     file: Option<File>,
 }
 
+/// Whether a file ends with a line feed, or is empty.
+fn is_whole(rt: &HostRuntime, path: &str) -> io::Result<bool> {
+    let mut file = fs::open(rt, path)?;
+    if file.metadata()?.len() == 0 {
+        return Ok(true);
+    }
+    file.seek(SeekFrom::End(-1))?;
+    let mut last = Vec::new(rt.alloc());
+    file.read_to_end(&mut last)?;
+    Ok(last.as_slice() == b"\n".as_slice())
+}
+
+/// Opens a recording, of which this process alone writes, and takes off a row that was cut off as a client was killed.
+fn opened(rt: &HostRuntime, path: &str) -> Result<File, Halt> {
+    let mut options = OpenOptions::new();
+    let file = match options.append(true).create(true).open(rt, path) {
+        Ok(file) => file,
+        Err(error) => return Err(at_file(rt.alloc(), path, &error)),
+    };
+    match file.try_lock() {
+        Ok(()) => {}
+        Err(TryLockError::WouldBlock) => {
+            return Err(Halt::Words("another process writes this recording: give each its own"));
+        }
+        Err(TryLockError::Error(error)) => return Err(at_file(rt.alloc(), path, &error)),
+    }
+    if !is_whole(rt, path)? {
+        let bytes = bytes_in(rt, path)?;
+        file.set_len(whole_lines(bytes.as_slice()) as u64)?;
+    }
+    Ok(file)
+}
+
 impl Recording {
     /// A recording of this client, of which the first row says it.
     pub fn new(
@@ -27,20 +62,20 @@ impl Recording {
         path: Option<&str>,
         client: u64,
         page: u64,
-    ) -> io::Result<Recording> {
+    ) -> Result<Recording, Halt> {
         let file = match path {
-            Some(path) => Some(
-                OpenOptions::new()
-                    .append(true)
-                    .create(true)
-                    .open(&rt, path)?,
-            ),
+            Some(path) => Some(opened(&rt, path)?),
             None => None,
         };
         let mut recording = Recording { rt, file };
         let row = client_row(recording.alloc(), client, page);
         recording.add(row)?;
         Ok(recording)
+    }
+
+    /// Whether nothing is kept of what happens.
+    fn is_idle(&self) -> bool {
+        self.file.is_none()
     }
 
     fn alloc(&self) -> Global {
@@ -73,34 +108,52 @@ impl Recorder<Entry> for Recording {
     ghost hands = { λ _ _ _. Unit {0} };
 
     fn begun(&mut self, op: u64, call: &AnyCall<Entry>) -> io::Result<()> {
+        if self.is_idle() {
+            return Ok(());
+        }
         let row = begin_row(self.alloc(), op, call);
         self.add(row)
     }
 
     fn asked(&mut self, op: u64, request: &Request) -> io::Result<()> {
+        if self.is_idle() {
+            return Ok(());
+        }
         let at = self.now()?;
         let row = ask_row(self.alloc(), op, at, request);
         self.add(row)
     }
 
     fn replied(&mut self, op: u64, reply: &Reply) -> io::Result<()> {
+        if self.is_idle() {
+            return Ok(());
+        }
         let at = self.now()?;
         let row = reply_row(self.alloc(), op, at, reply);
         self.add(row)
     }
 
     fn failed(&mut self, op: u64) -> io::Result<()> {
+        if self.is_idle() {
+            return Ok(());
+        }
         let at = self.now()?;
         let row = failed_row(self.alloc(), op, at);
         self.add(row)
     }
 
     fn gave_up(&mut self, op: u64) -> io::Result<()> {
+        if self.is_idle() {
+            return Ok(());
+        }
         let row = give_up_row(self.alloc(), op);
         self.add(row)
     }
 
     fn answered(&mut self, op: u64, answer: &AnyAnswer<Entry>) -> io::Result<()> {
+        if self.is_idle() {
+            return Ok(());
+        }
         let row = answer_row(self.alloc(), op, answer);
         self.add(row)
     }

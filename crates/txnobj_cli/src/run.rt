@@ -115,13 +115,26 @@ fn history(rt: &HostRuntime, session: &mut Session) -> Result<u8, Halt> {
     Ok(0)
 }
 
+/// Whether so many seconds have passed.
+fn have_passed(rt: &HostRuntime, began: Duration, seconds: u64) -> Result<bool, Halt> {
+    let now = rt.monotonic()?;
+    Ok(match now.checked_sub(began) {
+        Some(passed) => seconds <= passed.as_secs(),
+        None => false,
+    })
+}
+
 /// Waits for a version above this id.
 fn watch(rt: &HostRuntime, session: &mut Session, after: u64, seconds: u64) -> Result<u8, Halt> {
+    let began = rt.monotonic()?;
     for _ in 0..seconds.saturating_mul(LOOKS).saturating_add(1) {
         if let Some(newest) = session.read()? {
             if after < newest.id {
                 return say_version(rt, &newest);
             }
+        }
+        if have_passed(rt, began, seconds)? {
+            return Ok(NOTHING);
         }
         rt.sleep(Duration::from_millis(PAUSE));
     }
@@ -151,6 +164,10 @@ fn make(rt: &HostRuntime, session: &mut Session, call: AnyCall<Entry>) -> Result
         Err(Halt::NotPermitted(fault)) => {
             let halt = Halt::NotPermitted(fault);
             println!(rt; "not permitted: {halt}")?;
+            Ok(())
+        }
+        Err(Halt::NoEnd) => {
+            println!(rt; "refused 11 TurnsExhausted")?;
             Ok(())
         }
         Err(Halt::Store(words)) => {

@@ -56,6 +56,14 @@ fn folder_of(alloc: Global, options: &Options<'_>) -> Result<Folder, Halt> {
     let (Some(root), Some(name)) = (options.root, options.name) else {
         return Err(Halt::Words("this wants --root DIR and --name NAME before the command"));
     };
+    if root.is_empty() {
+        return Err(Halt::Words("--root is empty"));
+    }
+    if name == "gc" {
+        return Err(Halt::Words(
+            "an object cannot have the name of the folder of all boundaries, gc",
+        ));
+    }
     Ok(Folder::new(alloc, root, name, options.suffix)?)
 }
 

@@ -1,22 +1,24 @@
 //! Values, from where an argument says.
 
-use crate::ending::Halt;
+use crate::ending::{Halt, bytes_in};
 use bytes::Bytes;
-use std::fs;
 use std::io::Read;
 use txnobj_words::options::Source;
 
 /// The bytes of a value.
 pub fn bytes_of(rt: &HostRuntime, source: Source<'_>) -> Result<Bytes, Halt> {
-    let mut bytes = Vec::new(rt.alloc());
-    match source {
-        Source::Text(text) => bytes.extend_from_slice(text.as_bytes())?,
+    let bytes = match source {
+        Source::Text(text) => {
+            let mut bytes = Vec::new(rt.alloc());
+            bytes.extend_from_slice(text.as_bytes())?;
+            bytes
+        }
         Source::Input => {
+            let mut bytes = Vec::new(rt.alloc());
             rt.reader().read_to_end(&mut bytes)?;
+            bytes
         }
-        Source::File(path) => {
-            fs::open(rt, path)?.read_to_end(&mut bytes)?;
-        }
-    }
+        Source::File(path) => bytes_in(rt, path)?,
+    };
     Ok(Bytes::from_vec(bytes)?)
 }
