@@ -27,13 +27,13 @@ def expect(holds, words):
 class Object:
     """An object in a folder of its own, and the recordings of its clients."""
 
-    def __init__(self, program, root, name):
-        self.program, self.root, self.name = program, root, name
+    def __init__(self, program, root, name, syncs=False):
+        self.program, self.root, self.name, self.syncs = program, root, name, syncs
         self.clients, self.lock, self.diaries = 0, threading.Lock(), []
 
     def words(self, *command, recorded=True):
         """The words of a command, as a client of its own, with a recording of its own."""
-        words = [self.program, "--root", self.root, "--name", self.name, "--no-sync"]
+        words = [self.program, "--root", self.root, "--name", self.name, *["--no-sync"] * (not self.syncs)]
         if recorded:
             with self.lock:
                 self.clients += 1
@@ -220,8 +220,8 @@ def kills(program, root, seconds):
 
 
 def claims(program, root, _seconds):
-    """Two claim: the older is fenced."""
-    it = Object(program, root, "leader")
+    """Two claim: the older is fenced. What is answered lasts, as it does where nothing else is asked for."""
+    it = Object(program, root, "leader", syncs=True)
     it.told("init", "none")
     older, newer = Shell(it), Shell(it)
     expect(older.ask("load") == "view 1 at 1 0:none", "the first version is not loaded")
