@@ -350,7 +350,7 @@ def tampering(program, root, _seconds):
             file.write(other)
         status, said = it.audit()
         expect(status == 4 and said.startswith("not one history: "), f"{what}: the audit says: {said.strip()}")
-        expect(re.search(r"^recording \d+ is ", said, re.M), f"{what}: the audit names no recording: {said.strip()}")
+        expect(re.search(r"^at \S+\.diary, line \d+$", said, re.M), f"{what}: the audit names no line: {said.strip()}")
         refused.append(f"a recording is refused in which was changed: {what}")
         with open(it.diaries[number], "w", encoding="utf-8") as file:
             file.write(texts[number])

@@ -1,5 +1,6 @@
 //! The recorded calls of the store.
 
+use crate::clock::{Clock, clock_of};
 use bytes::Bytes;
 use std::alloc::{AllocError, Global};
 use txn_recorded::row::Row;
@@ -16,9 +17,9 @@ pub(crate) struct Asked<'a> {
     pub recording: usize,
     /// Which row of that asks.
     pub row: usize,
-    /// When it was asked.
+    /// When it was asked at the earliest.
     pub from: u64,
-    /// When its reply was there: the greatest time where none was seen.
+    /// When its reply was there at the latest: the greatest time where none was seen.
     pub until: u64,
     pub request: &'a Request,
     /// The reply, where one was seen.
@@ -70,9 +71,9 @@ pub(crate) fn number_in(bytes: &Bytes) -> Option<u64> {
 }
 
 /// When the reply to the call of a row was there, and the reply, where one was seen.
-fn reply_after<T>(rows: &[Row<T>], row: usize) -> (u64, Option<&Reply>) {
+fn reply_after<T>(rows: &[Row<T>], row: usize, clock: Clock) -> (u64, Option<&Reply>) {
     match rows.get(row.saturating_add(1)) {
-        Some(Row::Reply(_, at, reply)) => (*at, Some(reply)),
+        Some(Row::Reply(_, at, reply)) => (clock.latest(*at), Some(reply)),
         _ => (u64::MAX, None),
     }
 }
@@ -82,16 +83,17 @@ fn add_calls<'a, T>(
     calls: &mut Vec<Asked<'a>>,
     recording: usize,
     rows: &'a [Row<T>],
+    clock: Clock,
 ) -> Result<(), AllocError> {
     let mut before = None;
     for row in 0..rows.len() {
         if let Row::Ask(_, from, request) = &rows[row] {
-            let (until, reply) = reply_after(rows, row);
+            let (until, reply) = reply_after(rows, row, clock);
             let place = calls.len();
             calls.push(Asked {
                 recording,
                 row,
-                from: *from,
+                from: clock.earliest(*from),
                 until,
                 request,
                 reply,
@@ -105,14 +107,21 @@ fn add_calls<'a, T>(
     Ok(())
 }
 
-/// The calls of all recordings.
-pub(crate) fn calls<T>(
+/// The calls of all recordings, whose times are of these clocks.
+pub(crate) fn calls<'a, T>(
     alloc: Global,
-    recordings: &[Vec<Row<T>>],
-) -> Result<Vec<Asked<'_>>, AllocError> {
+    recordings: &'a [Vec<Row<T>>],
+    clocks: &[Clock],
+) -> Result<Vec<Asked<'a>>, AllocError> {
     let mut calls = Vec::new(alloc);
     for recording in 0..recordings.len() {
-        add_calls(&mut calls, recording, recordings[recording].as_slice())?;
+        let clock = clock_of(clocks, recording);
+        add_calls(
+            &mut calls,
+            recording,
+            recordings[recording].as_slice(),
+            clock,
+        )?;
     }
     Ok(calls)
 }

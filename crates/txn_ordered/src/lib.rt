@@ -6,6 +6,7 @@
 
 mod boundaries;
 mod calls;
+pub mod clock;
 mod graph;
 mod landings;
 mod lives;

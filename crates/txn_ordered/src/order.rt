@@ -2,6 +2,7 @@
 
 use crate::boundaries::{Boundaries, written};
 use crate::calls::{Asked, calls};
+use crate::clock::{Clock, margin_of};
 use crate::graph::Graph;
 use crate::landings::{Fate, fate_of, fates};
 use crate::lives::{Lives, lived};
@@ -133,20 +134,25 @@ fn in_order(
     Ok(order)
 }
 
-/// An order of the calls in these recordings, each a list of rows, by what the replies show and by the times. A call whose reply
-/// nobody saw has a place where a reply shows that it took effect, and none elsewhere. It takes time by the number of calls and
+/// An order of the calls in these recordings, each a list of rows, by what the replies show and by the times, which are of these
+/// clocks, one for each recording; one that has none here is of the clock of all. A call whose reply nobody saw has a place where a reply shows that it took effect, and none elsewhere. It takes time by the number of calls and
 /// what they tell; a listing is held against the versions that may have stood meanwhile.
 ///
 /// # Errors
 ///
 /// `Circle` where calls wait for each other, so that no order explains all replies and times; `NoMemory` where a growth was
 /// refused.
-pub fn order<T>(alloc: Global, recordings: &[Vec<Row<T>>]) -> Result<Vec<Placed>, OrderFault> {
-    let calls = calls(alloc, recordings)?;
+pub fn order<T>(
+    alloc: Global,
+    recordings: &[Vec<Row<T>>],
+    clocks: &[Clock],
+) -> Result<Vec<Placed>, OrderFault> {
+    let calls = calls(alloc, recordings, clocks)?;
     let mut fates = fates(alloc, calls.as_slice())?;
     let boundaries = written(alloc, calls.as_slice(), &mut fates)?;
     let mut lives = lived(alloc, calls.as_slice(), &mut fates)?;
-    let idle = remove(alloc, calls.as_slice(), &mut fates, &mut lives)?;
+    let margin = margin_of(clocks);
+    let idle = remove(alloc, calls.as_slice(), margin, &mut fates, &mut lives)?;
     let raised = raised(alloc, &boundaries)?;
     let times = times(alloc, calls.as_slice(), fates.as_slice())?;
     let mut graph = Graph::new(alloc, calls.len().saturating_add(times.len()))?;

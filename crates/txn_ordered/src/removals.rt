@@ -40,9 +40,10 @@ fn extents(alloc: Global, calls: &[Asked<'_>]) -> Result<Vec<Extent>, AllocError
     Ok(extents)
 }
 
-/// When the first listing was there that was asked after a life had begun and was seen last, and reached over its version.
-fn passed(extents: &[Extent], life: &Life) -> Option<u64> {
-    let after = life.last.max(life.from);
+/// When the first listing was there that was asked after a life had begun and was seen last, by a margin, and reached over its
+/// version.
+fn passed(extents: &[Extent], life: &Life, margin: u64) -> Option<u64> {
+    let after = life.last.max(life.from).saturating_add(margin);
     let start = extents.partition_point(|extent| extent.from <= after);
     let mut first: Option<u64> = None;
     for place in start..extents.len() {
@@ -106,6 +107,8 @@ fn all_deletes(alloc: Global, calls: &[Asked<'_>]) -> Result<Vec<Delete>, AllocE
 struct Absences {
     gets: Vec<Concern>,
     listings: Vec<Extent>,
+    /// How far apart two moments are, that the one is surely before the other.
+    margin: u64,
 }
 
 impl Absences {
@@ -113,6 +116,7 @@ impl Absences {
     fn not_found(&self, calls: &[Asked<'_>], life: &Life) -> Option<u64> {
         let gets = self.gets.as_slice();
         let mut first = None;
+        let after = life.last.max(life.from).saturating_add(self.margin);
         let start = gets.partition_point(|concern| concern.0 < life.id);
         for place in start..gets.len() {
             let (id, at) = gets[place];
@@ -120,7 +124,7 @@ impl Absences {
                 return first;
             }
             if let Some(call) = calls.get(at) {
-                if call.from > life.last && call.from > life.from && call.until > life.until {
+                if call.from > after && call.until > life.until {
                     first = earlier(first, Some(call.until));
                 }
             }
@@ -134,7 +138,7 @@ impl Absences {
             Some(next) => Some(next.until),
             None => None,
         };
-        let listed = passed(self.listings.as_slice(), life);
+        let listed = passed(self.listings.as_slice(), life, self.margin);
         earlier(again, earlier(self.not_found(calls, life), listed))
     }
 }
@@ -255,16 +259,19 @@ impl Deletes {
     }
 }
 
-/// Finds what removed each life, and tells the deletes that removed nothing.
+/// Finds what removed each life, and tells the deletes that removed nothing. Moments that are a margin apart are surely one before
+/// the other.
 pub(crate) fn remove(
     alloc: Global,
     calls: &[Asked<'_>],
+    margin: u64,
     fates: &mut Vec<Fate>,
     lives: &mut Lives,
 ) -> Result<Vec<Concern>, AllocError> {
     let absences = Absences {
         gets: unseen(alloc, calls)?,
         listings: extents(alloc, calls)?,
+        margin,
     };
     let mut deletes = Deletes {
         all: all_deletes(alloc, calls)?,

@@ -99,6 +99,10 @@ reply_text (replies.Delete answer) = codes "delete" then delete_answer answer
 
 -- Rows.
 
+-- before a client's first row in a file: the object that the recording is of, the clock of its times, and what is added to these for the nanoseconds since 1970
+abbrev pub source_row_text : List ℕ → List ℕ → ℕ → List ℕ
+source_row_text object clock ahead = codes "of" then object then codes "clock" then clock then codes "ahead" then decimal ahead
+
 -- the first row: the client's number, and how many files a page of its listings has at most
 abbrev pub client_row_text : ℕ → ℕ → List ℕ
 client_row_text client page = codes "client" then decimal client then codes "page" then decimal page

@@ -3,7 +3,7 @@ ghost use Rattle.std.specs.Prelude.{◌≡◌, ◌++◌, ◌∷◌, Ok, IfOk, On
 ghost use Rattle.std.specs.Option.{option_copied};
 ghost use Rattle.txn_store.specs.declared.request.Request.TheVariants as requests;
 ghost use Rattle.txn_store.specs.declared.request.Reply.TheVariants as replies;
-ghost use Rattle.txn_recorded.specs.Written.{put_text, request_text, error_text, meta_text, metas_text, reply_text, client_row_text, ask_row_text, reply_row_text, failed_row_text, give_up_row_text, begin_row_text, answer_row_text};
+ghost use Rattle.txn_recorded.specs.Written.{put_text, request_text, error_text, meta_text, metas_text, reply_text, source_row_text, client_row_text, ask_row_text, reply_row_text, failed_row_text, give_up_row_text, begin_row_text, answer_row_text};
 
 use bytes::Bytes;
 use std::alloc::{AllocError, Global};
@@ -195,8 +195,21 @@ fn reply_text(alloc: Global, reply: &Reply) -> Result<String, AllocError>
     }
 }
 
-/// The first row of a client's recording: its number, and how many files a page of its listings has at most. The only error is
-/// want of memory, here and below.
+/// The row that stands in a file before a client's first: the object that the recording is of, the name of the clock that its
+/// times are of, and the nanoseconds that are added to these for those since 1970. The only error is want of memory, here and
+/// below.
+pub fn source_row(
+    alloc: Global,
+    object: &str,
+    clock: &str,
+    ahead: u64,
+) -> Result<String, AllocError>
+    ensures { IfOk result (λ text. string_bytes text ≡ source_row_text object.now clock.now ahead) }
+{
+    format!(in alloc; "of {object} clock {clock} ahead {ahead}")
+}
+
+/// The first row of a client's recording: its number, and how many files a page of its listings has at most.
 pub fn client_row(alloc: Global, client: u64, page: u64) -> Result<String, AllocError>
     ensures { IfOk result (λ text. string_bytes text ≡ client_row_text client page) }
 {

@@ -55,12 +55,12 @@ impl From<FromHexError> for TextFault {
 }
 
 /// What stands before the first space, and what stands after it.
-fn cut(text: &str) -> Result<(&str, &str), TextFault> {
+pub(crate) fn cut(text: &str) -> Result<(&str, &str), TextFault> {
     text.split_once(' ').ok_or(TextFault::BadRow)
 }
 
 /// A number.
-fn number(text: &str) -> Result<u64, TextFault> {
+pub(crate) fn number(text: &str) -> Result<u64, TextFault> {
     read_decimal(text).ok_or(TextFault::BadRow)
 }
 
@@ -298,7 +298,7 @@ pub fn text_of<T: LineValue>(alloc: Global, row: &Row<T>) -> Result<String, Allo
 }
 
 /// Whether a text is that of a row.
-fn is_text(written: &str, text: &str) -> bool
+pub(crate) fn is_text(written: &str, text: &str) -> bool
     ensures { Decides result (written.now ≡ text.now) }
 {
     written == text

@@ -14,6 +14,7 @@ use txn_journals::audited::Logged;
 use txn_journals::laws::clients_share_only_the_store;
 use txn_lines::text_form::LineValue;
 use txn_logged::honest::HonestLog;
+use txn_ordered::clock::Clock;
 use txn_ordered::order::{CallPlace, order};
 use txn_rebuilt::fault::RowFault;
 use txn_rebuilt::rebuild::rebuild;
@@ -107,7 +108,8 @@ fn diaries_of<T: Clone + LineValue, C: ObjectCodec<T> + Copy + Drop, E: EpochFie
 
 /// Holds an order of the recorded calls on an honest store against the diaries made from the recordings.
 ///
-/// Each recording is the rows of one client, from the first. Where this agrees, the recordings are one history: `IsOneHistoryOf`
+/// Each recording is the rows of one client, from the first; its times are of its clock in `clocks`, or of the clock of all where
+/// that has none for it. Where this agrees, the recordings are one history: `IsOneHistoryOf`
 /// says so, and what follows of it.
 ///
 /// # Errors
@@ -124,12 +126,13 @@ pub fn audit_recordings<
     codec: C,
     epochs: E,
     recordings: &[Vec<Row<T>>],
+    clocks: &[Clock],
 ) -> Result<OneHistory<T, C, E>, Refusal>
     requires { IsExactClone T.is_clone }
     ensures { IfOk result (λ found. IsOneHistoryOf T.text (C.encoded codec) (C.decoded codec) (E.epoch_of epochs) (E.with_epoch epochs) (map (λ rows. rows.items) recordings.now) found.log (map as_diary found.diaries.items)) }
 {
     let page = page_of(recordings);
-    let order = order(alloc, recordings)?;
+    let order = order(alloc, recordings, clocks)?;
     let places = places_of(alloc, recordings.len(), order.as_slice())?;
     let diaries = diaries_of(alloc, codec, epochs, page, recordings, places.as_slice())?;
     let log = replay(alloc, recordings, order)?;

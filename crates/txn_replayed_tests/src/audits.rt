@@ -9,7 +9,7 @@ use txn_replayed::audit::audit_recordings;
 
 /// What an audit says of recordings: how many calls the order has, or why it refuses them.
 pub(crate) fn said(alloc: Global, recordings: &[Vec<Row<Record>>]) -> Result<String, AllocError> {
-    match audit_recordings(alloc, RecordCodec, RecordEpoch, recordings) {
+    match audit_recordings(alloc, RecordCodec, RecordEpoch, recordings, &[]) {
         Ok(found) => {
             let clients = found.diaries.len();
             format!(in alloc; "one history of {clients}")

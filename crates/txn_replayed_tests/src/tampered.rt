@@ -81,7 +81,7 @@ fn tampered(alloc: Global, tampering: Tampering) -> Result<String, AllocError> {
 fn named(alloc: Global, tampering: Tampering) -> Result<(bool, bool), AllocError> {
     let recordings = tampered_with(alloc, tampering)?;
     Ok(
-        match audit_recordings(alloc, RecordCodec, RecordEpoch, recordings.as_slice()) {
+        match audit_recordings(alloc, RecordCodec, RecordEpoch, recordings.as_slice(), &[]) {
             Ok(_) => (false, false),
             Err(refusal) => (refusal.names(0), refusal.names(1)),
         },

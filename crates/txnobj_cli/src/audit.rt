@@ -7,8 +7,11 @@ use txn_entries::entry::{Entry, EntryCodec, EntryEpoch};
 use txn_journals::audited::Logged;
 use txn_journals::fault::AuditFault;
 use txn_journals::rows::LogRow;
+use txn_ordered::clock::Clock;
+use txn_ordered::order::CallPlace;
 use txn_recorded::row::Row;
 use txn_recordings::read::{TextFault, read_row};
+use txn_recordings::source::{Source, read_source};
 use txn_replayed::audit::{OneHistory, audit_recordings};
 use txn_replayed::refusal::Refusal;
 use txn_store::request::{Reply, Request};
@@ -16,16 +19,27 @@ use txn_store::version_names::VersionNames;
 use txn_types::boundary::read_boundary;
 use txn_types::layout::Layout;
 
-/// Recordings, each with the place of its file among the arguments and the line of its first row, from 0.
+/// The nanoseconds of a millisecond.
+const MILLISECOND: u64 = 1_000_000;
+
+/// What is said of a line that is not taken.
+const NO_ROW: &str = "this is no row of a recording";
+const NO_SOURCE: &str = "the row before does not say of which object the recording is";
+const OTHER_OBJECT: &str = "this recording is of another object than the first";
+
+/// What files of recordings have.
 #[derive(Drop)]
 struct Recordings {
     rows: Vec<Vec<Row<Entry>>>,
+    /// The file of each, by its place among the arguments from 0, and the line of its first row, from 1.
     places: Vec<(usize, usize)>,
+    /// What is added to the times of each.
+    aheads: Vec<u64>,
+    /// The clocks of the times, each as it was named first.
+    clocks: Vec<Source>,
+    /// What is added to the times of the recording that comes next, where that was said.
+    next: Option<u64>,
 }
-
-/// A row that cannot be read: its line, from 1.
-#[derive(Clone, Copy)]
-struct BadRow(usize);
 
 /// How many of these bytes are whole lines: those up to the last line feed.
 pub fn whole_lines(bytes: &[u8]) -> usize {
@@ -47,84 +61,172 @@ fn text_of(rt: &HostRuntime, path: &str) -> Result<String, Halt> {
 }
 
 impl Recordings {
-    /// Adds a row: to a new recording where it names a client, else to the last one. False where there is none.
-    fn add(
+    /// Before the first file.
+    fn new(alloc: Global) -> Recordings {
+        Recordings {
+            rows: Vec::new(alloc),
+            places: Vec::new(alloc),
+            aheads: Vec::new(alloc),
+            clocks: Vec::new(alloc),
+            next: None,
+        }
+    }
+
+    /// Notes of what the next recording is: what is wrong with that, if anything.
+    fn add_source(&mut self, source: Source) -> Result<Option<&'static str>, AllocError> {
+        let mut known = None;
+        for clock in self.clocks.as_slice() {
+            if clock.object.as_str() != source.object.as_str() {
+                return Ok(Some(OTHER_OBJECT));
+            }
+            if clock.clock.as_str() == source.clock.as_str() {
+                known = Some(clock.ahead);
+            }
+        }
+        self.next = Some(known.unwrap_or(source.ahead));
+        if known.is_none() {
+            self.clocks.push(source)?;
+        }
+        Ok(None)
+    }
+
+    /// Adds a row: to a new recording where it names a client, else to the last one. What is wrong with that, if anything.
+    fn add_row(
         &mut self,
         alloc: Global,
         place: (usize, usize),
         row: Row<Entry>,
-    ) -> Result<bool, AllocError> {
+    ) -> Result<Option<&'static str>, AllocError> {
         if matches!(row, Row::Client(_, _)) {
+            let Some(ahead) = self.next else {
+                return Ok(Some(NO_SOURCE));
+            };
+            self.next = None;
             self.rows.push(Vec::new(alloc))?;
             self.places.push(place)?;
+            self.aheads.push(ahead)?;
         }
         match self.rows.last_mut() {
-            None => Ok(false),
+            None => Ok(Some(NO_SOURCE)),
             Some(rows) => {
                 rows.push(row)?;
-                Ok(true)
+                Ok(None)
             }
         }
     }
 
-    /// Adds the rows of a file.
+    /// Adds a line of a file: what is wrong with it, if anything.
+    fn add_line(
+        &mut self,
+        alloc: Global,
+        place: (usize, usize),
+        words: &str,
+    ) -> Result<Option<&'static str>, AllocError> {
+        let added = if words.starts_with("of ") {
+            match read_source(alloc, words) {
+                Ok(source) => return self.add_source(source),
+                Err(fault) => fault,
+            }
+        } else {
+            match read_row(alloc, words) {
+                Ok(row) => return self.add_row(alloc, place, row),
+                Err(fault) => fault,
+            }
+        };
+        match added {
+            TextFault::NoMemory => Err(AllocError),
+            TextFault::BadRow => Ok(Some(NO_ROW)),
+        }
+    }
+
+    /// Adds the lines of a file: the first that is not taken, from 1, and what is wrong with it.
     fn add_file(
         &mut self,
         alloc: Global,
         file: usize,
         text: &str,
-    ) -> Result<Option<BadRow>, AllocError> {
+    ) -> Result<Option<(usize, &'static str)>, AllocError> {
+        self.next = None;
         for (line, words) in text.lines().enumerate() {
-            let bad = Some(BadRow(line.saturating_add(1)));
-            match read_row(alloc, words) {
-                Ok(row) => {
-                    if !self.add(alloc, (file, line), row)? {
-                        return Ok(bad);
-                    }
-                }
-                Err(TextFault::NoMemory) => return Err(AllocError),
-                Err(TextFault::BadRow) => return Ok(bad),
+            let line = line.saturating_add(1);
+            if let Some(wrong) = self.add_line(alloc, (file, line), words)? {
+                return Ok(Some((line, wrong)));
             }
         }
         Ok(None)
     }
+
+    /// The clock of each, where the clocks of several machines may differ by so many milliseconds.
+    fn clocks(&self, alloc: Global, error: u64) -> Result<Vec<Clock>, AllocError> {
+        let error = if self.clocks.len() > 1 {
+            error.saturating_mul(MILLISECOND)
+        } else {
+            0
+        };
+        let mut clocks = Vec::with_capacity(alloc, self.aheads.len())?;
+        for ahead in self.aheads.as_slice() {
+            clocks.push(Clock {
+                ahead: *ahead,
+                error,
+            })?;
+        }
+        Ok(clocks)
+    }
 }
 
-/// Reads recordings and says whether they are one history: the status.
-pub fn audit(rt: &HostRuntime, files: &[&str]) -> Result<u8, Halt> {
+/// Reads recordings and says whether they are one history, where the clocks of several machines may differ by so many milliseconds:
+/// the status.
+pub fn audit(rt: &HostRuntime, files: &[&str], clock_error: u64) -> Result<u8, Halt> {
     let alloc = rt.alloc();
-    let mut recordings = Recordings {
-        rows: Vec::new(alloc),
-        places: Vec::new(alloc),
-    };
+    let mut recordings = Recordings::new(alloc);
     for (place, file) in files.iter().enumerate() {
         let text = text_of(rt, file)?;
-        if let Some(BadRow(line)) = recordings.add_file(alloc, place, text.as_str())? {
-            println!(rt; "not one history: {file}, line {line}: this is no row of a recording")?;
+        if let Some((line, wrong)) = recordings.add_file(alloc, place, text.as_str())? {
+            println!(rt; "not one history: {file}, line {line}: {wrong}")?;
             return Ok(NOT_ONE_HISTORY);
         }
     }
-    held(rt, files, &recordings)
+    held(rt, files, &recordings, clock_error)
+}
+
+/// Says by how much the clocks of recordings may differ, where they have several.
+fn say_clocks(rt: &HostRuntime, recordings: &Recordings, clock_error: u64) -> Result<(), Halt> {
+    let clocks = recordings.clocks.len();
+    if clocks > 1 {
+        println!(rt;
+            "(the times are of {clocks} clocks, taken as at most {clock_error} milliseconds apart: --clock-error N says otherwise)"
+        )?;
+    }
+    Ok(())
 }
 
 /// Holds the recordings against each other.
-fn held(rt: &HostRuntime, files: &[&str], recordings: &Recordings) -> Result<u8, Halt> {
-    match audit_recordings(
+fn held(
+    rt: &HostRuntime,
+    files: &[&str],
+    recordings: &Recordings,
+    clock_error: u64,
+) -> Result<u8, Halt> {
+    let clocks = recordings.clocks(rt.alloc(), clock_error)?;
+    let status = match audit_recordings(
         rt.alloc(),
         EntryCodec,
         EntryEpoch,
         recordings.rows.as_slice(),
+        clocks.as_slice(),
     ) {
-        Ok(found) => one_history(rt, &found),
+        Ok(found) => one_history(rt, &found)?,
         Err(refusal) => {
             println!(rt; "not one history: {refusal}")?;
+            say_rows(rt, files, recordings, &refusal)?;
             println!(rt;
                 "(an audit wants a recording of each client that wrote, from the first version on)"
             )?;
-            say_places(rt, files, recordings, &refusal)?;
-            Ok(NOT_ONE_HISTORY)
+            NOT_ONE_HISTORY
         }
-    }
+    };
+    say_clocks(rt, recordings, clock_error)?;
+    Ok(status)
 }
 
 /// Whether recordings are of one client.
@@ -148,31 +250,52 @@ fn has_twin(rows: &[Vec<Row<Entry>>], recording: usize) -> bool {
     false
 }
 
-/// Whether a refusal is of a recording.
-fn is_of(refusal: &Refusal, rows: &[Vec<Row<Entry>>], recording: usize) -> bool {
-    match refusal {
-        Refusal::Differs(AuditFault::ClientTwice) => has_twin(rows, recording),
-        _ => refusal.names(recording),
+/// Says where a row of a recording stands.
+fn say_row(
+    rt: &HostRuntime,
+    files: &[&str],
+    recordings: &Recordings,
+    at: CallPlace,
+) -> Result<(), Halt> {
+    let Some((file, line)) = recordings.places.get(at.recording) else {
+        return Ok(());
+    };
+    if let Some(file) = files.get(*file) {
+        let line = line.saturating_add(at.row);
+        println!(rt; "at {file}, line {line}")?;
     }
+    Ok(())
 }
 
-/// Says which file each recording is that a refusal is of.
-fn say_places(
+/// Says where the first rows stand of recordings that are of one client.
+fn say_twins(rt: &HostRuntime, files: &[&str], recordings: &Recordings) -> Result<(), Halt> {
+    for recording in 0..recordings.rows.len() {
+        if has_twin(recordings.rows.as_slice(), recording) {
+            say_row(rt, files, recordings, CallPlace { recording, row: 0 })?;
+        }
+    }
+    Ok(())
+}
+
+/// Says where the rows stand that a refusal is of.
+fn say_rows(
     rt: &HostRuntime,
     files: &[&str],
     recordings: &Recordings,
     refusal: &Refusal,
 ) -> Result<(), Halt> {
-    for (recording, (file, line)) in recordings.places.iter().enumerate() {
-        if is_of(refusal, recordings.rows.as_slice(), recording) {
-            if let Some(file) = files.get(*file) {
-                let recording = recording.saturating_add(1);
-                let line = line.saturating_add(1);
-                println!(rt; "recording {recording} is {file} from line {line}")?;
+    match refusal {
+        Refusal::Row(at, _) => say_row(rt, files, recordings, *at),
+        Refusal::Dishonest(at, _, _) => say_row(rt, files, recordings, *at),
+        Refusal::Circle(calls) => {
+            for at in calls.as_slice() {
+                say_row(rt, files, recordings, *at)?;
             }
+            Ok(())
         }
+        Refusal::Differs(AuditFault::ClientTwice) => say_twins(rt, files, recordings),
+        _ => Ok(()),
     }
-    Ok(())
 }
 
 /// What a log leaves: the greatest version that was made, and the boundary.

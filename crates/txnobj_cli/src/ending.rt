@@ -112,7 +112,10 @@ impl fmt::Display for Halt {
                 let words = reason(*fault);
                 write!(f, "{words}")
             }
-            Halt::NoEnd => write!(f, "others write all the time: try again"),
+            Halt::NoEnd => write!(
+                f,
+                "no answer in sight: others write all the time (try again), or the boundary stands at or above the newest version, as where files of several times were put together"
+            ),
         }
     }
 }

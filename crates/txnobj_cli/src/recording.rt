@@ -6,14 +6,18 @@ use std::alloc::{AllocError, Global};
 use std::fs::{File, OpenFile, OpenOptions, TryLockError};
 use std::io::{Read, Seek, SeekFrom, Write};
 use std::rt::Clock;
+use std::time::Duration;
 use std::{fs, io};
 use txn_client::recorder::Recorder;
 use txn_entries::entry::Entry;
 use txn_recorded::written::{
-    answer_row, ask_row, begin_row, client_row, failed_row, give_up_row, reply_row,
+    answer_row, ask_row, begin_row, client_row, failed_row, give_up_row, reply_row, source_row,
 };
 use txn_store::request::{Reply, Request};
 use txn_view_history::event::{AnyAnswer, AnyCall};
+
+/// The file in which a machine says which of its starts this is.
+const START: &str = "/proc/sys/kernel/random/boot_id";
 
 /// Where a client's recording goes: to the end of a file, or nowhere.
 #[derive(Drop)]
@@ -55,11 +59,38 @@ fn opened(rt: &HostRuntime, path: &str) -> Result<File, Halt> {
     Ok(file)
 }
 
+/// The nanoseconds of a time, the greatest number where there are more.
+pub fn nanos_of(time: Duration) -> u64 {
+    time.as_secs()
+        .saturating_mul(1_000_000_000)
+        .saturating_add(u64::from(time.subsec_nanos()))
+}
+
+/// The first line of a file, where there is one.
+fn first_line(rt: &HostRuntime, path: &str) -> Option<String> {
+    let bytes = bytes_in(rt, path).ok()?;
+    let text = String::from_utf8(bytes).ok()?;
+    let line = text.as_str().lines().next()?;
+    String::from_str(rt.alloc(), line).ok()
+}
+
+/// The name of the clock of a machine since it was started. Where the machine does not say, it is one of this client's own.
+fn clock_name(rt: &HostRuntime, client: u64) -> Result<String, Halt> {
+    match first_line(rt, START) {
+        Some(name) => Ok(name),
+        None => {
+            let now = nanos_of(rt.since_1970()?);
+            Ok(format!(in rt.alloc(); "client-{client}-{now}")?)
+        }
+    }
+}
+
 impl Recording {
-    /// A recording of this client, of which the first row says it.
+    /// A recording of this client of an object, of which the first rows say it.
     pub fn new(
         rt: HostRuntime,
         path: Option<&str>,
+        object: &str,
         client: u64,
         page: u64,
     ) -> Result<Recording, Halt> {
@@ -68,9 +99,24 @@ impl Recording {
             None => None,
         };
         let mut recording = Recording { rt, file };
-        let row = client_row(recording.alloc(), client, page);
-        recording.add(row)?;
+        if !recording.is_idle() {
+            recording.begin(object, client, page)?;
+        }
         Ok(recording)
+    }
+
+    /// Adds the rows that stand before all others, by one write.
+    fn begin(&mut self, object: &str, client: u64, page: u64) -> Result<(), Halt> {
+        let alloc = self.alloc();
+        let clock = clock_name(&self.rt, client)?;
+        let since = nanos_of(self.rt.since_1970()?);
+        let ahead = since.saturating_sub(self.now()?);
+        let mut rows = source_row(alloc, object, clock.as_str(), ahead)?;
+        let client = client_row(alloc, client, page)?;
+        rows.push('\n')?;
+        rows.push_str(client.as_str())?;
+        self.add(Ok(rows))?;
+        Ok(())
     }
 
     /// Whether nothing is kept of what happens.
@@ -84,12 +130,7 @@ impl Recording {
 
     /// The nanoseconds of the machine's clock, which only rises.
     fn now(&self) -> io::Result<u64> {
-        let time = self.rt.monotonic()?;
-        Ok(
-            time.as_secs()
-                .saturating_mul(1_000_000_000)
-                .saturating_add(u64::from(time.subsec_nanos())),
-        )
+        Ok(nanos_of(self.rt.monotonic()?))
     }
 
     /// Adds a row and its line feed, by one write.

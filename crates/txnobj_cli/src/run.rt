@@ -22,7 +22,10 @@ const LOOKS: u64 = 10;
 /// Does what the words ask for: the status.
 pub fn run(rt: &HostRuntime, options: &Options<'_>) -> Result<u8, Halt> {
     match &options.command {
-        Command::Audit(files) => audit(rt, files.as_slice()),
+        Command::Audit {
+            diaries,
+            clock_error,
+        } => audit(rt, diaries.as_slice(), *clock_error),
         Command::Doctor => doctor(rt, options),
         Command::Clean(seconds) => clean(rt, options, *seconds),
         Command::Shell => shell(rt, &mut Session::open(rt, options)?),

@@ -1,7 +1,7 @@
 //! One client of one object in a folder.
 
 use crate::ending::Halt;
-use crate::recording::Recording;
+use crate::recording::{Recording, nanos_of};
 use bytes::Bytes;
 use std::alloc::{AllocError, Global};
 use std::ops::Bound;
@@ -67,14 +67,16 @@ fn folder_of(alloc: Global, options: &Options<'_>) -> Result<Folder, Halt> {
     Ok(Folder::new(alloc, root, name, options.suffix)?)
 }
 
+/// The object that the options name, as recordings say it: the same on each machine, wherever the folder is mounted.
+fn object_of(alloc: Global, options: &Options<'_>) -> Result<String, AllocError> {
+    let name = options.name.unwrap_or("");
+    let suffix = options.suffix;
+    format!(in alloc; "{name}.{suffix}")
+}
+
 /// A client's number of its own: the nanoseconds since 1970.
 fn number_of(rt: &HostRuntime) -> Result<u64, Halt> {
-    let time = rt.since_1970()?;
-    let nanos = time
-        .as_secs()
-        .saturating_mul(1_000_000_000)
-        .saturating_add(u64::from(time.subsec_nanos()));
-    Ok(nanos.max(1))
+    Ok(nanos_of(rt.since_1970()?).max(1))
 }
 
 /// The store of the object that the options name.
@@ -103,7 +105,14 @@ impl Session {
         if number == 0 {
             return Err(Halt::Words("a client's number is at least 1"));
         }
-        let recording = Recording::new(rt.clone()?, options.diary, number, PAGE)?;
+        let object = object_of(alloc, options)?;
+        let recording = Recording::new(
+            rt.clone()?,
+            options.diary,
+            object.as_str(),
+            number,
+            PAGE,
+        )?;
         let client = Client::new(
             alloc,
             number,

@@ -54,7 +54,11 @@ pub enum Command<'a> {
     /// Removes temporary files that are older than so many seconds.
     Clean(u64),
     /// Audits recordings.
-    Audit(Vec<&'a str>),
+    Audit {
+        diaries: Vec<&'a str>,
+        /// By how many milliseconds the clocks of several machines may differ.
+        clock_error: u64,
+    },
 }
 
 /// Which object, who asks, and how.
@@ -277,6 +281,12 @@ fn with_others<'a>(alloc: Global, words: Words<'a>) -> Result<Words<'a>, AllocEr
         "Hold recordings of clients against each other: whether they are one history",
         "Example: txnobj audit a.diary b.diary",
     )
+    .arg(optional_number(
+        alloc,
+        "clock-error",
+        "By how many milliseconds the clocks of several machines may differ",
+    )
+    .default_value("1000"))?
     .arg(diaries)?;
     words
         .subcommand(shell)?
@@ -286,7 +296,7 @@ fn with_others<'a>(alloc: Global, words: Words<'a>) -> Result<Words<'a>, AllocEr
 }
 
 const STATUSES: &str =
-    "Statuses: 0 done; 1 a fault of the system; 2 wrong words; 3 nothing new to see; 4 an audit that does not agree; 12 the store failed; 14 there is no version; 15 a conflict; 16 fenced; 17 not in this state; 18 bytes that are no value; 19 no memory; 20 no id or epoch is left; 21 no end in sight; 30 + n the client does not permit the call, by fault n";
+    "Statuses: 0 done; 1 a fault of the system; 2 wrong words; 3 nothing new to see, or a folder that does not serve; 4 an audit that does not agree; 12 the store failed; 14 there is no version; 15 a conflict; 16 fenced; 17 not in this state; 18 bytes that are no value; 19 no memory; 20 no id or epoch is left; 21 no end in sight: others write all the time, or the boundary stands above the newest version; 30 + n the client does not permit the call, by fault n";
 
 fn words_of<'a>(alloc: Global) -> Result<Words<'a>, AllocError> {
     let words = Words::new(alloc, "txnobj")
@@ -374,7 +384,10 @@ fn texts_in<'a>(
 pub fn options_of<'a>(alloc: Global, words: &'a [String]) -> Result<Options<'a>, Error> {
     let found = words_of(alloc)?.try_get_matches_from(words)?;
     let command = match found.subcommand() {
-        Some(("audit", of)) => Command::Audit(texts_in(alloc, of, "DIARY")?),
+        Some(("audit", of)) => Command::Audit {
+            diaries: texts_in(alloc, of, "DIARY")?,
+            clock_error: number_in(of, "clock-error"),
+        },
         Some((name, of)) => command_of(name, of).unwrap_or(Command::Doctor),
         None => Command::Doctor,
     };

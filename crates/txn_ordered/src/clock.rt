@@ -1,0 +1,42 @@
+//! How the times of recordings are held against each other.
+
+/// How the times of a recording become times of one clock with those of the others.
+#[derive(Clone, Copy, Debug, PartialEq, Eq)]
+pub struct Clock {
+    /// The nanoseconds to add to its times.
+    pub ahead: u64,
+    /// The most nanoseconds by which they may then still be off.
+    pub error: u64,
+}
+
+/// A clock that all recordings have.
+pub(crate) const SHARED: Clock = Clock { ahead: 0, error: 0 };
+
+impl Clock {
+    /// The earliest moment that a time may be.
+    pub(crate) fn earliest(self, at: u64) -> u64 {
+        at.saturating_add(self.ahead).saturating_sub(self.error)
+    }
+
+    /// The latest moment that a time may be.
+    pub(crate) fn latest(self, at: u64) -> u64 {
+        at.saturating_add(self.ahead).saturating_add(self.error)
+    }
+}
+
+/// The clock of a recording.
+pub(crate) fn clock_of(clocks: &[Clock], recording: usize) -> Clock {
+    match clocks.get(recording) {
+        Some(clock) => *clock,
+        None => SHARED,
+    }
+}
+
+/// How far two moments have to be apart at the most, that the one is surely before the other.
+pub(crate) fn margin_of(clocks: &[Clock]) -> u64 {
+    let mut greatest = 0u64;
+    for clock in clocks {
+        greatest = greatest.max(clock.error);
+    }
+    greatest.saturating_mul(2)
+}
