@@ -27,6 +27,20 @@ def names_by_file(page):
                 yield file, name, line
 
 
+def files_of_all_calls(file, name):
+    """The files, tests aside, that have a case of each variant of an enum of calls, or of each but one."""
+    body = re.search(rf"^pub enum {name}<T> {{\n(.*?)^}}", text_of(file), re.M | re.S)[1]
+    variants = re.findall(r"^    ([A-Z]\w*)", body, re.M)
+    found = []
+    for part in ("src/**/*.rt", "specs/**/*.antt", "proofs/**/*.antt"):
+        for path in glob.glob(f"{TOP}/crates/*/{part}", recursive=True):
+            text = text_of(os.path.relpath(path, TOP))
+            count = sum(bool(re.search(rf"(?:::|\.){it}\b", text)) for it in variants)
+            if "_tests/" not in path and count >= len(variants) - 1:
+                found.append(os.path.relpath(path, f"{TOP}/crates"))
+    return sorted(found)
+
+
 class Pages(unittest.TestCase):
     def test_an_auditor_finds_each_name(self):
         found = list(names_by_file(text_of("docs/audit.md")))
@@ -53,6 +67,14 @@ class Pages(unittest.TestCase):
             for link in re.findall(r"\]\(([^)#\s]+)(?:#[^)]*)?\)", text_of(page)):
                 if "://" not in link:
                     self.assertTrue(os.path.exists(f"{TOP}/{os.path.dirname(page)}/{link}"), f"{link} in {page}")
+
+    def test_the_files_that_go_through_all_calls(self):
+        plain, viewed = text_of("docs/CHANGING.md").split("\n## A call ")[1:]
+        for page, file, name in ((plain, "txn_history", "Call"), (viewed, "txn_view_history", "ViewCall")):
+            listed = re.findall(r"`(\w+/(?:src|specs|proofs)/\S+)`", page)
+            self.assertEqual(sorted(set(listed)), sorted(listed), "a file is listed twice")
+            self.assertEqual(sorted(listed), files_of_all_calls(f"crates/{file}/src/event.rt", name))
+
 
 
 if __name__ == "__main__":
