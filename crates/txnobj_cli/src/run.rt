@@ -18,6 +18,8 @@ use txnobj_words::options::{Command, Options, Source};
 const PAUSE: u64 = 100;
 /// How often it looks in a second.
 const LOOKS: u64 = 10;
+/// After how many looks another client goes on.
+const LOOKS_OF_A_CLIENT: u64 = 1_000;
 
 /// Does what the words ask for: the status.
 pub fn run(rt: &HostRuntime, options: &Options<'_>) -> Result<u8, Halt> {
@@ -29,9 +31,7 @@ pub fn run(rt: &HostRuntime, options: &Options<'_>) -> Result<u8, Halt> {
         Command::Doctor => doctor(rt, options),
         Command::Clean(seconds) => clean(rt, options, *seconds),
         Command::Shell => shell(rt, &mut Session::open(rt, options)?),
-        Command::Watch { after, seconds } => {
-            watch(rt, &mut Session::open(rt, options)?, *after, *seconds)
-        }
+        Command::Watch { after, seconds } => watch(rt, options, *after, *seconds),
         _ => once(rt, &mut Session::open(rt, options)?, &options.command),
     }
 }
@@ -127,10 +127,14 @@ fn have_passed(rt: &HostRuntime, began: Duration, seconds: u64) -> Result<bool, 
     })
 }
 
-/// Waits for a version above this id.
-fn watch(rt: &HostRuntime, session: &mut Session, after: u64, seconds: u64) -> Result<u8, Halt> {
+/// Waits for a version above this id. A client keeps what it did in memory, so where no recording is kept, others go on after it.
+fn watch(rt: &HostRuntime, options: &Options<'_>, after: u64, seconds: u64) -> Result<u8, Halt> {
     let began = rt.monotonic()?;
-    for _ in 0..seconds.saturating_mul(LOOKS).saturating_add(1) {
+    let mut session = Session::open(rt, options)?;
+    for look in 0..seconds.saturating_mul(LOOKS).saturating_add(1) {
+        if look % LOOKS_OF_A_CLIENT == LOOKS_OF_A_CLIENT - 1 && options.diary.is_none() {
+            session = Session::open(rt, options)?;
+        }
         if let Some(newest) = session.read()? {
             if after < newest.id {
                 return say_version(rt, &newest);
