@@ -24,7 +24,9 @@ const MILLISECOND: u64 = 1_000_000;
 
 /// What is said of a line that is not taken.
 const NO_ROW: &str = "this is no row of a recording";
+
 const NO_SOURCE: &str = "the row before does not say of which object the recording is";
+
 const OTHER_OBJECT: &str = "this recording is of another object than the first";
 
 /// What files of recordings have.

@@ -106,13 +106,7 @@ impl Session {
             return Err(Halt::Words("a client's number is at least 1"));
         }
         let object = object_of(alloc, options)?;
-        let recording = Recording::new(
-            rt.clone()?,
-            options.diary,
-            object.as_str(),
-            number,
-            PAGE,
-        )?;
+        let recording = Recording::new(rt.clone()?, options.diary, object.as_str(), number, PAGE)?;
         let client = Client::new(
             alloc,
             number,
