@@ -13,7 +13,6 @@ use Rattle.txn_view_history.specs.declared.event.AnyAnswer.{AnyAnswer}
 use Rattle.txn_clients.specs.Operations.{asked_by}
 use Rattle.txn_journals.specs.declared.rows.Step.{Step}
 use Rattle.txn_journals.specs.declared.rows.JournalRow.{JournalRow}
-use Rattle.txn_journals.specs.Parts.{Part}
 use Rattle.txn_journals.specs.Journals.{goes_on, Follows, Replays}
 use Rattle.txn_diary.specs.Diaries.{DiaryState, lives, asked_in, end_fault, fault_if, IsReceiptFault, AreSound, Adds}
 use Rattle.txn_diary.specs.declared.tables.Tables.{Tables}

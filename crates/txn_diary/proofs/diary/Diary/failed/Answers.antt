@@ -1,4 +1,4 @@
-use Rattle.std.proofs.Common.{◌∙◌, ◌≡◌, sym, ap, subst, None, Some, true, is_some}
+use Rattle.std.proofs.Common.{◌∙◌, ◌≡◌, sym, ap, None, Some, true, is_some}
 use Rattle.std.proofs.lemmas.Option.{same_Some}
 use Rattle.txn_history.specs.Seen.{Store}
 use Rattle.txn_history.specs.Allowed.{ask_fault}
