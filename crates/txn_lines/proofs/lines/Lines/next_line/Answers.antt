@@ -1,4 +1,4 @@
-use Rattle.std.proofs.Common.{◌≡◌, true, false, Option, IfSome, sym, ◌∙◌, ap, subst}
+use Rattle.std.proofs.Common.{◌≡◌, true, Option, IfSome, sym, ◌∙◌, ap, subst}
 use Rattle.txn_lines.specs.Grammar.{Says}
 use Rattle.std.specs.Io.BufRead.{strip_last}
 use Rattle.txn_lines.specs.Lines.{is_skipped}
