@@ -1,5 +1,5 @@
--- A diary after a step.
-use Rattle.std.proofs.Common.{◌≡◌, ℕ, ◌≤◌, List, reverse, Bool, true, false, if◌then◌else◌, Option, Some, None, Err, refl, sym, ◌∙◌, ap, subst}
+-- A diary before a step and after it.
+use Rattle.std.proofs.Common.{◌≡◌, ℕ, ◌≤◌, List, [], ◌∷◌, ◌++◌, reverse, Bool, true, false, if◌then◌else◌, Option, Some, None, Err, refl, sym, ◌∙◌, ap, subst}
 use Rattle.std.proofs.lemmas.Option.{same_Some}
 use Rattle.txn_store.specs.declared.request.Request.{Request}
 use Rattle.txn_history.specs.Seen.{Ask, Store, Look}
@@ -7,13 +7,16 @@ use Rattle.txn_history.specs.Allowed.{ask_fault}
 use Rattle.txn_history.specs.declared.event.EventFault.{EventFault}
 use Rattle.txn_history.specs.declared.event.EventFault.TheVariants as faults
 use Rattle.txn_machine.specs.Machine.{fault_met}
+use Rattle.txn_types.specs.declared.codec.ObjectCodec as coding
+use Rattle.txn_types.specs.declared.epoch.EpochField as fields
 use Rattle.txn_view_history.specs.declared.event.AnyAnswer.{AnyAnswer}
 use Rattle.txn_clients.specs.Operations.{asked_by}
 use Rattle.txn_journals.specs.declared.rows.Step.{Step}
 use Rattle.txn_journals.specs.declared.rows.JournalRow.{JournalRow}
-use Rattle.txn_journals.specs.Parts.{Part}
-use Rattle.txn_journals.specs.Journals.{goes_on, Replays}
+use Rattle.txn_journals.specs.Journals.{goes_on, Follows, Replays}
 use Rattle.txn_diary.specs.Diaries.{DiaryState, lives, asked_in, end_fault, fault_if, IsReceiptFault, AreSound, Adds}
+use Rattle.txn_diary.specs.declared.tables.Tables.{Tables}
+use Rattle.txn_diary.specs.Shown.{shown}
 use Rattle.txn_logged.specs.Logged.{IsOfKind}
 use Rattle.txn_journals.specs.declared.rows.Receipt.{Receipt}
 use Rattle.txn_diary.proofs.Sound.{replays_sound}
@@ -77,19 +80,7 @@ pub asks_so : (ask : Option Ask) → None ≡ end_fault ask → (a : Ask) × (as
 asks_so None h = cc
 asks_so (Some a) h = (a, refl)
 
--- what does not change while room is made
-pub moved : {T C E : Type 0} (P : ℕ → C → E → ℕ → Part T → Type 0) (page page' : ℕ) (codec codec' : C) (epochs epochs' : E) (client client' : ℕ) (part part' : Part T) → page ≡ page' → codec ≡ codec' → epochs ≡ epochs' → client ≡ client' → part ≡ part' → P page codec epochs client part → P page' codec' epochs' client' part'
-moved P page page' codec codec' epochs epochs' client client' part part' a b c d e h =
-    subst (λ x. P page' codec' epochs' client' x) e (subst (λ x. P page' codec' epochs' x part) d (subst (λ x. P page' codec' x client part) c (subst (λ x. P page' x epochs client part) b (subst (λ x. P x codec epochs client part) a h))))
-
 module _ {T C E : Type 0} where
-  -- a diary of these
-  abbrev pub state_of : ℕ → ℕ → C → E → Part T → List (JournalRow T) → DiaryState T C E
-  state_of client page codec epochs part rows = record { client = client; page = page; codec = codec; epochs = epochs; part = part; rows = rows }
-
-  pub same_state : (client d page q : ℕ) (codec x : C) (epochs e : E) (part p : Part T) (rows r : List (JournalRow T)) → client ≡ d → page ≡ q → codec ≡ x → epochs ≡ e → part ≡ p → rows ≡ r → state_of client page codec epochs part rows ≡ state_of d q x e p r
-  same_state client d page q codec x epochs e part p rows r h1 h2 h3 h4 h5 h6 = rw (h1, h2, h3, h4, h5, h6) refl
-
   -- an operation that asks for something is a living client's
   pub asks_alive : (diary : DiaryState T C E) (op : ℕ) (ask : Ask) → asked_in diary op ≡ Some ask → (lives diary.rows ≡ true) × (asked_by diary.part.operations op ≡ Some ask)
   asks_alive diary op ask h = living (lives diary.rows) (asked_by diary.part.operations op) ask h
@@ -99,25 +90,54 @@ module _ {T C E : Type 0} (encoded : C → T → List ℕ) (decoded : C → List
   abbrev pub IsKept : DiaryState T C E → Bool → Type 0
   IsKept d alive = (1 ≤ d.client) × (1 ≤ d.page) × (alive ≡ lives d.rows) × Replays d.page (encoded d.codec) (decoded d.codec) (epoch_of d.epochs) (with_epoch d.epochs) d.client (reverse d.rows) d.part
 
-  pub sound_of : (d : DiaryState T C E) (alive : Bool) → IsKept d alive → AreSound d.part.operations
+  sound_of : (d : DiaryState T C E) (alive : Bool) → IsKept d alive → AreSound d.part.operations
   sound_of d alive kept = replays_sound d.page kept.1 (encoded d.codec) (decoded d.codec) (epoch_of d.epochs) (with_epoch d.epochs) d.client (reverse d.rows) d.part kept.3
 
   abbrev pub AddsTo : DiaryState T C E → Step T → Option (AnyAnswer T) → DiaryState T C E → Type 0
   AddsTo old step answer new = Adds (encoded old.codec) (decoded old.codec) (epoch_of old.epochs) (with_epoch old.epochs) old step answer new
 
   -- one row more
-  pub kept_more : (old new : DiaryState T C E) (alive after : Bool) (step : Step T) (answer : Option (AnyAnswer T)) → IsKept old alive → lives old.rows ≡ true → after ≡ goes_on step → AddsTo old step answer new → IsKept new after
-  kept_more old new alive after step answer kept live on adds = (
-    subst (λ n. 1 ≤ n) (sym adds.client) kept.0,
-    subst (λ n. 1 ≤ n) (sym adds.page) kept.1,
-    on ∙ sym (lives_so old.rows new.rows step answer adds.rows),
-    moved (λ page codec epochs client part. Replays page (encoded codec) (decoded codec) (epoch_of epochs) (with_epoch epochs) client (reverse new.rows) part) old.page new.page old.codec new.codec old.epochs new.epochs old.client new.client new.part new.part (sym adds.page) (sym adds.codec) (sym adds.epochs) (sym adds.client) refl
-        (replays_more old.page (encoded old.codec) (decoded old.codec) (epoch_of old.epochs) (with_epoch old.epochs) old.client old.rows new.rows old.part new.part step answer kept.3 live adds.rows adds.follows),
-  )
+  kept_more : (old new : DiaryState T C E) (alive after : Bool) (step : Step T) (answer : Option (AnyAnswer T)) → IsKept old alive → lives old.rows ≡ true → after ≡ goes_on step → AddsTo old step answer new → IsKept new after
+  kept_more old new alive after step answer kept live on adds =
+      let same : new ≡ record old { part = new.part; rows = new.rows } = λ i. record { client = adds.client i; page = adds.page i; codec = adds.codec i; epochs = adds.epochs i; part = new.part; rows = new.rows } in
+      let replays = replays_more old.page (encoded old.codec) (decoded old.codec) (epoch_of old.epochs) (with_epoch old.epochs) old.client old.rows new.rows old.part new.part step answer kept.3 live adds.rows adds.follows in
+      subst (λ d. IsKept d after) (sym same) (kept.0, kept.1, on ∙ sym (lives_so old.rows new.rows step answer adds.rows), replays)
 
-  -- a step after room was made
-  pub stepped : (now inside room new : DiaryState T C E) (alive : Bool) (step : Step T) (answer : Option (AnyAnswer T)) → inside ≡ now → room ≡ inside → IsKept inside alive → lives now.rows ≡ true → goes_on step ≡ true → AddsTo room step answer new → IsKept new alive × AddsTo now step answer new
-  stepped now inside room new alive step answer is made kept live on adds =
-      let more : AddsTo now step answer new = subst (λ d. AddsTo d step answer new) (made ∙ is) adds in
-      let holds : IsKept now alive = subst (λ d. IsKept d alive) is kept in
-      (kept_more now new alive alive step answer holds live (holds.2 ∙ (live ∙ sym on)) more, more)
+module _ {T C E : Type 0} {codec : coding.Ghosts C T} {field : fields.Ghosts E T} where
+  -- the diary of these tables and this journal
+  abbrev pub diary_of : Tables T C E codec field → List (JournalRow T) → DiaryState T C E
+  diary_of t rows = record { client = t.client; page = t.layout.page; codec = t.layout.codec; epochs = t.epochs; part = shown t; rows = rows }
+
+  -- What a step finds: the tables and the journal are this diary, which its type keeps.
+  pub record IsReady (now : DiaryState T C E) (t : Tables T C E codec field) (rows : List (JournalRow T)) (alive : Bool) : Type 0 where
+    pub is : diary_of t rows ≡ now
+    pub kept : IsKept codec.encoded codec.decoded field.epoch_of field.with_epoch now alive
+
+  -- What a step leaves: a diary that its type keeps, with the row of the step more.
+  pub record IsStepped (now : DiaryState T C E) (step : Step T) (answer : Option (AnyAnswer T)) (t : Tables T C E codec field) (rows : List (JournalRow T)) (alive : Bool) : Type 0 where
+    pub kept : IsKept codec.encoded codec.decoded field.epoch_of field.with_epoch (diary_of t rows) alive
+    pub adds : AddsTo codec.encoded codec.decoded field.epoch_of field.with_epoch now step answer (diary_of t rows)
+
+  -- a step finds the diary as it was before room was made
+  pub room_made : (now : DiaryState T C E) (old t : Tables T C E codec field) (before rows : List (JournalRow T)) (alive : Bool) → diary_of old before ≡ now → IsKept codec.encoded codec.decoded field.epoch_of field.with_epoch (diary_of old before) alive →
+      t.client ≡ old.client → t.layout ≡ old.layout → t.epochs ≡ old.epochs → shown t ≡ shown old → rows ≡ before → IsReady now t rows alive
+  room_made now old t before rows alive is kept client layout epochs parts same =
+      let made : diary_of t rows ≡ diary_of old before = λ i. record { client = client i; page = (layout i).page; codec = (layout i).codec; epochs = epochs i; part = parts i; rows = same i } in
+      record { is = made ∙ is; kept = subst (λ d. IsKept codec.encoded codec.decoded field.epoch_of field.with_epoch d alive) is kept }
+
+module _ {T C E : Type 0} {codec : coding.Ghosts C T} {field : fields.Ghosts E T} {now : DiaryState T C E} {t : Tables T C E codec field} {rows : List (JournalRow T)} {alive : Bool} (ready : IsReady now t rows alive) where
+  -- what a step finds can take what it asks for
+  pub ready_sound : AreSound t.operations.items
+  ready_sound = subst (λ (d : DiaryState T C E). AreSound d.part.operations) (sym ready.is) (sound_of codec.encoded codec.decoded field.epoch_of field.with_epoch now alive ready.kept)
+
+  -- a step finds that an operation asks for what it asked for, and that its client lives
+  pub ready_asks : (op : ℕ) (ask : Ask) → asked_in now op ≡ Some ask → (alive ≡ true) × (asked_by t.operations.items op ≡ Some ask)
+  ready_asks op ask asks = (let found = asks_alive now op ask asks in (ready.kept.2 ∙ found.0, ap (λ (d : DiaryState T C E). asked_by d.part.operations op) ready.is ∙ found.1))
+
+  -- a step of a living client
+  pub stepped : {new : Tables T C E codec field} {more : List (JournalRow T)} {after : Bool} {step : Step T} {answer : Option (AnyAnswer T)} → alive ≡ true → after ≡ goes_on step → more ≡ rows ++ record { step = step; answer = answer } ∷ [] →
+      Follows t.layout.page (codec.encoded t.layout.codec) (codec.decoded t.layout.codec) (field.epoch_of t.epochs) (field.with_epoch t.epochs) t.client (shown t) step answer (shown new) → new.client ≡ t.client → new.layout ≡ t.layout → new.epochs ≡ t.epochs → IsStepped now step answer new more after
+  stepped {new = new} {more = more} {after = after} {step = step} {answer = answer} live on row follows client layout epochs =
+      let found : AddsTo codec.encoded codec.decoded field.epoch_of field.with_epoch (diary_of t rows) step answer (diary_of new more) = record { rows = row; follows = follows; client = client; page = ap (λ l. l.page) layout; codec = ap (λ l. l.codec) layout; epochs = epochs } in
+      let adds = subst (λ d. AddsTo codec.encoded codec.decoded field.epoch_of field.with_epoch d step answer (diary_of new more)) ready.is found in
+      record { kept = kept_more codec.encoded codec.decoded field.epoch_of field.with_epoch now (diary_of new more) alive after step answer ready.kept (sym ready.kept.2 ∙ live) on adds; adds = adds }

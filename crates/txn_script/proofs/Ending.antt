@@ -68,7 +68,7 @@ module _ {T C : Type 0} (rules : Rules T C) where
     pub erased : AreErased s.trace ids
     pub pinned : rules.world.pins s pins
 
-module _ {T C : Type 0} (rules : Rules T C) (s : State T) (values : List T) (ids : List ℕ) (pins : Option (List ℕ)) where
+module _ {T C : Type 0} {rules : Rules T C} {s : State T} {values : List T} {ids : List ℕ} {pins : Option (List ℕ)} (are : Ended rules s values ids pins) where
   -- all end lines of this state
   abbrev pub ending_of : List ℕ
   ending_of = end_text rules.value_text values (boundary s.trace) ids pins (seen_views s.views)
@@ -86,20 +86,20 @@ module _ {T C : Type 0} (rules : Rules T C) (s : State T) (values : List T) (ids
   views_part = views_text rules.value_text 1 (seen_views s.views)
 
   -- what was printed of the end lines, and what was still to print
-  end_front : (text more : List ℕ) → Ended rules s values ids pins → text ++ more ≡ ending_of → IsEndFront rules (Some (record { state = s; opened = None })) [] text
-  end_front text more are e = inr (more, record { values = values; ids = ids; pins = pins; entries = are.entries; erased = are.erased; pinned = are.pinned; whole = e })
+  end_front : (text more : List ℕ) → text ++ more ≡ ending_of → IsEndFront rules (Some (record { state = s; opened = None })) [] text
+  end_front text more e = inr (more, record { values = values; ids = ids; pins = pins; entries = are.entries; erased = are.erased; pinned = are.pinned; whole = e })
 
   -- a stop within some of the end lines, after those before them
-  pub part_front : (stop : Stop) (old mid new : Option (List ℕ)) (before part after : List ℕ) → Ended rules s values ids pins → before ++ (part ++ after) ≡ ending_of → Appends old mid before → StopsWithin stop part mid new → StopsInEnd rules stop s old new
-  part_front stop old mid new before part after are whole grown (inl is) = inl is
-  part_front stop old mid new before part after are whole grown (inr is) =
+  pub part_front : (stop : Stop) (old mid new : Option (List ℕ)) (before part after : List ℕ) → before ++ (part ++ after) ≡ ending_of → Appends old mid before → StopsWithin stop part mid new → StopsInEnd rules stop s old new
+  part_front stop old mid new before part after whole grown (inl is) = inl is
+  part_front stop old mid new before part after whole grown (inr is) =
       let text = is.1 in
       let more = is.2 in
       let split : (before ++ text) ++ (more ++ after) ≡ before ++ (part ++ after) = append_assoc before text (more ++ after) ∙ ap (λ xs. before ++ xs) (sym (append_assoc text more after) ∙ ap (λ xs. xs ++ after) is.3) in
-      inr (is.0, before ++ text, end_front (before ++ text) (more ++ after) are (split ∙ whole), appends_both old mid new before text grown is.4)
+      inr (is.0, before ++ text, end_front (before ++ text) (more ++ after) (split ∙ whole), appends_both old mid new before text grown is.4)
 
-  pub line_front : (stop : Stop) (old new : Option (List ℕ)) (text more : List ℕ) → Ended rules s values ids pins → stop ≡ stops.NoMemory → text ++ more ≡ ending_of → Appends old new text → StopsInEnd rules stop s old new
-  line_front stop old new text more are is e grown = inr (is, text, end_front text more are e, grown)
+  pub line_front : (stop : Stop) (old new : Option (List ℕ)) (text more : List ℕ) → stop ≡ stops.NoMemory → text ++ more ≡ ending_of → Appends old new text → StopsInEnd rules stop s old new
+  line_front stop old new text more is e grown = inr (is, text, end_front text more e, grown)
 
   -- the lines before those of the views
   abbrev front_of_views : List ℕ
@@ -124,36 +124,36 @@ module _ {T C : Type 0} (rules : Rules T C) (s : State T) (values : List T) (ids
       appends_both old (append_known out first) (append_known out fourth) entries_part (boundary_part ++ after) before.entries (gathers out first fourth (boundary_part ++ after) (both_after first second fourth boundary_part after before.boundary rest))
 
   -- and then the views
-  pub ends_with : (old out new : Option (List ℕ)) (first second third fourth : List ℕ) → Ended rules s values ids pins → PrintedBefore old out first second third fourth → Appends (append_known out fourth) new views_part → (text : List ℕ) × EndsWith rules s text × Appends old new text
-  ends_with old out new first second third fourth are before last = (
+  pub ends_with : {old out : Option (List ℕ)} {first second third fourth : List ℕ} → PrintedBefore old out first second third fourth → (new : Option (List ℕ)) → Appends (append_known out fourth) new views_part → (text : List ℕ) × EndsWith rules s text × Appends old new text
+  ends_with {old = old} {out = out} {first = first} {second = second} {third = third} {fourth = fourth} before new last = (
     front_of_views ++ views_part,
     record { values = values; ids = ids; pins = pins; entries = are.entries; erased = are.erased; pinned = are.pinned; whole = before_views views_part },
     appends_both old (append_known out fourth) new front_of_views views_part (printed_before old out first second third fourth before) last,
   )
 
   -- a stop within the lines of the views
-  pub stops_in_views : (stop : Stop) (old out new : Option (List ℕ)) (first second third fourth : List ℕ) → Ended rules s values ids pins → PrintedBefore old out first second third fourth → StopsWithin stop views_part (append_known out fourth) new → StopsInEnd rules stop s old new
-  stops_in_views stop old out new first second third fourth are before is =
+  pub stops_in_views : {old out : Option (List ℕ)} {first second third fourth : List ℕ} → PrintedBefore old out first second third fourth → (stop : Stop) (new : Option (List ℕ)) → StopsWithin stop views_part (append_known out fourth) new → StopsInEnd rules stop s old new
+  stops_in_views {old = old} {out = out} {first = first} {second = second} {third = third} {fourth = fourth} before stop new is =
       let whole : front_of_views ++ (views_part ++ []) ≡ ending_of = ap (λ xs. front_of_views ++ xs) (append-nil views_part) ∙ before_views views_part in
-      part_front stop old (append_known out fourth) new front_of_views views_part [] are whole (printed_before old out first second third fourth before) is
+      part_front stop old (append_known out fourth) new front_of_views views_part [] whole (printed_before old out first second third fourth before) is
 
   -- a stop at the line of the boundary
-  pub stops_at_boundary : (stop : Stop) (old out : Option (List ℕ)) (first now : List ℕ) → Ended rules s values ids pins → stop ≡ stops.NoMemory → now ≡ first → Appends old (append_known out first) entries_part → StopsInEnd rules stop s old (append_known out now)
-  stops_at_boundary stop old out first now are is same grown =
-      line_front stop old (append_known out now) entries_part (boundary_part ++ (erased_part ++ (pinned_line pins ++ views_part))) are is refl (subst (λ (items : List ℕ). Appends old (append_known out items) entries_part) (sym same) grown)
+  pub stops_at_boundary : (stop : Stop) (old out : Option (List ℕ)) (first now : List ℕ) → stop ≡ stops.NoMemory → now ≡ first → Appends old (append_known out first) entries_part → StopsInEnd rules stop s old (append_known out now)
+  stops_at_boundary stop old out first now is same grown =
+      line_front stop old (append_known out now) entries_part (boundary_part ++ (erased_part ++ (pinned_line pins ++ views_part))) is refl (subst (λ (items : List ℕ). Appends old (append_known out items) entries_part) (sym same) grown)
 
   -- at that of the erased ids
-  pub stops_at_erased : (stop : Stop) (old out : Option (List ℕ)) (first second now : List ℕ) → Ended rules s values ids pins → stop ≡ stops.NoMemory → now ≡ second → Appends old (append_known out first) entries_part → second ≡ first ++ boundary_part → StopsInEnd rules stop s old (append_known out now)
-  stops_at_erased stop old out first second now are is same grown one =
+  pub stops_at_erased : (stop : Stop) (old out : Option (List ℕ)) (first second now : List ℕ) → stop ≡ stops.NoMemory → now ≡ second → Appends old (append_known out first) entries_part → second ≡ first ++ boundary_part → StopsInEnd rules stop s old (append_known out now)
+  stops_at_erased stop old out first second now is same grown one =
       let after = erased_part ++ (pinned_line pins ++ views_part) in
       let printed = appends_both old (append_known out first) (append_known out second) entries_part boundary_part grown (gathers out first second boundary_part one) in
-      line_front stop old (append_known out now) (entries_part ++ boundary_part) after are is (append_assoc entries_part boundary_part after) (subst (λ (items : List ℕ). Appends old (append_known out items) (entries_part ++ boundary_part)) (sym same) printed)
+      line_front stop old (append_known out now) (entries_part ++ boundary_part) after is (append_assoc entries_part boundary_part after) (subst (λ (items : List ℕ). Appends old (append_known out items) (entries_part ++ boundary_part)) (sym same) printed)
 
   -- at that of what is pinned
-  pub stops_at_pinned : (stop : Stop) (old out : Option (List ℕ)) (first second third now : List ℕ) → Ended rules s values ids pins → stop ≡ stops.NoMemory → now ≡ third → Appends old (append_known out first) entries_part → second ≡ first ++ boundary_part → third ≡ second ++ erased_part → StopsInEnd rules stop s old (append_known out now)
-  stops_at_pinned stop old out first second third now are is same grown one two =
+  pub stops_at_pinned : (stop : Stop) (old out : Option (List ℕ)) (first second third now : List ℕ) → stop ≡ stops.NoMemory → now ≡ third → Appends old (append_known out first) entries_part → second ≡ first ++ boundary_part → third ≡ second ++ erased_part → StopsInEnd rules stop s old (append_known out now)
+  stops_at_pinned stop old out first second third now is same grown one two =
       let both = boundary_part ++ erased_part in
       let after = pinned_line pins ++ views_part in
       let printed = appends_both old (append_known out first) (append_known out third) entries_part both grown (gathers out first third both (both_after first second third boundary_part erased_part one two)) in
       let whole : (entries_part ++ both) ++ after ≡ ending_of = append_assoc entries_part both after ∙ ap (λ xs. entries_part ++ xs) (append_assoc boundary_part erased_part after) in
-      line_front stop old (append_known out now) (entries_part ++ both) after are is whole (subst (λ (items : List ℕ). Appends old (append_known out items) (entries_part ++ both)) (sym same) printed)
+      line_front stop old (append_known out now) (entries_part ++ both) after is whole (subst (λ (items : List ℕ). Appends old (append_known out items) (entries_part ++ both)) (sym same) printed)

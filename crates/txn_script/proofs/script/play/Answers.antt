@@ -1,13 +1,11 @@
-use Rattle.std.proofs.Common.{ℕ, [], Option, List, sym, subst}
+use Rattle.std.proofs.Common.{ℕ, [], List, sym, subst}
 use Rattle.std.proofs.lemmas.List.{append-nil}
 use Rattle.std.proofs.lemmas.Result.{on_ok_weaker, MatchResult-weaker, err_from_is_err_and}
 use Rattle.std.specs.Io.KnownBytes.{Appends, append_known}
-use Rattle.txn_lines.specs.declared.line.Line.{Line}
 use Rattle.txn_lines.specs.declared.stop.Stop.{Stop}
 use Rattle.txn_lines.specs.declared.stop.Stop.TheVariants as stops
 use Rattle.txn_script.specs.Script.{StopsAfter}
 use Rattle.txn_script.specs.Rules.{rules_of}
-use Rattle.txn_script.specs.Reading.{ReadsNextLine}
 use Rattle.txn_script.proofs.Ending.{appends_both, gathers}
 use Rattle.txn_script.proofs.Playing.{play_first, play_more, play_end, stops_first, stops_next, stops_line, stops_end}
 use Rattle.txn_script.proofs.script.play.Goals as goal
@@ -39,9 +37,8 @@ returns-in_default-clause-ok g c =
     let after = g.R.Read.remaining c.next_line.new.self.reader in
     let held = append_known (g.W.Write.contents c.args.out.now) c.args.printer.now.text.items in
     let now = append_known (g.W.Write.contents c.loop-line.out) c.loop-line.printer.text.items in
-    let later = append_known (g.W.Write.contents c.print_end.new.out) c.print_end.new.printer.text.items in
-    let read = subst (λ (found : Option (Line g.row.C.Denot)). ReadsNextLine (rules_of g.C.TextForm.text g.C.TextForm.fits g.T.TextForm.text g.K.ScriptWorld.rules) before c.loop-line.lines.number after c.next_line.new.self.number found) c.in_default.is c.in_ok-line.ensures.ok in
-    on_ok_weaker c.print_end.result (play_end (rules_of g.C.TextForm.text g.C.TextForm.fits g.T.TextForm.text g.K.ScriptWorld.rules) start before after held now later c.loop-line.lines.number c.next_line.new.self.number (record { state = g.K.ScriptWorld.state c.loop-line.world; opened = c.loop-line.opened }) c.loop-line.invariant.playing read) c.print_end.ensures.ok
+    let read = rw c.in_default.is at c.in_ok-line.ensures.ok in
+    on_ok_weaker c.print_end.result (play_end (rules_of g.C.TextForm.text g.C.TextForm.fits g.T.TextForm.text g.K.ScriptWorld.rules) start before after held now (append_known (g.W.Write.contents c.print_end.new.out) c.print_end.new.printer.text.items) c.loop-line.lines.number c.next_line.new.self.number (record { state = g.K.ScriptWorld.state c.loop-line.world; opened = c.loop-line.opened }) c.loop-line.invariant.playing read) c.print_end.ensures.ok
 
 pub returns-in_default-clause-stop : goal.returns-in_default-clause-stop
 returns-in_default-clause-stop g c =
@@ -50,9 +47,8 @@ returns-in_default-clause-stop g c =
     let after = g.R.Read.remaining c.next_line.new.self.reader in
     let held = append_known (g.W.Write.contents c.args.out.now) c.args.printer.now.text.items in
     let now = append_known (g.W.Write.contents c.loop-line.out) c.loop-line.printer.text.items in
-    let later = append_known (g.W.Write.contents c.print_end.new.out) c.print_end.new.printer.text.items in
-    let read = subst (λ (found : Option (Line g.row.C.Denot)). ReadsNextLine (rules_of g.C.TextForm.text g.C.TextForm.fits g.T.TextForm.text g.K.ScriptWorld.rules) before c.loop-line.lines.number after c.next_line.new.self.number found) c.in_default.is c.in_ok-line.ensures.ok in
-    MatchResult-weaker c.print_end.result c.print_end.ensures.err (λ x h. h) (λ stop is. stops_end (rules_of g.C.TextForm.text g.C.TextForm.fits g.T.TextForm.text g.K.ScriptWorld.rules) stop start before after held now later c.loop-line.lines.number c.next_line.new.self.number (record { state = g.K.ScriptWorld.state c.loop-line.world; opened = c.loop-line.opened }) c.loop-line.invariant.playing read is)
+    let read = rw c.in_default.is at c.in_ok-line.ensures.ok in
+    MatchResult-weaker c.print_end.result c.print_end.ensures.err (λ x h. h) (λ stop is. stops_end (rules_of g.C.TextForm.text g.C.TextForm.fits g.T.TextForm.text g.K.ScriptWorld.rules) stop start before after held now (append_known (g.W.Write.contents c.print_end.new.out) c.print_end.new.printer.text.items) c.loop-line.lines.number c.next_line.new.self.number (record { state = g.K.ScriptWorld.state c.loop-line.world; opened = c.loop-line.opened }) c.loop-line.invariant.playing read is)
 
 pub returns-in_err-take_line-clause-stop : goal.returns-in_err-take_line-clause-stop
 returns-in_err-take_line-clause-stop g c =
@@ -62,7 +58,7 @@ returns-in_err-take_line-clause-stop g c =
     let held = append_known (g.W.Write.contents c.args.out.now) c.args.printer.now.text.items in
     let now = append_known (g.W.Write.contents c.loop-line.out) c.loop-line.printer.text.items in
     let number = c.next_line.new.self.number in
-    let read = subst (λ (found : Option (Line g.row.C.Denot)). ReadsNextLine (rules_of g.C.TextForm.text g.C.TextForm.fits g.T.TextForm.text g.K.ScriptWorld.rules) before c.loop-line.lines.number after number found) c.in-Some.is c.in_ok-line.ensures.ok in
+    let read = rw c.in-Some.is at c.in_ok-line.ensures.ok in
     let stop = c.in_err-take_line.field-0.0 in
     let is = c.in_err-take_line.ensures.err in
     let p = err_from_is_err_and c.from_residual-in_err-take_line.result c.from_residual-in_err-take_line.ensures.1 in
@@ -87,7 +83,7 @@ loop-line-preserved g c =
     let held = append_known (g.W.Write.contents c.args.out.now) c.args.printer.now.text.items in
     let now = append_known (g.W.Write.contents c.loop-line.out) c.loop-line.printer.text.items in
     let later = append_known (g.W.Write.contents c.write_full.new.out) c.write_full.new.self.text.items in
-    let read = subst (λ (found : Option (Line g.row.C.Denot)). ReadsNextLine (rules_of g.C.TextForm.text g.C.TextForm.fits g.T.TextForm.text g.K.ScriptWorld.rules) before c.loop-line.lines.number after c.next_line.new.self.number found) c.in-Some.is c.in_ok-line.ensures.ok in
+    let read = rw c.in-Some.is at c.in_ok-line.ensures.ok in
     let step = c.in_ok-take_line.ensures.ok in
     let grown : Appends now later step.0 = subst (Appends now later) (append-nil step.0) (appends_both now (append_known (g.W.Write.contents c.loop-line.out) c.take_line.new.printer.text.items) later step.0 [] (gathers (g.W.Write.contents c.loop-line.out) c.loop-line.printer.text.items c.take_line.new.printer.text.items step.0 step.2) c.in_ok-write_full.ensures.ok) in
     record {

@@ -1,4 +1,4 @@
-use Rattle.std.proofs.Common.{◌∙◌, sym, ap, subst, refl, None, false}
+use Rattle.std.proofs.Common.{◌≡◌, ◌∙◌, ap, None, Some, true, false}
 use Rattle.txn_history.specs.Seen.{Look}
 use Rattle.txn_history.specs.Allowed.{ask_fault}
 use Rattle.txn_machine.specs.Doing.{first_of}
@@ -6,61 +6,37 @@ use Rattle.txn_clients.specs.Operations.{asked_by}
 use Rattle.txn_journals.specs.declared.rows.Act.TheVariants as acts
 use Rattle.txn_journals.specs.declared.rows.Step.TheVariants as steps
 use Rattle.txn_diary.specs.Diaries.{asked_in}
-use Rattle.txn_diary.specs.Shown.{shown}
 use Rattle.txn_diary.proofs.Acting.{takes_so}
-use Rattle.txn_diary.proofs.Stepping.{met_ask, looks_so, asks_alive, state_of, same_state, sound_of, stepped, IsKept}
+use Rattle.txn_diary.proofs.Stepping.{met_ask, looks_so, room_made, ready_sound, ready_asks, stepped, IsReady, IsStepped}
+use Rattle.txn_diary.proofs.diary.Diary.look.Goals.{In_ok-make_room, After-note}
 use Rattle.txn_diary.proofs.diary.Diary.look.Goals as goal
 
 pub returns-in-Some-clause-refused : goal.returns-in-Some-clause-refused
 returns-in-Some-clause-refused g c = met_ask (Unit {0}) false (asked_in c.args.self.now c.args.op) c.in-Some.fault (c.in-Some.ensures ∙ ap (ask_fault false) c.asks.ensures)
 
+-- room was made in what the client keeps
+ready : (g : _) (c : In_ok-make_room g) → IsReady c.args.self.now c.make_room.new.tables c.make_room.new.rows.items c.self.inside.alive
+ready g c = room_made c.args.self.now c.self.inside.tables c.make_room.new.tables c.self.inside.rows.items c.make_room.new.rows.items c.self.inside.alive c.self.view_is c.self.invariant c.make_room.ensures.client c.make_room.ensures.layout c.make_room.ensures.epochs c.make_room.ensures.shown c.make_room.ensures.rows
+
+-- the operation asks for a look
+asks : (g : _) (c : In_ok-make_room g) → (c.self.inside.alive ≡ true) × (asked_by c.make_room.new.tables.operations.items c.args.op ≡ Some Look)
+asks g c = ready_asks (ready g c) c.args.op Look (looks_so (asked_in c.args.self.now c.args.op) (c.in_default.ensures ∙ ap (ask_fault false) c.asks.ensures))
+
 pub turn-answers-requires-clause-sound : goal.turn-answers-requires-clause-sound
-turn-answers-requires-clause-sound g c =
-    let t = c.self.inside.tables in
-    let m = c.make_room.new.tables in
-    let inside = state_of t.client t.layout.page t.layout.codec t.epochs (shown t) c.self.inside.rows.items in
-    let room = state_of m.client m.layout.page m.layout.codec m.epochs (shown m) c.make_room.new.rows.items in
-    let made = same_state m.client t.client m.layout.page t.layout.page m.layout.codec t.layout.codec m.epochs t.epochs (shown m) (shown t) c.make_room.new.rows.items c.self.inside.rows.items c.make_room.ensures.client (ap (λ l. l.page) c.make_room.ensures.layout) (ap (λ l. l.codec) c.make_room.ensures.layout) c.make_room.ensures.epochs c.make_room.ensures.shown c.make_room.ensures.rows in
-    sound_of (g.C.ObjectCodec.encoded) (g.C.ObjectCodec.decoded) (g.E.EpochField.epoch_of) (g.E.EpochField.with_epoch) room c.self.inside.alive (subst (λ d. IsKept (g.C.ObjectCodec.encoded) (g.C.ObjectCodec.decoded) (g.E.EpochField.epoch_of) (g.E.EpochField.with_epoch) d c.self.inside.alive) (sym made) c.self.invariant)
+turn-answers-requires-clause-sound g c = ready_sound (ready g (goal.at.turn-answers-requires-clause-sound g c).In_ok-make_room)
 
 pub turn-answers-requires-clause-takes : goal.turn-answers-requires-clause-takes
 turn-answers-requires-clause-takes g c =
-    let t = c.self.inside.tables in
-    let m = c.make_room.new.tables in
-    let inside = state_of t.client t.layout.page t.layout.codec t.epochs (shown t) c.self.inside.rows.items in
-    let room = state_of m.client m.layout.page m.layout.codec m.epochs (shown m) c.make_room.new.rows.items in
-    let made = same_state m.client t.client m.layout.page t.layout.page m.layout.codec t.layout.codec m.epochs t.epochs (shown m) (shown t) c.make_room.new.rows.items c.self.inside.rows.items c.make_room.ensures.client (ap (λ l. l.page) c.make_room.ensures.layout) (ap (λ l. l.codec) c.make_room.ensures.layout) c.make_room.ensures.epochs c.make_room.ensures.shown c.make_room.ensures.rows in
-    let asks = looks_so (asked_in c.args.self.now c.args.op) (c.in_default.ensures ∙ ap (ask_fault false) c.asks.ensures) in
-    takes_so m.operations.items c.args.op Look None (sound_of (g.C.ObjectCodec.encoded) (g.C.ObjectCodec.decoded) (g.E.EpochField.epoch_of) (g.E.EpochField.with_epoch) room c.self.inside.alive (subst (λ d. IsKept (g.C.ObjectCodec.encoded) (g.C.ObjectCodec.decoded) (g.E.EpochField.epoch_of) (g.E.EpochField.with_epoch) d c.self.inside.alive) (sym made) c.self.invariant)) (ap (λ d. asked_by d.part.operations c.args.op) (made ∙ c.self.view_is) ∙ (asks_alive c.args.self.now c.args.op Look asks).1) tt
+    let at = (goal.at.turn-answers-requires-clause-takes g c).In_ok-make_room in
+    takes_so c.make_room.new.tables.operations.items c.args.op Look None (ready_sound (ready g at)) (asks g at).1 tt
+
+looked : (g : _) (c : After-note g) → IsStepped c.args.self.now (steps.Act c.args.op acts.Look) (first_of c.turn-answers.result) c.turn-answers.new.self c.note.new.rows.items c.self.inside.alive
+looked g c =
+    let live = asks g (goal.at.After-note g c).In_ok-make_room in
+    stepped (ready g (goal.at.After-note g c).In_ok-make_room) live.0 live.0 c.note.ensures.rows (c.turn-answers.ensures.turned Look live.1) c.turn-answers.ensures.client c.turn-answers.ensures.layout c.turn-answers.ensures.epochs
 
 pub invariant_of-self-2 : goal.invariant_of-self-2
-invariant_of-self-2 g c =
-    let t = c.self.inside.tables in
-    let m = c.make_room.new.tables in
-    let inside = state_of t.client t.layout.page t.layout.codec t.epochs (shown t) c.self.inside.rows.items in
-    let room = state_of m.client m.layout.page m.layout.codec m.epochs (shown m) c.make_room.new.rows.items in
-    let made = same_state m.client t.client m.layout.page t.layout.page m.layout.codec t.layout.codec m.epochs t.epochs (shown m) (shown t) c.make_room.new.rows.items c.self.inside.rows.items c.make_room.ensures.client (ap (λ l. l.page) c.make_room.ensures.layout) (ap (λ l. l.codec) c.make_room.ensures.layout) c.make_room.ensures.epochs c.make_room.ensures.shown c.make_room.ensures.rows in
-    let asks = looks_so (asked_in c.args.self.now c.args.op) (c.in_default.ensures ∙ ap (ask_fault false) c.asks.ensures) in
-    let alive = asks_alive c.args.self.now c.args.op Look asks in
-    let n = c.turn-answers.new.self in
-    let new = state_of n.client n.layout.page n.layout.codec n.epochs (shown n) c.note.new.rows.items in
-    (stepped (g.C.ObjectCodec.encoded) (g.C.ObjectCodec.decoded) (g.E.EpochField.epoch_of) (g.E.EpochField.with_epoch) c.args.self.now inside room new c.self.inside.alive (steps.Act c.args.op acts.Look) (first_of c.turn-answers.result) c.self.view_is made c.self.invariant alive.0 refl
-    (record { rows = c.note.ensures.rows; follows = c.turn-answers.ensures.turned Look (ap (λ d. asked_by d.part.operations c.args.op) (made ∙ c.self.view_is) ∙ alive.1); client = c.turn-answers.ensures.client; page = ap (λ l. l.page) c.turn-answers.ensures.layout; codec = ap (λ l. l.codec) c.turn-answers.ensures.layout; epochs = c.turn-answers.ensures.epochs })).0
+invariant_of-self-2 g c = (looked g (goal.at.invariant_of-self-2 g c).After-note).kept
 
 pub returns-clause-ok : goal.returns-clause-ok
-returns-clause-ok g c =
-    let t = c.self.inside.tables in
-    let m = c.make_room.new.tables in
-    let inside = state_of t.client t.layout.page t.layout.codec t.epochs (shown t) c.self.inside.rows.items in
-    let room = state_of m.client m.layout.page m.layout.codec m.epochs (shown m) c.make_room.new.rows.items in
-    let made = same_state m.client t.client m.layout.page t.layout.page m.layout.codec t.layout.codec m.epochs t.epochs (shown m) (shown t) c.make_room.new.rows.items c.self.inside.rows.items c.make_room.ensures.client (ap (λ l. l.page) c.make_room.ensures.layout) (ap (λ l. l.codec) c.make_room.ensures.layout) c.make_room.ensures.epochs c.make_room.ensures.shown c.make_room.ensures.rows in
-    let asks = looks_so (asked_in c.args.self.now c.args.op) (c.in_default.ensures ∙ ap (ask_fault false) c.asks.ensures) in
-    let alive = asks_alive c.args.self.now c.args.op Look asks in
-    let n = c.turn-answers.new.self in
-    let new = state_of n.client n.layout.page n.layout.codec n.epochs (shown n) c.note.new.rows.items in
-    record {
-      answer = first_of c.turn-answers.result;
-      said_is = c.note.ensures.told;
-      adds = (stepped (g.C.ObjectCodec.encoded) (g.C.ObjectCodec.decoded) (g.E.EpochField.epoch_of) (g.E.EpochField.with_epoch) c.args.self.now inside room new c.self.inside.alive (steps.Act c.args.op acts.Look) (first_of c.turn-answers.result) c.self.view_is made c.self.invariant alive.0 refl
-          (record { rows = c.note.ensures.rows; follows = c.turn-answers.ensures.turned Look (ap (λ d. asked_by d.part.operations c.args.op) (made ∙ c.self.view_is) ∙ alive.1); client = c.turn-answers.ensures.client; page = ap (λ l. l.page) c.turn-answers.ensures.layout; codec = ap (λ l. l.codec) c.turn-answers.ensures.layout; epochs = c.turn-answers.ensures.epochs })).1;
-    }
+returns-clause-ok g c = record { answer = first_of c.turn-answers.result; said_is = c.note.ensures.told; adds = (looked g (goal.at.returns-clause-ok g c).After-note).adds }

@@ -1,69 +1,46 @@
-use Rattle.std.proofs.Common.{◌∙◌, sym, ap, subst, refl, None, Some}
+use Rattle.std.proofs.Common.{◌≡◌, sym, subst, Some, None, true}
 use Rattle.txn_store.specs.declared.request.Reply.{Reply}
 use Rattle.txn_history.specs.Seen.{Store}
 use Rattle.txn_machine.specs.Doing.{first_of}
 use Rattle.txn_clients.specs.Operations.{asked_by}
 use Rattle.txn_journals.specs.declared.rows.Act.TheVariants as acts
 use Rattle.txn_journals.specs.declared.rows.Step.TheVariants as steps
-use Rattle.txn_journals.specs.Journals.{TakesTurn}
 use Rattle.txn_logged.specs.Logged.{IsOfKind}
 use Rattle.txn_diary.specs.Diaries.{asked_in, IsReceiptFault}
-use Rattle.txn_diary.specs.Shown.{shown}
 use Rattle.txn_diary.proofs.Acting.{takes_so}
-use Rattle.txn_diary.proofs.Stepping.{met_receipt, receives_so, asks_alive, state_of, same_state, sound_of, stepped, IsKept}
+use Rattle.txn_diary.proofs.Stepping.{met_receipt, receives_so, room_made, ready_sound, ready_asks, stepped, IsReady, IsStepped}
+use Rattle.txn_diary.proofs.diary.Diary.receive.Goals.{In_ok-make_room, After-note}
 use Rattle.txn_diary.proofs.diary.Diary.receive.Goals as goal
 
 pub returns-in-Some-clause-refused : goal.returns-in-Some-clause-refused
 returns-in-Some-clause-refused g c = met_receipt (Unit {0}) (asked_in c.args.self.now c.args.op) c.args.receipt c.in-Some.fault (subst (λ a. IsReceiptFault a c.args.receipt (Some c.in-Some.fault)) c.asks.ensures c.in-Some.ensures)
 
+-- room was made in what the client keeps
+ready : (g : _) (c : In_ok-make_room g) → IsReady c.args.self.now c.make_room.new.tables c.make_room.new.rows.items c.self.inside.alive
+ready g c = room_made c.args.self.now c.self.inside.tables c.make_room.new.tables c.self.inside.rows.items c.make_room.new.rows.items c.self.inside.alive c.self.view_is c.self.invariant c.make_room.ensures.client c.make_room.ensures.layout c.make_room.ensures.epochs c.make_room.ensures.shown c.make_room.ensures.rows
+
+-- the receipt is of what the operation asks for
+receives : (g : _) (c : In_ok-make_room g) → (asked_in c.args.self.now c.args.op ≡ Some (Store c.args.receipt.request)) × IsOfKind c.args.receipt.request c.args.receipt.reply
+receives g c = receives_so (asked_in c.args.self.now c.args.op) c.args.receipt (subst (λ a. IsReceiptFault a c.args.receipt None) c.asks.ensures c.in_default.ensures)
+
+asks : (g : _) (c : In_ok-make_room g) → (c.self.inside.alive ≡ true) × (asked_by c.make_room.new.tables.operations.items c.args.op ≡ Some (Store c.args.receipt.request))
+asks g c = ready_asks (ready g c) c.args.op (Store c.args.receipt.request) (receives g c).0
+
 pub turn-answers-requires-clause-sound : goal.turn-answers-requires-clause-sound
-turn-answers-requires-clause-sound g c =
-    let t = c.self.inside.tables in
-    let m = c.make_room.new.tables in
-    let inside = state_of t.client t.layout.page t.layout.codec t.epochs (shown t) c.self.inside.rows.items in
-    let room = state_of m.client m.layout.page m.layout.codec m.epochs (shown m) c.make_room.new.rows.items in
-    let made = same_state m.client t.client m.layout.page t.layout.page m.layout.codec t.layout.codec m.epochs t.epochs (shown m) (shown t) c.make_room.new.rows.items c.self.inside.rows.items c.make_room.ensures.client (ap (λ l. l.page) c.make_room.ensures.layout) (ap (λ l. l.codec) c.make_room.ensures.layout) c.make_room.ensures.epochs c.make_room.ensures.shown c.make_room.ensures.rows in
-    sound_of (g.C.ObjectCodec.encoded) (g.C.ObjectCodec.decoded) (g.E.EpochField.epoch_of) (g.E.EpochField.with_epoch) room c.self.inside.alive (subst (λ d. IsKept (g.C.ObjectCodec.encoded) (g.C.ObjectCodec.decoded) (g.E.EpochField.epoch_of) (g.E.EpochField.with_epoch) d c.self.inside.alive) (sym made) c.self.invariant)
+turn-answers-requires-clause-sound g c = ready_sound (ready g (goal.at.turn-answers-requires-clause-sound g c).In_ok-make_room)
 
 pub turn-answers-requires-clause-takes : goal.turn-answers-requires-clause-takes
 turn-answers-requires-clause-takes g c =
-    let t = c.self.inside.tables in
-    let m = c.make_room.new.tables in
-    let inside = state_of t.client t.layout.page t.layout.codec t.epochs (shown t) c.self.inside.rows.items in
-    let room = state_of m.client m.layout.page m.layout.codec m.epochs (shown m) c.make_room.new.rows.items in
-    let made = same_state m.client t.client m.layout.page t.layout.page m.layout.codec t.layout.codec m.epochs t.epochs (shown m) (shown t) c.make_room.new.rows.items c.self.inside.rows.items c.make_room.ensures.client (ap (λ l. l.page) c.make_room.ensures.layout) (ap (λ l. l.codec) c.make_room.ensures.layout) c.make_room.ensures.epochs c.make_room.ensures.shown c.make_room.ensures.rows in
-    let is = receives_so (asked_in c.args.self.now c.args.op) c.args.receipt (subst (λ a. IsReceiptFault a c.args.receipt None) c.asks.ensures c.in_default.ensures) in
-    let alive = asks_alive c.args.self.now c.args.op (Store c.args.receipt.request) is.0 in
-    takes_so m.operations.items c.args.op (Store c.args.receipt.request) (Some c.in-Ok.reply) (sound_of (g.C.ObjectCodec.encoded) (g.C.ObjectCodec.decoded) (g.E.EpochField.epoch_of) (g.E.EpochField.with_epoch) room c.self.inside.alive (subst (λ d. IsKept (g.C.ObjectCodec.encoded) (g.C.ObjectCodec.decoded) (g.E.EpochField.epoch_of) (g.E.EpochField.with_epoch) d c.self.inside.alive) (sym made) c.self.invariant)) (ap (λ d. asked_by d.part.operations c.args.op) (made ∙ c.self.view_is) ∙ alive.1) (subst (λ (r : Reply). IsOfKind c.args.receipt.request r) (sym c.in-Ok.ensures) is.1)
+    let at = (goal.at.turn-answers-requires-clause-takes g c).In_ok-make_room in
+    takes_so c.make_room.new.tables.operations.items c.args.op (Store c.args.receipt.request) (Some c.in-Ok.reply) (ready_sound (ready g at)) (asks g at).1 (subst (λ (r : Reply). IsOfKind c.args.receipt.request r) (sym c.in-Ok.ensures) (receives g at).1)
+
+received : (g : _) (c : After-note g) → IsStepped c.args.self.now (steps.Act c.args.op (acts.Receive c.args.receipt)) (first_of c.turn-answers.result) c.turn-answers.new.self c.note.new.rows.items c.self.inside.alive
+received g c =
+    let live = asks g (goal.at.After-note g c).In_ok-make_room in
+    stepped (ready g (goal.at.After-note g c).In_ok-make_room) live.0 live.0 c.note.ensures.rows (rw c.in-Ok.ensures at (c.turn-answers.ensures.turned (Store c.args.receipt.request) live.1)) c.turn-answers.ensures.client c.turn-answers.ensures.layout c.turn-answers.ensures.epochs
 
 pub invariant_of-self-2 : goal.invariant_of-self-2
-invariant_of-self-2 g c =
-    let t = c.self.inside.tables in
-    let m = c.make_room.new.tables in
-    let inside = state_of t.client t.layout.page t.layout.codec t.epochs (shown t) c.self.inside.rows.items in
-    let room = state_of m.client m.layout.page m.layout.codec m.epochs (shown m) c.make_room.new.rows.items in
-    let made = same_state m.client t.client m.layout.page t.layout.page m.layout.codec t.layout.codec m.epochs t.epochs (shown m) (shown t) c.make_room.new.rows.items c.self.inside.rows.items c.make_room.ensures.client (ap (λ l. l.page) c.make_room.ensures.layout) (ap (λ l. l.codec) c.make_room.ensures.layout) c.make_room.ensures.epochs c.make_room.ensures.shown c.make_room.ensures.rows in
-    let is = receives_so (asked_in c.args.self.now c.args.op) c.args.receipt (subst (λ a. IsReceiptFault a c.args.receipt None) c.asks.ensures c.in_default.ensures) in
-    let alive = asks_alive c.args.self.now c.args.op (Store c.args.receipt.request) is.0 in
-    let n = c.turn-answers.new.self in
-    let new = state_of n.client n.layout.page n.layout.codec n.epochs (shown n) c.note.new.rows.items in
-    (stepped (g.C.ObjectCodec.encoded) (g.C.ObjectCodec.decoded) (g.E.EpochField.epoch_of) (g.E.EpochField.with_epoch) c.args.self.now inside room new c.self.inside.alive (steps.Act c.args.op (acts.Receive c.args.receipt)) (first_of c.turn-answers.result) c.self.view_is made c.self.invariant alive.0 refl
-    (record { rows = c.note.ensures.rows; follows = subst (λ (r : Reply). TakesTurn m.layout.page (g.C.ObjectCodec.encoded m.layout.codec) (g.C.ObjectCodec.decoded m.layout.codec) (g.E.EpochField.epoch_of m.epochs) (g.E.EpochField.with_epoch m.epochs) (shown m) c.args.op (Store c.args.receipt.request) (Some r) (first_of c.turn-answers.result) (shown c.turn-answers.new.self)) c.in-Ok.ensures (c.turn-answers.ensures.turned (Store c.args.receipt.request) (ap (λ d. asked_by d.part.operations c.args.op) (made ∙ c.self.view_is) ∙ alive.1)); client = c.turn-answers.ensures.client; page = ap (λ l. l.page) c.turn-answers.ensures.layout; codec = ap (λ l. l.codec) c.turn-answers.ensures.layout; epochs = c.turn-answers.ensures.epochs })).0
+invariant_of-self-2 g c = (received g (goal.at.invariant_of-self-2 g c).After-note).kept
 
 pub returns-clause-ok : goal.returns-clause-ok
-returns-clause-ok g c =
-    let t = c.self.inside.tables in
-    let m = c.make_room.new.tables in
-    let inside = state_of t.client t.layout.page t.layout.codec t.epochs (shown t) c.self.inside.rows.items in
-    let room = state_of m.client m.layout.page m.layout.codec m.epochs (shown m) c.make_room.new.rows.items in
-    let made = same_state m.client t.client m.layout.page t.layout.page m.layout.codec t.layout.codec m.epochs t.epochs (shown m) (shown t) c.make_room.new.rows.items c.self.inside.rows.items c.make_room.ensures.client (ap (λ l. l.page) c.make_room.ensures.layout) (ap (λ l. l.codec) c.make_room.ensures.layout) c.make_room.ensures.epochs c.make_room.ensures.shown c.make_room.ensures.rows in
-    let is = receives_so (asked_in c.args.self.now c.args.op) c.args.receipt (subst (λ a. IsReceiptFault a c.args.receipt None) c.asks.ensures c.in_default.ensures) in
-    let alive = asks_alive c.args.self.now c.args.op (Store c.args.receipt.request) is.0 in
-    let n = c.turn-answers.new.self in
-    let new = state_of n.client n.layout.page n.layout.codec n.epochs (shown n) c.note.new.rows.items in
-    record {
-      answer = first_of c.turn-answers.result;
-      said_is = c.note.ensures.told;
-      adds = (stepped (g.C.ObjectCodec.encoded) (g.C.ObjectCodec.decoded) (g.E.EpochField.epoch_of) (g.E.EpochField.with_epoch) c.args.self.now inside room new c.self.inside.alive (steps.Act c.args.op (acts.Receive c.args.receipt)) (first_of c.turn-answers.result) c.self.view_is made c.self.invariant alive.0 refl
-          (record { rows = c.note.ensures.rows; follows = subst (λ (r : Reply). TakesTurn m.layout.page (g.C.ObjectCodec.encoded m.layout.codec) (g.C.ObjectCodec.decoded m.layout.codec) (g.E.EpochField.epoch_of m.epochs) (g.E.EpochField.with_epoch m.epochs) (shown m) c.args.op (Store c.args.receipt.request) (Some r) (first_of c.turn-answers.result) (shown c.turn-answers.new.self)) c.in-Ok.ensures (c.turn-answers.ensures.turned (Store c.args.receipt.request) (ap (λ d. asked_by d.part.operations c.args.op) (made ∙ c.self.view_is) ∙ alive.1)); client = c.turn-answers.ensures.client; page = ap (λ l. l.page) c.turn-answers.ensures.layout; codec = ap (λ l. l.codec) c.turn-answers.ensures.layout; epochs = c.turn-answers.ensures.epochs })).1;
-    }
+returns-clause-ok g c = record { answer = first_of c.turn-answers.result; said_is = c.note.ensures.told; adds = (received g (goal.at.returns-clause-ok g c).After-note).adds }
