@@ -1,10 +1,12 @@
--- Rows that are added to rows, and what they tell.
+-- Rows that are added to rows, and what happens with them.
 use Rattle.std.proofs.Common.{◌≡◌, ℕ, List, [], ◌∷◌, ◌++◌, refl, sym, ap, subst, ◌∙◌, append_assoc, append-nil}
-use Rattle.txn_view_history.specs.declared.event.AnyAnswer.{AnyAnswer}
 use Rattle.txn_journals.specs.declared.rows.JournalRow.{JournalRow}
 use Rattle.txn_diary.specs.Diaries.{DiaryState}
 use Rattle.txn_diary.specs.Reading.{op_of, begun_by, with_answer, answers_from}
-use Rattle.txn_client.specs.Noted.{Noted, row_noted, noted_from, begun_with, HandsAll}
+use Rattle.txn_store.specs.declared.request.Request.{Request}
+use Rattle.txn_store.specs.declared.request.Reply.{Reply}
+use Rattle.txn_client.specs.Noted.{Noted}
+use Rattle.txn_client.specs.Happenings.{Happening, row_happens, happens_from, begun_with, HappensAll}
 use Rattle.txn_client.specs.Calling.{Does}
 use Rattle.txn_client.specs.Working.{Advances, IsFurther}
 
@@ -13,9 +15,9 @@ module _ {T : Type 0} where
   begun_added begun [] ys = refl
   begun_added begun (x ∷ xs) ys = begun_added (begun_by begun x.step) xs ys
 
-  pub noted_added : (begun : ℕ) (xs ys : List (JournalRow T)) → noted_from begun (xs ++ ys) ≡ noted_from begun xs ++ noted_from (begun_with begun xs) ys
-  noted_added begun [] ys = refl
-  noted_added begun (x ∷ xs) ys = ap (λ rest. row_noted (op_of begun x.step) x ++ rest) (noted_added (begun_by begun x.step) xs ys) ∙ sym (append_assoc (row_noted (op_of begun x.step) x) (noted_from (begun_by begun x.step) xs) (noted_from (begun_with (begun_by begun x.step) xs) ys))
+  pub happens_added : (begun : ℕ) (xs ys : List (JournalRow T)) → happens_from begun (xs ++ ys) ≡ happens_from begun xs ++ happens_from (begun_with begun xs) ys
+  happens_added begun [] ys = refl
+  happens_added begun (x ∷ xs) ys = ap (λ rest. row_happens (op_of begun x.step) x ++ rest) (happens_added (begun_by begun x.step) xs ys) ∙ sym (append_assoc (row_happens (op_of begun x.step) x) (happens_from (begun_by begun x.step) xs) (happens_from (begun_with (begun_by begun x.step) xs) ys))
 
   pub answers_added : (begun : ℕ) (xs ys : List (JournalRow T)) → answers_from begun (xs ++ ys) ≡ answers_from begun xs ++ answers_from (begun_with begun xs) ys
   answers_added begun [] ys = refl
@@ -40,15 +42,15 @@ module _ {T C E : Type 0} where
   pub further_more : (a b c : DiaryState T C E) → IsFurther a b → IsFurther b c → IsFurther a c
   further_more a b c one two = (one.0 ++ two.0, does_more a b c one.0 two.0 one.1 two.1)
 
-module _ {T R : Type 0} (hands : R → Noted T → R → Type 0) where
-  pub hands_more : (a b c : R) (xs ys : List (Noted T)) → HandsAll hands a xs b → HandsAll hands b ys c → HandsAll hands a (xs ++ ys) c
-  hands_more a b c [] ys one two = subst (λ from. HandsAll hands from ys c) one two
-  hands_more a b c (x ∷ xs) ys one two = (one.0, one.1, hands_more one.0 b c xs ys one.2 two)
+module _ {T R S : Type 0} (hands : R → Noted T → R → Type 0) (serves : S → Request → Reply → S → Type 0) where
+  pub happens_more : (a b c : R) (p q r : S) (xs ys : List (Happening T)) → HappensAll hands serves a p xs b q → HappensAll hands serves b q ys c r → HappensAll hands serves a p (xs ++ ys) c r
+  happens_more a b c p q r [] ys one two = subst (λ from. HappensAll hands serves from p ys c r) one.0 (subst (λ from. HappensAll hands serves b from ys c r) one.1 two)
+  happens_more a b c p q r (x ∷ xs) ys one two = (one.0, one.1, one.2, happens_more one.0 b c one.1 q r xs ys one.3 two)
 
-module _ {T C E R : Type 0} (hands : R → Noted T → R → Type 0) where
-  pub advances_more : (a b c : DiaryState T C E) (m n o : R) (i j k : ℕ) (xs ys : List (JournalRow T)) → Advances hands a m i xs b n j → Advances hands b n j ys c o k → Advances hands a m i (xs ++ ys) c o k
-  advances_more a b c m n o i j k xs ys one two = record {
+module _ {T C E R S : Type 0} (hands : R → Noted T → R → Type 0) (serves : S → Request → Reply → S → Type 0) where
+  pub advances_more : (a b c : DiaryState T C E) (m n o : R) (p q r : S) (i j k : ℕ) (xs ys : List (JournalRow T)) → Advances hands serves a m p i xs b n q j → Advances hands serves b n q j ys c o r k → Advances hands serves a m p i (xs ++ ys) c o r k
+  advances_more a b c m n o p q r i j k xs ys one two = record {
     does = does_more a b c xs ys one.does two.does;
-    handed = subst (λ (notes : List (Noted T)). HandsAll hands m notes o) (ap (λ at. noted_from i xs ++ noted_from at ys) one.begun_is ∙ sym (noted_added i xs ys)) (hands_more hands m n o (noted_from i xs) (noted_from j ys) one.handed two.handed);
+    happened = subst (λ (all : List (Happening T)). HappensAll hands serves m p all o r) (ap (λ at. happens_from i xs ++ happens_from at ys) one.begun_is ∙ sym (happens_added i xs ys)) (happens_more hands serves m n o p q r (happens_from i xs) (happens_from j ys) one.happened two.happened);
     begun_is = two.begun_is ∙ (ap (λ at. begun_with at ys) one.begun_is ∙ sym (begun_added i xs ys));
   }

@@ -5,14 +5,16 @@ use Rattle.txn_history.specs.declared.event.ToldOf.TheVariants as told
 use Rattle.txn_view_history.specs.declared.event.AnyCall.{AnyCall}
 use Rattle.txn_view_history.specs.declared.event.AnyAnswer.{AnyAnswer}
 use Rattle.txn_view_history.specs.Trace.{AnyTold}
-use Rattle.txn_journals.specs.declared.rows.JournalRow.{JournalRow}
 use Rattle.txn_journals.specs.declared.rows.Step.TheVariants as steps
 use Rattle.txn_diary.specs.Diaries.{DiaryState}
 use Rattle.txn_client.specs.declared.work.Heard.TheVariants as heards
-use Rattle.txn_client.specs.Noted.{Noted, Begun, answer_noted, HandsAll}
+use Rattle.txn_store.specs.declared.request.Request.{Request}
+use Rattle.txn_store.specs.declared.request.Reply.{Reply}
+use Rattle.txn_client.specs.Noted.{Noted, Begun}
+use Rattle.txn_client.specs.Happenings.{Happening, answer_happens, HappensAll}
 use Rattle.txn_client.specs.Calling.{Does}
-use Rattle.txn_client.specs.Working.{heard_of, heard_in, told_noted, BeginsWith}
-use Rattle.txn_client.proofs.Hearing.{heard_began, noted_began}
+use Rattle.txn_client.specs.Working.{heard_of, heard_in, told_happens, BeginsWith}
+use Rattle.txn_client.proofs.Hearing.{heard_began, happens_began}
 
 module _ {T : Type 0} where
   goes_none : (found : Option (AnyAnswer T)) → heard_in found ≡ heards.Goes → found ≡ None
@@ -32,20 +34,20 @@ module _ {T : Type 0} where
   pub began_answered : (said : AnyTold T) (op : ℕ) (found : Option (AnyAnswer T)) (answer : AnyAnswer T) → said ≡ told_of (told.Began op) op found → heards.Answered answer ≡ heard_of said → found ≡ Some answer
   began_answered said op found answer is heard = answered_some found answer (sym (heard ∙ heard_so said op found is))
 
-module _ {T C E R : Type 0} (hands : R → Noted T → R → Type 0) where
-  pub begins_with : (call handed : AnyCall T) (found answer : Option (AnyAnswer T)) (said : AnyTold T) (op : ℕ) (old new : DiaryState T C E) (recorder between recorder' : R) (begun begun' end : ℕ)
+module _ {T C E R S : Type 0} (hands : R → Noted T → R → Type 0) (serves : S → Request → Reply → S → Type 0) where
+  pub begins_with : (call handed : AnyCall T) (found answer : Option (AnyAnswer T)) (said : AnyTold T) (op : ℕ) (old new : DiaryState T C E) (recorder between recorder' : R) (store store' : S) (begun begun' end : ℕ)
       → Does old (record { step = steps.Begin call; answer = found } ∷ []) new → handed ≡ call → begun' ≡ begun + 1 → hands recorder (Begun begun' handed) between
-      → said ≡ told_of (told.Began op) op found → HandsAll hands between (told_noted begun' said) recorder' → found ≡ answer → end ≡ begun' → BeginsWith hands call answer old recorder begun new recorder' end
-  begins_with call handed found answer said op old new recorder between recorder' begun begun' end does call_is begun_is first told_is second answer_is end_is =
-      let rest : told_noted begun' said ≡ answer_noted (begun + 1) found ++ [] =
-      ap (λ b. told_noted b said) begun_is ∙ (ap (told_noted (begun + 1)) told_is ∙ (noted_began op (begun + 1) found ∙ sym (append-nil (answer_noted (begun + 1) found)))) in
+      → said ≡ told_of (told.Began op) op found → HappensAll hands serves between store (told_happens begun' said) recorder' store' → found ≡ answer → end ≡ begun' → BeginsWith hands serves call answer old recorder store begun new recorder' store' end
+  begins_with call handed found answer said op old new recorder between recorder' store store' begun begun' end does call_is begun_is first told_is second answer_is end_is =
+      let rest : told_happens begun' said ≡ answer_happens (begun + 1) found ++ [] =
+      ap (λ b. told_happens b said) begun_is ∙ (ap (told_happens (begun + 1)) told_is ∙ (happens_began op (begun + 1) found ∙ sym (append-nil (answer_happens (begun + 1) found)))) in
       record {
         row = record { step = steps.Begin call; answer = found };
         begins = refl;
         answer_is = answer_is;
         advances = record {
           does = does;
-          handed = (between, subst (λ note. hands recorder note between) (ap (λ b. Begun b handed) begun_is ∙ ap (Begun (begun + 1)) call_is) first, subst (λ (notes : List (Noted T)). HandsAll hands between notes recorder') rest second);
+          happened = (between, store, (subst (λ note. hands recorder note between) (ap (λ b. Begun b handed) begun_is ∙ ap (Begun (begun + 1)) call_is) first, refl), subst (λ (all : List (Happening T)). HappensAll hands serves between store all recorder' store') rest second);
           begun_is = end_is ∙ begun_is;
         };
       }

@@ -1,6 +1,8 @@
 -- A call that goes on.
-use Rattle.std.proofs.Common.{◌≡◌, ◌+◌, ℕ, List, [], ◌∷◌, ◌++◌, Option, Some, None, refl, sym, ap, ◌∙◌, append-nil, append_assoc}
+use Rattle.std.proofs.Common.{◌≡◌, ◌+◌, ℕ, List, [], ◌∷◌, ◌++◌, Option, Some, None, refl, sym, ap, ◌∙◌, append-nil}
 use Rattle.std.proofs.lemmas.List.Elements.{All-nil, All-push}
+use Rattle.txn_store.specs.declared.request.Request.{Request}
+use Rattle.txn_store.specs.declared.request.Reply.{Reply}
 use Rattle.txn_view_history.specs.declared.event.AnyCall.{AnyCall}
 use Rattle.txn_view_history.specs.declared.event.AnyAnswer.{AnyAnswer}
 use Rattle.txn_journals.specs.declared.rows.JournalRow.{JournalRow}
@@ -10,13 +12,14 @@ use Rattle.txn_diary.specs.Diaries.{DiaryState}
 use Rattle.txn_diary.specs.Reading.{op_of, with_answer, answers_from}
 use Rattle.txn_client.specs.declared.work.Heard.{Heard}
 use Rattle.txn_client.specs.declared.work.Heard.TheVariants as heards
-use Rattle.txn_client.specs.Noted.{Noted, begun_with}
-use Rattle.txn_client.specs.Calling.{IsActOf, IsCall}
+use Rattle.txn_client.specs.Noted.{Noted}
+use Rattle.txn_client.specs.Happenings.{begun_with}
+use Rattle.txn_client.specs.Calling.{IsActOf}
 use Rattle.txn_client.specs.Working.{heard_in, BeginsWith, TakesStep, CallsAs}
 use Rattle.txn_client.proofs.Adding.{answers_added, advances_more}
 
 module _ {T : Type 0} where
-  act_op : (begun op : ℕ) (step : Step T) → IsActOf op step → op_of begun step ≡ op
+  pub act_op : (begun op : ℕ) (step : Step T) → IsActOf op step → op_of begun step ≡ op
   act_op begun op (steps.Begin call) h = absurd h
   act_op begun op (steps.Act o act) h = h
   act_op begun op (steps.Killed lefts) h = absurd h
@@ -32,11 +35,11 @@ module _ {T : Type 0} where
   ended None told h = cc
   ended (Some answer) told h = cc
 
-module _ {T C E R : Type 0} (hands : R → Noted T → R → Type 0) where
+module _ {T C E R S : Type 0} (hands : R → Noted T → R → Type 0) (serves : S → Request → Reply → S → Type 0) where
   -- a call that has begun
-  pub calls_first : (op : ℕ) (call : AnyCall T) (answer : Option (AnyAnswer T)) (old : DiaryState T C E) (recorder : R) (begun : ℕ) (new : DiaryState T C E) (recorder' : R) (begun' : ℕ)
-      → BeginsWith hands call answer old recorder begun new recorder' begun' → with_answer (begun + 1) answer ≡ with_answer op answer → CallsAs hands op call answer old recorder begun new recorder' begun'
-  calls_first op call answer old recorder begun new recorder' begun' b same = record {
+  pub calls_first : (op : ℕ) (call : AnyCall T) (answer : Option (AnyAnswer T)) (old : DiaryState T C E) (recorder : R) (store : S) (begun : ℕ) (new : DiaryState T C E) (recorder' : R) (store' : S) (begun' : ℕ)
+      → BeginsWith hands serves call answer old recorder store begun new recorder' store' begun' → with_answer (begun + 1) answer ≡ with_answer op answer → CallsAs hands serves op call answer old recorder store begun new recorder' store' begun'
+  calls_first op call answer old recorder store begun new recorder' store' begun' b same = record {
     rows = b.row ∷ [];
     is_call = record {
       first = b.row;
@@ -50,9 +53,9 @@ module _ {T C E R : Type 0} (hands : R → Noted T → R → Type 0) where
   }
 
   -- a call with one act more
-  pub calls_more : (op : ℕ) (call : AnyCall T) (heard : Heard T) (answer : Option (AnyAnswer T)) (a b c : DiaryState T C E) (m n o : R) (i j k : ℕ)
-      → CallsAs hands op call None a m i b n j → (step : TakesStep hands op b n j heard c o k) → step.row.answer ≡ answer → CallsAs hands op call answer a m i c o k
-  calls_more op call heard answer a b c m n o i j k so step is = record {
+  pub calls_more : (op : ℕ) (call : AnyCall T) (heard : Heard T) (answer : Option (AnyAnswer T)) (a b c : DiaryState T C E) (m n o : R) (p q r : S) (i j k : ℕ)
+      → CallsAs hands serves op call None a m p i b n q j → (step : TakesStep hands serves op b n q j heard c o r k) → step.row.answer ≡ answer → CallsAs hands serves op call answer a m p i c o r k
+  calls_more op call heard answer a b c m n o p q r i j k so step is = record {
     rows = so.rows ++ step.row ∷ [];
     is_call = record {
       first = so.is_call.first;
@@ -62,13 +65,13 @@ module _ {T C E R : Type 0} (hands : R → Noted T → R → Type 0) where
       acts = All-push (λ row. IsActOf op row.step) so.is_call.turns step.row so.is_call.acts step.acts;
       answers_are = answers_added i so.rows (step.row ∷ []) ∙ (ap (λ (before : List (ℕ × AnyAnswer T)). before ++ answers_from (begun_with i so.rows) (step.row ∷ [])) so.is_call.answers_are ∙ (append-nil (with_answer (op_of (begun_with i so.rows) step.row.step) step.row.answer) ∙ (ap (λ at. with_answer at step.row.answer) (act_op (begun_with i so.rows) op step.row.step step.acts) ∙ ap (with_answer op) is)));
     };
-    advances = advances_more hands a b c m n o i j k so.rows (step.row ∷ []) so.advances step.advances;
+    advances = advances_more hands serves a b c m n o p q r i j k so.rows (step.row ∷ []) so.advances step.advances;
   }
 
-  pub calls_on : (op : ℕ) (call : AnyCall T) (a b c : DiaryState T C E) (m n o : R) (i j k : ℕ)
-      → CallsAs hands op call None a m i b n j → TakesStep hands op b n j heards.Goes c o k → CallsAs hands op call None a m i c o k
-  calls_on op call a b c m n o i j k so step = calls_more op call heards.Goes None a b c m n o i j k so step (going step.row.answer (sym step.heard_is))
+  pub calls_on : (op : ℕ) (call : AnyCall T) (a b c : DiaryState T C E) (m n o : R) (p q r : S) (i j k : ℕ)
+      → CallsAs hands serves op call None a m p i b n q j → TakesStep hands serves op b n q j heards.Goes c o r k → CallsAs hands serves op call None a m p i c o r k
+  calls_on op call a b c m n o p q r i j k so step = calls_more op call heards.Goes None a b c m n o p q r i j k so step (going step.row.answer (sym step.heard_is))
 
-  pub calls_end : (op : ℕ) (call : AnyCall T) (told : AnyAnswer T) (a b c : DiaryState T C E) (m n o : R) (i j k : ℕ)
-      → CallsAs hands op call None a m i b n j → TakesStep hands op b n j (heards.Answered told) c o k → CallsAs hands op call (Some told) a m i c o k
-  calls_end op call told a b c m n o i j k so step = calls_more op call (heards.Answered told) (Some told) a b c m n o i j k so step (ended step.row.answer told (sym step.heard_is))
+  pub calls_end : (op : ℕ) (call : AnyCall T) (told : AnyAnswer T) (a b c : DiaryState T C E) (m n o : R) (p q r : S) (i j k : ℕ)
+      → CallsAs hands serves op call None a m p i b n q j → TakesStep hands serves op b n q j (heards.Answered told) c o r k → CallsAs hands serves op call (Some told) a m p i c o r k
+  calls_end op call told a b c m n o p q r i j k so step = calls_more op call (heards.Answered told) (Some told) a b c m n o p q r i j k so step (ended step.row.answer told (sym step.heard_is))

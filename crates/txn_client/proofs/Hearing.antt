@@ -1,32 +1,31 @@
--- What is heard and noted of what was told.
+-- What is heard of what was told, and what happens with it.
 use Rattle.std.proofs.Common.{◌≡◌, ◌-◌, ℕ, List, [], ◌∷◌, ◌++◌, Option, Some, None, refl, ap, ◌∙◌, arith, length, length-append}
 use Rattle.std.specs.List.{slice_get}
 use Rattle.txn_history.specs.Added.{told_of}
 use Rattle.txn_history.specs.declared.event.ToldOf.TheVariants as told
 use Rattle.txn_view_history.specs.declared.event.AnyCall.{AnyCall}
 use Rattle.txn_view_history.specs.declared.event.AnyAnswer.{AnyAnswer}
-use Rattle.txn_view_history.specs.Trace.{AnyTold}
 use Rattle.txn_journals.specs.declared.rows.JournalRow.{JournalRow}
 use Rattle.txn_journals.specs.declared.rows.Step.TheVariants as steps
-use Rattle.txn_client.specs.Noted.{Noted, answer_noted}
-use Rattle.txn_client.specs.Working.{heard_of, heard_in, told_noted, call_of, call_in, last_begun}
+use Rattle.txn_client.specs.Happenings.{answer_happens}
+use Rattle.txn_client.specs.Working.{heard_of, heard_in, told_happens, call_of, call_in, last_begun}
 
 module _ {T : Type 0} where
   pub heard_went : (op : ℕ) (answer : Option (AnyAnswer T)) → heard_of (told_of (told.Went op) op answer) ≡ heard_in answer
   heard_went op None = refl
   heard_went op (Some answer) = refl
 
-  pub noted_went : (op at : ℕ) (answer : Option (AnyAnswer T)) → told_noted at (told_of (told.Went op) op answer) ≡ answer_noted at answer
-  noted_went op at None = refl
-  noted_went op at (Some answer) = refl
+  pub happens_went : (op at : ℕ) (answer : Option (AnyAnswer T)) → told_happens at (told_of (told.Went op) op answer) ≡ answer_happens at answer
+  happens_went op at None = refl
+  happens_went op at (Some answer) = refl
 
   pub heard_began : (op : ℕ) (answer : Option (AnyAnswer T)) → heard_of (told_of (told.Began op) op answer) ≡ heard_in answer
   heard_began op None = refl
   heard_began op (Some answer) = refl
 
-  pub noted_began : (op at : ℕ) (answer : Option (AnyAnswer T)) → told_noted at (told_of (told.Began op) op answer) ≡ answer_noted at answer
-  noted_began op at None = refl
-  noted_began op at (Some answer) = refl
+  pub happens_began : (op at : ℕ) (answer : Option (AnyAnswer T)) → told_happens at (told_of (told.Began op) op answer) ≡ answer_happens at answer
+  happens_began op at None = refl
+  happens_began op at (Some answer) = refl
 
   last_of : (rows : List (JournalRow T)) (row : JournalRow T) → slice_get (rows ++ row ∷ []) (length rows) ≡ Some row
   last_of [] row = refl

@@ -2,5 +2,6 @@ pub mod Adding
 pub mod Hearing
 pub mod Beginning
 pub mod Calling
+pub mod Asking
 pub mod Recording
 pub mod Retrying

@@ -1,40 +1,18 @@
 -- Calls of an update that is made again, one after another.
-use Rattle.std.proofs.Common.{◌≡◌, ℕ, nat_eq, Bool, true, false, if◌then◌else◌, Option, Result, Ok, Err, IfErr, sym, subst}
+use Rattle.std.proofs.Common.{◌≡◌, ℕ, ◌+◌, nat_eq, Bool, true, false, true≢false, if◌then◌else◌, Option, Some, Result, Ok, refl, sym, subst, ap, ◌∙◌, add-one}
+use Rattle.std.proofs.lemmas.Bool.Decides.{Decides-eqb}
+use Rattle.txn_store.specs.declared.request.Request.{Request}
+use Rattle.txn_store.specs.declared.request.Reply.{Reply}
 use Rattle.txn_history.specs.declared.event.Answer.{Answer}
 use Rattle.txn_history.specs.declared.event.Answer.TheVariants as plain
-use Rattle.txn_history.specs.declared.event.EventFault.{EventFault}
-use Rattle.txn_view_history.specs.declared.event.AnyCall.{AnyCall}
 use Rattle.txn_view_history.specs.declared.event.AnyAnswer.{AnyAnswer}
 use Rattle.txn_view_history.specs.declared.event.AnyAnswer.TheVariants as answers
-use Rattle.txn_client.specs.declared.stop.Stop.{Stop}
-use Rattle.txn_client.specs.declared.stop.Stop.TheVariants as stops
+use Rattle.txn_client.specs.declared.retry.Tried.{Tried}
 use Rattle.txn_client.specs.declared.retry.Tried.TheVariants as trials
 use Rattle.txn_client.specs.declared.retry.Viewed.{Viewed}
 use Rattle.txn_client.specs.Noted.{Noted}
-use Rattle.txn_client.specs.Calling.{ClientState, MakesCall, Stops}
-use Rattle.txn_client.specs.Retrying.{IsStopped, trial_of, tried_plain}
-use Rattle.txn_client.proofs.Adding.{further_none, further_more}
-
-module _ {T C E R : Type 0} where
-  pub stopped_none : (client : ClientState T C E R) → IsStopped client client
-  stopped_none client = further_none client.diary
-
-  pub stopped_more : (a b c : ClientState T C E R) → IsStopped a b → IsStopped b c → IsStopped a c
-  stopped_more a b c one two = further_more a.diary b.diary c.diary one two
-
-module _ {T C E R : Type 0} (hands : R → Noted T → R → Type 0) where
-  pub after_call : (call : AnyCall T) (answer : Option (AnyAnswer T)) (a b c : ClientState T C E R) → IsStopped a b → MakesCall hands call answer b c → IsStopped a c
-  after_call call answer a b c one made = stopped_more a b c one (made.rows, made.does)
-
-  stop_does : (refusal : Option EventFault) (call : AnyCall T) (b c : ClientState T C E R) (stop : Stop) → Stops hands refusal call b c stop → IsStopped b c
-  stop_does refusal call b c (stops.Refused fault) s = subst (λ (client : ClientState T C E R). IsStopped b client) (sym s.0) (stopped_none b)
-  stop_does refusal call b c stops.StepsSpent s = (s.rows, s.does)
-  stop_does refusal call b c (stops.Unrecorded error) s = (s.rows, s.does)
-  stop_does refusal call b c stops.NoMemory s = (s.rows, s.does)
-  stop_does refusal call b c stops.Ended s = subst (λ (client : ClientState T C E R). IsStopped b client) (sym s.0) (stopped_none b)
-
-  pub after_stop : (refusal : Option EventFault) (call : AnyCall T) (a b c : ClientState T C E R) (stop : Stop) → IsStopped a b → Stops hands refusal call b c stop → IsStopped a c
-  after_stop refusal call a b c stop one s = stopped_more a b c one (stop_does refusal call b c stop s)
+use Rattle.txn_client.specs.Calling.{ClientState, MakesCall}
+use Rattle.txn_client.specs.Retrying.{conflict, gives, GivesNoView, update_of, refresh_of, tried_plain, trial_of, Updates, Refreshes, Rounds}
 
 module _ {T : Type 0} where
   refused_viewed : (is : Bool) (number : ℕ) (viewed : Viewed T) → (if is then trials.Conflict else trials.Answered (answers.Plain (plain.Refused number))) ≡ trials.Viewed viewed → ⊥
@@ -49,11 +27,71 @@ module _ {T : Type 0} where
   plain_viewed (plain.Ids ids) viewed h = cc
   plain_viewed plain.Done viewed h = cc
 
-  pub viewed_so : (answer : AnyAnswer T) (viewed : Viewed T) → trial_of answer ≡ trials.Viewed viewed → answer ≡ answers.View viewed.view viewed.id viewed.value
+  pub viewed_so : (answer : AnyAnswer T) (viewed : Viewed T) → trial_of answer ≡ trials.Viewed viewed → answer ≡ gives viewed
   viewed_so (answers.View view id value) viewed h = cc
   viewed_so (answers.Plain answer) viewed h = absurd (plain_viewed answer viewed h)
   viewed_so (answers.Held view id value epoch) viewed h = cc
 
-pub err_any : (A E P : Type 0) (r : Result A E) → P → IfErr r (λ _. P)
-err_any A E P (Ok a) p = tt
-err_any A E P (Err e) p = p
+  refused_conflict : (is : Bool) (number : ℕ) → nat_eq number 5 ≡ is → ◌≡◌ {A = Tried T} (if is then trials.Conflict else trials.Answered (answers.Plain (plain.Refused number))) trials.Conflict → ◌≡◌ {A = AnyAnswer T} (answers.Plain (plain.Refused number)) conflict
+  refused_conflict true number five h = ap (λ n. answers.Plain (plain.Refused n)) ((Decides-eqb number 5).0 five)
+  refused_conflict false number other h = cc
+
+  plain_conflict : (answer : Answer T) → tried_plain answer ≡ trials.Conflict → answers.Plain answer ≡ conflict
+  plain_conflict (plain.Refused number) h = refused_conflict (nat_eq number 5) number refl h
+  plain_conflict (plain.Wrote id) h = cc
+  plain_conflict (plain.Read found) h = cc
+  plain_conflict (plain.Value value) h = cc
+  plain_conflict (plain.Ids ids) h = cc
+  plain_conflict plain.Done h = cc
+
+  pub conflict_so : (answer : AnyAnswer T) → trial_of answer ≡ trials.Conflict → answer ≡ conflict
+  conflict_so (answers.View view id value) h = cc
+  conflict_so (answers.Plain answer) h = plain_conflict answer h
+  conflict_so (answers.Held view id value epoch) h = cc
+
+  refused_answered : (is : Bool) (number : ℕ) (told : AnyAnswer T) → nat_eq number 5 ≡ is → (if is then trials.Conflict else trials.Answered (answers.Plain (plain.Refused number))) ≡ trials.Answered told
+      → (answers.Plain (plain.Refused number) ≡ told) × (◌≡◌ {A = AnyAnswer T} (answers.Plain (plain.Refused number)) conflict → ⊥)
+  refused_answered true number told five h = absurd cc
+  refused_answered false number told other h = (cc, λ same. let five : number ≡ 5 = cc in true≢false (sym ((Decides-eqb number 5).1 five) ∙ other))
+
+  plain_answered : (answer : Answer T) (told : AnyAnswer T) → tried_plain answer ≡ trials.Answered told → (answers.Plain answer ≡ told) × (answers.Plain answer ≡ conflict → ⊥)
+  plain_answered (plain.Refused number) told h = refused_answered (nat_eq number 5) number told refl h
+  plain_answered (plain.Wrote id) told h = (cc, λ same. cc)
+  plain_answered (plain.Read found) told h = (cc, λ same. cc)
+  plain_answered (plain.Value value) told h = (cc, λ same. cc)
+  plain_answered (plain.Ids ids) told h = (cc, λ same. cc)
+  plain_answered plain.Done told h = (cc, λ same. cc)
+
+  told_as : (answer told : AnyAnswer T) → trial_of answer ≡ trials.Answered told → (answer ≡ told) × GivesNoView answer × (answer ≡ conflict → ⊥)
+  told_as (answers.View view id value) told h = absurd cc
+  told_as (answers.Plain answer) told h = let so = plain_answered answer told h in (so.0, tt, so.1)
+  told_as (answers.Held view id value epoch) told h = (cc, tt, λ same. cc)
+
+  -- an answer that is told as it is gives no view, and is no conflict
+  pub answered_so : (answer told : AnyAnswer T) → trial_of answer ≡ trials.Answered told → (answer ≡ told) × GivesNoView told × (told ≡ conflict → ⊥)
+  answered_so answer told h = let so = told_as answer told h in (so.0, subst GivesNoView so.0 so.1, λ same. so.2 (so.0 ∙ same))
+
+module _ {T C E R S F : Type 0} (hands : R → Noted T → R → Type 0) (serves : S → Request → Reply → S → Type 0) (asks : T → Result (Option T) F → Type 0) where
+  -- an update that was answered so
+  pub updates_so : (viewed : Viewed T) (candidate : T) (old new : ClientState T C E R S) (answer told : AnyAnswer T) → asks viewed.value (Ok (Some candidate)) → MakesCall hands serves (update_of viewed candidate) (Some answer) old new → answer ≡ told → Updates hands serves asks viewed old told new
+  updates_so viewed candidate old new answer told asked made is = record {
+    candidate = candidate;
+    asked = asked;
+    made = subst (λ said. MakesCall hands serves (update_of viewed candidate) (Some said) old new) is made;
+  }
+
+  -- an update that was a conflict
+  pub conflicts_so : (viewed : Viewed T) (candidate : T) (old new : ClientState T C E R S) (answer : AnyAnswer T) → asks viewed.value (Ok (Some candidate)) → MakesCall hands serves (update_of viewed candidate) (Some answer) old new → trial_of answer ≡ trials.Conflict → Updates hands serves asks viewed old conflict new
+  conflicts_so viewed candidate old new answer asked made is = updates_so viewed candidate old new answer conflict asked made (conflict_so answer is)
+
+  -- a refresh that was answered so, after such an update
+  pub refreshes_so : (viewed : Viewed T) (old between new : ClientState T C E R S) (answer told : AnyAnswer T) → Updates hands serves asks viewed old conflict between → MakesCall hands serves (refresh_of viewed) (Some answer) between new → answer ≡ told → Refreshes hands serves asks viewed old told new
+  refreshes_so viewed old between new answer told updates made is = record {
+    between = between;
+    updates = updates;
+    made = subst (λ said. MakesCall hands serves (refresh_of viewed) (Some said) between new) is made;
+  }
+
+  -- one round more
+  pub rounds_more : (count : ℕ) (viewed last next : Viewed T) (old between new : ClientState T C E R S) → Rounds hands serves asks count viewed old last between → Refreshes hands serves asks last between (gives next) new → Rounds hands serves asks (count + 1) viewed old next new
+  rounds_more count viewed last next old between new rounds round = subst (λ n. Rounds hands serves asks n viewed old next new) (sym (add-one count)) (last, between, rounds, round)

@@ -1,5 +1,7 @@
 -- What a client that records itself does.
-use Rattle.std.specs.Prelude.{◌≡◌, ◌⊎◌, ℕ, List, [], ◌∷◌, ◌++◌, Bool, true, false, Option, Some, None, All}
+use Rattle.std.specs.Prelude.{◌≡◌, ◌⊎◌, ℕ, List, ◌∷◌, ◌++◌, Bool, true, false, Option, Some, None, All}
+use Rattle.txn_store.specs.declared.request.Request.{Request}
+use Rattle.txn_store.specs.declared.request.Reply.{Reply}
 use Rattle.txn_history.specs.declared.event.EventFault.{EventFault}
 use Rattle.txn_history.specs.declared.event.EventFault.TheVariants as faults
 use Rattle.txn_view_history.specs.declared.event.AnyCall.{AnyCall}
@@ -11,12 +13,14 @@ use Rattle.txn_diary.specs.Diaries.{DiaryState}
 use Rattle.txn_diary.specs.Reading.{with_answer, answers_from}
 use Rattle.txn_client.specs.declared.stop.Stop.{Stop}
 use Rattle.txn_client.specs.declared.stop.Stop.TheVariants as stops
-use Rattle.txn_client.specs.Noted.{Noted, noted_from, begun_with, HandsAll}
+use Rattle.txn_client.specs.Noted.{Noted}
+use Rattle.txn_client.specs.Happenings.{happens_from, begun_with, HappensAll}
 
--- A client: its diary, its recorder, and whether it goes on. It ends where its recorder failed or memory was wanting in the middle of a call.
-pub record ClientState (T C E R : Type 0) : Type 0 where
+-- A client: its diary, its recorder, its store, and whether it goes on. It ends where its recorder failed or memory was wanting in the middle of a call.
+pub record ClientState (T C E R S : Type 0) : Type 0 where
   pub diary : DiaryState T C E
   pub recorder : R
+  pub store : S
   pub goes_on : Bool
 
 module _ {T : Type 0} where
@@ -44,26 +48,26 @@ module _ {T C E : Type 0} where
     pub codec : new.codec ≡ old.codec
     pub epochs : new.epochs ≡ old.epochs
 
-module _ {T C E R : Type 0} where
+module _ {T C E R S : Type 0} where
   -- The client ended in the middle of a call: what it did stands in its diary, and it makes no further call.
-  pub record Ends (old new : ClientState T C E R) : Type 0 where
+  pub record Ends (old new : ClientState T C E R S) : Type 0 where
     pub rows : List (JournalRow T)
     pub does : Does old.diary rows new.diary
     pub ended : new.goes_on ≡ false
 
-module _ {T C E R : Type 0} (hands : R → Noted T → R → Type 0) where
-  -- A client that goes on made this call, with this answer, if one: it has the rows of one call more, and its recorder was handed what they tell.
-  pub record MakesCall (call : AnyCall T) (answer : Option (AnyAnswer T)) (old new : ClientState T C E R) : Type 0 where
+module _ {T C E R S : Type 0} (hands : R → Noted T → R → Type 0) (serves : S → Request → Reply → S → Type 0) where
+  -- A client that goes on made this call, with this answer, if one: it has the rows of one call more, and what happens with them happened to its recorder and its store, and nothing else.
+  pub record MakesCall (call : AnyCall T) (answer : Option (AnyAnswer T)) (old new : ClientState T C E R S) : Type 0 where
     pub op : ℕ
     pub rows : List (JournalRow T)
     pub is_call : IsCall (begun_with 0 old.diary.rows) op call answer rows
     pub does : Does old.diary rows new.diary
-    pub handed : HandsAll hands old.recorder (noted_from (begun_with 0 old.diary.rows) rows) new.recorder
+    pub happened : HappensAll hands serves old.recorder old.store (happens_from (begun_with 0 old.diary.rows) rows) new.recorder new.store
     pub goes_on : new.goes_on ≡ true
 
   -- Why a call has no answer, where its begin is refused so, if it is, and what that leaves.
   module _ (refusal : Option EventFault) where
-    abbrev pub Stops : AnyCall T → ClientState T C E R → ClientState T C E R → Stop → Type 0
+    abbrev pub Stops : AnyCall T → ClientState T C E R S → ClientState T C E R S → Stop → Type 0
     Stops call old new (stops.Refused fault) = (new ≡ old) × (old.goes_on ≡ true) × ((refusal ≡ Some fault) ⊎ (fault ≡ faults.NoMemory))
     Stops call old new stops.StepsSpent = MakesCall call None old new
     Stops call old new (stops.Unrecorded error) = Ends old new

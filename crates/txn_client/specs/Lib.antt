@@ -1,4 +1,5 @@
 pub mod Noted
+pub mod Happenings
 pub mod Calling
 pub mod Working
 pub mod Retrying

@@ -1,5 +1,5 @@
--- Words of private contracts: how a client's diary and its recorder go on together.
-use Rattle.std.specs.Prelude.{◌≡◌, ◌⊎◌, ◌-◌, ℕ, slice_get, length, List, [], ◌∷◌, ◌++◌, Option, Some, None, Result, Ok, Err}
+-- Words of private contracts: how a client's diary, its recorder and its store go on together.
+use Rattle.std.specs.Prelude.{◌≡◌, ◌⊎◌, ◌-◌, ℕ, slice_get, length, List, [], ◌∷◌, Option, Some, None, Result, Ok, Err}
 use Rattle.txn_history.specs.declared.event.ToldOf.TheVariants as told
 use Rattle.txn_history.specs.declared.event.EventFault.{EventFault}
 use Rattle.txn_history.specs.declared.event.EventFault.TheVariants as faults
@@ -7,6 +7,7 @@ use Rattle.txn_view_history.specs.declared.event.AnyCall.{AnyCall}
 use Rattle.txn_view_history.specs.declared.event.AnyAnswer.{AnyAnswer}
 use Rattle.txn_view_history.specs.Trace.{AnyTold}
 use Rattle.txn_store.specs.declared.request.Request.{Request}
+use Rattle.txn_store.specs.declared.request.Reply.{Reply}
 use Rattle.txn_journals.specs.declared.rows.JournalRow.{JournalRow}
 use Rattle.txn_journals.specs.declared.rows.Step.{Step}
 use Rattle.txn_journals.specs.declared.rows.Step.TheVariants as steps
@@ -19,7 +20,8 @@ use Rattle.txn_client.specs.declared.work.Begun.{Begun}
 use Rattle.txn_client.specs.declared.work.Begun.TheVariants as begins
 use Rattle.txn_client.specs.declared.work.Done.{Done}
 use Rattle.txn_client.specs.declared.work.Done.TheVariants as dones
-use Rattle.txn_client.specs.Noted.{Noted, Asked, Answered, row_noted, noted_from, begun_with, HandsAll}
+use Rattle.txn_client.specs.Noted.{Noted, Asked, Answered}
+use Rattle.txn_client.specs.Happenings.{Happening, Handed, row_happens, happens_from, begun_with, HappensAll}
 use Rattle.txn_client.specs.Calling.{IsActOf, IsCall, Does}
 
 module _ {T : Type 0} where
@@ -28,10 +30,10 @@ module _ {T : Type 0} where
   heard_of (told.Answered op answer) = heards.Answered answer
   heard_of _ = heards.Goes
 
-  -- what was told of this operation, as it is noted
-  abbrev pub told_noted : ℕ → AnyTold T → List (Noted T)
-  told_noted op (told.Answered _ answer) = Answered op answer ∷ []
-  told_noted op _ = []
+  -- what happens with what was told of this operation
+  abbrev pub told_happens : ℕ → AnyTold T → List (Happening T)
+  told_happens op (told.Answered _ answer) = Handed (Answered op answer) ∷ []
+  told_happens op _ = []
 
   -- the operation that was told of
   abbrev pub op_told : AnyTold T → ℕ
@@ -78,63 +80,66 @@ module _ {T C E : Type 0} where
   abbrev pub IsFurther : DiaryState T C E → DiaryState T C E → Type 0
   IsFurther old new = (rows : List (JournalRow T)) × Does old rows new
 
-module _ {T C E R : Type 0} (hands : R → Noted T → R → Type 0) where
-  -- The same client did these things, its recorder was handed what they tell, and its count of begins went on.
-  pub record Advances (old : DiaryState T C E) (recorder : R) (begun : ℕ) (rows : List (JournalRow T)) (new : DiaryState T C E) (recorder' : R) (begun' : ℕ) : Type 0 where
+module _ {T C E R S : Type 0} (hands : R → Noted T → R → Type 0) (serves : S → Request → Reply → S → Type 0) where
+  -- The same client did these things, what happens with them happened to its recorder and its store, and its count of begins went on.
+  pub record Advances (old : DiaryState T C E) (recorder : R) (store : S) (begun : ℕ) (rows : List (JournalRow T)) (new : DiaryState T C E) (recorder' : R) (store' : S) (begun' : ℕ) : Type 0 where
     pub does : Does old rows new
-    pub handed : HandsAll hands recorder (noted_from begun rows) recorder'
+    pub happened : HappensAll hands serves recorder store (happens_from begun rows) recorder' store'
     pub begun_is : begun' ≡ begun_with begun rows
 
   -- An operation acts once, and this is heard of it.
-  pub record TakesStep (op : ℕ) (old : DiaryState T C E) (recorder : R) (begun : ℕ) (heard : Heard T) (new : DiaryState T C E) (recorder' : R) (begun' : ℕ) : Type 0 where
+  pub record TakesStep (op : ℕ) (old : DiaryState T C E) (recorder : R) (store : S) (begun : ℕ) (heard : Heard T) (new : DiaryState T C E) (recorder' : R) (store' : S) (begun' : ℕ) : Type 0 where
     pub row : JournalRow T
     pub acts : IsActOf op row.step
     pub heard_is : heard ≡ heard_in row.answer
-    pub advances : Advances old recorder begun (row ∷ []) new recorder' begun'
+    pub advances : Advances old recorder store begun (row ∷ []) new recorder' store' begun'
 
-  -- An operation acts on the reply to this request, which its recorder was handed last, and this is heard of it.
-  pub record TakesAsked (op : ℕ) (request : Request) (old : DiaryState T C E) (recorder : R) (begun : ℕ) (heard : Heard T) (new : DiaryState T C E) (recorder' : R) (begun' : ℕ) : Type 0 where
+  -- An operation acts on what came of the store call that it asked for, and this is heard of it. What happens with its row is that the request was handed over, that the store was called, which happened before, and the rest, which happens here.
+  pub record TakesAsked (op : ℕ) (request : Request) (called : Happening T) (old : DiaryState T C E) (recorder : R) (store : S) (begun : ℕ) (heard : Heard T) (new : DiaryState T C E) (recorder' : R) (store' : S) (begun' : ℕ) : Type 0 where
     pub row : JournalRow T
     pub acts : IsActOf op row.step
     pub heard_is : heard ≡ heard_in row.answer
     pub does : Does old (row ∷ []) new
-    pub handed : (before : R) → hands before (Asked op request) recorder → HandsAll hands before (row_noted op row ++ []) recorder'
+    pub rest : List (Happening T)
+    pub row_is : row_happens op row ≡ Handed (Asked op request) ∷ called ∷ rest
+    pub happened : HappensAll hands serves recorder store rest recorder' store'
     pub begun_is : begun' ≡ begun
 
   -- A call is this operation's so far, with this answer, if one.
-  pub record CallsAs (op : ℕ) (call : AnyCall T) (answer : Option (AnyAnswer T)) (old : DiaryState T C E) (recorder : R) (begun : ℕ) (new : DiaryState T C E) (recorder' : R) (begun' : ℕ) : Type 0 where
+  pub record CallsAs (op : ℕ) (call : AnyCall T) (answer : Option (AnyAnswer T)) (old : DiaryState T C E) (recorder : R) (store : S) (begun : ℕ) (new : DiaryState T C E) (recorder' : R) (store' : S) (begun' : ℕ) : Type 0 where
     pub rows : List (JournalRow T)
     pub is_call : IsCall begun op call answer rows
-    pub advances : Advances old recorder begun rows new recorder' begun'
+    pub advances : Advances old recorder store begun rows new recorder' store' begun'
 
   -- A call was made, with this answer, if one.
-  abbrev pub Calls : AnyCall T → Option (AnyAnswer T) → DiaryState T C E → R → ℕ → DiaryState T C E → R → ℕ → Type 0
-  Calls call answer old recorder begun new recorder' begun' = (op : ℕ) × CallsAs op call answer old recorder begun new recorder' begun'
+  abbrev pub Calls : AnyCall T → Option (AnyAnswer T) → DiaryState T C E → R → S → ℕ → DiaryState T C E → R → S → ℕ → Type 0
+  Calls call answer old recorder store begun new recorder' store' begun' = (op : ℕ) × CallsAs op call answer old recorder store begun new recorder' store' begun'
 
   -- A call begins, and tells this answer, if it tells one.
-  pub record BeginsWith (call : AnyCall T) (answer : Option (AnyAnswer T)) (old : DiaryState T C E) (recorder : R) (begun : ℕ) (new : DiaryState T C E) (recorder' : R) (begun' : ℕ) : Type 0 where
+  pub record BeginsWith (call : AnyCall T) (answer : Option (AnyAnswer T)) (old : DiaryState T C E) (recorder : R) (store : S) (begun : ℕ) (new : DiaryState T C E) (recorder' : R) (store' : S) (begun' : ℕ) : Type 0 where
     pub row : JournalRow T
     pub begins : row.step ≡ steps.Begin call
     pub answer_is : row.answer ≡ answer
-    pub advances : Advances old recorder begun (row ∷ []) new recorder' begun'
+    pub advances : Advances old recorder store begun (row ∷ []) new recorder' store' begun'
 
   -- A call begins, or is refused.
   module _ (refusal : Option EventFault) where
     -- A refused begin leaves all, and names its reason.
-    pub record IsRefused (fault : EventFault) (old : DiaryState T C E) (recorder : R) (begun : ℕ) (new : DiaryState T C E) (recorder' : R) (begun' : ℕ) : Type 0 where
+    pub record IsRefused (fault : EventFault) (old : DiaryState T C E) (recorder : R) (store : S) (begun : ℕ) (new : DiaryState T C E) (recorder' : R) (store' : S) (begun' : ℕ) : Type 0 where
       pub same : new ≡ old
       pub recorder_is : recorder' ≡ recorder
+      pub store_is : store' ≡ store
       pub begun_is : begun' ≡ begun
       pub reason : (refusal ≡ Some fault) ⊎ (fault ≡ faults.NoMemory)
 
     -- what became of a begin
-    abbrev pub IsBegun : AnyCall T → DiaryState T C E → R → ℕ → Begun T → DiaryState T C E → R → ℕ → Type 0
-    IsBegun call old recorder begun (begins.Refused fault) new recorder' begun' = IsRefused fault old recorder begun new recorder' begun'
-    IsBegun call old recorder begun (begins.Goes op) new recorder' begun' = BeginsWith call None old recorder begun new recorder' begun'
-    IsBegun call old recorder begun (begins.Answered answer) new recorder' begun' = BeginsWith call (Some answer) old recorder begun new recorder' begun'
+    abbrev pub IsBegun : AnyCall T → DiaryState T C E → R → S → ℕ → Begun T → DiaryState T C E → R → S → ℕ → Type 0
+    IsBegun call old recorder store begun (begins.Refused fault) new recorder' store' begun' = IsRefused fault old recorder store begun new recorder' store' begun'
+    IsBegun call old recorder store begun (begins.Goes op) new recorder' store' begun' = BeginsWith call None old recorder store begun new recorder' store' begun'
+    IsBegun call old recorder store begun (begins.Answered answer) new recorder' store' begun' = BeginsWith call (Some answer) old recorder store begun new recorder' store' begun'
 
     -- what became of a call
-    abbrev pub IsDone : AnyCall T → DiaryState T C E → R → ℕ → Done T → DiaryState T C E → R → ℕ → Type 0
-    IsDone call old recorder begun (dones.Answered answer) new recorder' begun' = Calls call (Some answer) old recorder begun new recorder' begun'
-    IsDone call old recorder begun dones.Spent new recorder' begun' = Calls call None old recorder begun new recorder' begun'
-    IsDone call old recorder begun (dones.Refused fault) new recorder' begun' = IsRefused fault old recorder begun new recorder' begun'
+    abbrev pub IsDone : AnyCall T → DiaryState T C E → R → S → ℕ → Done T → DiaryState T C E → R → S → ℕ → Type 0
+    IsDone call old recorder store begun (dones.Answered answer) new recorder' store' begun' = Calls call (Some answer) old recorder store begun new recorder' store' begun'
+    IsDone call old recorder store begun dones.Spent new recorder' store' begun' = Calls call None old recorder store begun new recorder' store' begun'
+    IsDone call old recorder store begun (dones.Refused fault) new recorder' store' begun' = IsRefused fault old recorder store begun new recorder' store' begun'

@@ -11,9 +11,9 @@ use txn_types::epoch::EpochField;
 use txn_view_history::event::{AnyAnswer, AnyCall};
 
 /// One client of a store, with a diary, which hands what it does to a recorder as it happens: each call that it makes hands
-/// over what the call's rows of the journal tell, looks aside.
+/// over what the call's rows of the journal tell, looks aside, and calls the store once for each reply that they tell.
 ///
-/// Clauses see its diary, its recorder, and whether it goes on.
+/// Clauses see its diary, its recorder, its store, and whether it goes on.
 #[derive(Drop)]
 pub struct Client<T: Clone, C: ObjectCodec<T> + Drop, E: EpochField<T>, S, R: Recorder<T>> {
     work: Work<T, C, E, S, R>,
@@ -25,14 +25,14 @@ impl<T: Clone, C: ObjectCodec<T> + Drop, E: EpochField<T>, S, R: Recorder<T>> Mo
     ghost use Rattle.std.specs.Prelude.{◌≡◌, true};
     ghost use Rattle.std.specs.Coded.{codes};
     ghost use Rattle.txn_store.specs.Memory.{files_code};
-    ghost use Rattle.txn_client.specs.Noted.{begun_with};
+    ghost use Rattle.txn_client.specs.Happenings.{begun_with};
     ghost use Rattle.txn_client.specs.Calling.{ClientState};
 
-    ghost Value = { ClientState T C E R };
+    ghost Value = { ClientState T C E R S };
 
     ghost coded = { Prim.hlevel (codes, files_code) };
 
-    ghost view = { λ c. record { diary = c.work.diary; recorder = c.work.recorder; goes_on = c.goes_on } };
+    ghost view = { λ c. record { diary = c.work.diary; recorder = c.work.recorder; store = c.work.store; goes_on = c.goes_on } };
 
     ghost invariant = { λ c. c.goes_on ≡ true → c.work.begun ≡ begun_with 0 c.work.diary.rows };
 }
@@ -63,7 +63,7 @@ impl<
     ) -> Result<Client<T, C, E, S, R>, AllocError>
         requires some { 1 ≤ client }
         requires paged { 1 ≤ page }
-        ensures { IfOk result (λ made. made ≡ record { diary = record { client = client; page = page; codec = codec; epochs = epochs; part = no_part; rows = [] }; recorder = recorder; goes_on = true }) }
+        ensures { IfOk result (λ made. made ≡ record { diary = record { client = client; page = page; codec = codec; epochs = epochs; part = no_part; rows = [] }; recorder = recorder; store = store; goes_on = true }) }
     {
         let diary = Diary::new(alloc, client, codec, epochs, page)?;
         let work = Work {
@@ -94,7 +94,9 @@ impl<
     }
 
     /// The store that it calls.
-    pub fn store(&self) -> &S {
+    pub fn store(&self) -> &S
+        ensures { result.now ≡ self.now.store }
+    {
         &self.work.store
     }
 
@@ -107,7 +109,7 @@ impl<
     }
 
     /// Makes a call, which takes at most `steps` looks and store calls: the answer. What is asked is handed to the recorder
-    /// before the store is called, and the reply before the operation takes it.
+    /// before the store is called, which is called for it once, and the reply before the operation takes it.
     ///
     /// # Errors
     ///
@@ -116,8 +118,8 @@ impl<
     /// [`Stop::Unrecorded`] and [`Stop::NoMemory`] it makes no further call, and each is [`Stop::Ended`].
     pub fn call(&mut self, call: AnyCall<T>, steps: u64) -> Result<AnyAnswer<T>, Stop>
         requires { IsExactClone T.is_clone }
-        ensures ok { IfOk result (λ answer. MakesCall R.hands call (Some answer) self.old self.new) }
-        ensures err { IfErr result (Stops R.hands (refusal_of (E.epoch_of self.old.diary.epochs) self.old.diary call) call self.old self.new) }
+        ensures ok { IfOk result (λ answer. MakesCall R.hands S.serves call (Some answer) self.old self.new) }
+        ensures err { IfErr result (Stops R.hands S.serves (refusal_of (E.epoch_of self.old.diary.epochs) self.old.diary call) call self.old self.new) }
     {
         if !self.goes_on {
             drop(call);

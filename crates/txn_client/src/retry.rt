@@ -28,7 +28,7 @@ pub enum Applied<T> {
     Written(Viewed<T>),
     /// The mutator asked for nothing, of the version that the view is at.
     Unchanged,
-    /// A call was answered so, and gave no view: a refusal other than a conflict, or one of a refresh.
+    /// A call was answered so, and gave no view: an update, and that was no conflict, or a refresh after a conflict.
     Answered(AnyAnswer<T>),
     /// Each attempt ended in a conflict.
     AttemptsSpent,
@@ -100,12 +100,13 @@ impl<
     ghost use Rattle.txn_types.specs.Clones.{IsExactClone};
     ghost use Rattle.txn_client.specs.Retrying.{IsApplied, IsStopped};
 
-    /// Asks the mutator for a candidate made of the version that the view is at, and updates the view by it. After a conflict it
-    /// refreshes the view and asks once more, `attempts` times at most. Each call takes at most `steps` looks and store calls.
+    /// Asks the mutator for a candidate made of the version that is viewed, and updates the view by it. After a conflict it
+    /// refreshes the view and asks once more, of what the refresh gave, `attempts` times at most. Each call takes at most `steps`
+    /// looks and store calls.
     ///
     /// # Errors
     ///
-    /// As those of [`Client::call`], and [`Stop::Refused`] with want of memory where the mutator finds none.
+    /// As those of [`Client::call`], and [`Stop::Refused`] with want of memory where the mutator finds none: no call is made then.
     pub fn maybe_apply_update<F: Fn(&T) -> Result<Option<T>, AllocError>>(
         &mut self,
         viewed: Viewed<T>,
@@ -115,11 +116,11 @@ impl<
     ) -> Result<Applied<T>, Stop>
         requires exact { IsExactClone T.is_clone }
         requires callable { F.IsAlwaysCallable mutator.now }
-        ensures ok { IfOk result (λ applied. IsApplied R.hands (λ value answer. FnReturnsAt F.Fn mutator.now value answer) viewed.view self.old applied self.new) }
-        ensures err { IfErr result (λ _. IsStopped self.old self.new) }
+        ensures ok { IfOk result (λ applied. IsApplied R.hands S.serves (λ value answer. FnReturnsAt F.Fn mutator.now value answer) attempts viewed self.old applied self.new) }
+        ensures err { IfErr result (λ stop. IsStopped R.hands S.serves (λ value answer. FnReturnsAt F.Fn mutator.now value answer) E.epoch_of attempts viewed self.old stop self.new) }
     {
         let mut viewed = viewed;
-        for _ in 0..attempts {
+        for _round in 0..attempts {
             let view = viewed.view;
             let candidate = match candidate_of(mutator, &viewed.value) {
                 Ok(Some(candidate)) => candidate,

@@ -1,6 +1,8 @@
 //! How a client does one thing after another, and hands each to its recorder.
-ghost use Rattle.std.specs.Prelude.{◌≡◌};
+ghost use Rattle.std.specs.Prelude.{◌≡◌, Err, Decides};
 ghost use Rattle.std.specs.Option.{option_copied};
+ghost use Rattle.txn_store.specs.declared.store.StoreError.TheVariants as errors;
+ghost use Rattle.txn_logged.specs.Honest.{SaysFailed};
 ghost use Rattle.txn_client.specs.Working.{call_of, last_begun, op_told, settled};
 
 use crate::recorder::Recorder;
@@ -11,6 +13,7 @@ use txn_clients::operations::request_of;
 use txn_diary::diary::Diary;
 use txn_history::event::EventFault;
 use txn_journals::rows::{JournalRow, Receipt, Step};
+use txn_journals::same::same_error;
 use txn_store::request::{Reply, Request};
 use txn_store::store::StoreError;
 use txn_types::codec::ObjectCodec;
@@ -98,14 +101,25 @@ pub(crate) fn settled<T: Drop>(done: Done<T>) -> Result<AnyAnswer<T>, Stop>
     }
 }
 
+/// Whether an answer of the store says that the call failed.
+fn is_failure<A>(answer: &Result<A, StoreError>) -> bool
+    ensures { Decides result (answer.now ≡ Err errors.Failed) }
+{
+    match answer {
+        Ok(_) => false,
+        Err(error) => same_error(*error, StoreError::Failed),
+    }
+}
+
 /// Whether the reply says that the call failed.
-fn has_failed(reply: &Reply) -> bool {
+fn has_failed(reply: &Reply) -> bool
+    ensures { Decides result (SaysFailed reply.now) }
+{
     match reply {
-        Reply::Put(Err(StoreError::Failed)) => true,
-        Reply::Get(Err(StoreError::Failed)) => true,
-        Reply::List(Err(StoreError::Failed)) => true,
-        Reply::Delete(Err(StoreError::Failed)) => true,
-        _ => false,
+        Reply::Put(answer) => is_failure(answer),
+        Reply::Get(answer) => is_failure(answer),
+        Reply::List(answer) => is_failure(answer),
+        Reply::Delete(answer) => is_failure(answer),
     }
 }
 
@@ -120,15 +134,15 @@ impl<T: Clone, C: ObjectCodec<T> + Drop, E: EpochField<T>, S: Serve, R: Recorder
     ghost use Rattle.txn_types.specs.Clones.{IsExactClone};
     ghost use Rattle.txn_history.specs.Seen.{Store};
     ghost use Rattle.txn_diary.specs.Diaries.{asked_in, refusal_of};
-    ghost use Rattle.txn_client.specs.Noted.{HandsAll};
-    ghost use Rattle.txn_client.specs.Working.{heard_of, told_noted, IsEnding, IsFurther, TakesStep, TakesAsked, IsBegun, IsDone};
+    ghost use Rattle.txn_client.specs.Happenings.{HappensAll, Served, CallFailed};
+    ghost use Rattle.txn_client.specs.Working.{heard_of, told_happens, IsEnding, IsFurther, TakesStep, TakesAsked, IsBegun, IsDone};
 
     /// Hands an operation's answer to the recorder, where one was told.
     fn hear(&mut self, op: u64, told: AnyTold<T>) -> Result<Heard<T>, Stop>
         ensures diary { self.new.diary ≡ self.old.diary }
         ensures begun { self.new.begun ≡ self.old.begun }
         ensures heard { IfOk result (λ heard. heard ≡ heard_of told) }
-        ensures handed { OnOk result (HandsAll R.hands self.old.recorder (told_noted op told) self.new.recorder) }
+        ensures happened { OnOk result (HappensAll R.hands S.serves self.old.recorder self.old.store (told_happens op told) self.new.recorder self.new.store) }
         ensures err { IfErr result IsEnding }
     {
         match told {
@@ -143,7 +157,7 @@ impl<T: Clone, C: ObjectCodec<T> + Drop, E: EpochField<T>, S: Serve, R: Recorder
     /// The operation looks at the client's caches.
     fn look(&mut self, op: u64) -> Result<Heard<T>, Stop>
         requires { IsExactClone T.is_clone }
-        ensures ok { IfOk result (λ heard. TakesStep R.hands op self.old.diary self.old.recorder self.old.begun heard self.new.diary self.new.recorder self.new.begun) }
+        ensures ok { IfOk result (λ heard. TakesStep R.hands S.serves op self.old.diary self.old.recorder self.old.store self.old.begun heard self.new.diary self.new.recorder self.new.store self.new.begun) }
         ensures err { IfErr result (λ stop. IsEnding stop × IsFurther self.old.diary self.new.diary) }
     {
         match self.diary.look(op) {
@@ -155,7 +169,7 @@ impl<T: Clone, C: ObjectCodec<T> + Drop, E: EpochField<T>, S: Serve, R: Recorder
     /// The store call of the operation, which the recorder was told of, failed: the operation is answered so.
     fn fail(&mut self, op: u64, request: &Request) -> Result<Heard<T>, Stop>
         requires { asked_in self.old.diary op ≡ Some (Store request.now) }
-        ensures ok { IfOk result (λ heard. TakesAsked R.hands op request.now self.old.diary self.old.recorder self.old.begun heard self.new.diary self.new.recorder self.new.begun) }
+        ensures ok { IfOk result (λ heard. TakesAsked R.hands S.serves op request.now (CallFailed request.now) self.old.diary self.old.recorder self.old.store self.old.begun heard self.new.diary self.new.recorder self.new.store self.new.begun) }
         ensures err { IfErr result (λ stop. IsEnding stop × IsFurther self.old.diary self.new.diary) }
     {
         match self.diary.failed(op) {
@@ -170,7 +184,7 @@ impl<T: Clone, C: ObjectCodec<T> + Drop, E: EpochField<T>, S: Serve, R: Recorder
     /// The operation takes the store's reply to what the recorder was told of.
     fn take(&mut self, op: u64, request: Request, reply: Reply) -> Result<Heard<T>, Stop>
         requires { IsExactClone T.is_clone }
-        ensures ok { IfOk result (λ heard. TakesAsked R.hands op request self.old.diary self.old.recorder self.old.begun heard self.new.diary self.new.recorder self.new.begun) }
+        ensures ok { IfOk result (λ heard. TakesAsked R.hands S.serves op request (Served request reply) self.old.diary self.old.recorder self.old.store self.old.begun heard self.new.diary self.new.recorder self.new.store self.new.begun) }
         ensures err { IfErr result (λ stop. IsEnding stop × IsFurther self.old.diary self.new.diary) }
     {
         self.recorder.replied(op, &reply)?;
@@ -186,11 +200,11 @@ impl<T: Clone, C: ObjectCodec<T> + Drop, E: EpochField<T>, S: Serve, R: Recorder
         }
     }
 
-    /// The operation has the store called for what it asks.
+    /// The operation has the store called for what it asks, once.
     fn ask(&mut self, op: u64, request: Request) -> Result<Heard<T>, Stop>
         requires exact { IsExactClone T.is_clone }
         requires asks { asked_in self.old.diary op ≡ Some (Store request) }
-        ensures ok { IfOk result (λ heard. TakesStep R.hands op self.old.diary self.old.recorder self.old.begun heard self.new.diary self.new.recorder self.new.begun) }
+        ensures ok { IfOk result (λ heard. TakesStep R.hands S.serves op self.old.diary self.old.recorder self.old.store self.old.begun heard self.new.diary self.new.recorder self.new.store self.new.begun) }
         ensures err { IfErr result (λ stop. IsEnding stop × IsFurther self.old.diary self.new.diary) }
     {
         self.recorder.asked(op, &request)?;
@@ -216,7 +230,7 @@ impl<T: Clone, C: ObjectCodec<T> + Drop, E: EpochField<T>, S: Serve, R: Recorder
     /// The operation does what it asks for.
     fn step(&mut self, op: u64) -> Result<Heard<T>, Stop>
         requires { IsExactClone T.is_clone }
-        ensures ok { IfOk result (λ heard. TakesStep R.hands op self.old.diary self.old.recorder self.old.begun heard self.new.diary self.new.recorder self.new.begun) }
+        ensures ok { IfOk result (λ heard. TakesStep R.hands S.serves op self.old.diary self.old.recorder self.old.store self.old.begun heard self.new.diary self.new.recorder self.new.store self.new.begun) }
         ensures err { IfErr result (λ stop. IsEnding stop × IsFurther self.old.diary self.new.diary) }
     {
         match self.request(op)? {
@@ -227,7 +241,7 @@ impl<T: Clone, C: ObjectCodec<T> + Drop, E: EpochField<T>, S: Serve, R: Recorder
 
     /// Gives the operation up.
     fn give_up(&mut self, op: u64) -> Result<(), Stop>
-        ensures ok { OnOk result (TakesStep R.hands op self.old.diary self.old.recorder self.old.begun Heard.Goes self.new.diary self.new.recorder self.new.begun) }
+        ensures ok { OnOk result (TakesStep R.hands S.serves op self.old.diary self.old.recorder self.old.store self.old.begun Heard.Goes self.new.diary self.new.recorder self.new.store self.new.begun) }
         ensures err { IfErr result (λ stop. IsEnding stop × IsFurther self.old.diary self.new.diary) }
     {
         match self.diary.give_up(op) {
@@ -242,7 +256,7 @@ impl<T: Clone, C: ObjectCodec<T> + Drop, E: EpochField<T>, S: Serve, R: Recorder
     /// Begins a call, and tells the recorder.
     fn begin(&mut self, call: AnyCall<T>) -> Result<Begun<T>, Stop>
         requires { IsExactClone T.is_clone }
-        ensures ok { IfOk result (λ begun. IsBegun R.hands (refusal_of (E.epoch_of self.old.diary.epochs) self.old.diary call) call self.old.diary self.old.recorder self.old.begun begun self.new.diary self.new.recorder self.new.begun) }
+        ensures ok { IfOk result (λ begun. IsBegun R.hands S.serves (refusal_of (E.epoch_of self.old.diary.epochs) self.old.diary call) call self.old.diary self.old.recorder self.old.store self.old.begun begun self.new.diary self.new.recorder self.new.store self.new.begun) }
         ensures err { IfErr result (λ stop. IsEnding stop × IsFurther self.old.diary self.new.diary) }
     {
         let Some(begun) = self.begun.checked_add(1) else {
@@ -268,7 +282,7 @@ impl<T: Clone, C: ObjectCodec<T> + Drop, E: EpochField<T>, S: Serve, R: Recorder
     /// Makes a call, of at most so many steps.
     pub fn call(&mut self, call: AnyCall<T>, steps: u64) -> Result<Done<T>, Stop>
         requires { IsExactClone T.is_clone }
-        ensures ok { IfOk result (λ done. IsDone R.hands (refusal_of (E.epoch_of self.old.diary.epochs) self.old.diary call) call self.old.diary self.old.recorder self.old.begun done self.new.diary self.new.recorder self.new.begun) }
+        ensures ok { IfOk result (λ done. IsDone R.hands S.serves (refusal_of (E.epoch_of self.old.diary.epochs) self.old.diary call) call self.old.diary self.old.recorder self.old.store self.old.begun done self.new.diary self.new.recorder self.new.store self.new.begun) }
         ensures err { IfErr result (λ stop. IsEnding stop × IsFurther self.old.diary self.new.diary) }
     {
         let op = match self.begin(call)? {

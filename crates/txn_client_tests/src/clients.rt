@@ -20,7 +20,13 @@ const STEPS: u64 = 50;
 #[derive(Drop)]
 struct Memory(InMemory);
 
+// What a call leaves in it follows from the request and the reply.
 impl Serve for Memory {
+    ghost use Rattle.std.specs.Prelude.{◌≡◌};
+    ghost use Rattle.txn_store.specs.MemoryServes.{memory_after};
+
+    ghost serves = { λ old request reply new. new.0.memory ≡ memory_after request reply old.0.memory };
+
     fn serve(&mut self, alloc: Global, request: &Request) -> Reply {
         self.0.serve(alloc, request)
     }

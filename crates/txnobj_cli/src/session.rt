@@ -31,7 +31,14 @@ const PAGE: u64 = 1_000;
 #[derive(Drop)]
 pub struct Shared(FolderStore<HostRuntime>);
 
+// What stands in a folder no clause can say, and others write there: a reply is one to its request, and it says that the call
+// failed exactly where the store has a fault to tell.
 impl Serve for Shared {
+    ghost use Rattle.std.specs.Prelude.{◌≡◌, is_some};
+    ghost use Rattle.txn_folder.specs.Replies.{IsReplyTo, reply_failed};
+
+    ghost serves = { λ _ request reply new. IsReplyTo request reply × (is_some new.0.fault ≡ reply_failed reply) };
+
     fn serve(&mut self, alloc: Global, request: &Request) -> Reply {
         self.0.serve(alloc, request)
     }

@@ -1,6 +1,7 @@
-use Rattle.txn_client.specs.Retrying.{IsStopped}
+use Rattle.std.specs.Fn.{FnReturnsAt}
+use Rattle.txn_client.specs.Retrying.{Rounds}
 use Rattle.txn_client.proofs.client.Client.maybe_apply_update.Given as goal
 
--- the client did something more, if anything
-abbrev pub invariant-loop : goal.invariant-loop
-invariant-loop g l = IsStopped l.fn.self l.self
+-- so far there were rounds alone
+abbrev pub invariant-loop-round : goal.invariant-loop-round
+invariant-loop-round g l = Rounds g.R.Recorder.hands g.S.Serve.serves (λ value answer. FnReturnsAt g.F.Fn l.mutator value answer) l._round l.fn.viewed l.fn.self l.viewed l.self

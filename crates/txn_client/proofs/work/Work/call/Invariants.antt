@@ -4,4 +4,4 @@ use Rattle.txn_client.proofs.work.Work.call.Given as goal
 
 -- the call has begun, and has no answer yet
 abbrev pub invariant-loop : goal.invariant-loop
-invariant-loop g l = CallsAs g.R.Recorder.hands l.op l.fn.call None l.fn.self.diary l.fn.self.recorder l.fn.self.begun l.self.diary l.self.recorder l.self.begun
+invariant-loop g l = CallsAs g.R.Recorder.hands g.S.Serve.serves l.op l.fn.call None l.fn.self.diary l.fn.self.recorder l.fn.self.store l.fn.self.begun l.self.diary l.self.recorder l.self.store l.self.begun

@@ -1,0 +1,12 @@
+use Rattle.std.proofs.Common.{refl, sym, true≢false, ◌∙◌}
+use Rattle.txn_client.specs.Happenings.{Served, CallFailed}
+use Rattle.txn_client.proofs.Asking.{asks_step}
+use Rattle.txn_client.proofs.work.Work.ask.Goals as goal
+
+pub returns-then-has_failed-clause-ok : goal.returns-then-has_failed-clause-ok
+returns-then-has_failed-clause-ok g c = asks_step g.R.Recorder.hands g.S.Serve.serves c.fail.result c.args.op c.args.request (CallFailed c.args.request) c.args.self.now.diary c.fail.new.self.diary c.args.self.now.recorder _ c.fail.new.self.recorder c.args.self.now.store _ c.fail.new.self.store c.args.self.now.begun c.fail.new.self.begun
+    c.in_ok-asked.ensures (c.serve-reply.result, refl, c.serve-reply.ensures.served, c.has_failed.ensures.0 c.if-has_failed.true) c.fail.ensures.ok
+
+pub returns-else-has_failed-clause-ok : goal.returns-else-has_failed-clause-ok
+returns-else-has_failed-clause-ok g c = asks_step g.R.Recorder.hands g.S.Serve.serves c.take.result c.args.op c.args.request (Served c.args.request c.serve-reply.result) c.args.self.now.diary c.take.new.self.diary c.args.self.now.recorder _ c.take.new.self.recorder c.args.self.now.store _ c.take.new.self.store c.args.self.now.begun c.take.new.self.begun
+    c.in_ok-asked.ensures (refl, c.serve-reply.ensures.served, λ says. true≢false (sym (c.has_failed.ensures.1 says) ∙ c.if-has_failed.false)) c.take.ensures.ok
