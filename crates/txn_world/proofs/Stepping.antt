@@ -55,7 +55,7 @@ use Rattle.txn_any_machine.specs.Machine.{State, seen_operation, seen_operations
 use Rattle.txn_clients.specs.declared.operations.Usage.{Usage}
 use Rattle.txn_clients.specs.Operations.{request_of, loose_of, asked_of, asked_by, usage_of, TakesReply}
 use Rattle.txn_clients.specs.Views.{seen_with}
-use Rattle.txn_world.specs.Beside.{told_count, ending_count, AreIds, IsAfforded}
+use Rattle.txn_rows.specs.Beside.{told_count, ending_count, AreIds, IsAfforded}
 use Rattle.txn_world.specs.Acting.{EndsAmong, TurnsAmong}
 use Rattle.txn_world.specs.Answering.{IsAnswerable, ToldFailure}
 use Rattle.txn_world.proofs.Running.{as_left, numbered_mapped}

@@ -1,4 +1,3 @@
-pub mod Beside
 pub mod Running
 pub mod Owning
 pub mod Acting

@@ -8,7 +8,7 @@ ghost use Rattle.txn_history.specs.Lists.{numbered};
 ghost use Rattle.txn_clients.specs.Views.{IsFromOne};
 ghost use Rattle.txn_world.specs.Running.{is_in, runs_for, left_of, ended_where};
 
-use crate::sets::numbers_of;
+use txn_rows::sets::numbers_of;
 use std::alloc::{AllocError, Global};
 use std::collections::BTreeSet;
 use txn_any_machine::doing::{AnyDoing, AnyOperation, Ending};

@@ -8,10 +8,10 @@ ghost use Rattle.txn_history.specs.Added.{told_of, answer_rows};
 ghost use Rattle.txn_any_machine.specs.Doing.{refusal_in};
 ghost use Rattle.txn_any_machine.specs.Machine.{answered, let_go, views_changed, views_after};
 ghost use Rattle.txn_clients.specs.Views.{IsFromOne};
-ghost use Rattle.txn_world.specs.Beside.{ending_count};
+ghost use Rattle.txn_rows.specs.Beside.{ending_count};
 ghost use Rattle.txn_world.specs.Owning.{room_of};
 
-use crate::trace::Trace;
+use txn_rows::trace::Trace;
 use crate::views::Views;
 use txn_any_machine::doing::Ending;
 use txn_clients::operations::Usage;

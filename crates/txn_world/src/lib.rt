@@ -3,12 +3,8 @@
 
 mod clients;
 mod ends;
-mod entries;
 mod reach;
 mod refusals;
-mod requests;
-mod sets;
 mod tables;
-mod trace;
 mod views;
 pub mod world;

@@ -15,7 +15,7 @@ ghost use Rattle.txn_types.specs.Clones.{IsExactClone};
 ghost use Rattle.txn_machine.specs.Machine.{HasContents, fault_met};
 ghost use Rattle.txn_any_machine.specs.Machine.{opening, seen_calls, seen_views, seen_of, next_event, Takes, RunsPast};
 
-use crate::entries::entries_of;
+use txn_rows::entries::entries_of;
 use crate::tables::Tables;
 use std::alloc::{AllocError, Global};
 use std::marker::Model;
