@@ -14,7 +14,7 @@ begun : (g : _) (c : After-note g) → IsStepped c.args.self.now (steps.Begin c.
 begun g c =
     let t = c.self.inside.tables in
     let live = alive_so c.self.inside.alive (begin_fault (g.E.EpochField.epoch_of t.epochs) t.client (shown t) c.args.call) c.in-Ok.ensures.refused in
-    stepped (room_made c.args.self.now t t c.self.inside.rows.items c.start.new.rows.items c.self.inside.alive c.self.view_is c.self.invariant refl refl refl refl c.start.ensures.rows) live live c.note.ensures.rows c.in-Ok.ensures.ok c.start.ensures.client c.start.ensures.layout c.start.ensures.epochs
+    stepped (room_made c.args.self.now t t c.self.inside.rows.items c.start.new.rows.items c.self.inside.alive c.self.view_is c.self.invariant refl refl refl refl c.start.ensures.rows) c.note.new.rows.items live live c.note.ensures.rows c.in-Ok.ensures.ok c.start.ensures.client c.start.ensures.layout c.start.ensures.epochs
 
 pub invariant_of-self : goal.invariant_of-self
 invariant_of-self g c = (begun g (goal.at.invariant_of-self g c).After-note).kept
