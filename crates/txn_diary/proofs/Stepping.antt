@@ -135,9 +135,9 @@ module _ {T C E : Type 0} {codec : coding.Ghosts C T} {field : fields.Ghosts E T
   ready_asks op ask asks = (let found = asks_alive now op ask asks in (ready.kept.2 ∙ found.0, ap (λ (d : DiaryState T C E). asked_by d.part.operations op) ready.is ∙ found.1))
 
   -- a step of a living client
-  pub stepped : {new : Tables T C E codec field} {more : List (JournalRow T)} {after : Bool} {step : Step T} {answer : Option (AnyAnswer T)} → alive ≡ true → after ≡ goes_on step → more ≡ rows ++ record { step = step; answer = answer } ∷ [] →
+  pub stepped : {new : Tables T C E codec field} {after : Bool} {step : Step T} {answer : Option (AnyAnswer T)} (more : List (JournalRow T)) → alive ≡ true → after ≡ goes_on step → more ≡ rows ++ record { step = step; answer = answer } ∷ [] →
       Follows t.layout.page (codec.encoded t.layout.codec) (codec.decoded t.layout.codec) (field.epoch_of t.epochs) (field.with_epoch t.epochs) t.client (shown t) step answer (shown new) → new.client ≡ t.client → new.layout ≡ t.layout → new.epochs ≡ t.epochs → IsStepped now step answer new more after
-  stepped {new = new} {more = more} {after = after} {step = step} {answer = answer} live on row follows client layout epochs =
+  stepped {new = new} {after = after} {step = step} {answer = answer} more live on row follows client layout epochs =
       let found : AddsTo codec.encoded codec.decoded field.epoch_of field.with_epoch (diary_of t rows) step answer (diary_of new more) = record { rows = row; follows = follows; client = client; page = ap (λ l. l.page) layout; codec = ap (λ l. l.codec) layout; epochs = epochs } in
       let adds = subst (λ d. AddsTo codec.encoded codec.decoded field.epoch_of field.with_epoch d step answer (diary_of new more)) ready.is found in
       record { kept = kept_more codec.encoded codec.decoded field.epoch_of field.with_epoch now (diary_of new more) alive after step answer ready.kept (sym ready.kept.2 ∙ live) on adds; adds = adds }

@@ -43,7 +43,7 @@ call_failed : (g : _) (c : After-note g) → IsStepped c.args.self.now (steps.Ac
 call_failed g c =
     let live = asks g (goal.at.After-note g c).In_ok-make_room in
     let fails = fails_so (g.E.EpochField.epoch_of c.make_room.new.tables.epochs) (shown c.make_room.new.tables) (shown c.refuse-answers.new.self) c.args.op c.in-Ok.request (first_of c.refuse-answers.result) live.1 c.refuse-answers.ensures.answer c.refuse-answers.ensures.shown in
-    stepped (ready g (goal.at.After-note g c).In_ok-make_room) live.0 live.0 c.note.ensures.rows fails c.refuse-answers.ensures.client c.refuse-answers.ensures.layout c.refuse-answers.ensures.epochs
+    stepped (ready g (goal.at.After-note g c).In_ok-make_room) c.note.new.rows.items live.0 live.0 c.note.ensures.rows fails c.refuse-answers.ensures.client c.refuse-answers.ensures.layout c.refuse-answers.ensures.epochs
 
 pub invariant_of-self-2 : goal.invariant_of-self-2
 invariant_of-self-2 g c = (call_failed g (goal.at.invariant_of-self-2 g c).After-note).kept

@@ -28,7 +28,7 @@ give_up-requires-clause-runs g c = ap (λ a. is_some a) (asks g (goal.at.give_up
 given_up : (g : _) (c : After-note g) → IsStepped c.args.self.now (steps.Act c.args.op (acts.GiveUp c.in-Ok.left)) None c.give_up.new.self c.note.new.rows.items c.self.inside.alive
 given_up g c =
     let live = (asks g (goal.at.After-note g c).In_ok-make_room).1.0 in
-    stepped (ready g (goal.at.After-note g c).In_ok-make_room) live live c.note.ensures.rows c.in-Ok.ensures.ok c.give_up.ensures.client c.give_up.ensures.layout c.give_up.ensures.epochs
+    stepped (ready g (goal.at.After-note g c).In_ok-make_room) c.note.new.rows.items live live c.note.ensures.rows c.in-Ok.ensures.ok c.give_up.ensures.client c.give_up.ensures.layout c.give_up.ensures.epochs
 
 pub invariant_of-self-2 : goal.invariant_of-self-2
 invariant_of-self-2 g c = (given_up g (goal.at.invariant_of-self-2 g c).After-note).kept

@@ -33,7 +33,7 @@ turn-answers-requires-clause-takes g c =
 looked : (g : _) (c : After-note g) → IsStepped c.args.self.now (steps.Act c.args.op acts.Look) (first_of c.turn-answers.result) c.turn-answers.new.self c.note.new.rows.items c.self.inside.alive
 looked g c =
     let live = asks g (goal.at.After-note g c).In_ok-make_room in
-    stepped (ready g (goal.at.After-note g c).In_ok-make_room) live.0 live.0 c.note.ensures.rows (c.turn-answers.ensures.turned Look live.1) c.turn-answers.ensures.client c.turn-answers.ensures.layout c.turn-answers.ensures.epochs
+    stepped (ready g (goal.at.After-note g c).In_ok-make_room) c.note.new.rows.items live.0 live.0 c.note.ensures.rows (c.turn-answers.ensures.turned Look live.1) c.turn-answers.ensures.client c.turn-answers.ensures.layout c.turn-answers.ensures.epochs
 
 pub invariant_of-self-2 : goal.invariant_of-self-2
 invariant_of-self-2 g c = (looked g (goal.at.invariant_of-self-2 g c).After-note).kept

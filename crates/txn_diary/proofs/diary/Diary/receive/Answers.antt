@@ -37,7 +37,7 @@ turn-answers-requires-clause-takes g c =
 received : (g : _) (c : After-note g) → IsStepped c.args.self.now (steps.Act c.args.op (acts.Receive c.args.receipt)) (first_of c.turn-answers.result) c.turn-answers.new.self c.note.new.rows.items c.self.inside.alive
 received g c =
     let live = asks g (goal.at.After-note g c).In_ok-make_room in
-    stepped (ready g (goal.at.After-note g c).In_ok-make_room) live.0 live.0 c.note.ensures.rows (rw c.in-Ok.ensures at (c.turn-answers.ensures.turned (Store c.args.receipt.request) live.1)) c.turn-answers.ensures.client c.turn-answers.ensures.layout c.turn-answers.ensures.epochs
+    stepped (ready g (goal.at.After-note g c).In_ok-make_room) c.note.new.rows.items live.0 live.0 c.note.ensures.rows (rw c.in-Ok.ensures at (c.turn-answers.ensures.turned (Store c.args.receipt.request) live.1)) c.turn-answers.ensures.client c.turn-answers.ensures.layout c.turn-answers.ensures.epochs
 
 pub invariant_of-self-2 : goal.invariant_of-self-2
 invariant_of-self-2 g c = (received g (goal.at.invariant_of-self-2 g c).After-note).kept

@@ -44,7 +44,7 @@ served : (g : _) (c : After-note g) → IsStepped c.args.self.now (steps.Act c.a
 served g c =
     let live = asks g (goal.at.After-note g c).In-Some in
     let turned = rw (← c.in-Ok.ensures.receipt.request_is, c.in-Ok.ensures.again) at (c.turn-answers.ensures.turned (Store c.in-Some.request.now) live.1) in
-    stepped (ready g (goal.at.After-note g c).In_ok-make_room) live.0 live.0 c.note.ensures.rows turned c.turn-answers.ensures.client c.turn-answers.ensures.layout c.turn-answers.ensures.epochs
+    stepped (ready g (goal.at.After-note g c).In_ok-make_room) c.note.new.rows.items live.0 live.0 c.note.ensures.rows turned c.turn-answers.ensures.client c.turn-answers.ensures.layout c.turn-answers.ensures.epochs
 
 pub invariant_of-self-in-Ok : goal.invariant_of-self-in-Ok
 invariant_of-self-in-Ok g c = (served g (goal.at.invariant_of-self-in-Ok g c).After-note).kept
@@ -62,7 +62,7 @@ lacked : (g : _) (c : After-note-in-Err g) → IsStepped c.args.self.now (steps.
 lacked g c =
     let live = asks g (goal.at.After-note-in-Err g c).In-Some in
     let lacks = lacks_so (g.E.EpochField.epoch_of c.make_room.new.tables.epochs) (shown c.make_room.new.tables) (shown c.refuse-answers.new.self) c.args.op c.in-Some.request.now (first_of c.refuse-answers.result) live.1 c.refuse-answers.ensures.answer c.refuse-answers.ensures.shown in
-    stepped (ready g (goal.at.After-note-in-Err g c).In_ok-make_room) live.0 live.0 c.note-in-Err.ensures.rows lacks c.refuse-answers.ensures.client c.refuse-answers.ensures.layout c.refuse-answers.ensures.epochs
+    stepped (ready g (goal.at.After-note-in-Err g c).In_ok-make_room) c.note-in-Err.new.rows.items live.0 live.0 c.note-in-Err.ensures.rows lacks c.refuse-answers.ensures.client c.refuse-answers.ensures.layout c.refuse-answers.ensures.epochs
 
 pub invariant_of-self-in-Err : goal.invariant_of-self-in-Err
 invariant_of-self-in-Err g c = (lacked g (goal.at.invariant_of-self-in-Err g c).After-note-in-Err).kept
