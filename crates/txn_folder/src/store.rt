@@ -3,7 +3,7 @@ ghost use Rattle.std.specs.Prelude.{◌≡◌, is_some, false, IfErr, OnErr, IfO
 ghost use Rattle.txn_folder.specs.Replies.{IsReplyTo, IsHalt, IsPutError, IsGetError, is_failed, has_failed, reply_failed};
 
 use crate::clean::clean_in;
-use crate::fault::{Doing, Fault, Halt, at_error};
+use crate::fault::{Doing, Fault, Halt, at_error, lacks_folder};
 use crate::folder::Folder;
 use crate::found::{Found, read_file};
 use crate::listing::page_after;
@@ -242,7 +242,7 @@ where
         Ok(Some(shown(token_of(place, bytes.as_slice(), Some(written.number)))))
     }
 
-    /// Writes the bytes whole beside a file.
+    /// Writes the bytes whole beside a file, in a folder that is made where it is missing.
     fn write(
         &mut self,
         alloc: Global,
@@ -252,16 +252,25 @@ where
     ) -> Result<Written, Halt>
         ensures { self.new.fault ≡ self.old.fault }
     {
-        let syncs = self.syncs;
+        let (bytes, syncs) = (bytes.as_slice(), self.syncs);
+        let written = self.numbers.write(alloc, &self.rt, file, bytes, syncs);
+        if !lacks_folder(&written) {
+            return written;
+        }
+        drop(written);
         make_folders(&self.rt, self.folder_of(place), syncs)?;
-        self.numbers
-            .write(alloc, &self.rt, file, bytes.as_slice(), syncs)
+        self.numbers.write(alloc, &self.rt, file, bytes, syncs)
     }
 
     /// The lock of a file's updates and removals, in a folder that is made where it is missing.
     fn lock(&self, alloc: Global, place: Place, file: &str) -> Result<R::File, Halt> {
-        make_folders(&self.rt, self.folder_of(place), self.syncs)?;
         let name = format!(in alloc; "{file}#0")?;
+        let lock = take_lock(&self.rt, name.as_str(), Sharing::Alone);
+        if !lacks_folder(&lock) {
+            return lock;
+        }
+        drop(lock);
+        make_folders(&self.rt, self.folder_of(place), self.syncs)?;
         take_lock(&self.rt, name.as_str(), Sharing::Alone)
     }
 
