@@ -4,3 +4,4 @@ pub mod Tokens
 pub mod Scans
 pub mod Findings
 pub mod Moments
+pub mod Lasting

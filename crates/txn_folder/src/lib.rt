@@ -8,6 +8,7 @@ pub mod doctor;
 pub mod fault;
 pub mod folder;
 mod found;
+mod lasting;
 mod listing;
 pub mod lock;
 mod numbers;

@@ -1,6 +1,6 @@
 //! How a file comes to its name, and how names are looked up, made to last and removed.
 
-use crate::fault::{Doing, Fault, Halt, at_error};
+use crate::fault::{Doing, Fault, Halt, at_error, lacks_folder};
 use crate::numbers::Written;
 use crate::place::number_of;
 use std::fs::OpenFile;
@@ -94,6 +94,15 @@ pub(crate) fn sync_folder<R: Files>(rt: &R, folder: &str) -> Result<(), Halt> {
             { Ok(()) }
         Err(error) => Err(Halt::Fault(Fault::of(Doing::SyncingFolder, error))),
     }
+}
+
+/// Makes the names in a folder last, where it is there.
+pub(crate) fn sync_if_there<R: Files>(rt: &R, folder: &str) -> Result<(), Halt> {
+    let done = sync_folder(rt, folder);
+    if lacks_folder(&done) {
+        return Ok(());
+    }
+    done
 }
 
 /// Makes a folder where it is missing, with those above it, each lasting where that is asked.

@@ -6,11 +6,12 @@ use crate::clean::clean_in;
 use crate::fault::{Doing, Fault, Halt, at_error, lacks_folder};
 use crate::folder::Folder;
 use crate::found::{Found, read_file};
+use crate::lasting::Lasting;
 use crate::listing::page_after;
 use crate::lock::{LockFile, Sharing, take_lock};
 use crate::numbers::{Numbers, Written};
-use crate::place::{Place, place_of, token_of};
-use crate::publish::{link, make_folders, remove, replace, stands, sync_folder};
+use crate::place::{Place, number_at, number_in, place_of, shown};
+use crate::publish::{link, make_folders, remove, replace, stands, sync_folder, sync_if_there};
 use bytes::Bytes;
 use std::alloc::{AllocError, Global};
 use std::fs;
@@ -31,17 +32,10 @@ pub struct FolderStore<R: Files + Drop> {
     boundary: Path,
     folder: Folder,
     numbers: Numbers,
-    /// Whether what is answered lasts when the power fails.
+    /// Whether what is told lasts when the power fails.
     syncs: bool,
+    lasting: Lasting,
     fault: Option<Fault>,
-}
-
-/// The token that is told: 0 where the file has none, which matches nothing.
-fn shown(token: Option<Token>) -> Token {
-    match token {
-        Some(token) => token,
-        None => Token::new(0),
-    }
 }
 
 impl<R: Files + Clock + Alloc<A = Global> + Clone + Drop> FolderStore<R>
@@ -49,7 +43,7 @@ where
     R::File: LockFile,
 {
     /// The store of the files in `folder`, for requests that name versions by `names` and the boundary by `boundary`. With
-    /// `syncs`, what is answered lasts when the power fails.
+    /// `syncs`, what is told lasts when the power fails.
     pub fn new(
         rt: R,
         folder: Folder,
@@ -66,6 +60,7 @@ where
             folder,
             numbers: Numbers::new(),
             syncs,
+            lasting: Lasting::new(),
             fault: None,
         }
     }
@@ -190,7 +185,7 @@ where
             }
             Ok(Some(found)) => Ok(Got {
                 bytes: found.bytes,
-                token: shown(found.token),
+                token: shown(number_in(found.token)),
             }),
             Err(halt) => Err(self.halted(halt)),
         }
@@ -225,6 +220,29 @@ where
         sync_folder(&self.rt, self.folder_of(place))
     }
 
+    /// Makes the file of this number at a place last, where that is asked.
+    fn make_last(&mut self, place: Place, number: Option<u64>) -> Result<(), Halt>
+        ensures { self.new.fault ≡ self.old.fault }
+    {
+        if !self.syncs {
+            return Ok(());
+        }
+        sync_folder(&self.rt, self.folder_of(place))?;
+        self.lasting.add(place, number);
+        Ok(())
+    }
+
+    /// Makes the file of this number at a place, which is to be told, last where that is asked and is not known: another may
+    /// have made it, and not have synced its name yet.
+    fn make_told_last(&mut self, place: Place, number: Option<u64>) -> Result<(), Halt>
+        ensures { self.new.fault ≡ self.old.fault }
+    {
+        if self.lasting.has(place, number) {
+            return Ok(());
+        }
+        self.make_last(place, number)
+    }
+
     /// Makes a file, where none stands, and tells its token.
     fn create(&mut self, alloc: Global, path: &Path, bytes: &Bytes) -> Result<Option<Token>, Halt>
         ensures { self.new.fault ≡ self.old.fault }
@@ -238,8 +256,9 @@ where
         if !link(&self.rt, written.name.as_str(), file.as_str())? {
             return Ok(None);
         }
-        self.sync(place)?;
-        Ok(Some(shown(token_of(place, bytes.as_slice(), Some(written.number)))))
+        let number = number_at(place, bytes.as_slice(), Some(written.number));
+        self.make_last(place, number)?;
+        Ok(Some(shown(number)))
     }
 
     /// Writes the bytes whole beside a file, in a folder that is made where it is missing.
@@ -335,14 +354,22 @@ where
     {
         let written = self.write(alloc, place, file, bytes)?;
         replace(&self.rt, &written, file)?;
-        self.sync(place)?;
-        Ok(shown(token_of(place, bytes.as_slice(), Some(written.number))))
+        let number = number_at(place, bytes.as_slice(), Some(written.number));
+        self.make_last(place, number)?;
+        Ok(shown(number))
     }
 
-    fn found(&self, alloc: Global, path: &Path) -> Result<Option<Found>, Halt> {
+    /// What the file at a path says, where there is one.
+    fn found(&mut self, alloc: Global, path: &Path) -> Result<Option<Found>, Halt>
+        ensures { self.new.fault ≡ self.old.fault }
+    {
         let place = self.place(path)?;
         let file = self.file_of(alloc, place)?;
-        read_file(&self.rt, place, file.as_str())
+        let Some(found) = read_file(&self.rt, place, file.as_str())? else {
+            return Ok(None);
+        };
+        self.make_told_last(place, number_in(found.token))?;
+        Ok(Some(found))
     }
 
     /// The lock that removals of versions take alone, and listings with one another.
@@ -352,11 +379,12 @@ where
         take_lock(&self.rt, name.as_str(), sharing)
     }
 
+    /// Removes a file. One that is gone already may be so by another's removal, which is made to last before it is told.
     fn delete(&self, alloc: Global, path: &Path) -> Result<(), Halt> {
         let place = self.place(path)?;
         let file = self.file_of(alloc, place)?;
         if !stands(&self.rt, file.as_str())? {
-            return Ok(());
+            return self.sync_gone(place);
         }
         let lock = match place {
             Place::Version(_) => self.lock_versions(alloc, Sharing::Alone)?,
@@ -372,13 +400,23 @@ where
         self.sync(place)
     }
 
+    /// Makes the absence of a file at a place last, where that is asked. A folder that is missing has no names.
+    fn sync_gone(&self, place: Place) -> Result<(), Halt> {
+        if !self.syncs {
+            return Ok(());
+        }
+        sync_if_there(&self.rt, self.folder_of(place))
+    }
+
     fn list(
-        &self,
+        &mut self,
         alloc: Global,
         prefix: &Path,
         after: Option<&Path>,
         limit: u64,
-    ) -> Result<Page, Halt> {
+    ) -> Result<Page, Halt>
+        ensures { self.new.fault ≡ self.old.fault }
+    {
         let after = self.above(prefix, after)?;
         if !self.has_versions()? {
             return Ok(Page {
@@ -389,7 +427,25 @@ where
         let lock = self.lock_versions(alloc, Sharing::WithOthers)?;
         let page = page_after(&self.rt, alloc, &self.folder, &self.names, after, limit);
         drop(lock);
-        page
+        let page = page?;
+        self.make_page_last(&page)?;
+        Ok(page)
+    }
+
+    /// Makes the versions of a page, which is to be told, last where that is asked and is not known.
+    fn make_page_last(&mut self, page: &Page) -> Result<(), Halt>
+        ensures { self.new.fault ≡ self.old.fault }
+    {
+        match self.newest(page) {
+            Some(id) => self.make_told_last(Place::Version(id), None),
+            None => Ok(()),
+        }
+    }
+
+    /// The newest version of a page.
+    fn newest(&self, page: &Page) -> Option<u64> {
+        let last = page.metas.as_slice().last()?;
+        self.names.parse_id(&last.location)
     }
 
     /// The version that a listing goes on after. It has to be a listing of the versions.
