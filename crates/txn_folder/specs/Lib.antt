@@ -5,3 +5,5 @@ pub mod Scans
 pub mod Findings
 pub mod Moments
 pub mod Lasting
+pub mod Pages
+pub mod Told

@@ -103,7 +103,11 @@ impl fmt::Display for Report {
 impl Report {
     /// What is said of the syncs where they have no fault.
     fn said_of_syncs(&self) -> &'static str {
-        if self.syncs_folders { YES } else { NO_FOLDER_SYNC }
+        if self.syncs_folders {
+            YES
+        } else {
+            NO_FOLDER_SYNC
+        }
     }
 
     /// The fault of a check.

@@ -4,6 +4,7 @@
 #![tactic(auto)]
 
 mod clean;
+mod disk;
 pub mod doctor;
 pub mod fault;
 pub mod folder;

@@ -1,7 +1,7 @@
 //! What a path of a request names, and the token of the file that stands there.
-ghost use Rattle.std.specs.Prelude.{◌≡◌, ◌↔◌, Some, None, ℕ, ◌<◌, ◌^◌, ◌≢◌, unwrap_or};
+ghost use Rattle.std.specs.Prelude.{◌≡◌, ◌↔◌, Some, None, ℕ, ◌<◌, ◌^◌, ◌≢◌, IfSome, unwrap_or};
 ghost use Rattle.txn_store.specs.VersionName.{version_path};
-ghost use Rattle.txn_folder.specs.Tokens.{place_token, time_number};
+ghost use Rattle.txn_folder.specs.Tokens.{IsAt, place_token, time_number};
 
 use std::fs::Metadata;
 use std::os::unix::fs::MetadataExt;
@@ -22,6 +22,7 @@ pub(crate) fn place_of(names: &VersionNames, boundary: &Path, path: &Path) -> Op
     ensures version { (n : ℕ) → n < 2 ^ 64 → (result ≡ Some (Place.Version n)) ↔ (path.now ≡ version_path names.now n) }
     ensures boundary { result ≡ Some Place.Boundary → path.now ≡ boundary.now }
     ensures elsewhere { result ≡ None → path.now ≢ boundary.now }
+    ensures at { IfSome result (IsAt names.now boundary.now path.now) }
 {
     if let Some(id) = names.parse_id(path) {
         return Some(Place::Version(id));
