@@ -45,7 +45,7 @@ front_by last id ids more true = ap (λ r. id ∷ r) more
 front_by last id ids more false = refl
 
 -- a run is the front of its list
-run_front : (last : ℕ) (ids : List ℕ) → take (length (followed last ids)) ids ≡ followed last ids
+pub run_front : (last : ℕ) (ids : List ℕ) → take (length (followed last ids)) ids ≡ followed last ids
 run_front last [] = refl
 run_front last (id ∷ ids) = front_by last id ids (run_front id ids) (id == last + 1)
 

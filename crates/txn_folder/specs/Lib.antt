@@ -4,3 +4,6 @@ pub mod Tokens
 pub mod Scans
 pub mod Findings
 pub mod Moments
+pub mod Lasting
+pub mod Pages
+pub mod Told

@@ -6,7 +6,7 @@ ghost use Rattle.txn_folder.specs.Findings.{first_failed, fault_in};
 use crate::fault::{Doing, Fault, Halt, at_error};
 use crate::lock::{LockFile, Sharing, open_lock};
 use crate::numbers::{number_now, write_new};
-use crate::publish::{is_same_file, remove, stands, sync_folder};
+use crate::publish::{is_same_file, remove, stands, synced};
 use std::alloc::{AllocError, Global};
 use std::fs::OpenFile;
 use std::io::{ErrorKind, Read};
@@ -47,6 +47,12 @@ impl fmt::Display for Check {
     }
 }
 
+/// What is said of a check that passed.
+const YES: &str = "yes";
+
+/// What is said of the syncs where the file system has none of folders.
+const NO_FOLDER_SYNC: &str = "this file system has no sync of folders: names last as it lets them";
+
 /// How each check went: the fault of what the folder does not do.
 #[derive(Debug, Drop)]
 pub struct Report {
@@ -56,18 +62,20 @@ pub struct Report {
     pub replaces: Option<Fault>,
     pub locks: Option<Fault>,
     pub syncs: Option<Fault>,
+    /// Whether the file system syncs folders: where it does not, and says so, that is no fault, but names last as it lets them.
+    pub syncs_folders: bool,
     pub removes: Option<Fault>,
 }
 
-/// The line of a check.
+/// The line of a check: its fault, and what is said where there is none.
 #[derive(Clone, Copy)]
-struct Line<'a>(Check, &'a Option<Fault>);
+struct Line<'a>(Check, &'a Option<Fault>, &'static str);
 
 impl fmt::Display for Line<'_> {
     fn fmt<W: fmt::Write>(&self, f: &mut fmt::Formatter<W>) -> fmt::Result {
-        let check = self.0;
+        let (check, passed) = (self.0, self.2);
         match self.1 {
-            None => writeln!(f, "{check}: yes"),
+            None => writeln!(f, "{check}: {passed}"),
             Some(fault) => writeln!(f, "{check}: no: {fault}"),
         }
     }
@@ -77,13 +85,13 @@ impl fmt::Display for Line<'_> {
 impl fmt::Display for Report {
     fn fmt<W: fmt::Write>(&self, f: &mut fmt::Formatter<W>) -> fmt::Result {
         let lines = [
-            Line(Check::Keeps, &self.keeps),
-            Line(Check::Links, &self.links),
-            Line(Check::RefusesTakenNames, &self.refuses_taken_names),
-            Line(Check::Replaces, &self.replaces),
-            Line(Check::Locks, &self.locks),
-            Line(Check::Syncs, &self.syncs),
-            Line(Check::Removes, &self.removes),
+            Line(Check::Keeps, &self.keeps, YES),
+            Line(Check::Links, &self.links, YES),
+            Line(Check::RefusesTakenNames, &self.refuses_taken_names, YES),
+            Line(Check::Replaces, &self.replaces, YES),
+            Line(Check::Locks, &self.locks, YES),
+            Line(Check::Syncs, &self.syncs, self.said_of_syncs()),
+            Line(Check::Removes, &self.removes, YES),
         ];
         for line in lines {
             write!(f, "{line}")?;
@@ -93,6 +101,15 @@ impl fmt::Display for Report {
 }
 
 impl Report {
+    /// What is said of the syncs where they have no fault.
+    fn said_of_syncs(&self) -> &'static str {
+        if self.syncs_folders {
+            YES
+        } else {
+            NO_FOLDER_SYNC
+        }
+    }
+
     /// The fault of a check.
     pub fn fault_of(&self, check: Check) -> Option<&Fault>
         ensures { option_copied result ≡ fault_in check self.now }
@@ -152,14 +169,22 @@ where
     R::File: LockFile,
 {
     let trial = trial_in(rt, alloc, folder)?;
+    let keeps = fault_of(keeps(rt, &trial));
+    let links = fault_of(links(rt, &trial));
+    let refuses_taken_names = fault_of(refuses_taken_names(rt, &trial));
+    let replaces = fault_of(replaces(rt, &trial));
+    let locks = fault_of(locks(rt, &trial));
+    let synced = syncs(rt, &trial, folder);
+    let removes = fault_of(removes(rt, &trial));
     Ok(Report {
-        keeps: fault_of(keeps(rt, &trial)),
-        links: fault_of(links(rt, &trial)),
-        refuses_taken_names: fault_of(refuses_taken_names(rt, &trial)),
-        replaces: fault_of(replaces(rt, &trial)),
-        locks: fault_of(locks(rt, &trial)),
-        syncs: fault_of(syncs(rt, &trial, folder)),
-        removes: fault_of(removes(rt, &trial)),
+        keeps,
+        links,
+        refuses_taken_names,
+        replaces,
+        locks,
+        syncs_folders: matches!(synced, Ok(true)),
+        syncs: fault_of(synced),
+        removes,
     })
 }
 
@@ -174,9 +199,9 @@ fn trial_in<R: Clock>(rt: &R, alloc: Global, folder: &str) -> Result<Trial, Allo
     })
 }
 
-fn fault_of(done: Result<(), Halt>) -> Option<Fault> {
+fn fault_of<T: Drop>(done: Result<T, Halt>) -> Option<Fault> {
     match done {
-        Ok(()) => None,
+        Ok(_) => None,
         Err(Halt::Fault(fault)) => Some(fault),
         Err(Halt::NoMemory) => {
             let error = io::Error::from(ErrorKind::OutOfMemory);
@@ -285,13 +310,14 @@ fn locks_against<F: LockFile>(one: &F, other: &F) -> Result<(), Halt> {
     Ok(())
 }
 
-fn syncs<R: Files>(rt: &R, trial: &Trial, folder: &str) -> Result<(), Halt> {
-    let synced = match fs::open(rt, trial.first.as_str()) {
+/// Whether folders are synced, as a file has to be.
+fn syncs<R: Files>(rt: &R, trial: &Trial, folder: &str) -> Result<bool, Halt> {
+    let done = match fs::open(rt, trial.first.as_str()) {
         Ok(file) => file.sync_all(),
         Err(error) => Err(error),
     };
-    match synced {
-        Ok(()) => sync_folder(rt, folder),
+    match done {
+        Ok(()) => synced(rt, folder),
         Err(error) => Err(at_error(Doing::SyncingTemporary, error)),
     }
 }

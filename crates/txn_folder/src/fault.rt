@@ -131,6 +131,19 @@ impl From<Fault> for Halt {
     }
 }
 
+/// Whether a step did not go on since the folder of its file is missing.
+pub(crate) fn lacks_folder<T>(done: &Result<T, Halt>) -> bool {
+    let Err(Halt::Fault(fault)) = done else {
+        return false;
+    };
+    match &fault.error {
+        Some(error) => {
+            error.kind() == ErrorKind::NotFound || error.kind() == ErrorKind::NotADirectory
+        }
+        None => false,
+    }
+}
+
 /// The halt of a step that changes nothing.
 pub(crate) fn at_error(doing: Doing, error: io::Error) -> Halt {
     if error.kind() == ErrorKind::OutOfMemory {

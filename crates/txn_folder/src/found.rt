@@ -1,4 +1,6 @@
 //! What a file says.
+ghost use Rattle.std.specs.Prelude.{IfOk, IfSome};
+ghost use Rattle.txn_folder.specs.Tokens.{IsFoundAt};
 
 use crate::fault::{Doing, Halt, at_error};
 use crate::place::{Place, number_of, token_of};
@@ -23,7 +25,9 @@ pub(crate) fn read_file<R: Files + Alloc<A = Global>>(
     rt: &R,
     place: Place,
     file: &str,
-) -> Result<Option<Found>, Halt> {
+) -> Result<Option<Found>, Halt>
+    ensures { IfOk result (λ told. IfSome told (λ found. IsFoundAt place found.bytes found.token)) }
+{
     if !stands(rt, file)? {
         return Ok(None);
     }

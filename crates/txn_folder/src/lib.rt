@@ -4,10 +4,12 @@
 #![tactic(auto)]
 
 mod clean;
+mod disk;
 pub mod doctor;
 pub mod fault;
 pub mod folder;
 mod found;
+mod lasting;
 mod listing;
 pub mod lock;
 mod numbers;

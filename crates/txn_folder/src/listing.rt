@@ -1,6 +1,7 @@
 //! Listings of the folder of the versions.
-ghost use Rattle.std.specs.Prelude.{◌≡◌, IfOk};
-ghost use Rattle.std.specs.List.Sorted.{IsStrictlyIncreasing};
+ghost use Rattle.std.specs.Prelude.{◌≡◌, ◌≤◌, ◌<◌, ℕ, Option, All, Decides, IfOk, IfSome, map};
+ghost use Rattle.txn_store.specs.VersionName.{version_path};
+ghost use Rattle.txn_folder.specs.Pages.{AscendAbove, IsAbove, IsPageAfter, locations};
 
 use crate::fault::{Doing, Fault, Halt, at_error};
 use crate::folder::Folder;
@@ -23,7 +24,7 @@ fn scan<R: Files + Alloc<A = Global> + Clone + Drop>(
     folder: &Folder,
     after: Option<u64>,
 ) -> Result<Vec<u64>, Halt>
-    ensures { IfOk result (λ ids. IsStrictlyIncreasing ids.items) }
+    ensures { IfOk result (λ ids. AscendAbove after ids.items) }
 {
     let mut ids = shown(rt, folder, after)?;
     ids.sort_unstable();
@@ -36,7 +37,9 @@ fn shown<R: Files + Alloc<A = Global> + Clone + Drop>(
     rt: &R,
     folder: &Folder,
     after: Option<u64>,
-) -> Result<Vec<u64>, Halt> {
+) -> Result<Vec<u64>, Halt>
+    ensures { IfOk result (λ ids. All (IsAbove after) ids.items) }
+{
     let mut ids = Vec::new(rt.alloc());
     let entries = match fs::read_dir(rt, folder.versions()) {
         Ok(entries) => entries,
@@ -57,12 +60,22 @@ fn shown<R: Files + Alloc<A = Global> + Clone + Drop>(
     Ok(ids)
 }
 
+/// Whether an id is above one, where that is given.
+fn is_above(id: u64, after: Option<u64>) -> bool
+    ensures { Decides result (IsAbove after id) }
+{
+    match after {
+        Some(after) => after < id,
+        None => true,
+    }
+}
+
 /// Adds an id that is above one.
-fn keep(ids: &mut Vec<u64>, id: u64, after: Option<u64>) -> Result<(), AllocError> {
-    if let Some(after) = after {
-        if id <= after {
-            return Ok(());
-        }
+fn keep(ids: &mut Vec<u64>, id: u64, after: Option<u64>) -> Result<(), AllocError>
+    ensures { All (IsAbove after) ids.old.items → All (IsAbove after) ids.new.items }
+{
+    if !is_above(id, after) {
+        return Ok(());
     }
     ids.push(id)?;
     Ok(())
@@ -76,7 +89,9 @@ fn settled<R: Files + Alloc<A = Global> + Clone + Drop>(
     rt: &R,
     folder: &Folder,
     after: Option<u64>,
-) -> Result<Vec<u64>, Halt> {
+) -> Result<Vec<u64>, Halt>
+    ensures { IfOk result (λ ids. AscendAbove after ids.items) }
+{
     let mut first = scan(rt, folder, after)?;
     for _ in 0..LISTINGS {
         let second = scan(rt, folder, after)?;
@@ -106,7 +121,9 @@ pub(crate) fn page_after<R: Files + Alloc<A = Global> + Clone + Drop>(
     names: &VersionNames,
     after: Option<u64>,
     limit: u64,
-) -> Result<Page, Halt> {
+) -> Result<Page, Halt>
+    ensures { IfOk result (IsPageAfter names.now after limit) }
+{
     for _ in 0..LISTINGS {
         let ids = settled(rt, folder, after)?;
         if let Some(page) = page_of(rt, alloc, folder, names, &ids, limit)? {
@@ -114,6 +131,19 @@ pub(crate) fn page_after<R: Files + Alloc<A = Global> + Clone + Drop>(
         }
     }
     Err(Halt::Fault(Fault::at(Doing::Unsettled)))
+}
+
+/// How many of so many versions a page has.
+fn count_of(len: usize, limit: u64) -> usize
+    ensures within { result ≤ len }
+    ensures few { result ≤ limit }
+    ensures full { result < len → result ≡ limit }
+{
+    if limit < len as u64 {
+        limit as usize
+    } else {
+        len
+    }
 }
 
 /// The first of these versions, none where one of them was removed since.
@@ -124,14 +154,31 @@ fn page_of<R: Files>(
     names: &VersionNames,
     ids: &[u64],
     limit: u64,
-) -> Result<Option<Page>, Halt> {
+) -> Result<Option<Page>, Halt>
+    ensures { (after : Option ℕ) → AscendAbove after ids.now → IfOk result (λ told. IfSome told (IsPageAfter names.now after limit)) }
+{
+    let (told, rest) = ids.split_at(count_of(ids.len(), limit));
+    let Some(metas) = metas_of(rt, alloc, folder, names, told)? else {
+        return Ok(None);
+    };
+    Ok(Some(Page {
+        metas: Listing::from_vec(metas),
+        more: !rest.is_empty(),
+    }))
+}
+
+/// What a listing tells of these versions, none where one of them was removed since.
+fn metas_of<R: Files>(
+    rt: &R,
+    alloc: Global,
+    folder: &Folder,
+    names: &VersionNames,
+    ids: &[u64],
+) -> Result<Option<Vec<ObjectMeta>>, Halt>
+    ensures { IfOk result (λ told. IfSome told (λ metas. locations metas.items ≡ map (version_path names.now) ids.now)) }
+{
     let mut metas = Vec::new(alloc);
-    let mut more = false;
     for id in ids {
-        if metas.len() as u64 >= limit {
-            more = true;
-            break;
-        }
         let Some(meta) = meta_of(rt, alloc, folder, names, *id)? else {
             return Ok(None);
         };
@@ -139,10 +186,7 @@ fn page_of<R: Files>(
             return Err(Halt::NoMemory);
         }
     }
-    Ok(Some(Page {
-        metas: Listing::from_vec(metas),
-        more,
-    }))
+    Ok(Some(metas))
 }
 
 /// What a listing tells of a version, where it stands.
@@ -152,7 +196,9 @@ fn meta_of<R: Files>(
     folder: &Folder,
     names: &VersionNames,
     id: u64,
-) -> Result<Option<ObjectMeta>, Halt> {
+) -> Result<Option<ObjectMeta>, Halt>
+    ensures { IfOk result (λ told. IfSome told (λ meta. meta.location ≡ version_path names.now id)) }
+{
     let file = folder.version(alloc, id)?;
     let metadata = match fs::symlink_metadata(rt, file.as_str()) {
         Ok(metadata) if metadata.is_file() => metadata,

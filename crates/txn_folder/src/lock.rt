@@ -2,10 +2,10 @@
 
 use crate::fault::{Doing, Fault, Halt, at_error};
 use std::fs::{File, OpenOptions, TryLockError};
-use std::io;
 use std::io::ErrorKind;
 use std::rt::{Clock, Files};
 use std::time::Duration;
+use std::{fs, io};
 
 /// How often a lock is tried: for about 30 seconds.
 const TRIES: u64 = 3_100;
@@ -49,6 +49,16 @@ fn pause(turn: u64) -> Duration {
     }
 }
 
+/// Opens the file of a lock that is taken with others: for reading alone, so that a reader needs no right to write, but where
+/// it is missing and has to be made.
+fn open_shared<R: Files>(rt: &R, name: &str) -> Result<R::File, Halt> {
+    match fs::open(rt, name) {
+        Ok(lock) => Ok(lock),
+        Err(error) if error.kind() == ErrorKind::NotFound => open_lock(rt, name),
+        Err(error) => Err(at_error(Doing::Locking, error)),
+    }
+}
+
 /// Opens the file of a lock, which is made where it is missing.
 pub(crate) fn open_lock<R: Files>(rt: &R, name: &str) -> Result<R::File, Halt> {
     let opened = OpenOptions::new()
@@ -71,7 +81,10 @@ pub(crate) fn take_lock<R: Files + Clock>(
 where
     R::File: LockFile,
 {
-    let lock = open_lock(rt, name)?;
+    let lock = match sharing {
+        Sharing::Alone => open_lock(rt, name)?,
+        Sharing::WithOthers => open_shared(rt, name)?,
+    };
     for turn in 0..TRIES {
         match lock.try_lock_file(sharing) {
             Ok(true) => return Ok(lock),

@@ -1,7 +1,7 @@
 //! What a path of a request names, and the token of the file that stands there.
-ghost use Rattle.std.specs.Prelude.{◌≡◌, ◌↔◌, Some, None, ℕ, ◌<◌, ◌^◌, ◌≢◌};
+ghost use Rattle.std.specs.Prelude.{◌≡◌, ◌↔◌, Some, None, ℕ, ◌<◌, ◌^◌, ◌≢◌, IfSome, unwrap_or};
 ghost use Rattle.txn_store.specs.VersionName.{version_path};
-ghost use Rattle.txn_folder.specs.Tokens.{place_token, time_number};
+ghost use Rattle.txn_folder.specs.Tokens.{IsAt, place_token, time_number};
 
 use std::fs::Metadata;
 use std::os::unix::fs::MetadataExt;
@@ -22,6 +22,7 @@ pub(crate) fn place_of(names: &VersionNames, boundary: &Path, path: &Path) -> Op
     ensures version { (n : ℕ) → n < 2 ^ 64 → (result ≡ Some (Place.Version n)) ↔ (path.now ≡ version_path names.now n) }
     ensures boundary { result ≡ Some Place.Boundary → path.now ≡ boundary.now }
     ensures elsewhere { result ≡ None → path.now ≢ boundary.now }
+    ensures at { IfSome result (IsAt names.now boundary.now path.now) }
 {
     if let Some(id) = names.parse_id(path) {
         return Some(Place::Version(id));
@@ -46,17 +47,40 @@ pub(crate) fn number_of(metadata: &Metadata) -> Option<u64> {
     time_number(metadata.mtime(), metadata.mtime_nsec())
 }
 
-/// The token of the file at a place, of these bytes and with this time: a version's is its time, which its put has set, the
-/// boundary's the number that it says, which only rises. None matches where there is no such number.
+/// The number that is the token of the file at a place, of these bytes and with this time: a version's is its time, which its
+/// put has set, the boundary's the number that it says, which only rises. None matches where there is no such number.
+pub(crate) fn number_at(place: Place, bytes: &[u8], time: Option<u64>) -> Option<u64>
+    ensures { result ≡ place_token place bytes.now time }
+{
+    match place {
+        Place::Version(_) => time,
+        Place::Boundary => read_boundary(bytes),
+    }
+}
+
+/// The token of the file at a place, of these bytes and with this time.
 pub(crate) fn token_of(place: Place, bytes: &[u8], time: Option<u64>) -> Option<Token>
     ensures { result ≡ place_token place bytes.now time }
 {
-    let number = match place {
-        Place::Version(_) => time,
-        Place::Boundary => read_boundary(bytes),
-    };
-    match number {
+    match number_at(place, bytes, time) {
         Some(number) => Some(Token::new(number)),
         None => None,
     }
+}
+
+/// The number of a token.
+pub(crate) fn number_in(token: Option<Token>) -> Option<u64>
+    ensures { result ≡ token }
+{
+    match token {
+        Some(token) => Some(token.number()),
+        None => None,
+    }
+}
+
+/// The token that is told: 0 where the file has none, which matches nothing.
+pub(crate) fn shown(number: Option<u64>) -> Token
+    ensures { result ≡ unwrap_or number 0 }
+{
+    Token::new(number.unwrap_or(0))
 }

@@ -1,6 +1,6 @@
 //! How a file comes to its name, and how names are looked up, made to last and removed.
 
-use crate::fault::{Doing, Fault, Halt, at_error};
+use crate::fault::{Doing, Fault, Halt, at_error, lacks_folder};
 use crate::numbers::Written;
 use crate::place::number_of;
 use std::fs::OpenFile;
@@ -80,20 +80,34 @@ pub(crate) fn remove<R: Files>(rt: &R, file: &str) -> Result<(), Halt> {
     }
 }
 
-/// Makes the names in a folder last.
-pub(crate) fn sync_folder<R: Files>(rt: &R, folder: &str) -> Result<(), Halt> {
+/// Makes the names in a folder last. Whether the file system did: some sync no folder, and say so.
+pub(crate) fn synced<R: Files>(rt: &R, folder: &str) -> Result<bool, Halt> {
     let synced = match fs::open(rt, folder) {
         Ok(file) => file.sync_all(),
         Err(error) => Err(error),
     };
     match synced {
-        Ok(()) => Ok(()),
-        // Some systems sync no folder: there a name lasts once it is made.
+        Ok(()) => Ok(true),
         Err(error)
             if error.kind() == ErrorKind::InvalidInput || error.kind() == ErrorKind::Unsupported =>
-            { Ok(()) }
+            { Ok(false) }
         Err(error) => Err(Halt::Fault(Fault::of(Doing::SyncingFolder, error))),
     }
+}
+
+/// Makes the names in a folder last. Where the file system syncs no folder, they last as it lets them.
+pub(crate) fn sync_folder<R: Files>(rt: &R, folder: &str) -> Result<(), Halt> {
+    synced(rt, folder)?;
+    Ok(())
+}
+
+/// Makes the names in a folder last, where it is there.
+pub(crate) fn sync_if_there<R: Files>(rt: &R, folder: &str) -> Result<(), Halt> {
+    let done = sync_folder(rt, folder);
+    if lacks_folder(&done) {
+        return Ok(());
+    }
+    done
 }
 
 /// Makes a folder where it is missing, with those above it, each lasting where that is asked.

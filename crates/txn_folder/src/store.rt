@@ -1,23 +1,20 @@
 //! The store.
-ghost use Rattle.std.specs.Prelude.{◌≡◌, is_some, false, IfErr, OnErr, IfOk, is_ok};
+ghost use Rattle.std.specs.Prelude.{◌≡◌, ◌≤◌, is_some, false, IfErr, IfOk, OnOk, option_copied, option_map};
+ghost use Rattle.txn_store.specs.VersionName.{version_path};
+ghost use Rattle.txn_folder.specs.Tokens.{IsAt, IsTokenOf};
 ghost use Rattle.txn_folder.specs.Replies.{IsReplyTo, IsHalt, IsPutError, IsGetError, is_failed, has_failed, reply_failed};
+ghost use Rattle.txn_folder.specs.Told.{Tells, IsGotOf, IsListing};
 
-use crate::clean::clean_in;
-use crate::fault::{Doing, Fault, Halt, at_error};
+use crate::disk::Disk;
+use crate::fault::{Doing, Fault, Halt};
 use crate::folder::Folder;
-use crate::found::{Found, read_file};
-use crate::listing::page_after;
-use crate::lock::{LockFile, Sharing, take_lock};
-use crate::numbers::{Numbers, Written};
-use crate::place::{Place, place_of, token_of};
-use crate::publish::{link, make_folders, remove, replace, stands, sync_folder};
+use crate::lock::LockFile;
+use crate::place::{Place, number_in, place_of, shown};
 use bytes::Bytes;
-use std::alloc::{AllocError, Global};
-use std::fs;
-use std::io::ErrorKind;
+use std::alloc::Global;
 use std::rt::{Clock, Files};
 use std::time::SystemTime;
-use txn_store::page::{Listing, Page};
+use txn_store::page::Page;
 use txn_store::path::Path;
 use txn_store::request::{Reply, Request};
 use txn_store::store::{Got, PutMode, StoreError, Token};
@@ -26,21 +23,31 @@ use txn_store::version_names::VersionNames;
 /// The files of one object in a folder, under the names that requests have for them.
 #[derive(Drop)]
 pub struct FolderStore<R: Files + Drop> {
-    rt: R,
     names: VersionNames,
     boundary: Path,
-    folder: Folder,
-    numbers: Numbers,
-    /// Whether what is answered lasts when the power fails.
-    syncs: bool,
+    disk: Disk<R>,
     fault: Option<Fault>,
 }
 
-/// The token that is told: 0 where the file has none, which matches nothing.
-fn shown(token: Option<Token>) -> Token {
-    match token {
-        Some(token) => token,
-        None => Token::new(0),
+/// The halt of a call whose path is none of the object's.
+fn elsewhere() -> Halt {
+    Halt::Fault(Fault::at(Doing::Elsewhere))
+}
+
+/// The error of a call that did not go on, whose fault is kept.
+fn halted(kept: &mut Option<Fault>, halt: Halt) -> StoreError
+    ensures halt { IsHalt result }
+    ensures fault { is_some kept.new ≡ is_failed result }
+{
+    match halt {
+        Halt::NoMemory => {
+            *kept = None;
+            StoreError::NoMemory
+        }
+        Halt::Fault(fault) => {
+            *kept = Some(fault);
+            StoreError::Failed
+        }
     }
 }
 
@@ -49,7 +56,7 @@ where
     R::File: LockFile,
 {
     /// The store of the files in `folder`, for requests that name versions by `names` and the boundary by `boundary`. With
-    /// `syncs`, what is answered lasts when the power fails.
+    /// `syncs`, what is told lasts when the power fails.
     pub fn new(
         rt: R,
         folder: Folder,
@@ -57,15 +64,15 @@ where
         boundary: Path,
         syncs: bool,
     ) -> FolderStore<R>
-        ensures { is_some result.fault ≡ false }
+        ensures fault { is_some result.fault ≡ false }
+        ensures names { result.names ≡ names }
+        ensures boundary { result.boundary ≡ boundary }
+        ensures numbers { result.disk.numbers.last ≡ 0 }
     {
         FolderStore {
-            rt,
             names,
             boundary,
-            folder,
-            numbers: Numbers::new(),
-            syncs,
+            disk: Disk::new(rt, folder, syncs),
             fault: None,
         }
     }
@@ -81,9 +88,16 @@ where
     /// is refused with `AlreadyExists`, an `Update` with `Precondition`, a get answers `NotFound`, or `NotModified` where a
     /// token is known. `NoMemory` leaves the files as they were. `Failed` comes with a `fault()`, and only then is there one:
     /// the call took its whole effect or none.
+    ///
+    /// A put and a get of the boundary tell the number that its bytes say as its token, a put of a version tells a number
+    /// above each that this store gave before, and a listing tells the paths of versions, ascending, above the one that it
+    /// goes on after and up to the limit.
     pub fn serve(&mut self, alloc: Global, request: &Request) -> Reply
         ensures kind { IsReplyTo request.now result }
         ensures fault { is_some self.new.fault ≡ reply_failed result }
+        ensures tells { Tells self.old.names self.old.boundary self.old.disk.numbers.last self.new.disk.numbers.last request.now result }
+        ensures rises { self.old.disk.numbers.last ≤ self.new.disk.numbers.last }
+        ensures kept { (self.new.names ≡ self.old.names) × (self.new.boundary ≡ self.old.boundary) }
     {
         self.fault = None;
         match request {
@@ -96,14 +110,8 @@ where
                 prefix,
                 after,
                 limit,
-            } => {
-                let page = self.list(alloc, prefix, after.as_ref(), *limit);
-                Reply::List(self.answered(page))
-            }
-            Request::Delete { path } => {
-                let deleted = self.delete(alloc, path);
-                Reply::Delete(self.answered(deleted))
-            }
+            } => Reply::List(self.list(alloc, prefix, after.as_ref(), *limit)),
+            Request::Delete { path } => Reply::Delete(self.delete(alloc, path)),
         }
     }
 
@@ -111,36 +119,16 @@ where
     /// died. A process that is slower than that is told `Failed` of its put, which then had no effect. It stops at the first
     /// step that fails.
     pub fn clean(&mut self, before: SystemTime) -> Result<u64, Fault> {
-        let versions = clean_in(&self.rt, &self.folder, self.folder.versions(), before)?;
-        let gc = clean_in(&self.rt, &self.folder, self.folder.gc(), before)?;
-        Ok(versions.saturating_add(gc))
+        self.disk.clean(before)
     }
 
-    /// The error of a call that did not go on, whose fault is kept.
-    fn halted(&mut self, halt: Halt) -> StoreError
-        ensures halt { IsHalt result }
-        ensures fault { is_some self.new.fault ≡ is_failed result }
+    /// What a path names. Any other is a fault.
+    fn place(&self, path: &Path) -> Result<Place, Halt>
+        ensures { IfOk result (IsAt self.now.names self.now.boundary path.now) }
     {
-        match halt {
-            Halt::NoMemory => {
-                self.fault = None;
-                StoreError::NoMemory
-            }
-            Halt::Fault(fault) => {
-                self.fault = Some(fault);
-                StoreError::Failed
-            }
-        }
-    }
-
-    fn answered<T: Drop>(&mut self, done: Result<T, Halt>) -> Result<T, StoreError>
-        requires { is_some self.old.fault ≡ false }
-        ensures halt { IfErr result IsHalt }
-        ensures fault { is_some self.new.fault ≡ has_failed result }
-    {
-        match done {
-            Ok(value) => Ok(value),
-            Err(halt) => Err(self.halted(halt)),
+        match place_of(&self.names, &self.boundary, path) {
+            Some(place) => Ok(place),
+            None => Err(elsewhere()),
         }
     }
 
@@ -154,22 +142,29 @@ where
         requires { is_some self.old.fault ≡ false }
         ensures error { IfErr result (IsPutError mode.now) }
         ensures fault { is_some self.new.fault ≡ has_failed result }
+        ensures token { IfOk result (IsTokenOf self.old.names self.old.boundary path.now bytes.now self.old.disk.numbers.last self.new.disk.numbers.last) }
+        ensures rises { self.old.disk.numbers.last ≤ self.new.disk.numbers.last }
+        ensures kept { (self.new.names ≡ self.old.names) × (self.new.boundary ≡ self.old.boundary) }
     {
+        let place = match self.place(path) {
+            Ok(place) => place,
+            Err(halt) => return Err(halted(&mut self.fault, halt)),
+        };
         match mode {
-            PutMode::Create => match self.create(alloc, path, bytes) {
+            PutMode::Create => match self.disk.create(alloc, place, bytes) {
                 Ok(Some(token)) => Ok(token),
                 Ok(None) => Err(StoreError::AlreadyExists),
-                Err(halt) => Err(self.halted(halt)),
+                Err(halt) => Err(halted(&mut self.fault, halt)),
             },
-            PutMode::Update(token) => match self.update(alloc, path, bytes, *token) {
+            PutMode::Update(token) => match self.disk.update(alloc, place, bytes, *token) {
                 Ok(Some(token)) => Ok(token),
                 Ok(None) => Err(StoreError::Precondition),
-                Err(halt) => Err(self.halted(halt)),
+                Err(halt) => Err(halted(&mut self.fault, halt)),
             },
-            PutMode::Overwrite => {
-                let token = self.overwrite(alloc, path, bytes);
-                self.answered(token)
-            }
+            PutMode::Overwrite => match self.disk.overwrite(alloc, place, bytes) {
+                Ok(token) => Ok(token),
+                Err(halt) => Err(halted(&mut self.fault, halt)),
+            },
         }
     }
 
@@ -182,225 +177,82 @@ where
         requires { is_some self.old.fault ≡ false }
         ensures error { IfErr result (IsGetError if_none_match) }
         ensures fault { is_some self.new.fault ≡ has_failed result }
+        ensures token { IfOk result (IsGotOf self.old.names self.old.boundary path.now) }
+        ensures given { self.new.disk.numbers.last ≡ self.old.disk.numbers.last }
+        ensures kept { (self.new.names ≡ self.old.names) × (self.new.boundary ≡ self.old.boundary) }
     {
-        match self.found(alloc, path) {
+        let place = match self.place(path) {
+            Ok(place) => place,
+            Err(halt) => return Err(halted(&mut self.fault, halt)),
+        };
+        match self.disk.read(alloc, place) {
             Ok(None) => Err(StoreError::NotFound),
             Ok(Some(found)) if found.token.is_some() && found.token == if_none_match => {
                 Err(StoreError::NotModified)
             }
             Ok(Some(found)) => Ok(Got {
                 bytes: found.bytes,
-                token: shown(found.token),
+                token: shown(number_in(found.token)),
             }),
-            Err(halt) => Err(self.halted(halt)),
+            Err(halt) => Err(halted(&mut self.fault, halt)),
         }
     }
 
-    fn place(&self, path: &Path) -> Result<Place, Halt> {
-        match place_of(&self.names, &self.boundary, path) {
-            Some(place) => Ok(place),
-            None => Err(Halt::Fault(Fault::at(Doing::Elsewhere))),
-        }
-    }
-
-    fn file_of(&self, alloc: Global, place: Place) -> Result<String, AllocError> {
-        match place {
-            Place::Version(id) => self.folder.version(alloc, id),
-            Place::Boundary => String::from_str(alloc, self.folder.boundary()),
-        }
-    }
-
-    fn folder_of(&self, place: Place) -> &str {
-        match place {
-            Place::Version(_) => self.folder.versions(),
-            Place::Boundary => self.folder.gc(),
-        }
-    }
-
-    /// Makes the names in a place's folder last, where that is asked.
-    fn sync(&self, place: Place) -> Result<(), Halt> {
-        if !self.syncs {
-            return Ok(());
-        }
-        sync_folder(&self.rt, self.folder_of(place))
-    }
-
-    /// Makes a file, where none stands, and tells its token.
-    fn create(&mut self, alloc: Global, path: &Path, bytes: &Bytes) -> Result<Option<Token>, Halt>
-        ensures { self.new.fault ≡ self.old.fault }
+    fn delete(&mut self, alloc: Global, path: &Path) -> Result<(), StoreError>
+        requires { is_some self.old.fault ≡ false }
+        ensures error { IfErr result IsHalt }
+        ensures fault { is_some self.new.fault ≡ has_failed result }
+        ensures given { self.new.disk.numbers.last ≡ self.old.disk.numbers.last }
+        ensures kept { (self.new.names ≡ self.old.names) × (self.new.boundary ≡ self.old.boundary) }
     {
-        let place = self.place(path)?;
-        let file = self.file_of(alloc, place)?;
-        if stands(&self.rt, file.as_str())? {
-            return Ok(None);
-        }
-        let written = self.write(alloc, place, file.as_str(), bytes)?;
-        if !link(&self.rt, written.name.as_str(), file.as_str())? {
-            return Ok(None);
-        }
-        self.sync(place)?;
-        Ok(Some(shown(token_of(place, bytes.as_slice(), Some(written.number)))))
-    }
-
-    /// Writes the bytes whole beside a file.
-    fn write(
-        &mut self,
-        alloc: Global,
-        place: Place,
-        file: &str,
-        bytes: &Bytes,
-    ) -> Result<Written, Halt>
-        ensures { self.new.fault ≡ self.old.fault }
-    {
-        let syncs = self.syncs;
-        make_folders(&self.rt, self.folder_of(place), syncs)?;
-        self.numbers
-            .write(alloc, &self.rt, file, bytes.as_slice(), syncs)
-    }
-
-    /// The lock of a file's updates and removals, in a folder that is made where it is missing.
-    fn lock(&self, alloc: Global, place: Place, file: &str) -> Result<R::File, Halt> {
-        make_folders(&self.rt, self.folder_of(place), self.syncs)?;
-        let name = format!(in alloc; "{file}#0")?;
-        take_lock(&self.rt, name.as_str(), Sharing::Alone)
-    }
-
-    /// Replaces a file that has this token, and tells the new one.
-    fn update(
-        &mut self,
-        alloc: Global,
-        path: &Path,
-        bytes: &Bytes,
-        token: Token,
-    ) -> Result<Option<Token>, Halt>
-        ensures { self.new.fault ≡ self.old.fault }
-    {
-        let place = self.place(path)?;
-        let file = self.file_of(alloc, place)?;
-        let lock = self.lock(alloc, place, file.as_str())?;
-        let done = self.update_locked(alloc, place, file.as_str(), bytes, token);
-        drop(lock);
-        done
-    }
-
-    fn update_locked(
-        &mut self,
-        alloc: Global,
-        place: Place,
-        file: &str,
-        bytes: &Bytes,
-        token: Token,
-    ) -> Result<Option<Token>, Halt>
-        ensures { self.new.fault ≡ self.old.fault }
-    {
-        match read_file(&self.rt, place, file)? {
-            Some(now) if now.token == Some(token) => {}
-            _ => return Ok(None),
-        }
-        let token = self.put_over(alloc, place, file, bytes)?;
-        Ok(Some(token))
-    }
-
-    /// Writes a file whatever stands there, and tells its token.
-    fn overwrite(&mut self, alloc: Global, path: &Path, bytes: &Bytes) -> Result<Token, Halt>
-        ensures { self.new.fault ≡ self.old.fault }
-    {
-        let place = self.place(path)?;
-        let file = self.file_of(alloc, place)?;
-        let _ = stands(&self.rt, file.as_str())?;
-        let lock = self.lock(alloc, place, file.as_str())?;
-        let done = self.put_over(alloc, place, file.as_str(), bytes);
-        drop(lock);
-        done
-    }
-
-    /// Puts a new file in the place of what stands there.
-    fn put_over(
-        &mut self,
-        alloc: Global,
-        place: Place,
-        file: &str,
-        bytes: &Bytes,
-    ) -> Result<Token, Halt>
-        ensures { self.new.fault ≡ self.old.fault }
-    {
-        let written = self.write(alloc, place, file, bytes)?;
-        replace(&self.rt, &written, file)?;
-        self.sync(place)?;
-        Ok(shown(token_of(place, bytes.as_slice(), Some(written.number))))
-    }
-
-    fn found(&self, alloc: Global, path: &Path) -> Result<Option<Found>, Halt> {
-        let place = self.place(path)?;
-        let file = self.file_of(alloc, place)?;
-        read_file(&self.rt, place, file.as_str())
-    }
-
-    /// The lock that removals of versions take alone, and listings with one another.
-    fn lock_versions(&self, alloc: Global, sharing: Sharing) -> Result<R::File, Halt> {
-        let versions = self.folder.versions();
-        let name = format!(in alloc; "{versions}/#0")?;
-        take_lock(&self.rt, name.as_str(), sharing)
-    }
-
-    fn delete(&self, alloc: Global, path: &Path) -> Result<(), Halt> {
-        let place = self.place(path)?;
-        let file = self.file_of(alloc, place)?;
-        if !stands(&self.rt, file.as_str())? {
-            return Ok(());
-        }
-        let lock = match place {
-            Place::Version(_) => self.lock_versions(alloc, Sharing::Alone)?,
-            Place::Boundary => self.lock(alloc, place, file.as_str())?,
+        let place = match self.place(path) {
+            Ok(place) => place,
+            Err(halt) => return Err(halted(&mut self.fault, halt)),
         };
-        let removed = self.remove_locked(place, file.as_str());
-        drop(lock);
-        removed
-    }
-
-    fn remove_locked(&self, place: Place, file: &str) -> Result<(), Halt> {
-        remove(&self.rt, file)?;
-        self.sync(place)
+        match self.disk.delete(alloc, place) {
+            Ok(()) => Ok(()),
+            Err(halt) => Err(halted(&mut self.fault, halt)),
+        }
     }
 
     fn list(
-        &self,
+        &mut self,
         alloc: Global,
         prefix: &Path,
         after: Option<&Path>,
         limit: u64,
-    ) -> Result<Page, Halt> {
-        let after = self.above(prefix, after)?;
-        if !self.has_versions()? {
-            return Ok(Page {
-                metas: Listing::from_vec(Vec::new(alloc)),
-                more: false,
-            });
+    ) -> Result<Page, StoreError>
+        requires { is_some self.old.fault ≡ false }
+        ensures error { IfErr result IsHalt }
+        ensures fault { is_some self.new.fault ≡ has_failed result }
+        ensures listing { IfOk result (IsListing self.old.names prefix.now (option_copied after.entry) limit) }
+        ensures given { self.new.disk.numbers.last ≡ self.old.disk.numbers.last }
+        ensures kept { (self.new.names ≡ self.old.names) × (self.new.boundary ≡ self.old.boundary) }
+    {
+        let from = match self.above(prefix, after) {
+            Ok(from) => from,
+            Err(halt) => return Err(halted(&mut self.fault, halt)),
+        };
+        match self.disk.list(alloc, &self.names, from, limit) {
+            Ok(page) => Ok(page),
+            Err(halt) => Err(halted(&mut self.fault, halt)),
         }
-        let lock = self.lock_versions(alloc, Sharing::WithOthers)?;
-        let page = page_after(&self.rt, alloc, &self.folder, &self.names, after, limit);
-        drop(lock);
-        page
     }
 
     /// The version that a listing goes on after. It has to be a listing of the versions.
-    fn above(&self, prefix: &Path, after: Option<&Path>) -> Result<Option<u64>, Halt> {
-        let id = match after {
-            None => None,
-            Some(path) => self.names.parse_id(path),
-        };
-        if *prefix != *self.names.dir() || id.is_some() != after.is_some() {
-            return Err(Halt::Fault(Fault::at(Doing::Elsewhere)));
+    fn above(&self, prefix: &Path, after: Option<&Path>) -> Result<Option<u64>, Halt>
+        ensures prefix { OnOk result (prefix.now ≡ self.now.names.dir) }
+        ensures after { IfOk result (λ from. option_copied after.entry ≡ option_map (version_path self.now.names) from) }
+    {
+        if *prefix != *self.names.dir() {
+            return Err(elsewhere());
         }
-        Ok(id)
-    }
-
-    /// Whether the folder of the versions is there.
-    fn has_versions(&self) -> Result<bool, Halt> {
-        match fs::metadata(&self.rt, self.folder.versions()) {
-            Ok(_) => Ok(true),
-            Err(error) if error.kind() == ErrorKind::NotFound => Ok(false),
-            Err(error) => Err(at_error(Doing::Listing, error)),
+        let Some(path) = after else {
+            return Ok(None);
+        };
+        match self.names.parse_id(path) {
+            Some(id) => Ok(Some(id)),
+            None => Err(elsewhere()),
         }
     }
 }

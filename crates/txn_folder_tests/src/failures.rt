@@ -7,6 +7,7 @@ use crate::steps::Call::{
 use crate::steps::{Call, folder_of, layout_of, store_of, told};
 use std::cell::Cell;
 use std::fs;
+use std::io::ErrorKind;
 use std::test::Fail;
 use txn_store::path::PathFault;
 
@@ -62,10 +63,22 @@ const CASES: &[Case] = &[
         &[(Read(1, b"0:1"), "got")],
     ),
     (
+        Delete(2),
+        "deleted",
+        &[(Read(2, b""), "not found")],
+        &[(Read(2, b""), "not found")],
+    ),
+    (
         Read(1, b"0:1"),
         "got",
         &[(Read(1, b"0:1"), "got")],
         &[(Read(1, b"0:1"), "got")],
+    ),
+    (
+        ReadBoundary(b"1"),
+        "got",
+        &[(ReadBoundary(b"1"), "got")],
+        &[(ReadBoundary(b"1"), "got")],
     ),
     (
         List(None, 5, &[1], false),
@@ -118,6 +131,8 @@ fn told_failing(
         rt,
         left: &left,
         after,
+        kind: ErrorKind::Other,
+        writes: true,
     };
     let mut store = store_of(failing, root, true)?;
     let layout = layout_of(rt.alloc())?;

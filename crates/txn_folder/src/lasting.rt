@@ -1,0 +1,58 @@
+//! What a process knows to last when the power fails.
+ghost use Rattle.std.specs.Prelude.{◌≡◌, None};
+ghost use Rattle.txn_folder.specs.Lasting.{is_known, known_with};
+
+use crate::place::Place;
+
+/// What a process knows to last: names that stood as it synced their folder. A sync makes all names of a folder last, and
+/// versions are made in the order of their ids: so the greatest id tells of all below it.
+#[derive(Drop)]
+pub(crate) struct Lasting {
+    /// The greatest id of a version that lasts.
+    pub versions: Option<u64>,
+    /// The number of the boundary that lasts.
+    pub boundary: Option<u64>,
+}
+
+impl Lasting {
+    /// Nothing is known.
+    pub fn new() -> Lasting
+        ensures versions { result.versions ≡ None }
+        ensures boundary { result.boundary ≡ None }
+    {
+        Lasting {
+            versions: None,
+            boundary: None,
+        }
+    }
+
+    /// Whether the file of this number at a place is known to last. A boundary that says no number is not.
+    pub fn has(&self, place: Place, number: Option<u64>) -> bool
+        ensures { result ≡ is_known self.now place number }
+    {
+        match place {
+            Place::Version(id) => match self.versions {
+                Some(last) => id <= last,
+                None => false,
+            },
+            Place::Boundary => match (self.boundary, number) {
+                (Some(known), Some(number)) => number == known,
+                _ => false,
+            },
+        }
+    }
+
+    /// Keeps that the file of this number at a place lasts.
+    pub fn add(&mut self, place: Place, number: Option<u64>)
+        ensures { self.new ≡ known_with place number self.old }
+    {
+        match place {
+            Place::Version(id) => {
+                if !self.has(place, number) {
+                    self.versions = Some(id);
+                }
+            }
+            Place::Boundary => self.boundary = number,
+        }
+    }
+}
