@@ -8,12 +8,12 @@ ghost use Rattle.txn_history.specs.Lists.{numbered};
 ghost use Rattle.txn_clients.specs.Views.{IsFromOne};
 ghost use Rattle.txn_world.specs.Running.{is_in, runs_for, left_of, ended_where};
 
-use txn_rows::sets::numbers_of;
 use std::alloc::{AllocError, Global};
 use std::collections::BTreeSet;
 use txn_any_machine::doing::{AnyDoing, AnyOperation, Ending};
 use txn_caches::caches::Caches;
 use txn_clients::operations::{self, Usage, asked, loose_copy, runs};
+use txn_rows::sets::numbers_of;
 use txn_store::request::{Reply, Request};
 use txn_types::codec::ObjectCodec;
 use txn_types::epoch::EpochField;

@@ -11,11 +11,11 @@ ghost use Rattle.txn_clients.specs.Views.{IsFromOne};
 ghost use Rattle.txn_rows.specs.Beside.{ending_count};
 ghost use Rattle.txn_world.specs.Owning.{room_of};
 
-use txn_rows::trace::Trace;
 use crate::views::Views;
 use txn_any_machine::doing::Ending;
 use txn_clients::operations::Usage;
 use txn_history::event::Answer;
+use txn_rows::trace::Trace;
 use txn_types::codec::ObjectCodec;
 use txn_types::epoch::EpochField;
 use txn_view_history::event::{AnyAnswer, AnyTold};

@@ -7,8 +7,8 @@ ghost use Rattle.txn_store.specs.Requests.{Serves};
 ghost use Rattle.txn_history.specs.Added.{effect_rows};
 ghost use Rattle.txn_machine.specs.Machine.{effect_of, took, may_change};
 
-use txn_rows::trace::Trace;
 use std::alloc::{AllocError, Global};
+use txn_rows::trace::Trace;
 use txn_store::in_memory::InMemory;
 use txn_store::request::{Reply, Request};
 use txn_types::codec::ObjectCodec;

@@ -7,12 +7,12 @@ ghost use Rattle.txn_history.specs.History.{is_id};
 ghost use Rattle.txn_any_machine.specs.Machine.{used_by};
 ghost use Rattle.txn_world.specs.Owning.{owns, owner_of, room_of, stands_for, emptied_where};
 
-use txn_rows::sets::insert_id;
 use std::alloc::{AllocError, Global};
 use std::collections::HashSet;
 use txn_any_machine::doing::Ending;
 use txn_clients::operations::Usage;
 use txn_clients::views::{self, Answers};
+use txn_rows::sets::insert_id;
 use txn_view_history::view::View;
 use txn_view_machine::used::Used;
 

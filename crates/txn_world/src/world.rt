@@ -15,12 +15,12 @@ ghost use Rattle.txn_types.specs.Clones.{IsExactClone};
 ghost use Rattle.txn_machine.specs.Machine.{HasContents, fault_met};
 ghost use Rattle.txn_any_machine.specs.Machine.{opening, seen_calls, seen_views, seen_of, next_event, Takes, RunsPast};
 
-use txn_rows::entries::entries_of;
 use crate::tables::Tables;
 use std::alloc::{AllocError, Global};
 use std::marker::Model;
 use txn_caches::ask::Ask;
 use txn_history::event::EventFault;
+use txn_rows::entries::entries_of;
 use txn_types::codec::ObjectCodec;
 use txn_types::epoch::EpochField;
 use txn_view_history::event::{AnyEvent, AnyTold};
