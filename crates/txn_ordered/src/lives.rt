@@ -24,7 +24,15 @@ pub(crate) struct Life {
     pub last: u64,
 }
 
-/// All lives, those of one version side by side, in the order in which they began.
+impl Life {
+    /// A time at which it stood: when the last call was asked that saw it, or else when the reply of its making was there. A
+    /// create that was asked first may come after another's life, where its client was held up.
+    fn stood(&self) -> u64 {
+        if self.last > 0 { self.last } else { self.until }
+    }
+}
+
+/// All lives, those of one version side by side, in the order in which they stood.
 #[derive(Drop)]
 pub(crate) struct Lives {
     pub lives: Vec<Life>,
@@ -208,7 +216,7 @@ impl Lives {
     /// Puts the lives of one version side by side, and finds them by their tokens again.
     fn arrange(&mut self) -> Result<(), AllocError> {
         self.lives
-            .sort_by_key(|life| (life.id, life.from, life.token.unwrap_or(0)))?;
+            .sort_by_key(|life| (life.id, life.stood(), life.token.unwrap_or(0)))?;
         for place in 0..self.lives.len() {
             if let Some(token) = self.lives[place].token {
                 self.of_token.insert(token, place)?;
@@ -295,7 +303,7 @@ pub(crate) fn lived(
     lives.land_seen(calls, fates, loose.as_slice(), sights.as_slice())?;
     let mut ids = ids_of(alloc, lives.lives.as_slice())?;
     lives.land_taken(calls, fates, loose.as_slice(), &mut ids)?;
-    lives.arrange()?;
     lives.note_sights(sights.as_slice());
+    lives.arrange()?;
     Ok(lives)
 }
