@@ -1,9 +1,10 @@
 """The refusals of wrong bodies that this machine keeps, so that a run tries again only what has changed.
 
-A refusal holds for the toolchain, the tool, the texts of the crate and of the crates below it with their libraries, and
-the text of the edit. A file of the folder is the sheet of a crate as it stands over the first four: under their sum it has
-a line for each edit that was refused. A line that is damaged, or of another sheet, is as none. What was not refused is
-tried by each run."""
+A refusal holds for the toolchain, the tool, the texts of the crate, what its check can see of the crates below it with
+their libraries, and the text of the edit. A check proves each function from the contracts of what it calls, so it sees of
+another crate all but the bodies of its functions, and the proofs of these. A file of the folder is the sheet of a crate as
+it stands over the first four: under their sum it has a line for each edit that was refused. A line that is damaged, or of
+another sheet, is as none. What was not refused is tried by each run."""
 from __future__ import annotations
 
 import functools
@@ -13,11 +14,14 @@ import shutil
 import sys
 
 from crate_copies import libraries_listed, texts_of
+from rattle_source import without_own_bodies
 
 # The variable that names another folder than the user's cache folder.
 FOLDER_VARIABLE = "TENDRIFALO_CACHE"
 # How many sheets are kept of a crate, those that were used last.
 MOST_SHEETS = 30
+# The files that prove a function by its body: no other function's proof can name what is in them.
+PROOFS_OF_BODIES = ("Answers.antt", "Invariants.antt", "Proof.antt")
 # The files of the tool that a verdict rests on.
 TOOL = ("crate_copies.py", "kept_verdicts.py", "rattle_source.py", "wrong_bodies.py", "wrong_bodies_run.py")
 
@@ -35,6 +39,12 @@ def sum_of(*parts):
     for part in parts:
         found.update(b"%d\n" % len(part.encode()) + part.encode())
     return found.hexdigest()
+
+
+def seen_by_others(texts):
+    """What a check of another crate can see of a crate's texts by path, as texts by path."""
+    seen = {path: text for path, text in texts.items() if os.path.basename(path) not in PROOFS_OF_BODIES}
+    return {path: without_own_bodies(text) if path.endswith(".rt") else text for path, text in seen.items()}
 
 
 def sum_of_file(path):
@@ -63,7 +73,7 @@ class Verdicts:
 
     def __init__(self, folder, root, texts, commands, is_anew=False):
         self.folder, self.root, self.texts, self.commands, self.is_anew = folder, root, texts, commands, is_anew
-        self.libraries = libraries_listed(root)
+        self.libraries, self.seen_of = libraries_listed(root), {}
 
     @functools.cached_property
     def base(self):
@@ -74,9 +84,16 @@ class Verdicts:
         """A checksum of all that a verdict on an edit of this crate rests on but the edit."""
         parts = [self.base]
         for it in [name, *below]:
+            texts = self.texts[it] if it == name else self.seen(it)
             parts += [it, *self.libraries[it], ""]
-            parts += [part for path, text in sorted(self.texts[it].items()) for part in (path, text)]
+            parts += [part for path, text in sorted(texts.items()) for part in (path, text)]
         return sum_of(*parts)
+
+    def seen(self, name):
+        """What a check of a crate above can see of this one, read once."""
+        if name not in self.seen_of:
+            self.seen_of[name] = seen_by_others(self.texts[name])
+        return self.seen_of[name]
 
     def sheet(self, name, below):
         """The sheet of a crate over these crates below it."""

@@ -17,6 +17,8 @@ ITEM = re.compile(
 NAME = re.compile(r"\s+(?:r#)?([A-Za-z_]\w*)")
 TYPE = re.compile(r"^(?:pub(?:\([^)]*\))?[ \t]+)?(?:struct|enum|union)\s+(\w+)", re.M)
 CLAUSE = re.compile(r"\b(?:requires|ensures|ghost)\b")
+# A function of which others may read the body: one for constants, or one that returns a type which its body tells.
+READ_BY_OTHERS = re.compile(r"\bconst\s+(?:unsafe\s+)?fn\b|->\s*(?:\w+\s*<.*)?\bimpl\b", re.S)
 
 
 @dataclass(frozen=True)
@@ -74,6 +76,8 @@ class Place:
     start: int
     body: int
     end: int
+    # Whether it stands in a trait, whose types take over a body that is there.
+    is_of_trait: bool = False
 
 
 @functools.lru_cache(maxsize=None)
@@ -160,7 +164,19 @@ def places_in(text, module, homes):
     return list(items(code, 0, len(code), module, None, homes))
 
 
-def items(code, at, end, module, owner, homes):
+def without_own_bodies(text):
+    """The text of a file without what a check of another crate can't see of it: the bodies of its functions. Those that
+    constants may call, whose type they tell, or that types may take over, are left."""
+    found, at = [], 0
+    for it in places_in(text, "", {}):
+        head = text[it.start : it.body]
+        if text[it.body : it.body + 1] == "{" and not it.is_of_trait and not READ_BY_OTHERS.search(head):
+            found.append(text[at : it.body])
+            at = it.end
+    return ";".join([*found, text[at:]])
+
+
+def items(code, at, end, module, owner, homes, is_of_trait=False):
     """The functions between two places of the code, which stand in this module and block."""
     while True:
         item = ITEM.search(code, at, end)
@@ -172,7 +188,7 @@ def items(code, at, end, module, owner, homes):
                 continue
             body = body_of(code, name.end())
             at = after_block(code, body) if code[body : body + 1] == "{" else body + 1
-            yield Place(Function(module, owner, name[1]), item.start(), body, at)
+            yield Place(Function(module, owner, name[1]), item.start(), body, at, is_of_trait)
             continue
         opens = re.compile(r"[{;]").search(code, at, end)
         if not opens or opens[0] == ";" or kind != "impl" and not name:
@@ -183,7 +199,7 @@ def items(code, at, end, module, owner, homes):
         else:
             block = Owner(name[1]) if kind == "trait" else owner_of_impl(code[item.end() : opens.start()])
             home = module if block.trait_name else homes.get(block.type_name, module)
-            yield from items(code, inside, at, home, block, homes)
+            yield from items(code, inside, at, home, block, homes, kind == "trait")
 
 
 def module_of(path):

@@ -6,7 +6,7 @@ import unittest
 sys.dont_write_bytecode = True
 sys.path.insert(0, os.path.dirname(os.path.dirname(os.path.realpath(__file__))))
 
-from rattle_source import module_of, named_in_log, owner_of_impl, places_in  # noqa: E402
+from rattle_source import module_of, named_in_log, owner_of_impl, places_in, without_own_bodies  # noqa: E402
 from wrong_bodies import BadEdit, Trial, applied, batches, functions_in, pairs_of, read_edit, read_log  # noqa: E402
 
 PATHS = """\
@@ -119,6 +119,14 @@ class Reading(unittest.TestCase):
         wanted = ["path::is_dots", "path::Path::join", "path::Path::fmt", "path::PathDisplay::fmt",
                   "path::FaultFromAllocError::from", "path::FaultFromAllocFailed::from", "path::inner::deep"]
         self.assertEqual(found, wanted)
+
+    def test_what_others_see_of_a_file(self):
+        text = ("const N: u8 = two();\npub const fn two() -> u8 {\n    2\n}\npub fn all() -> impl Iter {\n    every()\n}\n"
+                "trait Shown {\n    fn shown(&self) -> u8 {\n        1\n    }\n}\n"
+                "impl Shown for N {\n    fn shown(&self) -> u8\n        ensures { result ≡ 2 }\n    {\n        2\n    }\n}\n"
+                "fn of(it: impl Shown) -> u8 {\n    it.shown()\n}\n")
+        seen = text.replace("{\n        2\n    }", ";").replace("{\n    it.shown()\n}", ";")
+        self.assertEqual(without_own_bodies(text), seen)
 
     def test_methods_of_a_type_declared_in_another_file(self):
         texts = {"src/table.rt": "pub struct Table {}\npub(crate) struct Row;\n", "src/row.rt": "struct Row;\n",

@@ -224,6 +224,16 @@ class Runs(unittest.TestCase):
         self.assertEqual(self.run_command("high", anew=False)[3].count("high rattle check"), 1)
         self.assertEqual(self.run_command("high", anew=False)[3], [])
 
+    def test_a_body_below_is_not_seen_above(self):
+        self.run_command(anew=False)
+        body = SOURCE.replace("    2\n", "    // Two.\n    2\n")
+        self.file("repository/crates/low/src/lib.rt", body)
+        self.file("repository/crates/low/proofs/second/Answers.antt", "of two\n")
+        self.assertEqual(self.run_command("high", anew=False)[3], [])
+        self.assertEqual(self.run_command("low", anew=False)[3], ["low rt check", "low rattle check"])
+        self.file("repository/crates/low/src/lib.rt", body.replace("second() -> u8", "second() -> u8\n    ensures { result ≡ 2 }\n"))
+        self.assertEqual(self.run_command("high", anew=False)[3].count("high rattle check"), 1)
+
     def test_a_damaged_line_is_as_none(self):
         self.run_command("low", anew=False)
         folder = f"{self.room}/cache/wrong-bodies/low"
