@@ -4,7 +4,7 @@ use clap::{Arg, ArgAction, ArgMatches, Command as Words, Error, value_parser};
 use std::alloc::{AllocError, Global};
 
 /// Where a value comes from: the argument itself, the standard input for `-`, or a file for `@FILE`.
-#[derive(Clone, Copy, Debug, PartialEq, Eq)]
+#[derive(Clone, Copy)]
 pub enum Source<'a> {
     Text(&'a str),
     Input,
@@ -12,7 +12,7 @@ pub enum Source<'a> {
 }
 
 /// What is asked for.
-#[derive(Debug, Drop)]
+#[derive(Drop)]
 pub enum Command<'a> {
     /// Writes the first version.
     Init(Source<'a>),
@@ -62,7 +62,7 @@ pub enum Command<'a> {
 }
 
 /// Which object, who asks, and how.
-#[derive(Debug, Drop)]
+#[derive(Drop)]
 pub struct Options<'a> {
     /// The folder below which the object's files lie. Only an audit needs none.
     pub root: Option<&'a str>,
@@ -78,225 +78,252 @@ pub struct Options<'a> {
     pub command: Command<'a>,
 }
 
-/// A positional argument that has to be there.
-fn needed<'a>(alloc: Global, id: &'a str, help: &'a str) -> Arg<'a> {
-    Arg::new(alloc, id).required(true).help(help)
+/// What an argument is.
+#[derive(Clone, Copy)]
+enum Kind {
+    /// A text that has to be there.
+    Place,
+    /// A number that has to be there.
+    Count,
+    /// One text or several.
+    Places,
+    /// An option that is there or not.
+    Flag,
+    /// An option with a text, of this name.
+    Text(&'static str),
+    /// An option with a number.
+    Number,
+    /// An option with a number that has to be there.
+    Needed,
 }
 
-/// A number that has to be there.
-fn number<'a>(alloc: Global, id: &'a str, help: &'a str) -> Arg<'a> {
-    needed(alloc, id, help).value_parser(value_parser!(u64))
-}
+/// An argument: its name, what it is, what it is where it is not given, "" for nothing, and its help.
+type Argument = (&'static str, Kind, &'static str, &'static str);
 
-/// An option with a number.
-fn optional_number<'a>(alloc: Global, id: &'a str, help: &'a str) -> Arg<'a> {
-    Arg::new(alloc, id)
-        .long(id)
-        .value_parser(value_parser!(u64))
-        .help(help)
-}
-
-/// An option with a text.
-fn optional_text<'a>(alloc: Global, id: &'a str, value: &'a str, help: &'a str) -> Arg<'a> {
-    Arg::new(alloc, id).long(id).value_name(value).help(help)
-}
+/// A command: its name, what it does, an example, and its arguments.
+type Row = (
+    &'static str,
+    &'static str,
+    &'static str,
+    &'static [Argument],
+);
 
 /// The options that stand before a command.
-fn with_options<'a>(alloc: Global, words: Words<'a>) -> Result<Words<'a>, AllocError> {
-    let syncs = Arg::new(alloc, "no-sync")
-        .long("no-sync")
-        .action(ArgAction::SetTrue)
-        .help("Do not wait until what is written lasts through a power failure");
-    words
-        .arg(optional_text(
-            alloc,
-            "root",
-            "DIR",
-            "The folder below which the object's files lie",
-        ))?
-        .arg(optional_text(
-            alloc,
-            "name",
-            "NAME",
-            "The object's name: its versions lie in DIR/NAME",
-        ))?
-        .arg(optional_text(
-            alloc,
-            "suffix",
-            "SUFFIX",
-            "What the names of the versions' files end with",
-        )
-        .default_value("val"))?
-        .arg(optional_number(
-            alloc,
-            "client",
-            "The client's number, at least 1 [default: one of its own]",
-        ))?
-        .arg(optional_text(
-            alloc,
-            "diary",
-            "FILE",
-            "Add a recording of what is done to this file, for an audit",
-        ))?
-        .arg(syncs)
-}
+const OPTIONS: &[Argument] = &[
+    (
+        "root",
+        Kind::Text("DIR"),
+        "",
+        "The folder below which the object's files lie",
+    ),
+    (
+        "name",
+        Kind::Text("NAME"),
+        "",
+        "The object's name: its versions lie in DIR/NAME",
+    ),
+    (
+        "suffix",
+        Kind::Text("SUFFIX"),
+        "val",
+        "What the names of the versions' files end with",
+    ),
+    (
+        "client",
+        Kind::Number,
+        "",
+        "The client's number, at least 1 [default: one of its own]",
+    ),
+    (
+        "diary",
+        Kind::Text("FILE"),
+        "",
+        "Add a recording of what is done to this file, for an audit",
+    ),
+    (
+        "no-sync",
+        Kind::Flag,
+        "",
+        "Do not wait until what is written lasts through a power failure",
+    ),
+];
 
-fn subcommand<'a>(alloc: Global, name: &'a str, about: &'a str, example: &'a str) -> Words<'a> {
-    Words::new(alloc, name).about(about).after_help(example)
-}
+const VALUE: Argument = (
+    "VALUE",
+    Kind::Place,
+    "",
+    "The value's bytes; `-` is the standard input, `@FILE` a file",
+);
 
-const VALUE: &str = "The value's bytes; `-` is the standard input, `@FILE` a file";
+const ID: Argument = ("ID", Kind::Count, "", "The id");
 
-/// The commands that write.
-fn with_writes<'a>(alloc: Global, words: Words<'a>) -> Result<Words<'a>, AllocError> {
-    let init = subcommand(
-        alloc,
+const COMMANDS: &[Row] = &[
+    (
         "init",
         "Write the first version, in epoch 0; print its id",
         "Example: txnobj --root /srv/meta --name leader init nobody",
-    )
-    .arg(needed(alloc, "VALUE", VALUE))?;
-    let put = subcommand(
-        alloc,
+        &[VALUE],
+    ),
+    (
         "put",
         "Write a version on the newest, in its epoch, again after a conflict; print its id",
         "Example: txnobj --root /srv/meta --name leader put @leader.json",
-    )
-    .arg(needed(alloc, "VALUE", VALUE))?
-    .arg(optional_number(alloc, "base", "Only if this is the newest version"))?
-    .arg(optional_number(
-        alloc,
-        "epoch",
-        "As the holder of this epoch: fenced where a greater one stands",
-    ))?;
-    let claim = subcommand(
-        alloc,
+        &[
+            VALUE,
+            (
+                "base",
+                Kind::Number,
+                "",
+                "Only if this is the newest version",
+            ),
+            (
+                "epoch",
+                Kind::Number,
+                "",
+                "As the holder of this epoch: fenced where a greater one stands",
+            ),
+        ],
+    ),
+    (
         "claim",
         "Write the newest value once more in the next epoch, which shuts older holders out; print ID EPOCH",
         "Example: read -r id epoch < <(txnobj --root /srv/meta --name leader claim)",
-    )
-    .arg(optional_number(
-        alloc,
-        "epoch",
-        "Claim this epoch: fenced where it or a greater one stands",
-    ))?;
-    words.subcommand(init)?.subcommand(put)?.subcommand(claim)
-}
-
-/// The commands that read.
-fn with_reads<'a>(alloc: Global, words: Words<'a>) -> Result<Words<'a>, AllocError> {
-    let id = Arg::new(alloc, "id")
-        .long("id")
-        .action(ArgAction::SetTrue)
-        .help("Print ID EPOCH, and not the bytes");
-    let get = subcommand(
-        alloc,
+        &[(
+            "epoch",
+            Kind::Number,
+            "",
+            "Claim this epoch: fenced where it or a greater one stands",
+        )],
+    ),
+    (
         "get",
         "Print the newest version's bytes, and nothing else",
         "Example: txnobj --root /srv/meta --name leader get > leader.json",
-    )
-    .arg(id)?;
-    let list = subcommand(
-        alloc,
+        &[("id", Kind::Flag, "", "Print ID EPOCH, and not the bytes")],
+    ),
+    (
         "list",
         "Print the ids of the stored versions, one a line",
         "Example: txnobj --root /srv/meta --name leader list",
-    );
-    let history = subcommand(
-        alloc,
+        &[],
+    ),
+    (
         "history",
         "Print ID EPOCH:BYTES of each stored version, a line each, other bytes than plain ASCII as %XX",
         "Example: txnobj --root /srv/meta --name leader history",
-    );
-    let watch = subcommand(
-        alloc,
+        &[],
+    ),
+    (
         "watch",
         "Wait for a version above an id; print ID EPOCH of the newest",
         "Example: txnobj --root /srv/meta --name leader watch --after 7 --seconds 3600",
-    )
-    .arg(optional_number(alloc, "after", "The id").required(true))?
-    .arg(optional_number(alloc, "seconds", "How long to wait").default_value("60"))?;
-    words
-        .subcommand(get)?
-        .subcommand(list)?
-        .subcommand(history)?
-        .subcommand(watch)
-}
-
-/// The commands that remove.
-fn with_removals<'a>(alloc: Global, words: Words<'a>) -> Result<Words<'a>, AllocError> {
-    let advance = subcommand(
-        alloc,
+        &[
+            ("after", Kind::Needed, "", "The id"),
+            ("seconds", Kind::Number, "60", "How long to wait"),
+        ],
+    ),
+    (
         "advance",
         "Raise the boundary to an id below the newest: what is at or below it may be deleted",
         "Example: txnobj --root /srv/meta --name leader advance 6",
-    )
-    .arg(number(alloc, "ID", "The id"))?;
-    let delete = subcommand(
-        alloc,
+        &[ID],
+    ),
+    (
         "delete",
         "Remove a version at or below the boundary",
         "Example: txnobj --root /srv/meta --name leader delete 3",
-    )
-    .arg(number(alloc, "ID", "The id"))?;
-    let collect = subcommand(
-        alloc,
+        &[ID],
+    ),
+    (
         "collect",
         "Remove all versions below the newest; print how many",
         "Example: txnobj --root /srv/meta --name leader collect",
-    );
-    words
-        .subcommand(advance)?
-        .subcommand(delete)?
-        .subcommand(collect)
-}
-
-/// The other commands.
-fn with_others<'a>(alloc: Global, words: Words<'a>) -> Result<Words<'a>, AllocError> {
-    let shell = subcommand(
-        alloc,
+        &[],
+    ),
+    (
         "shell",
         "Read calls from the standard input, a line each, and print their answers: for a process that keeps a view or an epoch",
         "Example: printf 'load\nclaim 1\nholder_update 1 1:hello\n' | txnobj --root /srv/meta --name leader shell",
-    );
-    let doctor = subcommand(
-        alloc,
+        &[],
+    ),
+    (
         "doctor",
         "Test whether the folder's file system can carry an object",
         "Example: txnobj --root /srv/meta doctor",
-    );
-    let clean = subcommand(
-        alloc,
+        &[],
+    ),
+    (
         "clean",
         "Remove temporary files that writers left which were killed; print how many",
         "Example: txnobj --root /srv/meta --name leader clean 3600",
-    )
-    .arg(number(alloc, "SECONDS", "Only those that are older"))?;
-    let diaries = needed(alloc, "DIARY", "The files of the recordings")
-        .num_args(1..)
-        .action(ArgAction::Append);
-    let audit = subcommand(
-        alloc,
+        &[("SECONDS", Kind::Count, "", "Only those that are older")],
+    ),
+    (
         "audit",
         "Hold recordings of clients against each other: whether they are one history",
         "Example: txnobj audit a.diary b.diary",
-    )
-    .arg(optional_number(
-        alloc,
-        "clock-error",
-        "By how many milliseconds the clocks of several machines may differ",
-    )
-    .default_value("1000"))?
-    .arg(diaries)?;
-    words
-        .subcommand(shell)?
-        .subcommand(doctor)?
-        .subcommand(clean)?
-        .subcommand(audit)
-}
+        &[
+            (
+                "clock-error",
+                Kind::Number,
+                "1000",
+                "By how many milliseconds the clocks of several machines may differ",
+            ),
+            ("DIARY", Kind::Places, "", "The files of the recordings"),
+        ],
+    ),
+];
 
 const STATUSES: &str =
     "Statuses: 0 done; 1 a fault of the system; 2 wrong words; 3 nothing new to see, or a folder that does not serve; 4 an audit that does not agree; 12 the store failed; 14 there is no version; 15 a conflict; 16 fenced; 17 not in this state; 18 bytes that are no value; 19 no memory; 20 no id or epoch is left; 21 no end in sight: others write all the time, or the boundary stands above the newest version; 30 + n the client does not permit the call, by fault n";
+
+/// An argument as what it is.
+fn of_kind<'a>(arg: Arg<'a>, id: &'static str, kind: Kind) -> Arg<'a> {
+    match kind {
+        Kind::Place => arg.required(true),
+        Kind::Count => arg.required(true).value_parser(value_parser!(u64)),
+        Kind::Places => arg.required(true).num_args(1..).action(ArgAction::Append),
+        Kind::Flag => arg.long(id).action(ArgAction::SetTrue),
+        Kind::Text(name) => arg.long(id).value_name(name),
+        Kind::Number => arg.long(id).value_parser(value_parser!(u64)),
+        Kind::Needed => arg.long(id).required(true).value_parser(value_parser!(u64)),
+    }
+}
+
+fn argument<'a>(alloc: Global, row: &Argument) -> Arg<'a> {
+    let (id, kind, default, help) = *row;
+    let arg = of_kind(Arg::new(alloc, id).help(help), id, kind);
+    if default.is_empty() {
+        return arg;
+    }
+    arg.default_value(default)
+}
+
+fn with_arguments<'a>(
+    alloc: Global,
+    words: Words<'a>,
+    rows: &[Argument],
+) -> Result<Words<'a>, AllocError> {
+    let mut words = words;
+    for row in rows {
+        words = words.arg(argument(alloc, row))?;
+    }
+    Ok(words)
+}
+
+fn subcommand<'a>(alloc: Global, row: &Row) -> Result<Words<'a>, AllocError> {
+    let (name, about, example, arguments) = *row;
+    let words = Words::new(alloc, name).about(about).after_help(example);
+    with_arguments(alloc, words, arguments)
+}
+
+fn with_commands<'a>(alloc: Global, words: Words<'a>) -> Result<Words<'a>, AllocError> {
+    let mut words = words;
+    for row in COMMANDS {
+        words = words.subcommand(subcommand(alloc, row)?)?;
+    }
+    Ok(words)
+}
 
 fn words_of<'a>(alloc: Global) -> Result<Words<'a>, AllocError> {
     let words = Words::new(alloc, "txnobj")
@@ -305,11 +332,7 @@ fn words_of<'a>(alloc: Global) -> Result<Words<'a>, AllocError> {
         )
         .after_help(STATUSES)
         .subcommand_required(true);
-    let words = with_options(alloc, words)?;
-    let words = with_writes(alloc, words)?;
-    let words = with_reads(alloc, words)?;
-    let words = with_removals(alloc, words)?;
-    with_others(alloc, words)
+    with_commands(alloc, with_arguments(alloc, words, OPTIONS)?)
 }
 
 /// Where a value comes from that an argument names.
