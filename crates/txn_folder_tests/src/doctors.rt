@@ -6,7 +6,7 @@ use std::cell::Cell;
 use std::io::ErrorKind;
 use std::test::Fail;
 use std::{fs, io};
-use txn_folder::doctor::{Check, examine};
+use txn_files::doctor::{Check, examine};
 
 /// How many names a folder has.
 fn count(rt: &HostRuntime, folder: &str) -> io::Result<usize> {

@@ -8,7 +8,7 @@ use std::io::Write;
 use std::rt::Clock;
 use std::time::{Duration, SystemTime};
 use txn_entries::entry::Entry;
-use txn_folder::doctor::examine;
+use txn_files::doctor::examine;
 use txn_lines::printed::Answered;
 use txn_lines::text_form::TextForm;
 use txn_view_history::event::AnyCall;

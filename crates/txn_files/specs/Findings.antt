@@ -1,9 +1,9 @@
 -- What an examination of a folder found.
 use Rattle.std.specs.Prelude.{Bool, Option, Some, None, is_some, if◌then◌else◌}
-use Rattle.txn_folder.specs.declared.fault.Fault.{Fault}
-use Rattle.txn_folder.specs.declared.doctor.Check.{Check}
-use Rattle.txn_folder.specs.declared.doctor.Check.TheVariants.{Keeps, Links, RefusesTakenNames, Replaces, Locks, Syncs, Removes}
-use Rattle.txn_folder.specs.declared.doctor.Report.{Report}
+use Rattle.txn_files.specs.declared.fault.Fault.{Fault}
+use Rattle.txn_files.specs.declared.doctor.Check.{Check}
+use Rattle.txn_files.specs.declared.doctor.Check.TheVariants.{Keeps, Links, RefusesTakenNames, Replaces, Locks, Syncs, Removes}
+use Rattle.txn_files.specs.declared.doctor.Report.{Report}
 
 -- the fault of a check
 abbrev pub fault_in : Check → Report → Option Fault

@@ -98,7 +98,7 @@ impl fmt::Display for Fault {
 
 impl Fault {
     /// A fault with the system's error.
-    pub(crate) fn of(doing: Doing, error: io::Error) -> Fault {
+    pub fn of(doing: Doing, error: io::Error) -> Fault {
         Fault {
             doing,
             error: Some(error),
@@ -106,14 +106,14 @@ impl Fault {
     }
 
     /// A fault with no error of the system's.
-    pub(crate) fn at(doing: Doing) -> Fault {
+    pub fn at(doing: Doing) -> Fault {
         Fault { doing, error: None }
     }
 }
 
 /// Why a step did not go on.
 #[derive(Debug, Drop)]
-pub(crate) enum Halt {
+pub enum Halt {
     /// A growth was refused, and nothing has changed.
     NoMemory,
     Fault(Fault),
@@ -132,7 +132,7 @@ impl From<Fault> for Halt {
 }
 
 /// Whether a step did not go on since the folder of its file is missing.
-pub(crate) fn lacks_folder<T>(done: &Result<T, Halt>) -> bool {
+pub fn lacks_folder<T>(done: &Result<T, Halt>) -> bool {
     let Err(Halt::Fault(fault)) = done else {
         return false;
     };
@@ -145,7 +145,7 @@ pub(crate) fn lacks_folder<T>(done: &Result<T, Halt>) -> bool {
 }
 
 /// The halt of a step that changes nothing.
-pub(crate) fn at_error(doing: Doing, error: io::Error) -> Halt {
+pub fn at_error(doing: Doing, error: io::Error) -> Halt {
     if error.kind() == ErrorKind::OutOfMemory {
         return Halt::NoMemory;
     }

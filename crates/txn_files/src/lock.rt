@@ -73,11 +73,7 @@ pub(crate) fn open_lock<R: Files>(rt: &R, name: &str) -> Result<R::File, Halt> {
 }
 
 /// The lock of this name, in a folder that is there. Where another has it for too long it is a fault.
-pub(crate) fn take_lock<R: Files + Clock>(
-    rt: &R,
-    name: &str,
-    sharing: Sharing,
-) -> Result<R::File, Halt>
+pub fn take_lock<R: Files + Clock>(rt: &R, name: &str, sharing: Sharing) -> Result<R::File, Halt>
 where
     R::File: LockFile,
 {

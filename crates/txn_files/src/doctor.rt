@@ -1,12 +1,12 @@
 //! Whether a folder of a file system serves: what the store asks of it, each tried once.
 ghost use Rattle.std.specs.Prelude.{◌≡◌};
 ghost use Rattle.std.specs.Option.{option_copied};
-ghost use Rattle.txn_folder.specs.Findings.{first_failed, fault_in};
+ghost use Rattle.txn_files.specs.Findings.{first_failed, fault_in};
 
 use crate::fault::{Doing, Fault, Halt, at_error};
 use crate::lock::{LockFile, Sharing, open_lock};
-use crate::numbers::{number_now, write_new};
 use crate::publish::{is_same_file, remove, stands, synced};
+use crate::written::{number_now, write_new};
 use std::alloc::{AllocError, Global};
 use std::fs::OpenFile;
 use std::io::{ErrorKind, Read};

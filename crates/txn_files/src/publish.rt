@@ -1,8 +1,7 @@
 //! How a file comes to its name, and how names are looked up, made to last and removed.
 
 use crate::fault::{Doing, Fault, Halt, at_error, lacks_folder};
-use crate::numbers::Written;
-use crate::place::number_of;
+use crate::written::number_of;
 use std::fs::OpenFile;
 use std::io::ErrorKind;
 use std::os::unix::fs::MetadataExt;
@@ -10,7 +9,7 @@ use std::rt::Files;
 use std::{fs, io};
 
 /// Whether anything has this name. What is no regular file is a fault, and so is a name that cannot be looked up.
-pub(crate) fn stands<R: Files>(rt: &R, file: &str) -> Result<bool, Halt> {
+pub fn stands<R: Files>(rt: &R, file: &str) -> Result<bool, Halt> {
     match fs::symlink_metadata(rt, file) {
         Ok(metadata) if metadata.is_file() => Ok(true),
         Ok(_) => Err(Halt::Fault(Fault::at(Doing::NotRegular))),
@@ -21,7 +20,7 @@ pub(crate) fn stands<R: Files>(rt: &R, file: &str) -> Result<bool, Halt> {
 
 /// Links the temporary file to the target, and removes its first name. Whether it came to the target: not where a file stands
 /// there. A link that is answered with an error and was made all the same, as a network can have it, shows at the target.
-pub(crate) fn link<R: Files>(rt: &R, temporary: &str, target: &str) -> Result<bool, Halt> {
+pub fn link<R: Files>(rt: &R, temporary: &str, target: &str) -> Result<bool, Halt> {
     let linked = match fs::hard_link(rt, temporary, target) {
         Ok(()) => Ok(true),
         Err(_) if is_same_file(rt, temporary, target) => Ok(true),
@@ -50,13 +49,12 @@ fn refused<R: Files>(rt: &R, target: &str, error: io::Error) -> Result<bool, Hal
     Err(Halt::Fault(Fault::of(Doing::Linking, error)))
 }
 
-/// Renames a written file over the target. A rename that is answered with an error and was made all the same shows at the
+/// Renames a temporary file, which has this number, over the target. A rename that is answered with an error and was made all the same shows at the
 /// target, by the file's number.
-pub(crate) fn replace<R: Files>(rt: &R, written: &Written, target: &str) -> Result<(), Halt> {
-    let temporary = written.name.as_str();
+pub fn replace<R: Files>(rt: &R, temporary: &str, number: u64, target: &str) -> Result<(), Halt> {
     match fs::rename(rt, temporary, target) {
         Ok(()) => Ok(()),
-        Err(_) if has_number(rt, target, written.number) => Ok(()),
+        Err(_) if has_number(rt, target, number) => Ok(()),
         Err(error) => {
             let _ = fs::remove_file(rt, temporary);
             Err(Halt::Fault(Fault::of(Doing::Replacing, error)))
@@ -72,7 +70,7 @@ fn has_number<R: Files>(rt: &R, target: &str, number: u64) -> bool {
 }
 
 /// Removes a file's name. One that is missing is removed.
-pub(crate) fn remove<R: Files>(rt: &R, file: &str) -> Result<(), Halt> {
+pub fn remove<R: Files>(rt: &R, file: &str) -> Result<(), Halt> {
     match fs::remove_file(rt, file) {
         Ok(()) => Ok(()),
         Err(error) if error.kind() == ErrorKind::NotFound => Ok(()),
@@ -96,13 +94,13 @@ pub(crate) fn synced<R: Files>(rt: &R, folder: &str) -> Result<bool, Halt> {
 }
 
 /// Makes the names in a folder last. Where the file system syncs no folder, they last as it lets them.
-pub(crate) fn sync_folder<R: Files>(rt: &R, folder: &str) -> Result<(), Halt> {
+pub fn sync_folder<R: Files>(rt: &R, folder: &str) -> Result<(), Halt> {
     synced(rt, folder)?;
     Ok(())
 }
 
 /// Makes the names in a folder last, where it is there.
-pub(crate) fn sync_if_there<R: Files>(rt: &R, folder: &str) -> Result<(), Halt> {
+pub fn sync_if_there<R: Files>(rt: &R, folder: &str) -> Result<(), Halt> {
     let done = sync_folder(rt, folder);
     if lacks_folder(&done) {
         return Ok(());
@@ -111,7 +109,7 @@ pub(crate) fn sync_if_there<R: Files>(rt: &R, folder: &str) -> Result<(), Halt> 
 }
 
 /// Makes a folder where it is missing, with those above it, each lasting where that is asked.
-pub(crate) fn make_folders<R: Files>(rt: &R, folder: &str, syncs: bool) -> Result<(), Halt> {
+pub fn make_folders<R: Files>(rt: &R, folder: &str, syncs: bool) -> Result<(), Halt> {
     match fs::metadata(rt, folder) {
         Ok(_) => return Ok(()),
         Err(error) if error.kind() == ErrorKind::NotFound => {}
