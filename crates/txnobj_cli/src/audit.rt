@@ -3,11 +3,11 @@
 use crate::ending::{Halt, NOT_ONE_HISTORY, bytes_in};
 use std::alloc::{AllocError, Global};
 use txn_clients::layout::world_layout;
+use txn_effects::clock::Clock;
 use txn_entries::entry::{Entry, EntryCodec, EntryEpoch};
 use txn_journals::audited::Logged;
 use txn_journals::fault::AuditFault;
 use txn_journals::rows::LogRow;
-use txn_ordered::clock::Clock;
 use txn_ordered::order::CallPlace;
 use txn_recorded::row::Row;
 use txn_recordings::read::{TextFault, read_row};

@@ -10,7 +10,7 @@ use txn_store::store::StoreError;
 
 /// One life of a version.
 #[derive(Clone, Copy)]
-pub(crate) struct Life {
+pub struct Life {
     pub id: u64,
     /// The token of its put, where one is known.
     pub token: Option<u64>,
@@ -34,7 +34,7 @@ impl Life {
 
 /// All lives, those of one version side by side, in the order in which they stood.
 #[derive(Drop)]
-pub(crate) struct Lives {
+pub struct Lives {
     pub lives: Vec<Life>,
     /// Which life has a token.
     pub of_token: HashMap<u64, usize>,

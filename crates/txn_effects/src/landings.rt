@@ -5,7 +5,7 @@ use std::alloc::{AllocError, Global};
 
 /// What became of a call.
 #[derive(Clone, Copy, Debug, PartialEq, Eq)]
-pub(crate) enum Fate {
+pub enum Fate {
     /// Its reply was seen.
     Answered,
     /// Nobody saw a reply, and nothing shows an effect.
@@ -28,7 +28,7 @@ pub(crate) fn fates(alloc: Global, calls: &[Asked<'_>]) -> Result<Vec<Fate>, All
 }
 
 /// What became of a call.
-pub(crate) fn fate_of(fates: &[Fate], call: usize) -> Fate {
+pub fn fate_of(fates: &[Fate], call: usize) -> Fate {
     match fates.get(call) {
         Some(fate) => *fate,
         None => Fate::Unknown,
@@ -36,7 +36,7 @@ pub(crate) fn fate_of(fates: &[Fate], call: usize) -> Fate {
 }
 
 /// Whether a call has a place in the order.
-pub(crate) fn has_place(fates: &[Fate], call: usize) -> bool {
+pub fn has_place(fates: &[Fate], call: usize) -> bool {
     fate_of(fates, call) != Fate::Unknown
 }
 

@@ -9,7 +9,7 @@ use txn_store::store::{PutMode, StoreError, Token};
 
 /// The boundaries that were written, each with the call that wrote it, and the boundary that each token is of.
 #[derive(Drop)]
-pub(crate) struct Boundaries {
+pub struct Boundaries {
     pub writers: BTreeMap<u64, usize>,
     pub of_token: HashMap<u64, u64>,
 }

@@ -8,7 +8,7 @@ use txn_store::request::{Reply, Request};
 use txn_store::store::StoreError;
 
 /// A version, and a call that is about it.
-pub(crate) type Concern = (u64, usize);
+pub type Concern = (u64, usize);
 
 /// A listing: when it was asked, when its reply was there, and two versions between which it told all that stood.
 #[derive(Clone, Copy)]

@@ -12,7 +12,7 @@ use txn_store::store::PutMode;
 
 /// A store call of a recording.
 #[derive(Clone, Copy)]
-pub(crate) struct Asked<'a> {
+pub struct Asked<'a> {
     /// Which recording has it.
     pub recording: usize,
     /// Which row of that asks.
@@ -30,7 +30,7 @@ pub(crate) struct Asked<'a> {
 
 /// What a path names.
 #[derive(Clone, Copy, Debug, PartialEq, Eq)]
-pub(crate) enum Name {
+pub enum Name {
     /// The version of this id.
     Version(u64),
     /// Anything else: the boundary file.
@@ -38,7 +38,7 @@ pub(crate) enum Name {
 }
 
 /// What a path names: a version where its last segment begins with 20 digits and a dot.
-pub(crate) fn name_of(path: &Path) -> Name {
+pub fn name_of(path: &Path) -> Name {
     let Some(name) = path.filename() else {
         return Name::Boundary;
     };
@@ -55,7 +55,7 @@ pub(crate) fn name_of(path: &Path) -> Name {
 }
 
 /// The version that a path names, if it does.
-pub(crate) fn version_of(path: &Path) -> Option<u64> {
+pub fn version_of(path: &Path) -> Option<u64> {
     match name_of(path) {
         Name::Version(id) => Some(id),
         Name::Boundary => None,
@@ -63,7 +63,7 @@ pub(crate) fn version_of(path: &Path) -> Option<u64> {
 }
 
 /// The number that the bytes of a boundary file write.
-pub(crate) fn number_in(bytes: &Bytes) -> Option<u64> {
+pub fn number_in(bytes: &Bytes) -> Option<u64> {
     match std::str::from_utf8(bytes.as_slice()) {
         Ok(text) => read_digits(text),
         Err(_) => None,
@@ -133,7 +133,7 @@ impl<'a> Asked<'a> {
     }
 
     /// The version that it creates, where it asks for that.
-    pub fn creates(&self) -> Option<u64> {
+    pub(crate) fn creates(&self) -> Option<u64> {
         match self.request {
             Request::Put {
                 path,
@@ -145,7 +145,7 @@ impl<'a> Asked<'a> {
     }
 
     /// The version that it removes, where it asks for that.
-    pub fn removes(&self) -> Option<u64> {
+    pub(crate) fn removes(&self) -> Option<u64> {
         match self.request {
             Request::Delete { path } => version_of(path),
             _ => None,
@@ -153,7 +153,7 @@ impl<'a> Asked<'a> {
     }
 
     /// The boundary that it writes, where it asks for that.
-    pub fn raises(&self) -> Option<u64> {
+    pub(crate) fn raises(&self) -> Option<u64> {
         match self.request {
             Request::Put { path, bytes, .. } => match name_of(path) {
                 Name::Boundary => number_in(bytes),
@@ -177,7 +177,7 @@ impl<'a> Asked<'a> {
     }
 
     /// The bytes that it puts.
-    pub fn puts(&self) -> Option<&'a Bytes> {
+    pub(crate) fn puts(&self) -> Option<&'a Bytes> {
         match self.request {
             Request::Put { bytes, .. } => Some(bytes),
             _ => None,
@@ -185,7 +185,7 @@ impl<'a> Asked<'a> {
     }
 
     /// The token that it was given.
-    pub fn given(&self) -> Option<u64> {
+    pub(crate) fn given(&self) -> Option<u64> {
         match self.reply {
             Some(Reply::Put(Ok(token))) => Some(token.number()),
             _ => None,
