@@ -118,13 +118,18 @@ const OVERTAKEN: &str = "init 0:1 = view 1 at 1 0:1
 write 1 0:7 = wrote 2
 ";
 
-/// What the calls of a table are answered by a client of their own, what is recorded then, and whether it goes on.
-fn recorded(alloc: Global, table: &str) -> Result<String, AllocError> {
-    let mut client = client(alloc)?;
-    let text = played(alloc, &mut client, table)?;
+/// What the calls of a table are answered, what is recorded then, and whether the client goes on.
+fn recorded_by(alloc: Global, client: &mut Recorded, table: &str) -> Result<String, AllocError> {
+    let text = played(alloc, client, table)?;
     let letters = client.recorder().0.as_str();
     let goes_on = client.goes_on();
     format!(in alloc; "{text}{letters} {goes_on}")
+}
+
+/// The same of a client that has made no call.
+fn recorded(alloc: Global, table: &str) -> Result<String, AllocError> {
+    let mut client = client(alloc)?;
+    recorded_by(alloc, &mut client, table)
 }
 
 #[test]
