@@ -7,11 +7,12 @@ use txn_client::client::Client;
 use txn_client::recorder::Recorder;
 use txn_client::retry::{Applied, Viewed};
 use txn_client::serve::Serve;
-use txn_history::event::{Answer, Call};
+use txn_lines::printed::Answered;
 use txn_lines::record::{Record, RecordCodec, RecordEpoch};
+use txn_lines::text_form::TextForm;
 use txn_store::in_memory::InMemory;
 use txn_store::request::{Reply, Request};
-use txn_view_history::event::{AnyAnswer, AnyCall, ViewCall};
+use txn_view_history::event::{AnyAnswer, AnyCall};
 
 /// The most looks and store calls of a call.
 const STEPS: u64 = 50;
@@ -78,52 +79,70 @@ fn client(alloc: Global) -> Result<Recorded, AllocError> {
     Client::new(alloc, 1, RecordCodec, RecordEpoch, 1_000, store, letters)
 }
 
-/// What a call is answered, in a word.
-fn word_of(answer: &AnyAnswer<Record>) -> (u8, u64, u64) {
-    match answer {
-        AnyAnswer::Plain(Answer::Wrote(id)) => (1, *id, 0),
-        AnyAnswer::Plain(Answer::Refused(number)) => (2, u64::from(*number), 0),
-        AnyAnswer::View(_, id, value) => (3, *id, value.payload),
-        AnyAnswer::Held(_, id, _, epoch) => (4, *id, *epoch),
-        _ => (0, 0, 0),
+/// What a call is answered.
+fn told(alloc: Global, client: &mut Recorded, words: &str) -> Result<String, AllocError> {
+    let Some(call) = AnyCall::read_text(alloc, words)? else {
+        return String::from_str(alloc, "no call");
+    };
+    match client.call(call, STEPS) {
+        Ok(answer) => {
+            let answered = Answered(&answer);
+            format!(in alloc; "{answered}")
+        }
+        Err(stop) => format!(in alloc; "{stop}"),
     }
 }
 
-/// The answers to these calls, each in a word; a call that has none ends them.
-fn answers(client: &mut Recorded, calls: Vec<AnyCall<Record>>) -> (u64, (u8, u64, u64)) {
-    let mut answered: u64 = 0;
-    let mut last = (0, 0, 0);
-    for call in calls {
-        match client.call(call, STEPS) {
-            Ok(answer) => {
-                answered = answered.saturating_add(1);
-                last = word_of(&answer);
-            }
-            Err(_) => return (answered, last),
-        }
+/// The calls of a table, a line each, with what they are answered.
+fn played(alloc: Global, client: &mut Recorded, table: &str) -> Result<String, AllocError> {
+    let mut text = String::new(alloc);
+    for line in table.lines() {
+        let (call, _) = line.split_once(" = ").unwrap_or((line, ""));
+        let answer = told(alloc, client, call)?;
+        let row = format!(in alloc; "{call} = {answer}\n")?;
+        text.push_str(row.as_str())?;
     }
-    (answered, last)
+    Ok(text)
+}
+
+const CALLS: &str = "init 0:1 = view 1 at 1 0:1
+claim 1 = holder 1 at 2 1:1 epoch 1
+write - 0:1 = refused 5 ObjectVersionExists
+";
+
+/// What is recorded of these: a put and a get of the boundary for each of the first two; the third finds the name taken.
+const LETTERS: &str = "b?!?!ab?!?!ab?!a";
+
+/// The view stays at version 1, while version 2 is written.
+const OVERTAKEN: &str = "init 0:1 = view 1 at 1 0:1
+write 1 0:7 = wrote 2
+";
+
+/// What the calls of a table are answered, what is recorded then, and whether the client goes on.
+fn recorded_by(alloc: Global, client: &mut Recorded, table: &str) -> Result<String, AllocError> {
+    let text = played(alloc, client, table)?;
+    let letters = client.recorder().0.as_str();
+    let goes_on = client.goes_on();
+    format!(in alloc; "{text}{letters} {goes_on}")
+}
+
+/// The same of a client that has made no call.
+fn recorded(alloc: Global, table: &str) -> Result<String, AllocError> {
+    let mut client = client(alloc)?;
+    recorded_by(alloc, &mut client, table)
+}
+
+#[test]
+fn calls_are_answered_and_recorded(rt: HostRuntime) -> Result<(), Fail> {
+    let expected = format!(in rt.alloc(); "{CALLS}{LETTERS} true")?;
+    assert_eq!(rt; recorded(rt.alloc(), CALLS)?.as_str(), expected.as_str());
+    Ok(())
 }
 
 const ONE: Record = Record {
     epoch: 0,
     payload: 1,
 };
-
-#[test]
-fn calls_are_answered_and_recorded(rt: HostRuntime) -> Result<(), Fail> {
-    let alloc = rt.alloc();
-    let mut client = client(alloc)?;
-    let mut calls = Vec::new(alloc);
-    calls.push(AnyCall::View(ViewCall::Init(ONE)))?;
-    calls.push(AnyCall::View(ViewCall::Claim(1)))?;
-    calls.push(AnyCall::Plain(Call::Write(None, ONE)))?;
-    assert_eq!(rt; answers(&mut client, calls), (3, (2, 5, 0)));
-    // A put and a get of the boundary for each of the first two; the third finds the name taken.
-    assert_eq!(rt; client.recorder().0.as_str(), "b?!?!ab?!?!ab?!a");
-    assert!(rt; client.goes_on());
-    Ok(())
-}
 
 /// One more than what a version says.
 fn next_of(value: &Record) -> Result<Option<Record>, AllocError> {
@@ -133,34 +152,33 @@ fn next_of(value: &Record) -> Result<Option<Record>, AllocError> {
     }))
 }
 
-/// What an update ends with that is made again after a conflict: the id and the payload of what was written.
-fn updated(client: &mut Recorded) -> (u64, u64) {
+/// What an update ends with that is made again after a conflict.
+fn updated(alloc: Global, client: &mut Recorded) -> Result<String, AllocError> {
     let viewed = Viewed {
         view: 1,
         id: 1,
         value: ONE,
     };
     match client.maybe_apply_update(viewed, 3, STEPS, &next_of) {
-        Ok(Applied::Written(viewed)) => (viewed.id, viewed.value.payload),
-        _ => (0, 0),
+        Ok(Applied::Written(Viewed { view, id, value })) => {
+            format!(in alloc; "written: view {view} at {id} {value}")
+        }
+        Ok(_) => String::from_str(alloc, "not written"),
+        Err(stop) => format!(in alloc; "{stop}"),
     }
+}
+
+/// What a client is answered that was overtaken, and then its update.
+fn overtaken(alloc: Global) -> Result<String, AllocError> {
+    let mut client = client(alloc)?;
+    let text = played(alloc, &mut client, OVERTAKEN)?;
+    let updated = updated(alloc, &mut client)?;
+    format!(in alloc; "{text}{updated}")
 }
 
 #[test]
 fn an_update_is_made_again_after_a_conflict(rt: HostRuntime) -> Result<(), Fail> {
-    let alloc = rt.alloc();
-    let mut client = client(alloc)?;
-    let mut calls = Vec::new(alloc);
-    calls.push(AnyCall::View(ViewCall::Init(ONE)))?;
-    // The view stays at version 1, while version 2 is written.
-    calls.push(AnyCall::Plain(Call::Write(
-        Some(1),
-        Record {
-            epoch: 0,
-            payload: 7,
-        },
-    )))?;
-    assert_eq!(rt; answers(&mut client, calls), (2, (1, 2, 0)));
-    assert_eq!(rt; updated(&mut client), (3, 8));
+    let expected = format!(in rt.alloc(); "{OVERTAKEN}written: view 1 at 3 0:8")?;
+    assert_eq!(rt; overtaken(rt.alloc())?.as_str(), expected.as_str());
     Ok(())
 }

@@ -1,6 +1,5 @@
 //! The removal of what processes that died have left.
 
-use crate::fault::{Doing, Fault};
 use crate::folder::{Folder, temporary_of};
 use std::alloc::Global;
 use std::fs;
@@ -8,6 +7,7 @@ use std::fs::DirEntry;
 use std::io::ErrorKind;
 use std::rt::Files;
 use std::time::SystemTime;
+use txn_files::fault::{Doing, Fault};
 
 /// Whether a name is a temporary one of a version or of the boundary.
 fn is_leftover(folder: &Folder, name: &str) -> bool {

@@ -4,21 +4,21 @@ ghost use Rattle.txn_folder.specs.Tokens.{IsTokenAt, IsFoundAt};
 ghost use Rattle.txn_folder.specs.Pages.{IsPageAfter};
 
 use crate::clean::clean_in;
-use crate::fault::{Doing, Fault, Halt, at_error, lacks_folder};
 use crate::folder::Folder;
 use crate::found::{Found, read_file};
 use crate::lasting::Lasting;
 use crate::listing::page_after;
-use crate::lock::{LockFile, Sharing, take_lock};
 use crate::numbers::{Numbers, Written};
 use crate::place::{Place, number_at, number_in, shown};
-use crate::publish::{link, make_folders, remove, replace, stands, sync_folder, sync_if_there};
 use bytes::Bytes;
 use std::alloc::{AllocError, Global};
 use std::fs;
 use std::io::ErrorKind;
 use std::rt::{Clock, Files};
 use std::time::SystemTime;
+use txn_files::fault::{Doing, Fault, Halt, at_error, lacks_folder};
+use txn_files::lock::{LockFile, Sharing, take_lock};
+use txn_files::publish::{link, make_folders, remove, replace, stands, sync_folder, sync_if_there};
 use txn_store::page::{Listing, Page};
 use txn_store::store::Token;
 use txn_store::version_names::VersionNames;
@@ -229,7 +229,7 @@ where
         ensures rises { self.old.numbers.last ≤ self.new.numbers.last }
     {
         let written = self.write(alloc, place, file, bytes)?;
-        replace(&self.rt, &written, file)?;
+        replace(&self.rt, written.name.as_str(), written.number, file)?;
         let number = number_at(place, bytes.as_slice(), Some(written.number));
         self.make_last(place, number)?;
         Ok(shown(number))

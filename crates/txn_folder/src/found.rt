@@ -2,15 +2,16 @@
 ghost use Rattle.std.specs.Prelude.{IfOk, IfSome};
 ghost use Rattle.txn_folder.specs.Tokens.{IsFoundAt};
 
-use crate::fault::{Doing, Halt, at_error};
-use crate::place::{Place, number_of, token_of};
-use crate::publish::stands;
+use crate::place::{Place, token_of};
 use bytes::Bytes;
 use std::alloc::Global;
 use std::fs;
 use std::fs::OpenFile;
 use std::io::{ErrorKind, Read};
 use std::rt::Files;
+use txn_files::fault::{Doing, Halt, at_error};
+use txn_files::publish::stands;
+use txn_files::written::number_of;
 use txn_store::store::Token;
 
 /// What a file says, and its token, where it has one.

@@ -3,14 +3,14 @@ ghost use Rattle.std.specs.Prelude.{◌≡◌, ◌≤◌, ◌<◌, ℕ, Option, 
 ghost use Rattle.txn_store.specs.VersionName.{version_path};
 ghost use Rattle.txn_folder.specs.Pages.{AscendAbove, IsAbove, IsPageAfter, locations};
 
-use crate::fault::{Doing, Fault, Halt, at_error};
 use crate::folder::Folder;
-use crate::place::number_of;
 use crate::scans::{is_same_up_to, settled_run};
 use std::alloc::{AllocError, Global};
 use std::fs;
 use std::io::ErrorKind;
 use std::rt::Files;
+use txn_files::fault::{Doing, Fault, Halt, at_error};
+use txn_files::written::number_of;
 use txn_store::page::{Listing, Page};
 use txn_store::store::{ObjectMeta, Token};
 use txn_store::version_names::VersionNames;

@@ -1,10 +1,8 @@
 //! What a path of a request names, and the token of the file that stands there.
 ghost use Rattle.std.specs.Prelude.{◌≡◌, ◌↔◌, Some, None, ℕ, ◌<◌, ◌^◌, ◌≢◌, IfSome, unwrap_or};
 ghost use Rattle.txn_store.specs.VersionName.{version_path};
-ghost use Rattle.txn_folder.specs.Tokens.{IsAt, place_token, time_number};
+ghost use Rattle.txn_folder.specs.Tokens.{IsAt, place_token};
 
-use std::fs::Metadata;
-use std::os::unix::fs::MetadataExt;
 use txn_store::path::Path;
 use txn_store::store::Token;
 use txn_store::version_names::VersionNames;
@@ -31,20 +29,6 @@ pub(crate) fn place_of(names: &VersionNames, boundary: &Path, path: &Path) -> Op
         return Some(Place::Boundary);
     }
     None
-}
-
-/// The nanoseconds from 1970 on to a time, where it is not before and a u64 holds them.
-fn time_number(secs: i64, nanos: i64) -> Option<u64>
-    ensures { result ≡ time_number secs nanos }
-{
-    let secs = u64::try_from(secs).ok()?;
-    let nanos = u64::try_from(nanos).ok()?;
-    secs.checked_mul(1_000_000_000)?.checked_add(nanos)
-}
-
-/// The number that a file's time of change is.
-pub(crate) fn number_of(metadata: &Metadata) -> Option<u64> {
-    time_number(metadata.mtime(), metadata.mtime_nsec())
 }
 
 /// The number that is the token of the file at a place, of these bytes and with this time: a version's is its time, which its

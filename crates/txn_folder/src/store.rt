@@ -6,14 +6,14 @@ ghost use Rattle.txn_folder.specs.Replies.{IsReplyTo, IsHalt, IsPutError, IsGetE
 ghost use Rattle.txn_folder.specs.Told.{Tells, IsGotOf, IsListing};
 
 use crate::disk::Disk;
-use crate::fault::{Doing, Fault, Halt};
 use crate::folder::Folder;
-use crate::lock::LockFile;
 use crate::place::{Place, number_in, place_of, shown};
 use bytes::Bytes;
 use std::alloc::Global;
 use std::rt::{Clock, Files};
 use std::time::SystemTime;
+use txn_files::fault::{Doing, Fault, Halt};
+use txn_files::lock::LockFile;
 use txn_store::page::Page;
 use txn_store::path::Path;
 use txn_store::request::{Reply, Request};

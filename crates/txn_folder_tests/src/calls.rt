@@ -1,256 +1,182 @@
 //! How many calls of the system each call takes, and so which of them sync a folder, and what a reader may do.
+//!
+//! A line of these tables begins with how many calls of the system that name a file or a folder its call takes, or with
+//! `other`, where another store in the folder makes it.
 
 use crate::failing::Failing;
-use crate::steps::Call::{
-    Create, CreateBoundary, Delete, List, Overwrite, Read, ReadBoundary, ReadNewerBoundary, Update,
-};
-use crate::steps::{Call, first_other, folder_of, layout_of, store_of, told};
+use crate::steps::{call_of, folder_of, played, store_of, told};
+use std::alloc::Global;
 use std::cell::Cell;
 use std::io::ErrorKind;
 use std::test::Fail;
 use std::{fs, io};
 use txn_folder::store::FolderStore;
-use txn_store::path::PathFault;
-
-/// A call, what it is answered, and how many calls of the system that name a file or a folder it takes: none is said where
-/// another store in the folder makes it.
-type Row = (Call, &'static str, Option<u64>);
 
 /// With no sync.
-const FAST: &[Row] = &[
-    (Delete(1), "deleted", Some(1)),
-    (Create(1, b"0:1"), "put", Some(8)),
-    (Create(2, b"0:2"), "put", Some(4)),
-    (Create(2, b"0:2"), "already exists", Some(1)),
-    (Read(2, b"0:2"), "got", Some(2)),
-    (Create(3, b"0:3"), "put", None),
-    (Read(3, b"0:3"), "got", Some(2)),
-    (CreateBoundary(b"1"), "put", None),
-    (ReadBoundary(b"1"), "got", Some(2)),
-    (Update(1, b"2"), "put", Some(5)),
-    (Update(1, b"3"), "precondition", Some(3)),
-    (Delete(1), "deleted", Some(3)),
-    (Delete(1), "deleted", Some(1)),
-    (List(None, 5, &[2, 3], false), "listed", Some(6)),
-];
+const FAST: &str = "1 delete 1 = deleted
+8 create 1 0:1 = put
+4 create 2 0:2 = put
+1 create 2 0:2 = already exists
+2 get 2 = got 0:2
+other create 3 0:3 = put
+2 get 3 = got 0:3
+other create boundary 1 = put
+2 get boundary = got 1
+5 update boundary 1 2 = put
+3 update boundary 1 3 = precondition
+3 delete 1 = deleted
+1 delete 1 = deleted
+6 list 5 = listed 2 3
+";
 
 /// A folder is made, and each name of it is synced.
-const MADE: &[Row] = &[
-    (Delete(1), "deleted", Some(2)),
-    (Create(1, b"0:1"), "put", Some(11)),
-    (Create(2, b"0:2"), "put", Some(5)),
-    (Read(2, b"0:2"), "got", Some(2)),
-    (Overwrite(2, b"0:3"), "put", Some(5)),
-    (Read(2, b"0:3"), "got", Some(2)),
-    (Delete(1), "deleted", Some(4)),
-];
+const MADE: &str = "2 delete 1 = deleted
+11 create 1 0:1 = put
+5 create 2 0:2 = put
+2 get 2 = got 0:2
+5 overwrite 2 0:3 = put
+2 get 2 = got 0:3
+4 delete 1 = deleted
+";
 
 /// A delete of what is gone syncs the folder: another's removal need not last yet.
-const GONE: &[Row] = &[
-    (Create(1, b"0:1"), "put", None),
-    (Create(2, b"0:2"), "put", None),
-    (Delete(1), "deleted", None),
-    (Delete(1), "deleted", Some(2)),
-    (Delete(1), "deleted", Some(2)),
-    (Delete(3), "deleted", Some(2)),
-];
+const GONE: &str = "other create 1 0:1 = put
+other create 2 0:2 = put
+other delete 1 = deleted
+2 delete 1 = deleted
+2 delete 1 = deleted
+2 delete 3 = deleted
+";
 
 /// A boundary that another raised is synced as it is told first, and its own is not again.
-const TOLD_BOUNDARY: &[Row] = &[
-    (ReadBoundary(b""), "not found", Some(1)),
-    (CreateBoundary(b"1"), "put", None),
-    (ReadBoundary(b"1"), "got", Some(3)),
-    (ReadBoundary(b"1"), "got", Some(2)),
-    (ReadNewerBoundary(1, b""), "not modified", Some(2)),
-    (Update(1, b"2"), "put", None),
-    (ReadNewerBoundary(1, b"2"), "got", Some(3)),
-    (ReadNewerBoundary(2, b""), "not modified", Some(2)),
-    (Update(2, b"3"), "put", Some(6)),
-    (ReadBoundary(b"3"), "got", Some(2)),
-    (Update(2, b"4"), "precondition", Some(3)),
-    (Update(3, b"5"), "put", None),
-    (ReadNewerBoundary(5, b""), "not modified", Some(3)),
-];
+const TOLD_BOUNDARY: &str = "1 get boundary = not found
+other create boundary 1 = put
+3 get boundary = got 1
+2 get boundary = got 1
+2 get boundary 1 = not modified
+other update boundary 1 2 = put
+3 get boundary 1 = got 2
+2 get boundary 2 = not modified
+6 update boundary 2 3 = put
+2 get boundary = got 3
+3 update boundary 2 4 = precondition
+other update boundary 3 5 = put
+3 get boundary 5 = not modified
+";
 
 /// A version that another made is synced as it or a later one is told first.
-const TOLD_VERSIONS: &[Row] = &[
-    (Create(1, b"0:1"), "put", None),
-    (Read(1, b"0:1"), "got", Some(3)),
-    (Read(1, b"0:1"), "got", Some(2)),
-    (Create(2, b"0:2"), "put", None),
-    (Create(3, b"0:3"), "put", None),
-    (Create(4, b"0:4"), "put", None),
-    (List(None, 3, &[1, 2, 3], true), "listed", Some(9)),
-    (List(None, 3, &[1, 2, 3], true), "listed", Some(7)),
-    (Read(3, b"0:3"), "got", Some(2)),
-    (Read(4, b"0:4"), "got", Some(3)),
-    (List(None, 5, &[1, 2, 3, 4], false), "listed", Some(8)),
-];
+const TOLD_VERSIONS: &str = "other create 1 0:1 = put
+3 get 1 = got 0:1
+2 get 1 = got 0:1
+other create 2 0:2 = put
+other create 3 0:3 = put
+other create 4 0:4 = put
+9 list 3 = listed 1 2 3 and more
+7 list 3 = listed 1 2 3 and more
+2 get 3 = got 0:3
+3 get 4 = got 0:4
+8 list 5 = listed 1 2 3 4
+";
 
-/// What a reader is told, which may write nothing, where the lock of the versions is there.
-const READ: &[(Call, &str)] = &[
-    (List(None, 5, &[1], false), "listed"),
-    (Read(1, b"0:1"), "got"),
-    (ReadBoundary(b"1"), "got"),
-    (Create(2, b"0:2"), "failed"),
-    (Update(1, b"2"), "failed"),
-    (Delete(1), "failed"),
-    (Delete(2), "deleted"),
-];
+/// What stands before a reader comes.
+const PUT: &str = "create 1 0:1 = put
+create boundary 1 = put
+";
 
-/// What a reader is told where no one has listed or removed anything yet, so that the lock is missing.
-const UNLOCKED: &[(Call, &str)] = &[(List(None, 5, &[1], false), "failed")];
+/// What a reader is told where no one has listed or removed anything yet, so that the lock of the versions is missing.
+const UNLOCKED: &str = "list 5 = failed
+";
 
-/// A store whose calls of the system are counted down, and another one in its folder.
-#[derive(Drop)]
-struct Pair<'a> {
-    own: FolderStore<Failing<'a>>,
-    other: FolderStore<HostRuntime>,
-}
+/// A listing makes the lock.
+const LOCKED: &str = "list 5 = listed 1
+";
 
-fn pair_of<'a>(
-    rt: &'a HostRuntime,
-    root: &str,
-    left: &'a Cell<u64>,
-    syncs: bool,
-) -> Result<Pair<'a>, PathFault> {
-    let Ok(inner) = rt.clone() else {
-        return Err(PathFault::NoMemory);
-    };
-    let other = store_of(inner, root, false)?;
-    let counting = Failing {
+/// What a reader is told, which may write nothing, where the lock is there.
+const READ: &str = "list 5 = listed 1
+get 1 = got 0:1
+get boundary = got 1
+create 2 0:2 = failed
+update boundary 1 2 = failed
+delete 1 = failed
+delete 2 = deleted
+";
+
+/// The system, whose calls are counted down.
+fn counting<'a>(rt: &'a HostRuntime, left: &'a Cell<u64>, writes: bool) -> Failing<'a> {
+    Failing {
         rt,
         left,
         after: false,
         kind: ErrorKind::Other,
-        writes: true,
-    };
-    Ok(Pair {
-        own: store_of(counting, root, syncs)?,
-        other,
-    })
+        writes,
+    }
 }
 
-/// The first row that goes otherwise, and how many calls of the system it took.
-fn first_other_row(
-    rt: &HostRuntime,
-    pair: &mut Pair<'_>,
+/// A line, with how many calls of the system it takes now and what it is answered.
+fn row<'a>(
+    alloc: Global,
+    own: &mut FolderStore<Failing<'a>>,
+    other: &mut FolderStore<HostRuntime>,
     left: &Cell<u64>,
-    rows: &[Row],
-) -> Result<Option<(usize, u64)>, PathFault> {
-    let layout = layout_of(rt.alloc())?;
-    for (place, (call, answer, calls)) in rows.iter().enumerate() {
-        left.set(u64::MAX);
-        let (answered, wanted) = match calls {
-            Some(calls) => (told(rt.alloc(), &mut pair.own, &layout, *call)?, *calls),
-            None => (told(rt.alloc(), &mut pair.other, &layout, *call)?, 0),
-        };
-        let took = u64::MAX.wrapping_sub(left.get());
-        if answered != *answer || took != wanted {
-            return Ok(Some((place, took)));
-        }
+    line: &str,
+) -> io::Result<String> {
+    let (wanted, call) = call_of(line).split_once(' ').unwrap_or(("", ""));
+    left.set(u64::MAX);
+    if wanted == "other" {
+        let told = told(alloc, other, call)?;
+        return Ok(format!(in alloc; "other {told}\n")?);
     }
-    Ok(None)
+    let told = told(alloc, own, call)?;
+    let took = u64::MAX.wrapping_sub(left.get());
+    Ok(format!(in alloc; "{took} {told}\n")?)
 }
 
-fn play(
-    rt: &HostRuntime,
-    root: &str,
-    syncs: bool,
-    rows: &[Row],
-) -> Result<Option<(usize, u64)>, PathFault> {
-    let left = Cell::new(0u64);
-    let mut pair = pair_of(rt, root, &left, syncs)?;
-    first_other_row(rt, &mut pair, &left, rows)
+/// The rows of a table in a folder.
+fn rows(rt: &HostRuntime, root: &str, syncs: bool, table: &str) -> io::Result<String> {
+    let left = Cell::new(u64::MAX);
+    let mut own = store_of(counting(rt, &left, true), root, syncs)?;
+    let mut other = store_of(rt.clone()?, root, false)?;
+    let mut text = String::new(rt.alloc());
+    for line in table.lines() {
+        let row = row(rt.alloc(), &mut own, &mut other, &left, line)?;
+        text.push_str(row.as_str())?;
+    }
+    Ok(text)
 }
 
-fn no_memory() -> io::Error {
-    io::Error::from(ErrorKind::OutOfMemory)
-}
-
-/// What goes otherwise in a folder of its own.
-fn other_in(rt: &HostRuntime, syncs: bool, rows: &[Row]) -> io::Result<Option<(usize, u64)>> {
+/// The rows of a table in a folder of its own.
+fn counted(rt: &HostRuntime, syncs: bool, table: &str) -> io::Result<String> {
     let root = folder_of(rt, "counted")?;
-    let other = play(rt, root.as_str(), syncs, rows);
+    let rows = rows(rt, root.as_str(), syncs, table)?;
     fs::remove_dir_all(rt, root.as_str())?;
-    match other {
-        Ok(other) => Ok(other),
-        Err(_) => Err(no_memory()),
-    }
+    Ok(rows)
 }
 
 #[test]
 fn calls_of_the_system_are_counted(rt: HostRuntime) -> Result<(), Fail> {
-    let tables = [
-        (false, FAST),
-        (true, MADE),
-        (true, GONE),
-        (true, TOLD_BOUNDARY),
-        (true, TOLD_VERSIONS),
-    ];
-    for (table, (syncs, rows)) in tables.iter().enumerate() {
-        let other = other_in(&rt, *syncs, *rows)?;
-        assert!(rt;
-            other.is_none(),
-            "table {table}: row {other:?}, after so many calls, goes otherwise"
-        );
-    }
+    assert_eq!(rt; counted(&rt, false, FAST)?.as_str(), FAST);
+    assert_eq!(rt; counted(&rt, true, MADE)?.as_str(), MADE);
+    assert_eq!(rt; counted(&rt, true, GONE)?.as_str(), GONE);
+    assert_eq!(rt; counted(&rt, true, TOLD_BOUNDARY)?.as_str(), TOLD_BOUNDARY);
+    assert_eq!(rt; counted(&rt, true, TOLD_VERSIONS)?.as_str(), TOLD_VERSIONS);
     Ok(())
 }
 
-/// The place of the first of these calls that a reader is answered otherwise.
-fn other_as_reader(
-    rt: &HostRuntime,
-    root: &str,
-    calls: &[(Call, &'static str)],
-) -> io::Result<Option<usize>> {
+/// What one is answered who may write, or may not.
+fn played_by(rt: &HostRuntime, root: &str, writes: bool, table: &str) -> io::Result<String> {
     let left = Cell::new(u64::MAX);
-    let reading = Failing {
-        rt,
-        left: &left,
-        after: false,
-        kind: ErrorKind::Other,
-        writes: false,
-    };
-    let Ok(mut store) = store_of(reading, root, true) else {
-        return Err(no_memory());
-    };
-    match first_other(rt.alloc(), &mut store, calls) {
-        Ok(place) => Ok(place),
-        Err(_) => Err(no_memory()),
-    }
-}
-
-/// The place of the first of these calls that one who may write is answered otherwise.
-fn other_as_writer(
-    rt: &HostRuntime,
-    root: &str,
-    calls: &[(Call, &'static str)],
-) -> io::Result<Option<usize>> {
-    let Ok(mut store) = store_of(rt.clone()?, root, true) else {
-        return Err(no_memory());
-    };
-    match first_other(rt.alloc(), &mut store, calls) {
-        Ok(place) => Ok(place),
-        Err(_) => Err(no_memory()),
-    }
+    let mut store = store_of(counting(rt, &left, writes), root, true)?;
+    played(rt.alloc(), &mut store, table)
 }
 
 #[test]
 fn readers_need_no_right_to_write(rt: HostRuntime) -> Result<(), Fail> {
     let root = folder_of(&rt, "read")?;
     let root = root.as_str();
-    let puts = [(Create(1, b"0:1"), "put"), (CreateBoundary(b"1"), "put")];
-    let made = other_as_writer(&rt, root, &puts)?;
-    let unlocked = other_as_reader(&rt, root, UNLOCKED)?;
-    let listed = [(List(None, 5, &[1], false), "listed")];
-    let locked = other_as_writer(&rt, root, &listed)?;
-    let read = other_as_reader(&rt, root, READ)?;
+    assert_eq!(rt; played_by(&rt, root, true, PUT)?.as_str(), PUT);
+    assert_eq!(rt; played_by(&rt, root, false, UNLOCKED)?.as_str(), UNLOCKED);
+    assert_eq!(rt; played_by(&rt, root, true, LOCKED)?.as_str(), LOCKED);
+    assert_eq!(rt; played_by(&rt, root, false, READ)?.as_str(), READ);
     fs::remove_dir_all(&rt, root)?;
-    assert!(rt;
-        (made, unlocked, locked) == (None, None, None),
-        "calls are answered otherwise"
-    );
-    assert!(rt; read.is_none(), "call {read:?} is answered otherwise");
     Ok(())
 }

@@ -6,27 +6,53 @@ use std::cell::Cell;
 use std::io::ErrorKind;
 use std::test::Fail;
 use std::{fs, io};
-use txn_folder::doctor::{Check, examine};
+use txn_files::doctor::{Report, examine};
 
-/// How many names a folder has.
-fn count(rt: &HostRuntime, folder: &str) -> io::Result<usize> {
-    Ok(fs::read_dir(rt, folder)?.count())
+const SERVES: &str = "keeps a file and its time to the nanosecond: yes
+links a file to a second name: yes
+refuses a link to a taken name: yes
+renames a file over another: yes
+locks a file against a second open: yes
+syncs files and folders: yes
+removes files: yes
+it serves, and 0 names are left";
+
+const UNSYNCED: &str = "keeps a file and its time to the nanosecond: yes
+links a file to a second name: yes
+refuses a link to a taken name: yes
+renames a file over another: yes
+locks a file against a second open: yes
+syncs files and folders: this file system has no sync of folders: names last as it lets them
+removes files: yes
+it serves, and 0 names are left";
+
+/// The call of the system that links a file.
+const LINKS: u64 = 2;
+
+/// The call of the system that opens the folder, to sync it.
+const OPENS_FOLDER: u64 = 14;
+
+/// No call of the system.
+const NONE: u64 = u64::MAX;
+
+/// How many names a folder has, none where it is missing.
+fn count(rt: &HostRuntime, folder: &str) -> usize {
+    match fs::read_dir(rt, folder) {
+        Ok(names) => names.count(),
+        Err(_) => 0,
+    }
 }
 
-/// The report on a folder, and the first check that it does not pass.
-fn report(rt: &HostRuntime, folder: &str) -> io::Result<(String, Option<Check>)> {
-    let report = examine(rt, rt.alloc(), folder)?;
-    let text = format!(in rt.alloc(); "{report}")?;
-    Ok((text, report.first_failed()))
+/// Which check fails first.
+fn verdict(rt: &HostRuntime, report: &Report) -> io::Result<String> {
+    match report.first_failed() {
+        Some(check) => Ok(format!(in rt.alloc(); "first fails: {check}")?),
+        None => Ok(String::from_str(rt.alloc(), "it serves")?),
+    }
 }
 
-/// What is reported where this call of the system fails so, the check that fails first, and how many names are left.
-fn failing(
-    rt: &HostRuntime,
-    folder: &str,
-    nth: u64,
-    kind: ErrorKind,
-) -> io::Result<(String, Option<Check>, usize)> {
+/// What is reported of a folder where this call of the system fails so, which check fails first, and how many names are left.
+fn examined(rt: &HostRuntime, folder: &str, nth: u64, kind: ErrorKind) -> io::Result<String> {
     let left = Cell::new(nth);
     let failing = Failing {
         rt,
@@ -36,73 +62,53 @@ fn failing(
         writes: true,
     };
     let report = examine(&failing, rt.alloc(), folder)?;
-    let text = format!(in rt.alloc(); "{report}")?;
-    Ok((text, report.first_failed(), count(rt, folder)?))
+    let verdict = verdict(rt, &report)?;
+    let names = count(rt, folder);
+    Ok(format!(in rt.alloc(); "{report}{verdict}, and {names} names are left")?)
 }
 
-const SERVES: &str = "keeps a file and its time to the nanosecond: yes
-links a file to a second name: yes
-refuses a link to a taken name: yes
-renames a file over another: yes
-locks a file against a second open: yes
-syncs files and folders: yes
-removes files: yes
-";
+/// The same of a folder of its own.
+fn examined_alone(rt: &HostRuntime, nth: u64, kind: ErrorKind) -> io::Result<String> {
+    let root = folder_of(rt, "doctor")?;
+    fs::create_dir(rt, root.as_str())?;
+    let told = examined(rt, root.as_str(), nth, kind)?;
+    fs::remove_dir_all(rt, root.as_str())?;
+    Ok(told)
+}
 
-const UNSYNCED: &str = "keeps a file and its time to the nanosecond: yes
-links a file to a second name: yes
-refuses a link to a taken name: yes
-renames a file over another: yes
-locks a file against a second open: yes
-syncs files and folders: this file system has no sync of folders: names last as it lets them
-removes files: yes
-";
-
-/// The call of the system that opens the folder, to sync it.
-const OPENS_FOLDER: u64 = 14;
+/// The last line of a text.
+fn last_line(text: &str) -> &str {
+    match text.rsplit_once('\n') {
+        Some((_, last)) => last,
+        None => text,
+    }
+}
 
 #[test]
 fn folders_are_examined(rt: HostRuntime) -> Result<(), Fail> {
-    let root = folder_of(&rt, "doctor")?;
-    let root = root.as_str();
-    fs::create_dir(&rt, root)?;
-    let (text, failed) = report(&rt, root)?;
-    let left = count(&rt, root)?;
-    let (_, linking, left_linking) = failing(&rt, root, 2, ErrorKind::Other)?;
-    let (_, missing) = report(&rt, "no such folder")?;
-    fs::remove_dir_all(&rt, root)?;
-    assert!(rt; text.as_str() == SERVES, "the report says {text}");
-    assert!(rt;
-        failed.is_none() && left == 0,
-        "a check fails, or a file is left"
+    let told = examined_alone(&rt, NONE, ErrorKind::Other)?;
+    assert_eq!(rt; told.as_str(), SERVES);
+    let told = examined_alone(&rt, LINKS, ErrorKind::Other)?;
+    assert_eq!(rt;
+        last_line(told.as_str()),
+        "first fails: links a file to a second name, and 0 names are left"
     );
-    assert!(rt;
-        (linking, left_linking) == (Some(Check::Links), 0),
-        "another check fails, or a file is left"
-    );
-    assert!(rt;
-        missing == Some(Check::Keeps),
-        "a missing folder passes a check"
+    let told = examined(&rt, "no such folder", NONE, ErrorKind::Other)?;
+    assert_eq!(rt;
+        last_line(told.as_str()),
+        "first fails: keeps a file and its time to the nanosecond, and 0 names are left"
     );
     Ok(())
 }
 
 #[test]
 fn folders_that_are_not_synced_are_told(rt: HostRuntime) -> Result<(), Fail> {
-    let root = folder_of(&rt, "unsynced")?;
-    let root = root.as_str();
-    fs::create_dir(&rt, root)?;
-    let (text, failed, left) = failing(&rt, root, OPENS_FOLDER, ErrorKind::Unsupported)?;
-    let (_, other, _) = failing(&rt, root, OPENS_FOLDER, ErrorKind::Other)?;
-    fs::remove_dir_all(&rt, root)?;
-    assert!(rt; text.as_str() == UNSYNCED, "the report says {text}");
-    assert!(rt;
-        failed.is_none() && left == 0,
-        "a check fails, or a file is left"
-    );
-    assert!(rt;
-        other == Some(Check::Syncs),
-        "a folder that fails to sync passes"
+    let told = examined_alone(&rt, OPENS_FOLDER, ErrorKind::Unsupported)?;
+    assert_eq!(rt; told.as_str(), UNSYNCED);
+    let told = examined_alone(&rt, OPENS_FOLDER, ErrorKind::Other)?;
+    assert_eq!(rt;
+        last_line(told.as_str()),
+        "first fails: syncs files and folders, and 0 names are left"
     );
     Ok(())
 }

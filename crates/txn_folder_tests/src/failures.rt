@@ -1,94 +1,69 @@
 //! Each call of the system failing in turn, before its effect or after it.
 
 use crate::failing::Failing;
-use crate::steps::Call::{
-    Create, CreateBoundary, Delete, List, Overwrite, Read, ReadBoundary, Update,
-};
-use crate::steps::{Call, folder_of, layout_of, store_of, told};
+use crate::steps::{call_of, folder_of, store_of, told};
 use std::cell::Cell;
-use std::fs;
 use std::io::ErrorKind;
 use std::test::Fail;
-use txn_store::path::PathFault;
+use std::{fs, io};
 
-/// A call, what it is answered where nothing fails, and what shows then that it took effect, and that it did not.
-type Case = (
-    Call,
-    &'static str,
-    &'static [(Call, &'static str)],
-    &'static [(Call, &'static str)],
-);
+/// What stands before each case.
+const BEFORE: &str = "create 1 0:1 = put; create boundary 1 = put";
 
-const CASES: &[Case] = &[
-    (
-        Create(2, b"0:2"),
-        "put",
-        &[
-            (Read(2, b"0:2"), "got"),
-            (List(None, 5, &[1, 2], false), "listed"),
-        ],
-        &[
-            (Read(2, b""), "not found"),
-            (List(None, 5, &[1], false), "listed"),
-        ],
-    ),
-    (
-        Create(1, b"0:2"),
-        "already exists",
-        &[(Read(1, b"0:1"), "got")],
-        &[(Read(1, b"0:1"), "got")],
-    ),
-    (
-        Overwrite(1, b"0:3"),
-        "put",
-        &[(Read(1, b"0:3"), "got")],
-        &[(Read(1, b"0:1"), "got")],
-    ),
-    (
-        Update(1, b"2"),
-        "put",
-        &[(ReadBoundary(b"2"), "got")],
-        &[(ReadBoundary(b"1"), "got")],
-    ),
-    (
-        Update(0, b"2"),
-        "precondition",
-        &[(ReadBoundary(b"1"), "got")],
-        &[(ReadBoundary(b"1"), "got")],
-    ),
-    (
-        Delete(1),
-        "deleted",
-        &[(Read(1, b""), "not found")],
-        &[(Read(1, b"0:1"), "got")],
-    ),
-    (
-        Delete(2),
-        "deleted",
-        &[(Read(2, b""), "not found")],
-        &[(Read(2, b""), "not found")],
-    ),
-    (
-        Read(1, b"0:1"),
-        "got",
-        &[(Read(1, b"0:1"), "got")],
-        &[(Read(1, b"0:1"), "got")],
-    ),
-    (
-        ReadBoundary(b"1"),
-        "got",
-        &[(ReadBoundary(b"1"), "got")],
-        &[(ReadBoundary(b"1"), "got")],
-    ),
-    (
-        List(None, 5, &[1], false),
-        "listed",
-        &[(Read(1, b"0:1"), "got")],
-        &[(Read(1, b"0:1"), "got")],
-    ),
-];
+/// A call with what it is answered where nothing fails, what shows then that it took effect, and what that it did not.
+const CASES: &str = "\
+create 2 0:2 = put | get 2 = got 0:2; list 5 = listed 1 2 | get 2 = not found; list 5 = listed 1
+create 1 0:2 = already exists | get 1 = got 0:1 | get 1 = got 0:1
+overwrite 1 0:3 = put | get 1 = got 0:3 | get 1 = got 0:1
+update boundary 1 2 = put | get boundary = got 2 | get boundary = got 1
+update boundary 0 2 = precondition | get boundary = got 1 | get boundary = got 1
+delete 1 = deleted | get 1 = not found | get 1 = got 0:1
+delete 2 = deleted | get 2 = not found | get 2 = not found
+get 1 = got 0:1 | get 1 = got 0:1 | get 1 = got 0:1
+get boundary = got 1 | get boundary = got 1 | get boundary = got 1
+list 5 = listed 1 | get 1 = got 0:1 | get 1 = got 0:1";
 
-/// How one case went where one call of the system failed.
+/// How many calls of the system are let fail in turn.
+const CALLS: u64 = 16;
+
+/// Whether all these calls are answered so.
+fn are_told(rt: &HostRuntime, root: &str, calls: &str) -> io::Result<bool> {
+    let mut store = store_of(rt.clone()?, root, false)?;
+    for line in calls.split("; ") {
+        let told = told(rt.alloc(), &mut store, call_of(line))?;
+        if told.as_str() != line {
+            return Ok(false);
+        }
+    }
+    Ok(true)
+}
+
+/// What a call is answered of which one call of the system fails: `failed` where there is a fault, and only then.
+fn told_failing(
+    rt: &HostRuntime,
+    root: &str,
+    call: &str,
+    nth: u64,
+    after: bool,
+) -> io::Result<Option<String>> {
+    let left = Cell::new(nth);
+    let failing = Failing {
+        rt,
+        left: &left,
+        after,
+        kind: ErrorKind::Other,
+        writes: true,
+    };
+    let mut store = store_of(failing, root, true)?;
+    let told = told(rt.alloc(), &mut store, call)?;
+    let is_failed = told.as_str().ends_with(" = failed");
+    if is_failed != store.fault().is_some() {
+        return Ok(None);
+    }
+    Ok(Some(told))
+}
+
+/// How a case went where one call of the system failed.
 #[derive(Clone, Copy, PartialEq, Eq)]
 enum Outcome {
     /// The call was answered as if nothing had failed, and took effect.
@@ -99,91 +74,77 @@ enum Outcome {
     Wrong,
 }
 
-/// Whether all these calls are answered so.
-fn all_told(
-    rt: &HostRuntime,
-    root: &str,
-    calls: &[(Call, &'static str)],
-) -> Result<bool, PathFault> {
-    let Ok(inner) = rt.clone() else {
-        return Err(PathFault::NoMemory);
-    };
-    let mut store = store_of(inner, root, false)?;
-    let layout = layout_of(rt.alloc())?;
-    for (call, answer) in calls {
-        if told(rt.alloc(), &mut store, &layout, *call)? != *answer {
-            return Ok(false);
-        }
-    }
-    Ok(true)
+/// What a case says: what is answered where nothing fails, what shows that it took effect, and that it did not.
+fn parts(case: &str) -> (&str, &str, &str) {
+    let (line, rest) = case.split_once(" | ").unwrap_or((case, ""));
+    let (done, undone) = rest.split_once(" | ").unwrap_or((rest, ""));
+    (line, done, undone)
 }
 
-/// What a call is answered whose nth call of the system fails, and whether there is a fault.
-fn told_failing(
-    rt: &HostRuntime,
-    root: &str,
-    call: Call,
-    nth: u64,
-    after: bool,
-) -> Result<(&'static str, bool), PathFault> {
-    let left = Cell::new(nth);
-    let failing = Failing {
-        rt,
-        left: &left,
-        after,
-        kind: ErrorKind::Other,
-        writes: true,
-    };
-    let mut store = store_of(failing, root, true)?;
-    let layout = layout_of(rt.alloc())?;
-    let answer = told(rt.alloc(), &mut store, &layout, call)?;
-    Ok((answer, store.fault().is_some()))
-}
-
-fn went(
-    rt: &HostRuntime,
-    root: &str,
-    case: &Case,
-    nth: u64,
-    after: bool,
-) -> Result<Outcome, PathFault> {
-    let (call, answer, done, undone) = case;
-    let before = [(Create(1, b"0:1"), "put"), (CreateBoundary(b"1"), "put")];
-    if !all_told(rt, root, &before)? {
+fn went(rt: &HostRuntime, root: &str, case: &str, nth: u64, after: bool) -> io::Result<Outcome> {
+    let (line, done, undone) = parts(case);
+    if !are_told(rt, root, BEFORE)? {
         return Ok(Outcome::Wrong);
     }
-    let (told, has_fault) = told_failing(rt, root, *call, nth, after)?;
-    let is_done = all_told(rt, root, done)?;
-    if told == *answer && !has_fault && is_done {
-        return Ok(Outcome::Done);
+    let Some(told) = told_failing(rt, root, call_of(line), nth, after)? else {
+        return Ok(Outcome::Wrong);
+    };
+    let is_done = are_told(rt, root, done)?;
+    if told.as_str() == line {
+        return Ok(if is_done {
+            Outcome::Done
+        } else {
+            Outcome::Wrong
+        });
     }
-    if told == "failed" && has_fault && (is_done || all_told(rt, root, undone)?) {
+    let is_failed = told.as_str().ends_with(" = failed");
+    if is_failed && (is_done || are_told(rt, root, undone)?) {
         return Ok(Outcome::Failed);
     }
     Ok(Outcome::Wrong)
 }
 
-#[test]
-fn each_call_of_the_system_fails(rt: HostRuntime) -> Result<(), Fail> {
+/// The same in a folder of its own.
+fn went_alone(rt: &HostRuntime, case: &str, nth: u64, after: bool) -> io::Result<Outcome> {
+    let root = folder_of(rt, "fails")?;
+    let went = went(rt, root.as_str(), case, nth, after);
+    let _ = fs::remove_dir_all(rt, root.as_str());
+    went
+}
+
+/// How often a case is answered `Failed`, where it is never told wrong.
+fn failures(rt: &HostRuntime, case: &str, after: bool) -> io::Result<Option<u64>> {
     let mut failed: u64 = 0;
-    for (place, case) in CASES.iter().enumerate() {
-        for nth in 0..16 {
-            for after in [false, true] {
-                let root = folder_of(&rt, "fails")?;
-                let Ok(went) = went(&rt, root.as_str(), case, nth, after) else {
-                    panic!(rt; "no memory");
-                };
-                let _ = fs::remove_dir_all(&rt, root.as_str());
-                assert!(rt;
-                    went != Outcome::Wrong,
-                    "case {place} is told wrong where call {nth} fails, after: {after}"
-                );
-                if went == Outcome::Failed {
-                    failed = failed.saturating_add(1);
-                }
-            }
+    for nth in 0..CALLS {
+        match went_alone(rt, case, nth, after)? {
+            Outcome::Done => {}
+            Outcome::Failed => failed = failed.saturating_add(1),
+            Outcome::Wrong => return Ok(None),
         }
     }
+    Ok(Some(failed))
+}
+
+/// How often calls are answered `Failed` where calls of the system fail before their effect, or after it. The case that is told
+/// wrong, where one is.
+fn all_failures(rt: &HostRuntime, after: bool) -> io::Result<(u64, Option<&'static str>)> {
+    let mut failed: u64 = 0;
+    for case in CASES.lines() {
+        match failures(rt, case, after)? {
+            Some(more) => failed = failed.saturating_add(more),
+            None => return Ok((failed, Some(case))),
+        }
+    }
+    Ok((failed, None))
+}
+
+#[test]
+fn each_call_of_the_system_fails(rt: HostRuntime) -> Result<(), Fail> {
+    let (before, wrong) = all_failures(&rt, false)?;
+    assert_eq!(rt; wrong, None);
+    let (after, wrong) = all_failures(&rt, true)?;
+    assert_eq!(rt; wrong, None);
+    let failed = before.saturating_add(after);
     assert!(rt; failed > 30, "only {failed} calls failed");
     Ok(())
 }

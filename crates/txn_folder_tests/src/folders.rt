@@ -1,51 +1,45 @@
 //! What the store answers on folders of the system, and what it leaves there.
 
-use crate::steps::Call::{
-    Create, CreateBoundary, Delete, DeleteBoundary, List, Overwrite, Read, ReadBoundary,
-    ReadElsewhere, ReadNewerBoundary, Update,
-};
-use crate::steps::{Call, first_other, folder_of, store_of};
+use crate::steps::{folder_of, played, store_of};
 use std::os::unix::fs::symlink;
 use std::test::Fail;
 use std::time::{Duration, SystemTime};
 use std::{fs, io};
-use txn_folder::store::FolderStore;
 
 /// Versions and the boundary, call by call.
-const CALLS: &[(Call, &str)] = &[
-    (List(None, 5, &[], false), "listed"),
-    (Read(1, b""), "not found"),
-    (Delete(1), "deleted"),
-    (Create(1, b"0:1"), "put"),
-    (Create(1, b"0:2"), "already exists"),
-    (Read(1, b"0:1"), "got"),
-    (Create(2, b""), "put"),
-    (Create(3, b"0:3"), "put"),
-    (Read(2, b""), "got"),
-    (List(None, 5, &[1, 2, 3], false), "listed"),
-    (List(Some(1), 1, &[2], true), "listed"),
-    (List(Some(3), 1, &[], false), "listed"),
-    (Overwrite(3, b"0:4"), "put"),
-    (Read(3, b"0:4"), "got"),
-    (Delete(2), "deleted"),
-    (Delete(2), "deleted"),
-    (Read(2, b""), "not found"),
-    (List(None, 5, &[1, 3], false), "listed"),
-    (ReadBoundary(b""), "not found"),
-    (Update(0, b"1"), "precondition"),
-    (CreateBoundary(b"1"), "put"),
-    (CreateBoundary(b"2"), "already exists"),
-    (ReadBoundary(b"1"), "got"),
-    (ReadNewerBoundary(1, b""), "not modified"),
-    (ReadNewerBoundary(0, b"1"), "got"),
-    (Update(0, b"2"), "precondition"),
-    (Update(1, b"2"), "put"),
-    (Update(1, b"3"), "precondition"),
-    (ReadBoundary(b"2"), "got"),
-    (DeleteBoundary, "deleted"),
-    (ReadBoundary(b""), "not found"),
-    (ReadElsewhere, "failed"),
-];
+const CALLS: &str = "list 5 = listed
+get 1 = not found
+delete 1 = deleted
+create 1 0:1 = put
+create 1 0:2 = already exists
+get 1 = got 0:1
+create 2 = put
+create 3 0:3 = put
+get 2 = got nothing
+list 5 = listed 1 2 3
+list 1 1 = listed 2 and more
+list 1 3 = listed
+overwrite 3 0:4 = put
+get 3 = got 0:4
+delete 2 = deleted
+delete 2 = deleted
+get 2 = not found
+list 5 = listed 1 3
+get boundary = not found
+update boundary 0 1 = precondition
+create boundary 1 = put
+create boundary 2 = already exists
+get boundary = got 1
+get boundary 1 = not modified
+get boundary 0 = got 1
+update boundary 0 2 = precondition
+update boundary 1 2 = put
+update boundary 1 3 = precondition
+get boundary = got 2
+delete boundary = deleted
+get boundary = not found
+get elsewhere = failed
+";
 
 /// Files of others beside the versions, which no listing tells and no cleaning removes.
 const FOREIGN: &[&str] = &[
@@ -63,36 +57,39 @@ const LEFT: &[&str] = &[
     "gc/test.boundary#00000000000000000002",
 ];
 
-/// What is no regular file at the name of a version, or of the boundary.
-const ODD: &[(Call, &str)] = &[
-    (Read(1, b""), "failed"),
-    (Create(1, b"0:1"), "failed"),
-    (Delete(1), "failed"),
-    (Read(2, b""), "failed"),
-    (Create(2, b"0:1"), "failed"),
-    (Read(3, b""), "failed"),
-    (Overwrite(3, b"0:1"), "failed"),
-    (List(None, 5, &[], false), "failed"),
-    (ReadBoundary(b""), "failed"),
-    (Update(0, b"1"), "failed"),
-    (Create(4, b"0:4"), "put"),
-    (List(Some(3), 5, &[4], false), "listed"),
-];
+/// What is made before others leave files beside it.
+const MADE: &str = "create 1 0:1 = put
+create boundary 0 = put
+";
 
-/// The place of the first of these calls in a folder that is answered otherwise.
-fn first_other_in(
-    rt: &HostRuntime,
-    root: &str,
-    syncs: bool,
-    calls: &[(Call, &'static str)],
-) -> io::Result<Option<usize>> {
-    let Ok(mut store) = store_of(rt.clone()?, root, syncs) else {
-        return Err(io::Error::from(io::ErrorKind::OutOfMemory));
-    };
-    match first_other(rt.alloc(), &mut store, calls) {
-        Ok(place) => Ok(place),
-        Err(_) => Err(io::Error::from(io::ErrorKind::OutOfMemory)),
-    }
+/// What is told beside these files.
+const TOLD: &str = "list 5 = listed 1
+";
+
+/// What stands after a cleaning.
+const KEPT: &str = "get 1 = got 0:1
+get boundary = got 0
+";
+
+/// What is no regular file at the name of a version, or of the boundary.
+const ODD: &str = "get 1 = failed
+create 1 0:1 = failed
+delete 1 = failed
+get 2 = failed
+create 2 0:1 = failed
+get 3 = failed
+overwrite 3 0:1 = failed
+list 5 = failed
+get boundary = failed
+update boundary 0 1 = failed
+create 4 0:4 = put
+list 5 3 = listed 4
+";
+
+/// What the calls of a table are answered in a folder.
+fn played_in(rt: &HostRuntime, root: &str, syncs: bool, table: &str) -> io::Result<String> {
+    let mut store = store_of(rt.clone()?, root, syncs)?;
+    played(rt.alloc(), &mut store, table)
 }
 
 fn write_all(rt: &HostRuntime, root: &str, names: &[&str]) -> io::Result<()> {
@@ -104,8 +101,8 @@ fn write_all(rt: &HostRuntime, root: &str, names: &[&str]) -> io::Result<()> {
 }
 
 /// How many of these stand.
-fn standing(rt: &HostRuntime, root: &str, names: &[&str]) -> io::Result<usize> {
-    let mut count: usize = 0;
+fn standing(rt: &HostRuntime, root: &str, names: &[&str]) -> io::Result<u64> {
+    let mut count: u64 = 0;
     for name in names {
         let file = format!(in rt.alloc(); "{root}/{name}")?;
         if fs::exists(rt, file.as_str())? {
@@ -115,22 +112,24 @@ fn standing(rt: &HostRuntime, root: &str, names: &[&str]) -> io::Result<usize> {
     Ok(count)
 }
 
-fn cleaned(store: &mut FolderStore<HostRuntime>, before: SystemTime) -> Option<u64> {
-    store.clean(before).ok()
+/// How many temporary files are removed that were left before a time.
+fn cleaned(rt: &HostRuntime, root: &str, before: Option<SystemTime>) -> io::Result<Option<u64>> {
+    let mut store = store_of(rt.clone()?, root, false)?;
+    match before {
+        Some(before) => Ok(store.clean(before).ok()),
+        None => Ok(None),
+    }
 }
 
-/// How many are cleaned up to an hour ago, and up to an hour from now.
-fn clean_twice(rt: &HostRuntime, root: &str) -> io::Result<(Option<u64>, Option<u64>)> {
-    let Ok(mut store) = store_of(rt.clone()?, root, false) else {
-        return Err(io::Error::from(io::ErrorKind::OutOfMemory));
-    };
+/// How many are removed up to an hour ago and up to an hour from now, and how many files of others and of the dead then stand.
+fn clean(rt: &HostRuntime, root: &str) -> io::Result<String> {
     let hour = Duration::from_secs(3600);
     let now = SystemTime::now(rt)?;
-    let (Some(old), Some(new)) = (now.checked_sub(hour), now.checked_add(hour)) else {
-        return Ok((None, None));
-    };
-    let first = cleaned(&mut store, old);
-    Ok((first, cleaned(&mut store, new)))
+    let old = cleaned(rt, root, now.checked_sub(hour))?;
+    let new = cleaned(rt, root, now.checked_add(hour))?;
+    let foreign = standing(rt, root, FOREIGN)?;
+    let left = standing(rt, root, LEFT)?;
+    Ok(format!(in rt.alloc(); "removed {old:?}, then {new:?}; {foreign} and {left} stand")?)
 }
 
 /// Puts a link to nothing, a link to a device and a folder at the names of versions, and a folder at that of the boundary.
@@ -147,14 +146,21 @@ fn make_odd(rt: &HostRuntime, root: &str) -> io::Result<()> {
     Ok(())
 }
 
+/// What the calls of a table are answered in a folder of their own, synced or not, where odd files may stand.
+fn alone(rt: &HostRuntime, syncs: bool, odd: bool, table: &str) -> io::Result<String> {
+    let root = folder_of(rt, "calls")?;
+    if odd {
+        make_odd(rt, root.as_str())?;
+    }
+    let told = played_in(rt, root.as_str(), syncs, table)?;
+    fs::remove_dir_all(rt, root.as_str())?;
+    Ok(told)
+}
+
 #[test]
 fn calls_are_answered(rt: HostRuntime) -> Result<(), Fail> {
-    for syncs in [false, true] {
-        let root = folder_of(&rt, "calls")?;
-        let other = first_other_in(&rt, root.as_str(), syncs, CALLS)?;
-        assert!(rt; other.is_none(), "call {other:?} is answered otherwise");
-        fs::remove_dir_all(&rt, root.as_str())?;
-    }
+    assert_eq!(rt; alone(&rt, false, false, CALLS)?.as_str(), CALLS);
+    assert_eq!(rt; alone(&rt, true, false, CALLS)?.as_str(), CALLS);
     Ok(())
 }
 
@@ -162,37 +168,21 @@ fn calls_are_answered(rt: HostRuntime) -> Result<(), Fail> {
 fn leftovers_alone_are_cleaned(rt: HostRuntime) -> Result<(), Fail> {
     let root = folder_of(&rt, "cleaned")?;
     let root = root.as_str();
-    let calls = [(Create(1, b"0:1"), "put"), (CreateBoundary(b"0"), "put")];
-    let made = first_other_in(&rt, root, false, &calls)?;
+    assert_eq!(rt; played_in(&rt, root, false, MADE)?.as_str(), MADE);
     write_all(&rt, root, FOREIGN)?;
     write_all(&rt, root, LEFT)?;
-    let listed = [(List(None, 5, &[1], false), "listed")];
-    let told = first_other_in(&rt, root, false, &listed)?;
-    let counts = clean_twice(&rt, root)?;
-    let left = (standing(&rt, root, FOREIGN)?, standing(&rt, root, LEFT)?);
-    let kept = first_other_in(
-        &rt,
-        root,
-        false,
-        &[(Read(1, b"0:1"), "got"), (ReadBoundary(b"0"), "got")],
-    )?;
-    fs::remove_dir_all(&rt, root)?;
-    assert!(rt;
-        (made, told, kept) == (None, None, None),
-        "calls are answered otherwise"
+    assert_eq!(rt; played_in(&rt, root, false, TOLD)?.as_str(), TOLD);
+    assert_eq!(rt;
+        clean(&rt, root)?.as_str(),
+        "removed Some(0), then Some(2); 6 and 0 stand"
     );
-    assert!(rt; counts == (Some(0), Some(2)), "other files are cleaned");
-    assert!(rt; left == (6, 0), "other files are left");
+    assert_eq!(rt; played_in(&rt, root, false, KEPT)?.as_str(), KEPT);
+    fs::remove_dir_all(&rt, root)?;
     Ok(())
 }
 
 #[test]
 fn what_is_no_file_is_a_fault(rt: HostRuntime) -> Result<(), Fail> {
-    let root = folder_of(&rt, "odd")?;
-    let root = root.as_str();
-    make_odd(&rt, root)?;
-    let other = first_other_in(&rt, root, false, ODD)?;
-    fs::remove_dir_all(&rt, root)?;
-    assert!(rt; other.is_none(), "call {other:?} is answered otherwise");
+    assert_eq!(rt; alone(&rt, false, true, ODD)?.as_str(), ODD);
     Ok(())
 }

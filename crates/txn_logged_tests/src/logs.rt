@@ -1,114 +1,91 @@
 //! Rows that the log of an honest store takes, and rows that it refuses.
-use crate::calls::Asked::{Create, Delete, Get, GetNewer, List, Update};
-use crate::calls::{Asked, Told, reply, request};
-use std::alloc::Global;
+
+use crate::calls::{reply, request};
+use std::alloc::{AllocError, Global};
 use std::test::Fail;
 use txn_journals::audited::Logged;
 use txn_journals::rows::LogRow;
-use txn_logged::fault::LogFault;
-use txn_logged::fault::LogFault::{OtherAnswer, OtherKind, TokenGiven};
 use txn_logged::honest::HonestLog;
-use txn_store::path::PathFault;
-use txn_store::store::StoreError::{
-    AlreadyExists, Failed, NoMemory, NotFound, NotModified, Precondition, TokensExhausted,
-};
 
-/// A call, its reply, and whether the log takes the row.
-type Row = (Asked, Told, Result<(), LogFault>);
+/// A call and its reply a line, and whether the log takes the row, or why it does not. The tokens are in no order; the bytes are
+/// `one`, `two`, `three` and `four`.
+const ROWS: &str = "create d/a 6f6e65 = put 900: taken
+create d/a 74776f = put 5: OtherAnswer
+create d/a 74776f = put AlreadyExists: taken
+create d/b 74776f = put 900: TokenGiven
+create d/b 74776f = put Precondition: OtherAnswer
+create d/b 74776f = put TokensExhausted: OtherAnswer
+create d/b 74776f = put NoMemory: taken
+create d/b 74776f = put Failed: Failed
+create d/b 74776f = delete done: OtherKind
+create d/b 74776f = put 0: taken
+update d/b 900 7468726565 = put 7: OtherAnswer
+update d/b 0 7468726565 = put 7: taken
+update d/b 7 666f7572 = put 0: TokenGiven
+get d/b - = get 7 7468726565: taken
+get d/b - = get 7 74776f: OtherAnswer
+get d/b - = get 0 7468726565: OtherAnswer
+get d/b - = get NotFound: OtherAnswer
+get d/c - = get NotFound: taken
+get d/c - = get NoMemory: OtherAnswer
+get d/b 7 = get NotModified: taken
+get d/b 0 = get NotModified: OtherAnswer
+list d 9 = list last d/a:900:3 d/b:7:5: taken
+list d 9 = list last d/b:7:5 d/a:900:3: OtherAnswer
+list d 1 = list last d/a:900:3: OtherAnswer
+list d 1 = list more d/a:900:3: taken
+delete d/a = delete NotFound: OtherAnswer
+delete d/a = delete done: taken
+get d/a - = get 900 6f6e65: OtherAnswer
+create d/a 6f6e65 = put 900: TokenGiven
+create d/a 6f6e65 = put 901: taken
+";
 
-/// The tokens are in no order.
-const ROWS: &[Row] = &[
-    (Create("a", b"one"), Told::Put(Ok(900)), Ok(())),
-    (Create("a", b"two"), Told::Put(Ok(5)), Err(OtherAnswer)),
-    (Create("a", b"two"), Told::Put(Err(AlreadyExists)), Ok(())),
-    (Create("b", b"two"), Told::Put(Ok(900)), Err(TokenGiven)),
-    (
-        Create("b", b"two"),
-        Told::Put(Err(Precondition)),
-        Err(OtherAnswer),
-    ),
-    (
-        Create("b", b"two"),
-        Told::Put(Err(TokensExhausted)),
-        Err(OtherAnswer),
-    ),
-    (Create("b", b"two"), Told::Put(Err(NoMemory)), Ok(())),
-    (
-        Create("b", b"two"),
-        Told::Put(Err(Failed)),
-        Err(LogFault::Failed),
-    ),
-    (Create("b", b"two"), Told::Delete(Ok(())), Err(OtherKind)),
-    (Create("b", b"two"), Told::Put(Ok(0)), Ok(())),
-    (
-        Update("b", b"three", 900),
-        Told::Put(Ok(7)),
-        Err(OtherAnswer),
-    ),
-    (Update("b", b"three", 0), Told::Put(Ok(7)), Ok(())),
-    (Update("b", b"four", 7), Told::Put(Ok(0)), Err(TokenGiven)),
-    (Get("b"), Told::Get(Ok((b"three", 7))), Ok(())),
-    (Get("b"), Told::Get(Ok((b"two", 7))), Err(OtherAnswer)),
-    (Get("b"), Told::Get(Ok((b"three", 0))), Err(OtherAnswer)),
-    (Get("b"), Told::Get(Err(NotFound)), Err(OtherAnswer)),
-    (Get("c"), Told::Get(Err(NotFound)), Ok(())),
-    (Get("c"), Told::Get(Err(NoMemory)), Err(OtherAnswer)),
-    (GetNewer("b", 7), Told::Get(Err(NotModified)), Ok(())),
-    (
-        GetNewer("b", 0),
-        Told::Get(Err(NotModified)),
-        Err(OtherAnswer),
-    ),
-    (
-        List(9),
-        Told::List(Ok((&[("a", 3, 900), ("b", 5, 7)], false))),
-        Ok(()),
-    ),
-    (
-        List(9),
-        Told::List(Ok((&[("b", 5, 7), ("a", 3, 900)], false))),
-        Err(OtherAnswer),
-    ),
-    (
-        List(1),
-        Told::List(Ok((&[("a", 3, 900)], false))),
-        Err(OtherAnswer),
-    ),
-    (List(1), Told::List(Ok((&[("a", 3, 900)], true))), Ok(())),
-    (Delete("a"), Told::Delete(Err(NotFound)), Err(OtherAnswer)),
-    (Delete("a"), Told::Delete(Ok(())), Ok(())),
-    (Get("a"), Told::Get(Ok((b"one", 900))), Err(OtherAnswer)),
-    (Create("a", b"one"), Told::Put(Ok(900)), Err(TokenGiven)),
-    (Create("a", b"one"), Told::Put(Ok(901)), Ok(())),
-];
+/// How many of these are taken.
+const TAKEN: usize = 12;
 
-fn row(alloc: Global, asked: Asked, told: Told) -> Result<LogRow, PathFault> {
-    let request = request(alloc, asked)?;
-    let reply = reply(alloc, told)?;
-    Ok(LogRow {
+/// The row of a call and its reply.
+fn row(alloc: Global, asked: &str, told: &str) -> Result<Option<LogRow>, AllocError> {
+    let (Some(request), Some(reply)) = (request(alloc, asked)?, reply(alloc, told)?) else {
+        return Ok(None);
+    };
+    Ok(Some(LogRow {
         client: 1,
         request,
         reply,
         landed: None,
-    })
+    }))
 }
 
-/// The first row that is taken or refused otherwise, counted from 0, where there is one.
-fn other_row(alloc: Global, log: &mut HonestLog, rows: &[Row]) -> Result<Option<usize>, PathFault> {
-    for (at, (asked, told, want)) in rows.iter().enumerate() {
-        if log.push(alloc, row(alloc, *asked, *told)?) != *want {
-            return Ok(Some(at));
-        }
+/// Whether a log takes a row, or why it does not.
+fn pushed(alloc: Global, log: &mut HonestLog, row: Option<LogRow>) -> Result<String, AllocError> {
+    let Some(row) = row else {
+        return String::from_str(alloc, "no row");
+    };
+    match log.push(alloc, row) {
+        Ok(()) => String::from_str(alloc, "taken"),
+        Err(fault) => format!(in alloc; "{fault:?}"),
     }
-    Ok(None)
+}
+
+/// The rows of a table, with what the log says of them.
+fn played(alloc: Global, log: &mut HonestLog, table: &str) -> Result<String, AllocError> {
+    let mut text = String::new(alloc);
+    for line in table.lines() {
+        let (asked, rest) = line.split_once(" = ").unwrap_or((line, ""));
+        let (told, _) = rest.rsplit_once(": ").unwrap_or((rest, ""));
+        let row = row(alloc, asked, told)?;
+        let said = pushed(alloc, log, row)?;
+        let line = format!(in alloc; "{asked} = {told}: {said}\n")?;
+        text.push_str(line.as_str())?;
+    }
+    Ok(text)
 }
 
 #[test]
 fn an_honest_log_takes_what_a_store_can_have_replied(rt: HostRuntime) -> Result<(), Fail> {
     let mut log = HonestLog::new(rt.alloc());
-    let other = other_row(rt.alloc(), &mut log, ROWS)?;
-    assert_eq!(rt; other, None);
-    let taken = ROWS.iter().filter(|row| row.2.is_ok()).count();
-    assert_eq!(rt; log.log().len(), taken);
+    let said = played(rt.alloc(), &mut log, ROWS)?;
+    assert_eq!(rt; (said.as_str(), log.log().len()), (ROWS, TAKEN));
     Ok(())
 }

@@ -1,6 +1,5 @@
 //! A run of two clients over one store: its logs, and their audit.
-use crate::calls::Asked::{Create, Delete, Get, List, Update};
-use crate::calls::{Asked, request};
+use crate::calls::request;
 use std::alloc::{AllocError, Global};
 use std::test::Fail;
 use txn_audit::audit::audit;
@@ -39,16 +38,14 @@ fn no_rows(alloc: Global, client: u64) -> Noted {
 }
 
 /// What clients 1 and 2 ask for, in the order of the store.
-const RUN: &[(u64, Asked)] = &[
-    (1, Create("a", b"one")),
-    (2, Get("a")),
-    (2, Create("a", b"two")),
-    (2, Update("a", b"two", 1)),
-    (1, Get("b")),
-    (1, List(9)),
-    (2, Delete("a")),
-    (1, Get("a")),
-];
+const RUN: &str = "1 create d/a 6f6e65
+2 get d/a -
+2 create d/a 74776f
+2 update d/a 1 74776f
+1 get d/b -
+1 list d 9
+2 delete d/a
+1 get d/a -";
 
 fn note(noted: &mut Noted, receipt: Receipt) -> Result<(), AllocError> {
     noted.rows.push(JournalRow {
@@ -69,18 +66,20 @@ fn row_of(client: u64, receipt: &Receipt) -> Result<LogRow, AllocError> {
     })
 }
 
-/// The store serves what a client asks for, and the client notes its receipt: the row of the log.
+/// The store serves what a client asks for, and the client notes its receipt: the row of the log, none where nothing is asked.
 fn serves(
     alloc: Global,
     store: &mut LoggedStore,
     noted: &mut Noted,
-    asked: Asked,
-) -> Result<LogRow, Fail> {
-    let request = request(alloc, asked)?;
+    asked: &str,
+) -> Result<Option<LogRow>, AllocError> {
+    let Some(request) = request(alloc, asked)? else {
+        return Ok(None);
+    };
     let receipt = store.serve_logged(alloc, noted.client, &request)?;
     let row = row_of(noted.client, &receipt)?;
     note(noted, receipt)?;
-    Ok(row)
+    Ok(Some(row))
 }
 
 /// The run, and whether the log took each row.
@@ -89,10 +88,13 @@ fn plays(
     store: &mut LoggedStore,
     log: &mut HonestLog,
     diaries: &mut [Noted; 2],
-) -> Result<bool, Fail> {
-    for (client, asked) in RUN {
-        let at = if *client == 1 { 0 } else { 1 };
-        let row = serves(alloc, store, &mut diaries[at], *asked)?;
+) -> Result<bool, AllocError> {
+    for line in RUN.lines() {
+        let (client, asked) = line.split_once(' ').unwrap_or(("", line));
+        let at = if client == "1" { 0 } else { 1 };
+        let Some(row) = serves(alloc, store, &mut diaries[at], asked)? else {
+            return Ok(false);
+        };
         if log.push(alloc, row).is_err() {
             return Ok(false);
         }

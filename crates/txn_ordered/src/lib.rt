@@ -4,14 +4,8 @@
 //! The order is a proposal. No clause says that it is right: who replays it on an honest store sees whether it is.
 #![tactic(auto)]
 
-mod boundaries;
-mod calls;
-pub mod clock;
 mod graph;
-mod landings;
-mod lives;
 pub mod order;
 mod precedence;
-mod removals;
 mod standing;
 mod times;

@@ -1,15 +1,15 @@
 //! The order of the recorded calls of a store.
 
-use crate::boundaries::{Boundaries, written};
-use crate::calls::{Asked, calls};
-use crate::clock::{Clock, margin_of};
 use crate::graph::Graph;
-use crate::landings::{Fate, fate_of, fates};
-use crate::lives::{Lives, lived};
 use crate::precedence::{Precedence, raised};
-use crate::removals::remove;
 use crate::times::{link_times, times};
 use std::alloc::{AllocError, AllocFailed, Global};
+use txn_effects::boundaries::Boundaries;
+use txn_effects::calls::Asked;
+use txn_effects::clock::Clock;
+use txn_effects::effects::{Effects, effects_of};
+use txn_effects::landings::{Fate, fate_of};
+use txn_effects::lives::Lives;
 use txn_recorded::row::Row;
 use txn_store::request::{Reply, Request};
 use txn_store::store::Token;
@@ -104,20 +104,18 @@ fn landing(request: &Request, token: Option<u64>, greatest: u64) -> (Reply, u64)
 /// The calls that have a place, in the order of their nodes.
 fn in_order(
     alloc: Global,
-    calls: &[Asked<'_>],
-    fates: &[Fate],
+    effects: &Effects<'_>,
     nodes: &[usize],
-    known: u64,
 ) -> Result<Vec<Placed>, AllocError> {
-    let mut greatest = known;
+    let mut greatest = greatest_token(&effects.lives, &effects.boundaries);
     let mut order = Vec::new(alloc);
     for node in nodes {
-        if let Some(asked) = calls.get(*node) {
+        if let Some(asked) = effects.calls.get(*node) {
             let call = CallPlace {
                 recording: asked.recording,
                 row: asked.row,
             };
-            match fate_of(fates, *node) {
+            match fate_of(effects.fates.as_slice(), *node) {
                 Fate::Answered => order.push(Placed { call, landed: None })?,
                 Fate::Unknown => {}
                 Fate::Landed(token) => {
@@ -134,9 +132,41 @@ fn in_order(
     Ok(order)
 }
 
+/// What came before what, by the replies and by these times, which are nodes behind the calls.
+fn linked(alloc: Global, effects: &Effects<'_>, times: &[u64]) -> Result<Graph, AllocError> {
+    let calls = effects.calls.as_slice();
+    let fates = effects.fates.as_slice();
+    let raised = raised(alloc, &effects.boundaries)?;
+    let mut graph = Graph::new(alloc, calls.len().saturating_add(times.len()))?;
+    let precedence = Precedence {
+        calls,
+        fates,
+        lives: &effects.lives,
+        raised: raised.as_slice(),
+        boundaries: &effects.boundaries,
+    };
+    precedence.link(alloc, &mut graph, effects.idle.as_slice())?;
+    link_times(&mut graph, calls, fates, times)?;
+    Ok(graph)
+}
+
+/// An order of calls of which this became.
+fn ordered(alloc: Global, effects: &Effects<'_>) -> Result<Vec<Placed>, OrderFault> {
+    let calls = effects.calls.as_slice();
+    let times = times(alloc, calls, effects.fates.as_slice())?;
+    let mut graph = linked(alloc, effects, times.as_slice())?;
+    let keys = keys(alloc, calls, times.len())?;
+    let nodes = graph.sort(alloc, keys.as_slice())?;
+    if nodes.len() < keys.len() {
+        return Err(circle(alloc, &graph, calls)?);
+    }
+    Ok(in_order(alloc, effects, nodes.as_slice())?)
+}
+
 /// An order of the calls in these recordings, each a list of rows, by what the replies show and by the times, which are of these
-/// clocks, one for each recording; one that has none here is of the clock of all. A call whose reply nobody saw has a place where a reply shows that it took effect, and none elsewhere. It takes time by the number of calls and
-/// what they tell; a listing is held against the versions that may have stood meanwhile.
+/// clocks, one for each recording; one that has none here is of the clock of all. A call whose reply nobody saw has a place where
+/// a reply shows that it took effect, and none elsewhere. It takes time by the number of calls and what they tell; a listing is
+/// held against the versions that may have stood meanwhile.
 ///
 /// # Errors
 ///
@@ -147,40 +177,6 @@ pub fn order<T>(
     recordings: &[Vec<Row<T>>],
     clocks: &[Clock],
 ) -> Result<Vec<Placed>, OrderFault> {
-    let calls = calls(alloc, recordings, clocks)?;
-    let mut fates = fates(alloc, calls.as_slice())?;
-    let boundaries = written(alloc, calls.as_slice(), &mut fates)?;
-    let mut lives = lived(alloc, calls.as_slice(), &mut fates)?;
-    let margin = margin_of(clocks);
-    let idle = remove(alloc, calls.as_slice(), margin, &mut fates, &mut lives)?;
-    let raised = raised(alloc, &boundaries)?;
-    let times = times(alloc, calls.as_slice(), fates.as_slice())?;
-    let mut graph = Graph::new(alloc, calls.len().saturating_add(times.len()))?;
-    let precedence = Precedence {
-        calls: calls.as_slice(),
-        fates: fates.as_slice(),
-        lives: &lives,
-        raised: raised.as_slice(),
-        boundaries: &boundaries,
-    };
-    precedence.link(alloc, &mut graph, idle.as_slice())?;
-    link_times(
-        &mut graph,
-        calls.as_slice(),
-        fates.as_slice(),
-        times.as_slice(),
-    )?;
-    let keys = keys(alloc, calls.as_slice(), times.len())?;
-    let nodes = graph.sort(alloc, keys.as_slice())?;
-    if nodes.len() < keys.len() {
-        return Err(circle(alloc, &graph, calls.as_slice())?);
-    }
-    let known = greatest_token(&lives, &boundaries);
-    Ok(in_order(
-        alloc,
-        calls.as_slice(),
-        fates.as_slice(),
-        nodes.as_slice(),
-        known,
-    )?)
+    let effects = effects_of(alloc, recordings, clocks)?;
+    ordered(alloc, &effects)
 }

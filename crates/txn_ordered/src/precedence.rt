@@ -1,13 +1,13 @@
 //! Which call came before which, by what the replies show.
 
-use crate::boundaries::Boundaries;
-use crate::calls::{Asked, Name, name_of, number_in, version_of};
 use crate::graph::Graph;
-use crate::landings::{Fate, has_place};
-use crate::lives::{Life, Lives};
-use crate::removals::Concern;
 use crate::standing::Standing;
 use std::alloc::{AllocError, Global};
+use txn_effects::boundaries::Boundaries;
+use txn_effects::calls::{Asked, Name, name_of, number_in, version_of};
+use txn_effects::landings::{Fate, has_place};
+use txn_effects::lives::{Life, Lives};
+use txn_effects::removals::Concern;
 use txn_store::page::Page;
 use txn_store::path::Path;
 use txn_store::request::{Reply, Request};

@@ -1,9 +1,9 @@
 //! The versions that may have stood while a call was made.
 
-use crate::calls::Asked;
-use crate::lives::Lives;
 use std::alloc::{AllocError, Global};
 use std::collections::BTreeMap;
+use txn_effects::calls::Asked;
+use txn_effects::lives::Lives;
 
 /// A version that a listing did not tell, and whether it told one above it.
 pub(crate) type Missing = (u64, bool);

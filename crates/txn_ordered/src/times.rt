@@ -1,9 +1,9 @@
 //! Which call came before which, by their times.
 
-use crate::calls::Asked;
 use crate::graph::Graph;
-use crate::landings::{Fate, has_place};
 use std::alloc::{AllocError, Global};
+use txn_effects::calls::Asked;
+use txn_effects::landings::{Fate, has_place};
 
 /// The times at which calls were asked, ascending, each once.
 pub(crate) fn times(

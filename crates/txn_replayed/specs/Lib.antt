@@ -1,2 +1,1 @@
 pub mod OneHistory
-pub mod Named

@@ -1,7 +1,4 @@
 //! Why recordings are not audited.
-ghost use Rattle.std.specs.Prelude.{◌≡◌};
-ghost use Rattle.std.specs.List.{list_any};
-ghost use Rattle.txn_replayed.specs.Named.{is_of, names};
 
 use std::alloc::{AllocError, AllocFailed};
 use std::fmt;
@@ -50,28 +47,6 @@ impl From<OrderFault> for Refusal {
 impl From<AuditFault> for Refusal {
     fn from(fault: AuditFault) -> Refusal {
         Refusal::Differs(fault)
-    }
-}
-
-/// Whether one of these calls is of a recording.
-fn is_of_one(calls: &[CallPlace], recording: usize) -> bool
-    ensures { result ≡ list_any (is_of recording) calls.now }
-{
-    calls.iter().any(|call| call.recording == recording)
-}
-
-impl Refusal {
-    /// Whether it names a call of a recording. Recordings are counted from 0.
-    pub fn names(&self, recording: usize) -> bool
-        ensures { result ≡ names self.now recording }
-    {
-        match self {
-            Refusal::Row(at, _) => at.recording == recording,
-            Refusal::Dishonest(at, _, _) => at.recording == recording,
-            Refusal::Circle(calls) => is_of_one(calls.as_slice(), recording),
-            Refusal::Differs(_) => false,
-            Refusal::NoMemory => false,
-        }
     }
 }
 

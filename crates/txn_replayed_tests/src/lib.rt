@@ -1,12 +1,6 @@
-//! Tests of the audit of recordings: what clients recorded of an honest store passes, and what was tampered with, or recorded of
-//! a store that lied, is refused.
+//! Tests of the audit of recordings at values of one's own. What it says of honest clients, of lies and of changed recordings
+//! stands in `cases/recordings`.
 #![tactic(auto)]
 
 #[cfg(test)]
 mod audits;
-#[cfg(test)]
-mod played;
-#[cfg(test)]
-mod reread;
-#[cfg(test)]
-mod tampered;

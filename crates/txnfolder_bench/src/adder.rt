@@ -3,7 +3,7 @@
 use bytes::Bytes;
 use std::alloc::AllocError;
 use std::{io, str};
-use txn_folder::fault::Fault;
+use txn_files::fault::Fault;
 use txn_folder::folder::Folder;
 use txn_folder::store::FolderStore;
 use txn_store::path::{Path, PathFault};

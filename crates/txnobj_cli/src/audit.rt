@@ -3,11 +3,11 @@
 use crate::ending::{Halt, NOT_ONE_HISTORY, bytes_in};
 use std::alloc::{AllocError, Global};
 use txn_clients::layout::world_layout;
+use txn_effects::clock::Clock;
 use txn_entries::entry::{Entry, EntryCodec, EntryEpoch};
 use txn_journals::audited::Logged;
 use txn_journals::fault::AuditFault;
 use txn_journals::rows::LogRow;
-use txn_ordered::clock::Clock;
 use txn_ordered::order::CallPlace;
 use txn_recorded::row::Row;
 use txn_recordings::read::{TextFault, read_row};
@@ -176,19 +176,36 @@ impl Recordings {
     }
 }
 
+/// Adds the recordings of these files. Whether all lines are taken: the first that is not is told.
+fn are_added(rt: &HostRuntime, files: &[&str], recordings: &mut Recordings) -> Result<bool, Halt> {
+    for (place, file) in files.iter().enumerate() {
+        let text = text_of(rt, file)?;
+        if let Some((line, wrong)) = recordings.add_file(rt.alloc(), place, text.as_str())? {
+            println!(rt; "not one history: {file}, line {line}: {wrong}")?;
+            return Ok(false);
+        }
+    }
+    Ok(true)
+}
+
+/// Adds the recordings of these files, and says whether they are one history: the status.
+fn audit_added(
+    rt: &HostRuntime,
+    files: &[&str],
+    clock_error: u64,
+    recordings: &mut Recordings,
+) -> Result<u8, Halt> {
+    if !are_added(rt, files, recordings)? {
+        return Ok(NOT_ONE_HISTORY);
+    }
+    held(rt, files, recordings, clock_error)
+}
+
 /// Reads recordings and says whether they are one history, where the clocks of several machines may differ by so many milliseconds:
 /// the status.
 pub fn audit(rt: &HostRuntime, files: &[&str], clock_error: u64) -> Result<u8, Halt> {
-    let alloc = rt.alloc();
-    let mut recordings = Recordings::new(alloc);
-    for (place, file) in files.iter().enumerate() {
-        let text = text_of(rt, file)?;
-        if let Some((line, wrong)) = recordings.add_file(alloc, place, text.as_str())? {
-            println!(rt; "not one history: {file}, line {line}: {wrong}")?;
-            return Ok(NOT_ONE_HISTORY);
-        }
-    }
-    held(rt, files, &recordings, clock_error)
+    let mut recordings = Recordings::new(rt.alloc());
+    audit_added(rt, files, clock_error, &mut recordings)
 }
 
 /// Says by how much the clocks of recordings may differ, where they have several.
@@ -202,6 +219,35 @@ fn say_clocks(rt: &HostRuntime, recordings: &Recordings, clock_error: u64) -> Re
     Ok(())
 }
 
+/// Says why recordings are not one history.
+fn not_one_history(
+    rt: &HostRuntime,
+    files: &[&str],
+    recordings: &Recordings,
+    refusal: &Refusal,
+) -> Result<u8, Halt> {
+    println!(rt; "not one history: {refusal}")?;
+    say_rows(rt, files, recordings, refusal)?;
+    println!(rt;
+        "(an audit wants a recording of each client that wrote, from the first version on)"
+    )?;
+    Ok(NOT_ONE_HISTORY)
+}
+
+/// Says whether recordings, whose times are of these clocks, are one history.
+fn judged(
+    rt: &HostRuntime,
+    files: &[&str],
+    recordings: &Recordings,
+    clocks: &[Clock],
+) -> Result<u8, Halt> {
+    let rows = recordings.rows.as_slice();
+    match audit_recordings(rt.alloc(), EntryCodec, EntryEpoch, rows, clocks) {
+        Ok(found) => one_history(rt, &found),
+        Err(refusal) => not_one_history(rt, files, recordings, &refusal),
+    }
+}
+
 /// Holds the recordings against each other.
 fn held(
     rt: &HostRuntime,
@@ -210,23 +256,7 @@ fn held(
     clock_error: u64,
 ) -> Result<u8, Halt> {
     let clocks = recordings.clocks(rt.alloc(), clock_error)?;
-    let status = match audit_recordings(
-        rt.alloc(),
-        EntryCodec,
-        EntryEpoch,
-        recordings.rows.as_slice(),
-        clocks.as_slice(),
-    ) {
-        Ok(found) => one_history(rt, &found)?,
-        Err(refusal) => {
-            println!(rt; "not one history: {refusal}")?;
-            say_rows(rt, files, recordings, &refusal)?;
-            println!(rt;
-                "(an audit wants a recording of each client that wrote, from the first version on)"
-            )?;
-            NOT_ONE_HISTORY
-        }
-    };
+    let status = judged(rt, files, recordings, clocks.as_slice())?;
     say_clocks(rt, recordings, clock_error)?;
     Ok(status)
 }

@@ -88,34 +88,36 @@ fn reason(fault: EventFault) -> &'static str {
     }
 }
 
+impl Halt {
+    /// The words for it, but for an error of the system's.
+    fn words(&self) -> &str {
+        match self {
+            Halt::NoMemory => "no memory",
+            Halt::File(words) | Halt::Store(words) => words.as_str(),
+            Halt::BadName =>
+                "a name or a suffix has letters, digits, `-`, `_` and `.` alone, and a suffix no `.`",
+            Halt::Words(words) => words,
+            Halt::Refused(number) => meaning(*number),
+            Halt::NotPermitted(fault) => reason(*fault),
+            Halt::NoEnd =>
+                "no answer in sight: others write all the time (try again), or the boundary stands at or above the newest version, as where files of several times were put together",
+            Halt::Io(_) | Halt::Unrecorded(_) => "",
+        }
+    }
+}
+
 impl fmt::Display for Halt {
     fn fmt<W: fmt::Write>(&self, f: &mut fmt::Formatter<W>) -> fmt::Result {
         match self {
-            Halt::NoMemory => write!(f, "no memory"),
             Halt::Io(error) => write!(f, "{error}"),
-            Halt::File(words) => write!(f, "{words}"),
             Halt::Unrecorded(error) => write!(
                 f,
                 "writing the recording: {error}; what was asked for may have taken effect: read again"
             ),
-            Halt::Store(words) => write!(f, "{words}"),
-            Halt::BadName => write!(
-                f,
-                "a name or a suffix has letters, digits, `-`, `_` and `.` alone, and a suffix no `.`"
-            ),
-            Halt::Words(words) => write!(f, "{words}"),
-            Halt::Refused(number) => {
-                let words = meaning(*number);
+            halt => {
+                let words = halt.words();
                 write!(f, "{words}")
             }
-            Halt::NotPermitted(fault) => {
-                let words = reason(*fault);
-                write!(f, "{words}")
-            }
-            Halt::NoEnd => write!(
-                f,
-                "no answer in sight: others write all the time (try again), or the boundary stands at or above the newest version, as where files of several times were put together"
-            ),
         }
     }
 }

@@ -8,7 +8,7 @@ use std::io::Write;
 use std::rt::Clock;
 use std::time::{Duration, SystemTime};
 use txn_entries::entry::Entry;
-use txn_folder::doctor::examine;
+use txn_files::doctor::examine;
 use txn_lines::printed::Answered;
 use txn_lines::text_form::TextForm;
 use txn_view_history::event::AnyCall;
@@ -127,23 +127,51 @@ fn have_passed(rt: &HostRuntime, began: Duration, seconds: u64) -> Result<bool, 
     })
 }
 
-/// Waits for a version above this id. A client keeps what it did in memory, so where no recording is kept, others go on after it.
-fn watch(rt: &HostRuntime, options: &Options<'_>, after: u64, seconds: u64) -> Result<u8, Halt> {
-    let began = rt.monotonic()?;
-    let mut session = Session::open(rt, options)?;
-    for look in 0..seconds.saturating_mul(LOOKS).saturating_add(1) {
-        if look % LOOKS_OF_A_CLIENT == LOOKS_OF_A_CLIENT - 1 && options.diary.is_none() {
-            session = Session::open(rt, options)?;
-        }
+/// Looks so often for a version above this id: the status, once there is one, or the time has passed.
+fn look(
+    rt: &HostRuntime,
+    session: &mut Session,
+    after: u64,
+    until: (Duration, u64),
+    looks: u64,
+) -> Result<Option<u8>, Halt> {
+    for _ in 0..looks {
         if let Some(newest) = session.read()? {
             if after < newest.id {
-                return say_version(rt, &newest);
+                return Ok(Some(say_version(rt, &newest)?));
             }
         }
-        if have_passed(rt, began, seconds)? {
-            return Ok(NOTHING);
+        if have_passed(rt, until.0, until.1)? {
+            return Ok(Some(NOTHING));
         }
         rt.sleep(Duration::from_millis(PAUSE));
+    }
+    Ok(None)
+}
+
+/// The same by a client of its own.
+fn look_once(
+    rt: &HostRuntime,
+    options: &Options<'_>,
+    after: u64,
+    until: (Duration, u64),
+    looks: u64,
+) -> Result<Option<u8>, Halt> {
+    let mut session = Session::open(rt, options)?;
+    look(rt, &mut session, after, until, looks)
+}
+
+/// Waits for a version above this id. A client keeps what it did in memory, so where no recording is kept, others go on after it.
+fn watch(rt: &HostRuntime, options: &Options<'_>, after: u64, seconds: u64) -> Result<u8, Halt> {
+    let until = (rt.monotonic()?, seconds);
+    let looks = seconds.saturating_mul(LOOKS).saturating_add(1);
+    if options.diary.is_some() {
+        return Ok(look_once(rt, options, after, until, looks)?.unwrap_or(NOTHING));
+    }
+    for _ in 0..(looks / LOOKS_OF_A_CLIENT).saturating_add(1) {
+        if let Some(status) = look_once(rt, options, after, until, LOOKS_OF_A_CLIENT)? {
+            return Ok(status);
+        }
     }
     Ok(NOTHING)
 }
@@ -168,22 +196,22 @@ fn make(rt: &HostRuntime, session: &mut Session, call: AnyCall<Entry>) -> Result
             println!(rt; "{answered}")?;
             Ok(())
         }
-        Err(Halt::NotPermitted(fault)) => {
-            let halt = Halt::NotPermitted(fault);
-            println!(rt; "not permitted: {halt}")?;
-            Ok(())
-        }
-        Err(Halt::NoEnd) => {
-            println!(rt; "refused 11 TurnsExhausted")?;
-            Ok(())
-        }
-        Err(Halt::Store(words)) => {
+        Err(halt) => say_halt(rt, halt),
+    }
+}
+
+/// Prints why a call has no answer, where the calls of other lines go on.
+fn say_halt(rt: &HostRuntime, halt: Halt) -> Result<(), Halt> {
+    match &halt {
+        Halt::NotPermitted(_) => println!(rt; "not permitted: {halt}")?,
+        Halt::NoEnd => println!(rt; "refused 11 TurnsExhausted")?,
+        Halt::Store(words) => {
             println!(rt; "refused 2 ObjectStoreError")?;
             rt.eprintln(words)?;
-            Ok(())
         }
-        Err(other) => Err(other),
+        _ => return Err(halt),
     }
+    Ok(())
 }
 
 /// Tests the folder of the options.

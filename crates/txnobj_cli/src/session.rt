@@ -131,11 +131,11 @@ impl Session {
 
     /// Makes a call.
     pub fn call(&mut self, call: AnyCall<Entry>) -> Result<AnyAnswer<Entry>, Halt> {
-        match self.client.call(call, STEPS) {
-            Ok(AnyAnswer::Plain(Answer::Refused(2))) => Err(self.store_failed()),
-            Ok(answer) => Ok(answer),
-            Err(stop) => Err(Halt::from(stop)),
+        let answer = self.client.call(call, STEPS)?;
+        if matches!(&answer, AnyAnswer::Plain(Answer::Refused(2))) {
+            return Err(self.store_failed());
         }
+        Ok(answer)
     }
 
     /// Why the last store call failed.
@@ -151,10 +151,7 @@ impl Session {
 
     /// The newest version, read into a view of this number.
     fn load(&mut self) -> Result<(u64, Version), Halt> {
-        match self.call(AnyCall::View(ViewCall::Load))? {
-            AnyAnswer::View(view, id, entry) => Ok((view, Version { id, entry })),
-            other => Err(refused(&other)),
-        }
+        version_in(self.call(AnyCall::View(ViewCall::Load))?)
     }
 
     /// The newest version.
@@ -166,8 +163,7 @@ impl Session {
     /// The newest version, where there is one.
     pub fn read(&mut self) -> Result<Option<Version>, Halt> {
         match self.call(AnyCall::Plain(Call::Read))? {
-            AnyAnswer::Plain(Answer::Read(Some((id, entry)))) => Ok(Some(Version { id, entry })),
-            AnyAnswer::Plain(Answer::Read(None)) => Ok(None),
+            AnyAnswer::Plain(Answer::Read(read)) => Ok(version_of(read)),
             other => Err(refused(&other)),
         }
     }
@@ -175,10 +171,8 @@ impl Session {
     /// Writes the first version, in epoch 0: its id.
     pub fn init(&mut self, payload: Bytes) -> Result<u64, Halt> {
         let entry = Entry { epoch: 0, payload };
-        match self.call(AnyCall::View(ViewCall::Init(entry)))? {
-            AnyAnswer::View(_, id, _) => Ok(id),
-            other => Err(refused(&other)),
-        }
+        let answer = self.call(AnyCall::View(ViewCall::Init(entry)))?;
+        id_in(&answer)
     }
 
     /// Writes a version on this one, if it is the newest, in its epoch: its id.
@@ -195,10 +189,8 @@ impl Session {
             epoch: now,
             payload,
         };
-        match self.call(AnyCall::View(ViewCall::Update(view, entry)))? {
-            AnyAnswer::View(_, id, _) => Ok(id),
-            other => Err(refused(&other)),
-        }
+        let answer = self.call(AnyCall::View(ViewCall::Update(view, entry)))?;
+        id_in(&answer)
     }
 
     /// Writes a version on the newest, in its epoch, again after each conflict: its id. A holder's is of its own epoch.
@@ -212,17 +204,22 @@ impl Session {
         let candidate = |now: &Entry| -> Result<Option<Entry>, AllocError> {
             candidate_of(epoch, payload, now)
         };
-        match self
+        let applied = self
             .client
-            .maybe_apply_update(viewed, ATTEMPTS, STEPS, &candidate)?
-        {
+            .maybe_apply_update(viewed, ATTEMPTS, STEPS, &candidate)?;
+        self.applied(epoch, &applied)
+    }
+
+    /// The id of what was written, or why nothing was.
+    fn applied(&mut self, epoch: Option<u64>, applied: &Applied<Entry>) -> Result<u64, Halt> {
+        match applied {
             Applied::Written(viewed) => Ok(viewed.id),
             Applied::Unchanged => {
-                let newest = self.newest()?;
-                Err(fenced(epoch, newest.entry.epoch).unwrap_or(Halt::Refused(7)))
+                let now = self.newest()?.entry.epoch;
+                Err(fenced(epoch, now).unwrap_or(Halt::Refused(7)))
             }
             Applied::Answered(AnyAnswer::Plain(Answer::Refused(2))) => Err(self.store_failed()),
-            Applied::Answered(answer) => Err(refused(&answer)),
+            Applied::Answered(answer) => Err(refused(answer)),
             Applied::AttemptsSpent => Err(Halt::NoEnd),
         }
     }
@@ -234,9 +231,10 @@ impl Session {
             None => ViewCall::Claim(view),
             Some(epoch) => ViewCall::ClaimAt(view, epoch),
         };
-        match self.call(AnyCall::View(call))? {
-            AnyAnswer::Held(_, id, _, epoch) => Ok((id, epoch)),
-            other => Err(refused(&other)),
+        let answer = self.call(AnyCall::View(call))?;
+        match &answer {
+            AnyAnswer::Held(_, id, _, epoch) => Ok((*id, *epoch)),
+            other => Err(refused(other)),
         }
     }
 
@@ -259,9 +257,10 @@ impl Session {
 
     /// Makes a call that is answered as done.
     fn done(&mut self, call: Call<Entry>) -> Result<(), Halt> {
-        match self.call(AnyCall::Plain(call))? {
+        let answer = self.call(AnyCall::Plain(call))?;
+        match &answer {
             AnyAnswer::Plain(Answer::Done) => Ok(()),
-            other => Err(refused(&other)),
+            other => Err(refused(other)),
         }
     }
 
@@ -294,6 +293,30 @@ impl Session {
             }
         }
         Ok(removed)
+    }
+}
+
+/// The version that was read, where there was one.
+fn version_of(read: Option<(u64, Entry)>) -> Option<Version> {
+    match read {
+        Some((id, entry)) => Some(Version { id, entry }),
+        None => None,
+    }
+}
+
+/// The view that a call is answered with: its number, and its version.
+fn version_in(answer: AnyAnswer<Entry>) -> Result<(u64, Version), Halt> {
+    match answer {
+        AnyAnswer::View(view, id, entry) => Ok((view, Version { id, entry })),
+        other => Err(refused(&other)),
+    }
+}
+
+/// The id of the version of the view that a call is answered with.
+fn id_in(answer: &AnyAnswer<Entry>) -> Result<u64, Halt> {
+    match answer {
+        AnyAnswer::View(_, id, _) => Ok(*id),
+        other => Err(refused(other)),
     }
 }
 

@@ -1,0 +1,184 @@
+//! Who wrote which boundary.
+
+use crate::calls::{Asked, Name, name_of, number_in};
+use crate::landings::{Fate, has_place, land};
+use std::alloc::{AllocError, Global};
+use std::collections::{BTreeMap, HashMap};
+use txn_store::request::{Reply, Request};
+use txn_store::store::{PutMode, StoreError, Token};
+
+/// The boundaries that were written, each with the call that wrote it, and the boundary that each token is of.
+#[derive(Drop)]
+pub struct Boundaries {
+    pub writers: BTreeMap<u64, usize>,
+    pub of_token: HashMap<u64, u64>,
+}
+
+/// The token and the boundary that a get of the boundary file found.
+fn found(call: &Asked<'_>) -> Option<(u64, u64)> {
+    match (call.request, call.reply) {
+        (Request::Get { path, .. }, Some(Reply::Get(Ok(got)))) => match name_of(path) {
+            Name::Boundary => Some((got.token.number(), number_in(&got.bytes)?)),
+            Name::Version(_) => None,
+        },
+        _ => None,
+    }
+}
+
+/// The token over whose put a call writes the boundary file.
+fn expected(call: &Asked<'_>) -> Option<Token> {
+    match call.request {
+        Request::Put {
+            mode: PutMode::Update(token),
+            ..
+        } => Some(*token),
+        _ => None,
+    }
+}
+
+/// Whether a call creates the boundary file.
+fn creates(call: &Asked<'_>) -> bool {
+    call.raises().is_some() && expected(call).is_none()
+}
+
+/// Whether a put was refused with this error.
+fn was_refused(call: &Asked<'_>, error: StoreError) -> bool {
+    match call.reply {
+        Some(Reply::Put(Err(why))) => *why == error,
+        _ => false,
+    }
+}
+
+/// The call asked first of which nobody knows whether it took effect and which this holds of.
+fn loose<F: Fn(&Asked<'_>) -> bool>(calls: &[Asked<'_>], fates: &[Fate], is: &F) -> Option<usize>
+    requires { F.IsAlwaysCallable is.now }
+{
+    let mut first: Option<(u64, usize)> = None;
+    for place in 0..calls.len() {
+        if !has_place(fates, place) && is(&calls[place]) {
+            let from = calls[place].from;
+            if first.is_none_or(|(before, _)| from < before) {
+                first = Some((from, place));
+            }
+        }
+    }
+    first.map(|(_, place)| place)
+}
+
+impl Boundaries {
+    /// Notes what the replies of one call say.
+    fn note(&mut self, place: usize, call: &Asked<'_>) -> Result<(), AllocError> {
+        if let (Some(number), Some(token)) = (call.raises(), call.given()) {
+            self.writers.insert(number, place)?;
+            self.of_token.insert(token, number)?;
+        }
+        if let Some((token, number)) = found(call) {
+            self.of_token.insert(token, number)?;
+        }
+        Ok(())
+    }
+
+    /// Has a loose call write a boundary that nobody else wrote.
+    fn land(
+        &mut self,
+        fates: &mut Vec<Fate>,
+        place: Option<usize>,
+        number: u64,
+        token: Option<u64>,
+    ) -> Result<(), AllocError> {
+        if let Some(place) = place {
+            land(fates, place, token);
+            self.writers.insert(number, place)?;
+        }
+        Ok(())
+    }
+
+    /// A boundary that was read, and that no call was told to have written, a loose one wrote.
+    fn land_read(
+        &mut self,
+        calls: &[Asked<'_>],
+        fates: &mut Vec<Fate>,
+        call: &Asked<'_>,
+    ) -> Result<(), AllocError> {
+        let Some((token, number)) = found(call) else {
+            return Ok(());
+        };
+        if self.writers.contains_key(&number) {
+            return Ok(());
+        }
+        let place = loose(
+            calls,
+            fates.as_slice(),
+            &|call| call.raises() == Some(number),
+        );
+        self.land(fates, place, number, Some(token))
+    }
+
+    /// Whether a boundary above this was written.
+    fn has_above(&self, number: u64) -> bool {
+        match self.writers.last_key_value() {
+            Some((last, _)) => number < *last,
+            None => false,
+        }
+    }
+
+    /// What a refusal shows, and no call was told to have done, a loose one did.
+    fn land_refused(
+        &mut self,
+        calls: &[Asked<'_>],
+        fates: &mut Vec<Fate>,
+        call: &Asked<'_>,
+    ) -> Result<(), AllocError> {
+        let place = if creates(call) && was_refused(call, StoreError::AlreadyExists) {
+            if !self.writers.is_empty() {
+                return Ok(());
+            }
+            loose(calls, fates.as_slice(), &|call| creates(call))
+        } else if was_refused(call, StoreError::Precondition) {
+            let Some(token) = expected(call) else {
+                return Ok(());
+            };
+            let number = self.of_token.get(&token.number()).copied().unwrap_or(0);
+            if self.has_above(number) {
+                return Ok(());
+            }
+            loose(
+                calls,
+                fates.as_slice(),
+                &|call| expected(call) == Some(token),
+            )
+        } else {
+            return Ok(());
+        };
+        let Some(at) = place else {
+            return Ok(());
+        };
+        let number = match calls.get(at) {
+            Some(call) => call.raises().unwrap_or(0),
+            None => 0,
+        };
+        self.land(fates, place, number, None)
+    }
+}
+
+/// Who wrote which boundary.
+pub(crate) fn written(
+    alloc: Global,
+    calls: &[Asked<'_>],
+    fates: &mut Vec<Fate>,
+) -> Result<Boundaries, AllocError> {
+    let mut boundaries = Boundaries {
+        writers: BTreeMap::new(alloc),
+        of_token: HashMap::new(alloc),
+    };
+    for place in 0..calls.len() {
+        boundaries.note(place, &calls[place])?;
+    }
+    for call in calls {
+        boundaries.land_read(calls, fates, call)?;
+    }
+    for call in calls {
+        boundaries.land_refused(calls, fates, call)?;
+    }
+    Ok(boundaries)
+}

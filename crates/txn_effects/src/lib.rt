@@ -1,0 +1,12 @@
+//! What became of the recorded calls of a store that clients share: which took effect, and what they made, wrote and removed.
+//!
+//! It is a proposal. No clause says that it is right: who replays an order of these calls on an honest store sees whether it is.
+#![tactic(auto)]
+
+pub mod boundaries;
+pub mod calls;
+pub mod clock;
+pub mod effects;
+pub mod landings;
+pub mod lives;
+pub mod removals;

@@ -1,0 +1,309 @@
+//! The lives of versions: each from the put that makes it to the delete that removes it.
+
+use crate::calls::{Asked, version_of};
+use crate::landings::{Fate, has_place, land};
+use bytes::Bytes;
+use std::alloc::{AllocError, Global};
+use std::collections::HashMap;
+use txn_store::request::{Reply, Request};
+use txn_store::store::StoreError;
+
+/// One life of a version.
+#[derive(Clone, Copy)]
+pub struct Life {
+    pub id: u64,
+    /// The token of its put, where one is known.
+    pub token: Option<u64>,
+    /// The call that makes it, when that was asked, and when its reply was there.
+    pub made_by: usize,
+    pub from: u64,
+    pub until: u64,
+    /// The call that removes it, if one does.
+    pub removed_by: Option<usize>,
+    /// When the last call was asked that saw it.
+    pub last: u64,
+}
+
+impl Life {
+    /// A time at which it stood: when the last call was asked that saw it, or else when the reply of its making was there. A
+    /// create that was asked first may come after another's life, where its client was held up.
+    fn stood(&self) -> u64 {
+        if self.last > 0 { self.last } else { self.until }
+    }
+}
+
+/// All lives, those of one version side by side, in the order in which they stood.
+#[derive(Drop)]
+pub struct Lives {
+    pub lives: Vec<Life>,
+    /// Which life has a token.
+    pub of_token: HashMap<u64, usize>,
+}
+
+/// A version that a call saw, with its token, and its bytes where it told them.
+#[derive(Clone, Copy)]
+struct Sight<'a> {
+    id: u64,
+    token: u64,
+    bytes: Option<&'a Bytes>,
+    at: u64,
+    /// When its reply was there.
+    until: u64,
+}
+
+/// Adds what one call saw.
+fn add_sights<'a>(sights: &mut Vec<Sight<'a>>, call: &Asked<'a>) -> Result<(), AllocError> {
+    match (call.request, call.reply) {
+        (Request::Get { path, .. }, Some(Reply::Get(Ok(got)))) => {
+            if let Some(id) = version_of(path) {
+                sights.push(Sight {
+                    id,
+                    token: got.token.number(),
+                    bytes: Some(&got.bytes),
+                    at: call.from,
+                    until: call.until,
+                })?;
+            }
+        }
+        (_, Some(Reply::List(Ok(page)))) => {
+            for meta in page.metas.as_slice() {
+                if let Some(id) = version_of(&meta.location) {
+                    sights.push(Sight {
+                        id,
+                        token: meta.token.number(),
+                        bytes: None,
+                        at: call.from,
+                        until: call.until,
+                    })?;
+                }
+            }
+        }
+        _ => {}
+    }
+    Ok(())
+}
+
+/// Whether a call may have made what was seen.
+fn may_make(call: &Asked<'_>, id: u64, bytes: Option<&Bytes>) -> bool {
+    if call.creates() != Some(id) {
+        return false;
+    }
+    match (bytes, call.puts()) {
+        (Some(seen), Some(put)) => seen == put,
+        _ => true,
+    }
+}
+
+/// The call asked first of which nobody knows whether it took effect, and which may have made what was seen by then. One that
+/// was asked later could not have made it where this could not.
+fn loose_maker(
+    calls: &[Asked<'_>],
+    fates: &[Fate],
+    loose: &[usize],
+    id: u64,
+    bytes: Option<&Bytes>,
+    until: u64,
+) -> Option<usize> {
+    for place in loose {
+        if let Some(call) = calls.get(*place) {
+            let in_time = call.from <= until;
+            if in_time && !has_place(fates, *place) && may_make(call, id, bytes) {
+                return Some(*place);
+            }
+        }
+    }
+    None
+}
+
+/// The creates of versions whose reply nobody saw, in the order in which they were asked.
+fn loose_creates(alloc: Global, calls: &[Asked<'_>]) -> Result<Vec<usize>, AllocError> {
+    let mut asked = Vec::new(alloc);
+    for place in 0..calls.len() {
+        if !calls[place].is_answered() && calls[place].creates().is_some() {
+            asked.push((calls[place].from, place))?;
+        }
+    }
+    asked.sort_unstable();
+    let mut loose = Vec::with_capacity(alloc, asked.len())?;
+    for (_, place) in asked.as_slice() {
+        loose.push(*place)?;
+    }
+    Ok(loose)
+}
+
+impl Lives {
+    /// Adds a life that a call makes.
+    fn add(
+        &mut self,
+        calls: &[Asked<'_>],
+        id: u64,
+        token: Option<u64>,
+        made_by: usize,
+    ) -> Result<(), AllocError> {
+        let Some(call) = calls.get(made_by) else {
+            return Ok(());
+        };
+        if let Some(token) = token {
+            let place = self.lives.len();
+            self.of_token.insert(token, place)?;
+        }
+        self.lives.push(Life {
+            id,
+            token,
+            made_by,
+            from: call.from,
+            until: call.until,
+            removed_by: None,
+            last: 0,
+        })?;
+        Ok(())
+    }
+
+    /// What was seen, and no call was told to have made, a loose one made.
+    fn land_seen(
+        &mut self,
+        calls: &[Asked<'_>],
+        fates: &mut Vec<Fate>,
+        loose: &[usize],
+        sights: &[Sight<'_>],
+    ) -> Result<(), AllocError> {
+        for sight in sights {
+            if !self.of_token.contains_key(&sight.token) {
+                let maker = loose_maker(
+                    calls,
+                    fates.as_slice(),
+                    loose,
+                    sight.id,
+                    sight.bytes,
+                    sight.until,
+                );
+                if let Some(place) = maker {
+                    land(fates, place, Some(sight.token));
+                    self.add(calls, sight.id, Some(sight.token), place)?;
+                }
+            }
+        }
+        Ok(())
+    }
+
+    /// A version that stood in the way of a create, and that no call is known to have made, a loose one made.
+    fn land_taken(
+        &mut self,
+        calls: &[Asked<'_>],
+        fates: &mut Vec<Fate>,
+        loose: &[usize],
+        ids: &mut HashMap<u64, ()>,
+    ) -> Result<(), AllocError> {
+        for call in calls {
+            if let (Some(id), Some(Reply::Put(Err(StoreError::AlreadyExists)))) = (
+                call.creates(),
+                call.reply,
+            ) {
+                if !ids.contains_key(&id) {
+                    let until = call.until;
+                    let maker = loose_maker(calls, fates.as_slice(), loose, id, None, until);
+                    if let Some(place) = maker {
+                        land(fates, place, None);
+                        self.add(calls, id, None, place)?;
+                        ids.insert(id, ())?;
+                    }
+                }
+            }
+        }
+        Ok(())
+    }
+
+    /// Puts the lives of one version side by side, and finds them by their tokens again.
+    fn arrange(&mut self) -> Result<(), AllocError> {
+        self.lives
+            .sort_by_key(|life| (life.id, life.stood(), life.token.unwrap_or(0)))?;
+        for place in 0..self.lives.len() {
+            if let Some(token) = self.lives[place].token {
+                self.of_token.insert(token, place)?;
+            }
+        }
+        Ok(())
+    }
+
+    /// Notes when each life was seen last.
+    fn note_sights(&mut self, sights: &[Sight<'_>]) {
+        for sight in sights {
+            if let Some(place) = self.of_token.get(&sight.token).copied() {
+                if let Some(life) = self.lives.get_mut(place) {
+                    life.last = life.last.max(sight.at);
+                }
+            }
+        }
+    }
+
+    /// Where the lives of a version begin, and where they end.
+    pub fn of(&self, id: u64) -> (usize, usize) {
+        let lives = self.lives.as_slice();
+        (
+            lives.partition_point(|life| life.id < id),
+            lives.partition_point(|life| life.id <= id),
+        )
+    }
+
+    /// The life of a token.
+    pub fn with_token(&self, token: u64) -> Option<Life> {
+        let place = self.of_token.get(&token).copied()?;
+        self.lives.get(place).copied()
+    }
+
+    /// The life at a place, where it is of this version.
+    pub fn at(&self, place: usize, id: u64) -> Option<Life> {
+        let life = self.lives.get(place).copied()?;
+        if life.id == id { Some(life) } else { None }
+    }
+}
+
+/// The versions that have a life.
+fn ids_of(alloc: Global, lives: &[Life]) -> Result<HashMap<u64, ()>, AllocError> {
+    let mut ids = HashMap::new(alloc);
+    for life in lives {
+        ids.insert(life.id, ())?;
+    }
+    Ok(ids)
+}
+
+/// What all calls saw: first what gets saw, which tell bytes, then what listings saw.
+fn sights<'a>(alloc: Global, calls: &[Asked<'a>]) -> Result<Vec<Sight<'a>>, AllocError> {
+    let mut sights = Vec::new(alloc);
+    for call in calls {
+        if let Request::Get { .. } = call.request {
+            add_sights(&mut sights, call)?;
+        }
+    }
+    for call in calls {
+        if let Request::List { .. } = call.request {
+            add_sights(&mut sights, call)?;
+        }
+    }
+    Ok(sights)
+}
+
+/// The lives of all versions, but for what removes them. What nobody is told to have made, and was seen, a loose call made.
+pub(crate) fn lived(
+    alloc: Global,
+    calls: &[Asked<'_>],
+    fates: &mut Vec<Fate>,
+) -> Result<Lives, AllocError> {
+    let mut lives = Lives {
+        lives: Vec::new(alloc),
+        of_token: HashMap::new(alloc),
+    };
+    for place in 0..calls.len() {
+        if let (Some(id), Some(token)) = (calls[place].creates(), calls[place].given()) {
+            lives.add(calls, id, Some(token), place)?;
+        }
+    }
+    let loose = loose_creates(alloc, calls)?;
+    let sights = sights(alloc, calls)?;
+    lives.land_seen(calls, fates, loose.as_slice(), sights.as_slice())?;
+    let mut ids = ids_of(alloc, lives.lives.as_slice())?;
+    lives.land_taken(calls, fates, loose.as_slice(), &mut ids)?;
+    lives.note_sights(sights.as_slice());
+    lives.arrange()?;
+    Ok(lives)
+}

@@ -1,0 +1,9 @@
+//! Steps on the files of a file system, which processes on one machine or on many share with no server: files written whole,
+//! linked, replaced, removed, locked and made to last, each with its fault, and a doctor that tries them in a folder.
+#![tactic(auto)]
+
+pub mod doctor;
+pub mod fault;
+pub mod lock;
+pub mod publish;
+pub mod written;
