@@ -9,9 +9,9 @@ mod lines;
 #[cfg(test)]
 mod meetings;
 #[cfg(test)]
-mod refused;
+mod played;
 #[cfg(test)]
-mod schedules;
+mod refused;
 #[cfg(test)]
 mod workers;
 #[cfg(test)]
