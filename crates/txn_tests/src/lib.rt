@@ -13,6 +13,8 @@ mod played;
 #[cfg(test)]
 mod refused;
 #[cfg(test)]
+mod schedules;
+#[cfg(test)]
 mod workers;
 #[cfg(test)]
 mod worlds;

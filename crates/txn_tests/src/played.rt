@@ -1,4 +1,5 @@
-//! Transcripts: what clients do, line by line as in a script, and below each line what comes of it, two spaces in.
+//! Transcripts: what clients do, line by line as in a script, each with what it is told after `=>`, or with what is asked for
+//! below it, two spaces in.
 use crate::workers::{Records, kept_by};
 use std::alloc::{AllocError, Global};
 use txn_lines::line::Line;
@@ -105,7 +106,7 @@ fn take_line(
         last = told(alloc, kept, share, line)?;
     }
     if !last.as_str().ends_with("Refused(9)))") {
-        add(alloc, text, last.as_str())?;
+        add_told(alloc, text, line, last.as_str())?;
         return Ok(true);
     }
     if may_leave(begin, before, left(kept)) {
@@ -114,7 +115,13 @@ fn take_line(
     Ok(false)
 }
 
-/// Adds what comes of a line.
+/// Adds a line and what it is told.
+fn add_told(alloc: Global, text: &mut String, line: &str, told: &str) -> Result<(), AllocError> {
+    let line = format!(in alloc; "{line} => {told}\n")?;
+    text.push_str(line.as_str())
+}
+
+/// Adds a line of what was asked for.
 fn add(alloc: Global, text: &mut String, what: &str) -> Result<(), AllocError> {
     let line = format!(in alloc; "  {what}\n")?;
     text.push_str(line.as_str())
@@ -188,8 +195,8 @@ fn add_state(
     let rows = kept.world().trace().len();
     let failed = kept.world().failed();
     let (worker, count) = (share.worker(), share.count());
-    let line = format!(in alloc; "{rows} rows, failed {failed:?}, worker {worker} took {count}")?;
-    add(alloc, text, line.as_str())
+    let state = format!(in alloc; "{rows} rows, failed {failed:?}, worker {worker} took {count}")?;
+    add(alloc, text, state.as_str())
 }
 
 /// Adds the rows of the journal: who took which event.
@@ -212,29 +219,35 @@ fn add_busy(alloc: Global, kept: &Records, text: &mut String) -> Result<(), Allo
         world.is_busy(2),
         world.is_busy(3),
     ];
-    let line = format!(in alloc; "{clients} clients, {views} views, busy {busy:?}")?;
-    add(alloc, text, line.as_str())
+    let busy = format!(in alloc; "{clients} clients, {views} views, busy {busy:?}")?;
+    add(alloc, text, busy.as_str())
 }
 
-/// Does what a line says, adds what comes of it, and says whether the transcript goes on.
-fn do_line(
+/// Adds what is asked for, below its line.
+fn answer(
     alloc: Global,
-    kept: &mut Records,
-    share: &mut Share,
-    begin: &str,
-    line: &str,
+    kept: &Records,
+    share: &Share,
+    asked: &str,
     text: &mut String,
-) -> Result<bool, AllocError> {
-    match line {
-        "end" => add_end(alloc, kept, text)?,
-        "rows" => add_rows(alloc, kept, true, text)?,
-        "effects" => add_rows(alloc, kept, false, text)?,
-        "state" => add_state(alloc, kept, share, text)?,
-        "journal" => add_journal(alloc, kept, text)?,
-        "busy" => add_busy(alloc, kept, text)?,
-        _ => return take_line(alloc, kept, share, begin, line, text),
+) -> Result<(), AllocError> {
+    match asked {
+        "? end" => add_end(alloc, kept, text),
+        "? rows" => add_rows(alloc, kept, true, text),
+        "? effects" => add_rows(alloc, kept, false, text),
+        "? journal" => add_journal(alloc, kept, text),
+        "? state" => add_state(alloc, kept, share, text),
+        "? busy" => add_busy(alloc, kept, text),
+        _ => Ok(()),
     }
-    Ok(true)
+}
+
+/// The words of a line, without what they are told.
+fn words_of(line: &str) -> &str {
+    match line.split_once(" => ") {
+        Some((words, _told)) => words,
+        None => line,
+    }
 }
 
 /// Does what the lines of a transcript say, and adds each with what comes of it.
@@ -250,12 +263,14 @@ fn play(
         if line.starts_with(' ') {
             continue;
         }
-        text.push_str(line)?;
-        text.push('\n')?;
         if line.starts_with("begin ") {
             begin = line;
         }
-        if !line.starts_with('#') && !do_line(alloc, kept, share, begin, line, text)? {
+        if line.starts_with('#') || line.starts_with('?') {
+            text.push_str(line)?;
+            text.push('\n')?;
+            answer(alloc, kept, share, line, text)?;
+        } else if !take_line(alloc, kept, share, begin, words_of(line), text)? {
             break;
         }
     }

@@ -7,23 +7,15 @@ use std::test::Fail;
 const TRANSCRIPTS: &[&str] = &[
     "\
 # an update that failed after its effect
-begin 1 init 0:1
-  Began(1)
-run 1
-  Answered(1, View(1, 1, Record { epoch: 0, payload: 1 }))
-begin 1 update 1 0:2
-  Began(2)
-fail 2 after
-  Answered(2, Plain(Refused(2)))
-begin 1 update 1 0:2
-  Began(3)
-run 3
-  Answered(3, Plain(Refused(5)))
-begin 1 refresh 1
-  Began(4)
-run 4
-  Answered(4, View(1, 2, Record { epoch: 0, payload: 2 }))
-end
+begin 1 init 0:1 => Began(1)
+run 1 => Answered(1, View(1, 1, Record { epoch: 0, payload: 1 }))
+begin 1 update 1 0:2 => Began(2)
+fail 2 after => Answered(2, Plain(Refused(2)))
+begin 1 update 1 0:2 => Began(3)
+run 3 => Answered(3, Plain(Refused(5)))
+begin 1 refresh 1 => Began(4)
+run 4 => Answered(4, View(1, 2, Record { epoch: 0, payload: 2 }))
+? end
   entry 1 0:1
   entry 2 0:2
   boundary 0
@@ -32,43 +24,25 @@ end
 ",
     "\
 # an update that the boundary reached before its check
-begin 1 init 0:0
-  Began(1)
-run 1
-  Answered(1, View(1, 1, Record { epoch: 0, payload: 0 }))
-begin 2 load
-  Began(2)
-run 2
-  Answered(2, View(2, 1, Record { epoch: 0, payload: 0 }))
-begin 1 update 1 0:1
-  Began(3)
-serve 3
-  Went(3)
-begin 2 refresh 2
-  Began(4)
-run 4
-  Answered(4, View(2, 2, Record { epoch: 0, payload: 1 }))
-begin 2 update 2 0:2
-  Began(5)
-run 5
-  Answered(5, View(2, 3, Record { epoch: 0, payload: 2 }))
-begin 3 advance 2
-  Began(6)
-run 6
-  Answered(6, Plain(Done))
-look 3
-  Went(3)
-run 3
-  Answered(3, Plain(Refused(5)))
-begin 1 refresh 1
-  Began(7)
-run 7
-  Answered(7, View(1, 3, Record { epoch: 0, payload: 2 }))
-begin 1 update 1 0:3
-  Began(8)
-run 8
-  Answered(8, View(1, 4, Record { epoch: 0, payload: 3 }))
-end
+begin 1 init 0:0 => Began(1)
+run 1 => Answered(1, View(1, 1, Record { epoch: 0, payload: 0 }))
+begin 2 load => Began(2)
+run 2 => Answered(2, View(2, 1, Record { epoch: 0, payload: 0 }))
+begin 1 update 1 0:1 => Began(3)
+serve 3 => Went(3)
+begin 2 refresh 2 => Began(4)
+run 4 => Answered(4, View(2, 2, Record { epoch: 0, payload: 1 }))
+begin 2 update 2 0:2 => Began(5)
+run 5 => Answered(5, View(2, 3, Record { epoch: 0, payload: 2 }))
+begin 3 advance 2 => Began(6)
+run 6 => Answered(6, Plain(Done))
+look 3 => Went(3)
+run 3 => Answered(3, Plain(Refused(5)))
+begin 1 refresh 1 => Began(7)
+run 7 => Answered(7, View(1, 3, Record { epoch: 0, payload: 2 }))
+begin 1 update 1 0:3 => Began(8)
+run 8 => Answered(8, View(1, 4, Record { epoch: 0, payload: 3 }))
+? end
   entry 1 0:0
   entry 2 0:1
   entry 3 0:2
@@ -80,25 +54,16 @@ end
 ",
     "\
 # a claim that lands later
-begin 1 init 0:1
-  Began(1)
-run 1
-  Answered(1, View(1, 1, Record { epoch: 0, payload: 1 }))
-begin 1 claim 1
-  Began(2)
-fail 2 loose
-  Answered(2, Plain(Refused(2)))
-begin 2 load
-  Began(3)
-run 3
-  Answered(3, View(2, 1, Record { epoch: 0, payload: 1 }))
-land 1
-  Landed(1, true)
-begin 2 claim 2
-  Began(4)
-run 4
-  Answered(4, Held(2, 3, Record { epoch: 2, payload: 1 }, 2))
-end
+begin 1 init 0:1 => Began(1)
+run 1 => Answered(1, View(1, 1, Record { epoch: 0, payload: 1 }))
+begin 1 claim 1 => Began(2)
+fail 2 loose => Answered(2, Plain(Refused(2)))
+begin 2 load => Began(3)
+run 3 => Answered(3, View(2, 1, Record { epoch: 0, payload: 1 }))
+land 1 => Landed(1, true)
+begin 2 claim 2 => Began(4)
+run 4 => Answered(4, Held(2, 3, Record { epoch: 2, payload: 1 }, 2))
+? end
   entry 1 0:1
   entry 2 1:1
   entry 3 2:1
@@ -108,29 +73,18 @@ end
 ",
     "\
 # a boundary below the greatest answered id
-begin 1 init 0:1
-  Began(1)
-run 1
-  Answered(1, View(1, 1, Record { epoch: 0, payload: 1 }))
-begin 1 update 1 0:2
-  Began(2)
-run 2
-  Answered(2, View(1, 2, Record { epoch: 0, payload: 2 }))
-begin 2 advance 2
-  BoundaryTooHigh
-begin 2 advance 1
-  Began(3)
-run 3
-  Answered(3, Plain(Done))
-begin 2 delete 1
-  Began(4)
-run 4
-  Answered(4, Plain(Done))
-begin 2 list - -
-  Began(5)
-run 5
-  Answered(5, Plain(Ids(Ids { ids: [2] })))
-end
+begin 1 init 0:1 => Began(1)
+run 1 => Answered(1, View(1, 1, Record { epoch: 0, payload: 1 }))
+begin 1 update 1 0:2 => Began(2)
+run 2 => Answered(2, View(1, 2, Record { epoch: 0, payload: 2 }))
+begin 2 advance 2 => BoundaryTooHigh
+begin 2 advance 1 => Began(3)
+run 3 => Answered(3, Plain(Done))
+begin 2 delete 1 => Began(4)
+run 4 => Answered(4, Plain(Done))
+begin 2 list - - => Began(5)
+run 5 => Answered(5, Plain(Ids(Ids { ids: [2] })))
+? end
   entry 1 0:1
   entry 2 0:2
   boundary 1
@@ -139,35 +93,21 @@ end
 ",
     "\
 # a holder's update and a crash
-begin 1 init 0:1
-  Began(1)
-run 1
-  Answered(1, View(1, 1, Record { epoch: 0, payload: 1 }))
-begin 1 claim 1
-  Began(2)
-run 2
-  Answered(2, Held(1, 2, Record { epoch: 1, payload: 1 }, 1))
-begin 1 holder_update 1 2:5
-  Answered(3, Plain(Refused(7)))
-begin 1 holder_update 1 1:5
-  Began(4)
-run 4
-  Answered(4, View(1, 3, Record { epoch: 1, payload: 5 }))
-begin 2 load
-  Began(5)
-run 5
-  Answered(5, View(2, 3, Record { epoch: 1, payload: 5 }))
-begin 2 claim_at 2 7
-  Began(6)
-crash 2
-  Crashed(2)
-land 1
-  Landed(1, true)
-begin 1 holder_refresh 1
-  Began(7)
-run 7
-  Answered(7, Plain(Refused(6)))
-end
+begin 1 init 0:1 => Began(1)
+run 1 => Answered(1, View(1, 1, Record { epoch: 0, payload: 1 }))
+begin 1 claim 1 => Began(2)
+run 2 => Answered(2, Held(1, 2, Record { epoch: 1, payload: 1 }, 1))
+begin 1 holder_update 1 2:5 => Answered(3, Plain(Refused(7)))
+begin 1 holder_update 1 1:5 => Began(4)
+run 4 => Answered(4, View(1, 3, Record { epoch: 1, payload: 5 }))
+begin 2 load => Began(5)
+run 5 => Answered(5, View(2, 3, Record { epoch: 1, payload: 5 }))
+begin 2 claim_at 2 7 => Began(6)
+crash 2 => Crashed(2)
+land 1 => Landed(1, true)
+begin 1 holder_refresh 1 => Began(7)
+run 7 => Answered(7, Plain(Refused(6)))
+? end
   entry 1 0:1
   entry 2 1:1
   entry 3 1:5

@@ -1,4 +1,4 @@
-//! Worlds: what each event is told, the rows and requests that it leaves, and the laws of what is left.
+//! Worlds: what each event is told, and the laws of what is left.
 use crate::played::played;
 use std::alloc::{AllocError, Global};
 use std::test::Fail;
@@ -15,617 +15,169 @@ use txn_view_history::laws::{
 };
 use txn_world::world::World;
 
-/// Transcripts. What each event is told stands below it; the requests that changed the store, below `effects`; the end lines
-/// of a script, below `end`.
+/// Transcripts of events. The end lines of a script stand below `? end`.
 const TRANSCRIPTS: &[&str] = &[
     "\
 # a read finds what was written
-begin 1 write - 0:1
-  Began(1)
-serve 1
-  Went(1)
-look 1
-  Went(1)
+begin 1 write - 0:1 => Began(1)
+serve 1 => Went(1)
+look 1 => Went(1)
 # Its check looks twice before it gets the boundary.
-look 1
-  Went(1)
-look 1
-  Went(1)
-serve 1
-  Answered(1, Plain(Wrote(1)))
-begin 2 read
-  Began(2)
-look 2
-  Went(2)
-serve 2
-  Went(2)
-look 2
-  Went(2)
-serve 2
-  Went(2)
-look 2
-  Went(2)
-look 2
-  Went(2)
-look 2
-  Went(2)
-serve 2
-  Answered(2, Plain(Read(Some((1, Record { epoch: 0, payload: 1 })))))
-state
+look 1 => Went(1)
+look 1 => Went(1)
+serve 1 => Answered(1, Plain(Wrote(1)))
+begin 2 read => Began(2)
+look 2 => Went(2)
+serve 2 => Went(2)
+look 2 => Went(2)
+serve 2 => Went(2)
+look 2 => Went(2)
+look 2 => Went(2)
+look 2 => Went(2)
+serve 2 => Answered(2, Plain(Read(Some((1, Record { epoch: 0, payload: 1 })))))
+? state
   5 rows, failed [], worker 1 took 15
 ",
     "\
 # the second of two writes conflicts
-begin 1 write - 0:1
-  Began(1)
-begin 2 write - 0:2
-  Began(2)
-serve 2
-  Went(2)
-look 2
-  Went(2)
-look 2
-  Went(2)
-look 2
-  Went(2)
-serve 2
-  Answered(2, Plain(Wrote(1)))
-serve 1
-  Answered(1, Plain(Refused(5)))
-state
+begin 1 write - 0:1 => Began(1)
+begin 2 write - 0:2 => Began(2)
+serve 2 => Went(2)
+look 2 => Went(2)
+look 2 => Went(2)
+look 2 => Went(2)
+serve 2 => Answered(2, Plain(Wrote(1)))
+serve 1 => Answered(1, Plain(Refused(5)))
+? state
   5 rows, failed [], worker 1 took 8
 ",
     "\
 # nothing is read of an empty store
-begin 1 read
-  Began(1)
-look 1
-  Went(1)
-serve 1
-  Went(1)
-look 1
-  Answered(1, Plain(Read(None)))
-state
+begin 1 read => Began(1)
+look 1 => Went(1)
+serve 1 => Went(1)
+look 1 => Answered(1, Plain(Read(None)))
+? state
   2 rows, failed [], worker 1 took 4
 ",
     "\
 # what is not there
-begin 0 read
-  UnknownNumber
-begin 4 read
-  UnknownNumber
-begin 4 write 1 0:1
-  UnknownNumber
-begin 1 write 0 0:1
-  UnknownBase
-begin 1 write 1 0:1
-  UnknownBase
-begin 1 advance 1
-  BoundaryTooHigh
-look 1
-  UnknownNumber
-serve 0
-  UnknownNumber
-serve 1
-  UnknownNumber
-fail 1 before
-  UnknownNumber
-giveup 1
-  UnknownNumber
-land 1
-  UnknownNumber
-crash 0
-  UnknownNumber
-crash 4
-  UnknownNumber
-state
+begin 0 read => UnknownNumber
+begin 4 read => UnknownNumber
+begin 4 write 1 0:1 => UnknownNumber
+begin 1 write 0 0:1 => UnknownBase
+begin 1 write 1 0:1 => UnknownBase
+begin 1 advance 1 => BoundaryTooHigh
+look 1 => UnknownNumber
+serve 0 => UnknownNumber
+serve 1 => UnknownNumber
+fail 1 before => UnknownNumber
+giveup 1 => UnknownNumber
+land 1 => UnknownNumber
+crash 0 => UnknownNumber
+crash 4 => UnknownNumber
+? state
   0 rows, failed [], worker 1 took 0
 ",
     "\
 # a look and a store call are not one another
-begin 1 read
-  Began(1)
-serve 1
-  NotAsked
-fail 1 after
-  NotAsked
-look 1
-  Went(1)
-look 1
-  NotAsked
-fail 1 before
-  Answered(1, Plain(Refused(2)))
-look 1
-  UnknownNumber
-state
+begin 1 read => Began(1)
+serve 1 => NotAsked
+fail 1 after => NotAsked
+look 1 => Went(1)
+look 1 => NotAsked
+fail 1 before => Answered(1, Plain(Refused(2)))
+look 1 => UnknownNumber
+? state
   2 rows, failed [1], worker 1 took 3
 ",
     "\
 # a base is known once it was answered
-begin 1 write - 0:1
-  Began(1)
+begin 1 write - 0:1 => Began(1)
 # A create that was not answered makes no base.
-begin 1 write 1 0:2
-  UnknownBase
-serve 1
-  Went(1)
-begin 1 write 1 0:2
-  UnknownBase
-look 1
-  Went(1)
-look 1
-  Went(1)
-look 1
-  Went(1)
-serve 1
-  Answered(1, Plain(Wrote(1)))
-serve 1
-  UnknownNumber
-begin 1 write 1 0:2
-  Began(2)
-state
+begin 1 write 1 0:2 => UnknownBase
+serve 1 => Went(1)
+begin 1 write 1 0:2 => UnknownBase
+look 1 => Went(1)
+look 1 => Went(1)
+look 1 => Went(1)
+serve 1 => Answered(1, Plain(Wrote(1)))
+serve 1 => UnknownNumber
+begin 1 write 1 0:2 => Began(2)
+? state
   4 rows, failed [], worker 1 took 7
 ",
     "\
 # an epoch is not below that of the base
-begin 1 write_unchecked - 5:1
-  Began(1)
-serve 1
-  Went(1)
-look 1
-  Answered(1, Plain(Wrote(1)))
-begin 2 write 1 4:2
-  EpochLowered
-begin 2 write 1 5:2
-  Began(2)
-state
+begin 1 write_unchecked - 5:1 => Began(1)
+serve 1 => Went(1)
+look 1 => Answered(1, Plain(Wrote(1)))
+begin 2 write 1 4:2 => EpochLowered
+begin 2 write 1 5:2 => Began(2)
+? state
   4 rows, failed [], worker 1 took 4
 ",
     "\
 # a view and its holder
-begin 1 init 0:1
-  Began(1)
-serve 1
-  Went(1)
-look 1
-  Went(1)
-look 1
-  Went(1)
-look 1
-  Went(1)
-serve 1
-  Answered(1, View(1, 1, Record { epoch: 0, payload: 1 }))
-begin 2 refresh 1
-  UnknownNumber
-begin 1 claim 1
-  Began(2)
-begin 1 update 1 0:2
-  ViewBusy
-serve 2
-  Went(2)
-look 2
-  Went(2)
-look 2
-  Went(2)
-look 2
-  Went(2)
-serve 2
-  Answered(2, Held(1, 2, Record { epoch: 1, payload: 1 }, 1))
+begin 1 init 0:1 => Began(1)
+serve 1 => Went(1)
+look 1 => Went(1)
+look 1 => Went(1)
+look 1 => Went(1)
+serve 1 => Answered(1, View(1, 1, Record { epoch: 0, payload: 1 }))
+begin 2 refresh 1 => UnknownNumber
+begin 1 claim 1 => Began(2)
+begin 1 update 1 0:2 => ViewBusy
+serve 2 => Went(2)
+look 2 => Went(2)
+look 2 => Went(2)
+look 2 => Went(2)
+serve 2 => Answered(2, Held(1, 2, Record { epoch: 1, payload: 1 }, 1))
 # A begin is answered where the value has another epoch.
-begin 1 holder_update 1 2:1
-  Answered(3, Plain(Refused(7)))
-begin 1 holder_update 1 1:2
-  Began(4)
-fail 4 after
-  Answered(4, Plain(Refused(2)))
-state
+begin 1 holder_update 1 2:1 => Answered(3, Plain(Refused(7)))
+begin 1 holder_update 1 1:2 => Began(4)
+fail 4 after => Answered(4, Plain(Refused(2)))
+? state
   11 rows, failed [4], worker 1 took 15
 ",
     "\
 # requests that reach the store late
-begin 1 write_unchecked - 0:1
-  Began(1)
-fail 1 loose
-  Answered(1, Plain(Refused(2)))
-begin 2 write_unchecked - 0:2
-  Began(2)
-giveup 2
-  GaveUp(2)
-crash 1
-  Crashed(1)
-land 1
-  Landed(1, true)
-land 1
-  Landed(1, false)
-land 2
-  Landed(2, false)
-state
+begin 1 write_unchecked - 0:1 => Began(1)
+fail 1 loose => Answered(1, Plain(Refused(2)))
+begin 2 write_unchecked - 0:2 => Began(2)
+giveup 2 => GaveUp(2)
+crash 1 => Crashed(1)
+land 1 => Landed(1, true)
+land 1 => Landed(1, false)
+land 2 => Landed(2, false)
+? state
   4 rows, failed [1], worker 1 took 8
 ",
     "\
-# a first write
-begin 1 write - 0:1
-  Began(1)
-run 1
-  Answered(1, Plain(Wrote(1)))
-rows
-  1 begins Plain(Write(None, Record { epoch: 0, payload: 1 }))
-  1 puts root/test/00000000000000000001.val Create b\"0:1\"
-  1 is answered Plain(Wrote(1))
-",
-    "\
-# the boundary is raised twice and a version is removed
-begin 1 write - 0:1
-  Began(1)
-run 1
-  Answered(1, Plain(Wrote(1)))
-begin 1 write 1 0:2
-  Began(2)
-run 2
-  Answered(2, Plain(Wrote(2)))
-begin 1 write 2 0:1
-  Began(3)
-run 3
-  Answered(3, Plain(Wrote(3)))
-begin 1 advance 1
-  Began(4)
-run 4
-  Answered(4, Plain(Done))
-begin 1 advance 2
-  Began(5)
-run 5
-  Answered(5, Plain(Done))
-begin 1 delete 1
-  Began(6)
-run 6
-  Answered(6, Plain(Done))
-effects
-  1 puts root/test/00000000000000000001.val Create b\"0:1\"
-  2 puts root/test/00000000000000000002.val Create b\"0:2\"
-  3 puts root/test/00000000000000000003.val Create b\"0:1\"
-  4 puts root/gc/test.boundary Create b\"1\"
-  5 puts root/gc/test.boundary Update(Token(4)) b\"2\"
-  6 removes root/test/00000000000000000001.val
-",
-    "\
-# an advance to where the boundary is puts nothing
-begin 1 write - 0:7
-  Began(1)
-run 1
-  Answered(1, Plain(Wrote(1)))
-begin 1 write 1 0:8
-  Began(2)
-run 2
-  Answered(2, Plain(Wrote(2)))
-begin 1 advance 1
-  Began(3)
-run 3
-  Answered(3, Plain(Done))
-begin 2 advance 1
-  Began(4)
-run 4
-  Answered(4, Plain(Done))
-begin 2 advance 0
-  Began(5)
-run 5
-  Answered(5, Plain(Done))
-effects
-  1 puts root/test/00000000000000000001.val Create b\"0:7\"
-  2 puts root/test/00000000000000000002.val Create b\"0:8\"
-  3 puts root/gc/test.boundary Create b\"1\"
-",
-    "\
-# a version removed under a reader
-begin 1 write - 0:7
-  Began(1)
-run 1
-  Answered(1, Plain(Wrote(1)))
-# The reader lists version 1.
-begin 2 read
-  Began(2)
-look 2
-  Went(2)
-serve 2
-  Went(2)
-look 2
-  Went(2)
-begin 1 write 1 0:8
-  Began(3)
-run 3
-  Answered(3, Plain(Wrote(2)))
-begin 1 advance 1
-  Began(4)
-run 4
-  Answered(4, Plain(Done))
-begin 1 delete 1
-  Began(5)
-run 5
-  Answered(5, Plain(Done))
-# It finds no version 1, and lists again.
-run 2
-  Answered(2, Plain(Read(Some((2, Record { epoch: 0, payload: 8 })))))
-effects
-  1 puts root/test/00000000000000000001.val Create b\"0:7\"
-  3 puts root/test/00000000000000000002.val Create b\"0:8\"
-  4 puts root/gc/test.boundary Create b\"1\"
-  5 removes root/test/00000000000000000001.val
-",
-    "\
-# a reader overtaken by the boundary
-begin 1 write - 0:7
-  Began(1)
-run 1
-  Answered(1, Plain(Wrote(1)))
-# The reader lists version 1 and gets it.
-begin 2 read
-  Began(2)
-look 2
-  Went(2)
-serve 2
-  Went(2)
-look 2
-  Went(2)
-serve 2
-  Went(2)
-look 2
-  Went(2)
-look 2
-  Went(2)
-look 2
-  Went(2)
-begin 1 write 1 0:8
-  Began(3)
-run 3
-  Answered(3, Plain(Wrote(2)))
-begin 1 advance 1
-  Began(4)
-run 4
-  Answered(4, Plain(Done))
-# Its check finds the boundary there, and it begins again.
-run 2
-  Answered(2, Plain(Read(Some((2, Record { epoch: 0, payload: 8 })))))
-effects
-  1 puts root/test/00000000000000000001.val Create b\"0:7\"
-  3 puts root/test/00000000000000000002.val Create b\"0:8\"
-  4 puts root/gc/test.boundary Create b\"1\"
-",
-    "\
-# the greater of two advances comes first
-begin 1 write - 0:7
-  Began(1)
-run 1
-  Answered(1, Plain(Wrote(1)))
-begin 1 write 1 0:8
-  Began(2)
-run 2
-  Answered(2, Plain(Wrote(2)))
-begin 1 write 2 0:9
-  Began(3)
-run 3
-  Answered(3, Plain(Wrote(3)))
-# Both find no boundary file.
-begin 1 advance 1
-  Began(4)
-look 4
-  Went(4)
-look 4
-  Went(4)
-serve 4
-  Went(4)
-begin 2 advance 2
-  Began(5)
-run 5
-  Answered(5, Plain(Done))
-# The lesser one's put is not taken; it gets the file again.
-run 4
-  Answered(4, Plain(Done))
-effects
-  1 puts root/test/00000000000000000001.val Create b\"0:7\"
-  2 puts root/test/00000000000000000002.val Create b\"0:8\"
-  3 puts root/test/00000000000000000003.val Create b\"0:9\"
-  5 puts root/gc/test.boundary Create b\"2\"
-",
-    "\
-# the lesser of two advances comes first
-begin 1 write - 0:6
-  Began(1)
-run 1
-  Answered(1, Plain(Wrote(1)))
-begin 1 write 1 0:7
-  Began(2)
-run 2
-  Answered(2, Plain(Wrote(2)))
-begin 1 write 2 0:8
-  Began(3)
-run 3
-  Answered(3, Plain(Wrote(3)))
-begin 1 write 3 0:9
-  Began(4)
-run 4
-  Answered(4, Plain(Wrote(4)))
-begin 1 advance 1
-  Began(5)
-run 5
-  Answered(5, Plain(Done))
-# It knows the boundary 1, and is to put over that.
-begin 1 advance 3
-  Began(6)
-look 6
-  Went(6)
-begin 2 advance 2
-  Began(7)
-run 7
-  Answered(7, Plain(Done))
-# Its put is not taken; it gets the file, and puts over that.
-run 6
-  Answered(6, Plain(Done))
-effects
-  1 puts root/test/00000000000000000001.val Create b\"0:6\"
-  2 puts root/test/00000000000000000002.val Create b\"0:7\"
-  3 puts root/test/00000000000000000003.val Create b\"0:8\"
-  4 puts root/test/00000000000000000004.val Create b\"0:9\"
-  5 puts root/gc/test.boundary Create b\"1\"
-  7 puts root/gc/test.boundary Update(Token(5)) b\"2\"
-  6 puts root/gc/test.boundary Update(Token(6)) b\"3\"
-",
-    "\
-# deletes out of order
-begin 1 write - 0:6
-  Began(1)
-run 1
-  Answered(1, Plain(Wrote(1)))
-begin 1 write 1 0:7
-  Began(2)
-run 2
-  Answered(2, Plain(Wrote(2)))
-begin 1 write 2 0:8
-  Began(3)
-run 3
-  Answered(3, Plain(Wrote(3)))
-begin 1 write 3 0:9
-  Began(4)
-run 4
-  Answered(4, Plain(Wrote(4)))
-begin 1 advance 3
-  Began(5)
-run 5
-  Answered(5, Plain(Done))
-# Two deletes of version 3, of which the second removes nothing.
-begin 2 delete 3
-  Began(6)
-look 6
-  Went(6)
-look 6
-  Went(6)
-serve 6
-  Went(6)
-look 6
-  Went(6)
-look 6
-  Went(6)
-begin 1 delete 3
-  Began(7)
-run 7
-  Answered(7, Plain(Done))
-run 6
-  Answered(6, Plain(Done))
-begin 1 delete 1
-  Began(8)
-run 8
-  Answered(8, Plain(Done))
-begin 2 delete 2
-  Began(9)
-run 9
-  Answered(9, Plain(Done))
-effects
-  1 puts root/test/00000000000000000001.val Create b\"0:6\"
-  2 puts root/test/00000000000000000002.val Create b\"0:7\"
-  3 puts root/test/00000000000000000003.val Create b\"0:8\"
-  4 puts root/test/00000000000000000004.val Create b\"0:9\"
-  5 puts root/gc/test.boundary Create b\"3\"
-  7 removes root/test/00000000000000000003.val
-  8 removes root/test/00000000000000000001.val
-  9 removes root/test/00000000000000000002.val
-",
-    "\
-# a late write is fenced
-begin 2 write - 0:5
-  Began(1)
-begin 1 write - 0:7
-  Began(2)
-run 2
-  Answered(2, Plain(Wrote(1)))
-begin 1 write 1 0:8
-  Began(3)
-run 3
-  Answered(3, Plain(Wrote(2)))
-begin 1 advance 1
-  Began(4)
-run 4
-  Answered(4, Plain(Done))
-begin 1 delete 1
-  Began(5)
-run 5
-  Answered(5, Plain(Done))
-# The first write creates version 1 again, and its check finds the boundary there.
-run 1
-  Answered(1, Plain(Refused(5)))
-begin 2 read
-  Began(6)
-run 6
-  Answered(6, Plain(Read(Some((2, Record { epoch: 0, payload: 8 })))))
-effects
-  2 puts root/test/00000000000000000001.val Create b\"0:7\"
-  3 puts root/test/00000000000000000002.val Create b\"0:8\"
-  4 puts root/gc/test.boundary Create b\"1\"
-  5 removes root/test/00000000000000000001.val
-  1 puts root/test/00000000000000000001.val Create b\"0:5\"
-",
-    "\
-# requests that land late
-begin 1 write_unchecked - 0:7
-  Began(1)
-fail 1 loose
-  Answered(1, Plain(Refused(2)))
-begin 2 write_unchecked - 0:8
-  Began(2)
-fail 2 after
-  Answered(2, Plain(Refused(2)))
-# Version 1 stands, and was removed by none.
-land 1
-  Landed(1, false)
-crash 1
-  Crashed(1)
-effects
-  2 puts root/test/00000000000000000001.val Create b\"0:8\"
-",
-    "\
 # calls run to their answers
-begin 1 write - 7:0
-  Began(1)
-run 1
-  Answered(1, Plain(Wrote(1)))
-begin 2 read
-  Began(2)
-run 2
-  Answered(2, Plain(Read(Some((1, Record { epoch: 7, payload: 0 })))))
-begin 1 write 1 8:0
-  Began(3)
-run 3
-  Answered(3, Plain(Wrote(2)))
-begin 2 write 1 9:0
-  Began(4)
-run 4
-  Answered(4, Plain(Refused(5)))
-begin 2 read
-  Began(5)
-run 5
-  Answered(5, Plain(Read(Some((2, Record { epoch: 8, payload: 0 })))))
-begin 2 read_seen 1
-  Began(6)
-run 6
-  Answered(6, Plain(Value(Some(Record { epoch: 7, payload: 0 }))))
-begin 1 read_unchecked 3
-  Began(7)
-run 7
-  Answered(7, Plain(Value(None)))
-begin 1 advance 1
-  Began(8)
-run 8
-  Answered(8, Plain(Done))
-begin 1 delete 1
-  Began(9)
-run 9
-  Answered(9, Plain(Done))
-begin 2 check 1
-  Began(10)
-run 10
-  Answered(10, Plain(Refused(5)))
-begin 2 write_unchecked 2 18446744073709551615:0
-  Began(11)
-run 11
-  Answered(11, Plain(Wrote(3)))
-end
+begin 1 write - 7:0 => Began(1)
+run 1 => Answered(1, Plain(Wrote(1)))
+begin 2 read => Began(2)
+run 2 => Answered(2, Plain(Read(Some((1, Record { epoch: 7, payload: 0 })))))
+begin 1 write 1 8:0 => Began(3)
+run 3 => Answered(3, Plain(Wrote(2)))
+begin 2 write 1 9:0 => Began(4)
+run 4 => Answered(4, Plain(Refused(5)))
+begin 2 read => Began(5)
+run 5 => Answered(5, Plain(Read(Some((2, Record { epoch: 8, payload: 0 })))))
+begin 2 read_seen 1 => Began(6)
+run 6 => Answered(6, Plain(Value(Some(Record { epoch: 7, payload: 0 }))))
+begin 1 read_unchecked 3 => Began(7)
+run 7 => Answered(7, Plain(Value(None)))
+begin 1 advance 1 => Began(8)
+run 8 => Answered(8, Plain(Done))
+begin 1 delete 1 => Began(9)
+run 9 => Answered(9, Plain(Done))
+begin 2 check 1 => Began(10)
+run 10 => Answered(10, Plain(Refused(5)))
+begin 2 write_unchecked 2 18446744073709551615:0 => Began(11)
+run 11 => Answered(11, Plain(Wrote(3)))
+? end
   entry 1 7:0
   entry 2 8:0
   entry 3 18446744073709551615:0
@@ -634,48 +186,28 @@ end
 ",
     "\
 # calls on views run to their answers
-begin 1 load
-  Began(1)
-run 1
-  Answered(1, Plain(Refused(4)))
-begin 1 init 7:0
-  Began(2)
-run 2
-  Answered(2, View(1, 1, Record { epoch: 7, payload: 0 }))
-begin 2 load
-  Began(3)
-run 3
-  Answered(3, View(2, 1, Record { epoch: 7, payload: 0 }))
-begin 2 update 2 8:0
-  Began(4)
-run 4
-  Answered(4, View(2, 2, Record { epoch: 8, payload: 0 }))
-begin 1 claim 1
-  Began(5)
-run 5
-  Answered(5, Held(1, 3, Record { epoch: 9, payload: 0 }, 9))
-begin 2 refresh 2
-  Began(6)
-run 6
-  Answered(6, View(2, 3, Record { epoch: 9, payload: 0 }))
-begin 2 claim_at 2 12
-  Began(7)
-run 7
-  Answered(7, Held(2, 4, Record { epoch: 12, payload: 0 }, 12))
-begin 2 holder_update 2 12:0
-  Began(8)
-run 8
-  Answered(8, View(2, 5, Record { epoch: 12, payload: 0 }))
-begin 1 holder_refresh 1
-  Began(9)
-run 9
-  Answered(9, Plain(Refused(6)))
-begin 2 holder_refresh 2
-  Began(10)
-run 10
-  Answered(10, View(2, 5, Record { epoch: 12, payload: 0 }))
+begin 1 load => Began(1)
+run 1 => Answered(1, Plain(Refused(4)))
+begin 1 init 7:0 => Began(2)
+run 2 => Answered(2, View(1, 1, Record { epoch: 7, payload: 0 }))
+begin 2 load => Began(3)
+run 3 => Answered(3, View(2, 1, Record { epoch: 7, payload: 0 }))
+begin 2 update 2 8:0 => Began(4)
+run 4 => Answered(4, View(2, 2, Record { epoch: 8, payload: 0 }))
+begin 1 claim 1 => Began(5)
+run 5 => Answered(5, Held(1, 3, Record { epoch: 9, payload: 0 }, 9))
+begin 2 refresh 2 => Began(6)
+run 6 => Answered(6, View(2, 3, Record { epoch: 9, payload: 0 }))
+begin 2 claim_at 2 12 => Began(7)
+run 7 => Answered(7, Held(2, 4, Record { epoch: 12, payload: 0 }, 12))
+begin 2 holder_update 2 12:0 => Began(8)
+run 8 => Answered(8, View(2, 5, Record { epoch: 12, payload: 0 }))
+begin 1 holder_refresh 1 => Began(9)
+run 9 => Answered(9, Plain(Refused(6)))
+begin 2 holder_refresh 2 => Began(10)
+run 10 => Answered(10, View(2, 5, Record { epoch: 12, payload: 0 }))
 # The refresh that fenced the older holder left its view at what it read.
-end
+? end
   entry 1 7:0
   entry 2 8:0
   entry 3 9:0
@@ -685,18 +217,16 @@ end
   erased none
   holder 1 at 5 12:0 epoch 9
   holder 2 at 5 12:0 epoch 12
-busy
+? busy
   3 clients, 2 views, busy [false, false, false, false]
-begin 2 holder_refresh 2
-  Began(11)
-busy
+begin 2 holder_refresh 2 => Began(11)
+? busy
   3 clients, 2 views, busy [false, false, true, false]
-crash 2
-  Crashed(2)
+crash 2 => Crashed(2)
 # An ended view keeps its number.
-busy
+? busy
   3 clients, 2 views, busy [false, false, false, false]
-end
+? end
   entry 1 7:0
   entry 2 8:0
   entry 3 9:0
@@ -705,9 +235,8 @@ end
   boundary 0
   erased none
   holder 1 at 5 12:0 epoch 9
-crash 1
-  Crashed(1)
-end
+crash 1 => Crashed(1)
+? end
   entry 1 7:0
   entry 2 8:0
   entry 3 9:0
@@ -718,13 +247,11 @@ end
 ",
     "\
 # what is refused adds nothing
-begin 1 read
-  Began(1)
-serve 2
-  UnknownNumber
-state
+begin 1 read => Began(1)
+serve 2 => UnknownNumber
+? state
   1 rows, failed [], worker 1 took 1
-journal
+? journal
   1 Begin(1, Plain(Read))
 ",
 ];
