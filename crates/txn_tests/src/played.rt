@@ -1,7 +1,9 @@
 //! Transcripts: what clients do, line by line as in a script, each with what it is told after `=>`, or with what is asked for
 //! below it, two spaces in.
 use crate::workers::{Records, kept_by};
+use crate::{refused, schedules, worlds};
 use std::alloc::{AllocError, Global};
+use std::test::Fail;
 use txn_lines::line::Line;
 use txn_lines::printed::{BoundaryLine, EntryLine, ErasedLine, ViewLine};
 use txn_lines::record::Record;
@@ -75,10 +77,9 @@ fn left(kept: &Records) -> Left {
     (effects, seen(world.view(1)), seen(world.view(2)))
 }
 
-/// Whether an operation of this begin that is answered 9 may leave this, where it found that before: a claim has ended its
-/// view.
-fn may_leave(begin: &str, before: Left, after: Left) -> bool {
-    if !begin.contains(" claim") {
+/// Whether an operation that is answered 9 may leave this, where it found that before: a claim has ended its view.
+fn may_leave(claims: bool, before: Left, after: Left) -> bool {
+    if !claims {
         return before == after;
     }
     let ends_first = after.1.is_none() && after.2 == before.2;
@@ -86,13 +87,13 @@ fn may_leave(begin: &str, before: Left, after: Left) -> bool {
     after.0 == before.0 && (ends_first || ends_second)
 }
 
-/// Adds what a line is told last, and says whether its operation was not answered 9. The operation of the line is that of the
-/// last begin, where that is a claim.
+/// Adds what a line is told last, and says whether its operation was not answered 9. Where the last begin was a claim, it is
+/// the operation of the line.
 fn take_line(
     alloc: Global,
     kept: &mut Records,
     share: &mut Share,
-    begin: &str,
+    claims: bool,
     line: &str,
     text: &mut String,
 ) -> Result<bool, AllocError> {
@@ -109,7 +110,7 @@ fn take_line(
         add_told(alloc, text, line, last.as_str())?;
         return Ok(true);
     }
-    if may_leave(begin, before, left(kept)) {
+    if may_leave(claims, before, left(kept)) {
         text.push_str(LACKED)?;
     }
     Ok(false)
@@ -258,19 +259,19 @@ fn play(
     transcript: &str,
     text: &mut String,
 ) -> Result<(), AllocError> {
-    let mut begin = "";
+    let mut claims = false;
     for line in transcript.lines() {
         if line.starts_with(' ') {
             continue;
         }
         if line.starts_with("begin ") {
-            begin = line;
+            claims = line.contains(" claim");
         }
         if line.starts_with('#') || line.starts_with('?') {
             text.push_str(line)?;
             text.push('\n')?;
             answer(alloc, kept, share, line, text)?;
-        } else if !take_line(alloc, kept, share, begin, words_of(line), text)? {
+        } else if !take_line(alloc, kept, share, claims, words_of(line), text)? {
             break;
         }
     }
@@ -294,4 +295,19 @@ pub(crate) fn is_right(played: Result<String, AllocError>, transcript: &str) -> 
         Some(before) => transcript.starts_with(before),
         None => text.as_str() == transcript,
     }
+}
+
+#[test]
+fn transcripts_come_as_they_stand(rt: HostRuntime) -> Result<(), Fail> {
+    for transcripts in [
+        worlds::TRANSCRIPTS,
+        schedules::TRANSCRIPTS,
+        refused::TRANSCRIPTS,
+    ] {
+        for transcript in transcripts {
+            let text = played(rt.alloc(), transcript)?;
+            assert_eq!(rt; text.as_str(), *transcript);
+        }
+    }
+    Ok(())
 }

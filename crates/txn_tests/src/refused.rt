@@ -2,9 +2,8 @@
 //! ample memory, but where its operation was answered 9. Such an event changes no file, and leaves each view as it was, but
 //! for that of a claim.
 use crate::played::{is_right, played};
-use std::test::Fail;
 
-const TRANSCRIPTS: &[&str] = &[
+pub(crate) const TRANSCRIPTS: &[&str] = &[
     "\
 # an update that failed after its effect
 begin 1 init 0:1 => Began(1)
@@ -117,15 +116,6 @@ run 7 => Answered(7, Plain(Refused(6)))
   holder 1 at 4 7:5 epoch 1
 ",
 ];
-
-#[test]
-fn transcripts_end_as_they_should(rt: HostRuntime) -> Result<(), Fail> {
-    for transcript in TRANSCRIPTS {
-        let text = played(rt.alloc(), transcript)?;
-        assert_eq!(rt; text.as_str(), *transcript);
-    }
-    Ok(())
-}
 
 // Run it with each allocation failing in turn.
 #[test]

@@ -1,9 +1,7 @@
 //! Schedules of store calls: the rows and requests that they leave, which no printed line shows.
-use crate::played::played;
-use std::test::Fail;
 
 /// Transcripts. The requests that changed the store stand below `? effects`, all rows below `? rows`.
-const TRANSCRIPTS: &[&str] = &[
+pub(crate) const TRANSCRIPTS: &[&str] = &[
     "\
 # a first write
 begin 1 write - 0:1 => Began(1)
@@ -221,12 +219,3 @@ crash 1 => Crashed(1)
   2 puts root/test/00000000000000000001.val Create b\"0:8\"
 ",
 ];
-
-#[test]
-fn rows_name_the_requests_that_changed_the_store(rt: HostRuntime) -> Result<(), Fail> {
-    for transcript in TRANSCRIPTS {
-        let text = played(rt.alloc(), transcript)?;
-        assert_eq!(rt; text.as_str(), *transcript);
-    }
-    Ok(())
-}

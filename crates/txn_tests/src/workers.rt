@@ -2,6 +2,7 @@
 ghost use Rattle.std.specs.Prelude.{◌≡◌, ◌≤◌, IfOk, vec_len};
 
 use std::alloc::{AllocError, AllocGlobal, Global};
+use std::slice::from_ref;
 use std::sync::{Mutex, Wait};
 use std::test::Fail;
 use txn_history::event::Call;
@@ -10,7 +11,7 @@ use txn_threads::finish::{FinishFault, finish};
 use txn_threads::gate::{FreeGate, Gate, GateSpent};
 use txn_threads::jobs::{End, Job};
 use txn_threads::kept::{Kept, Share};
-use txn_threads::work::work;
+use txn_threads::work::{Worked, work};
 use txn_types::layout::PAGE;
 use txn_view_history::event::{AnyCall, AnyEvent};
 use txn_world::world::World;
@@ -77,18 +78,27 @@ const JOBS: &[(&[Job<Record>], &str)] = &[
     ),
 ];
 
-/// How a worker ends that does these jobs with the last of the shares, which goes back among them. Nothing comes where there
-/// is no share.
-fn end_of(
+/// How a worker ends that does these jobs, and its share.
+fn worked(
     rt: &impl Wait,
     kept: &Mutex<Records>,
-    shares: &mut Vec<Share>,
+    share: Option<Share>,
     jobs: &[Job<Record>],
-) -> Option<End> {
-    let worked = work(rt, kept, shares.pop()?, &mut FreeGate, jobs);
-    match shares.push(worked.share) {
-        Ok(()) => Some(worked.end),
-        Err(_) => None,
+) -> Option<Worked> {
+    Some(work(rt, kept, share?, &mut FreeGate, jobs))
+}
+
+/// Puts a share among others, and says how its worker ended.
+fn end_of(shares: &mut Vec<Share>, worked: Option<Worked>) -> Option<End> {
+    let Worked { share, end } = worked?;
+    put(shares, Some(share)).is_ok().then_some(end)
+}
+
+/// Puts a share among others.
+fn put(shares: &mut Vec<Share>, share: Option<Share>) -> Result<(), AllocError> {
+    match share {
+        Some(share) => Ok(shares.push(share)?),
+        None => Ok(()),
     }
 }
 
@@ -103,7 +113,8 @@ fn seen(alloc: Global, kept: &Records) -> Result<String, AllocError> {
 fn left_by(rt: &(impl Wait + AllocGlobal), jobs: &[Job<Record>]) -> Result<String, AllocError> {
     let (kept, mut shares) = kept_by(rt.alloc(), 1)?;
     let kept = Mutex::new(kept);
-    let end = end_of(rt, &kept, &mut shares, jobs);
+    let worked = worked(rt, &kept, shares.pop(), jobs);
+    let end = end_of(&mut shares, worked);
     let kept = kept.into_inner();
     let seen = seen(rt.alloc(), &kept)?;
     let counts = finished(rt.alloc(), kept, shares)?;
@@ -137,21 +148,21 @@ fn with_a_share_lost(alloc: Global) -> Result<String, AllocError> {
     finished(alloc, kept, shares)
 }
 
-/// The shares of worker 1 of two other kept worlds.
-fn firsts(alloc: Global) -> Result<Vec<Share>, AllocError> {
-    let (_one, mut shares) = kept_by(alloc, 1)?;
-    let (_other, others) = kept_by(alloc, 1)?;
-    for share in others {
-        shares.push(share)?;
-    }
-    Ok(shares)
+/// The share of worker 1 of another kept world.
+fn another_share(alloc: Global) -> Result<Option<Share>, AllocError> {
+    let (_other, mut others) = kept_by(alloc, 1)?;
+    Ok(others.pop())
 }
 
 /// What it gives with two shares of worker 1, and none of worker 2.
 fn with_a_share_twice(alloc: Global) -> Result<String, AllocError> {
-    let shares = firsts(alloc)?;
-    let (kept, _its) = kept_by(alloc, 2)?;
-    finished(alloc, kept, shares)
+    let another = another_share(alloc)?;
+    let (kept, mut shares) = kept_by(alloc, 2)?;
+    let _lost = shares.pop();
+    match put(&mut shares, another) {
+        Ok(()) => finished(alloc, kept, shares),
+        Err(error) => Err(error),
+    }
 }
 
 /// The shares of a world in which the first of two workers began a read.
@@ -208,11 +219,16 @@ impl<R: Wait> Gate for Fencing<'_, R> {
             epoch: 0,
             payload: self.newest,
         };
-        let jobs = [
-            Job::Call(AnyCall::Plain(Call::Write(base, value))),
-            Job::Call(AnyCall::Plain(Call::Advance(self.newest))),
-        ];
-        let worked = work(self.rt, self.kept, share, &mut FreeGate, &jobs);
+        let write = Job::Call(AnyCall::Plain(Call::Write(base, value)));
+        let advance = Job::Call(AnyCall::Plain(Call::Advance(self.newest)));
+        let wrote = work(self.rt, self.kept, share, &mut FreeGate, from_ref(&write));
+        let worked = work(
+            self.rt,
+            self.kept,
+            wrote.share,
+            &mut FreeGate,
+            from_ref(&advance),
+        );
         self.share = Some(worked.share);
         self.newest = self.newest.saturating_add(1);
         Ok(())
@@ -227,8 +243,8 @@ fn fenced(rt: &impl Wait, kept: &Mutex<Records>, shares: &mut Vec<Share>) -> Opt
         share: shares.pop(),
         newest: 0,
     };
-    let jobs = [Job::Call(AnyCall::Plain(Call::Read))];
-    let worked = work(rt, kept, shares.pop()?, &mut gate, &jobs);
+    let read = Job::Call(AnyCall::Plain(Call::Read));
+    let worked = work(rt, kept, shares.pop()?, &mut gate, from_ref(&read));
     Some((worked.end, worked.share.count()))
 }
 

@@ -1,5 +1,4 @@
 //! Worlds: what each event is told, and the laws of what is left.
-use crate::played::played;
 use std::alloc::{AllocError, Global};
 use std::test::Fail;
 use txn_any_machine::alone::{turns_at_rest, two_passes};
@@ -16,7 +15,7 @@ use txn_view_history::laws::{
 use txn_world::world::World;
 
 /// Transcripts of events. The end lines of a script stand below `? end`.
-const TRANSCRIPTS: &[&str] = &[
+pub(crate) const TRANSCRIPTS: &[&str] = &[
     "\
 # a read finds what was written
 begin 1 write - 0:1 => Began(1)
@@ -255,15 +254,6 @@ serve 2 => UnknownNumber
   1 Begin(1, Plain(Read))
 ",
 ];
-
-#[test]
-fn each_event_is_told(rt: HostRuntime) -> Result<(), Fail> {
-    for transcript in TRANSCRIPTS {
-        let text = played(rt.alloc(), transcript)?;
-        assert_eq!(rt; text.as_str(), *transcript);
-    }
-    Ok(())
-}
 
 /// The laws of worlds, which their types keep.
 fn laws() {
