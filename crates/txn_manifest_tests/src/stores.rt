@@ -2,11 +2,11 @@
 use crate::kept::pin_and_collect;
 use slatedb_txn_obj::object_store::ObjectStoreSequencedStorageProtocol;
 use slatedb_txn_obj::{
-    FenceableTransactionalObject, MonotonicId, NoInvariant, SequencedStorageProtocol,
-    SimpleTransactionalObject, TransactionalObject, TransactionalObjectError, Turns,
+    FenceableTransactionalObject, IdentifiedObjectMetadata, MonotonicId, NoInvariant,
+    SequencedStorageProtocol, SimpleTransactionalObject, TransactionalObject,
+    TransactionalObjectError, Turns,
 };
-use std::alloc::Global;
-use std::fmt::Debug;
+use std::alloc::{AllocError, Global};
 use std::ops::Bound;
 use std::test::Fail;
 use txn_manifest::collector::Versions;
@@ -17,7 +17,46 @@ use txn_store::in_memory::InMemory;
 use txn_store::path::{Path, PathFault};
 use uses_of_protocol::ticking::TickingClock;
 
-/// What is asked of a manifest store, as tables write it.
+type Manifests = ManifestStore<NoInvariant>;
+
+type Error = TransactionalObjectError;
+
+fn a_protocol(alloc: Global) -> Result<Versions, PathFault> {
+    let root = Path::from_text(alloc, "/root")?;
+    ObjectStoreSequencedStorageProtocol::new(alloc, &root, "test", "val", ManifestCodec)
+}
+
+/// A view of the first manifest of a store.
+fn a_view(
+    alloc: Global,
+    protocol: &mut Versions,
+    store: &mut InMemory,
+) -> Result<SimpleTransactionalObject<Manifest, MonotonicId, NoInvariant>, Error> {
+    let first = Manifest {
+        epoch: 0,
+        payload: 1,
+        pins: Pins::none(alloc),
+    };
+    SimpleTransactionalObject::init(alloc, protocol, store, first)
+}
+
+/// A claimed store of manifests: the claim has entered the second version.
+fn opened(
+    alloc: Global,
+    protocol: &mut Versions,
+    store: &mut InMemory,
+) -> Result<Manifests, Error> {
+    let view = a_view(alloc, protocol, store)?;
+    let mut turns = Turns::new(100);
+    let mut clock = TickingClock::new();
+    let epochs = ManifestEpoch;
+    let holder = FenceableTransactionalObject::init(
+        view, protocol, store, &mut turns, 100, &mut clock, epochs,
+    )?;
+    Ok(ManifestStore::new(alloc, holder))
+}
+
+/// What is asked of a manifest store.
 #[derive(Clone, Copy)]
 enum Asked {
     Checkpoint,
@@ -28,141 +67,137 @@ enum Asked {
 
 use Asked::{Checkpoint, Collect, Payload, Release};
 
-/// What is asked, what it answers, and the versions that are stored then.
-type Row = (Asked, &'static str, &'static str);
-
-/// Two versions stand: the first, and the one that the claim entered.
-const ROWS: [Row; 7] = [
-    (Checkpoint, "2", "1 2 3 "),
-    (Payload(5), "()", "1 2 3 4 "),
-    (Collect, "2", "2 4 "),
-    (Collect, "0", "2 4 "),
-    (Release(3), "refused 7", "2 4 "),
-    (Release(2), "()", "2 4 5 "),
-    (Collect, "2", "5 "),
+const ASKED: [Asked; 7] = [
+    Checkpoint,
+    Payload(5),
+    Collect,
+    Collect,
+    Release(3),
+    Release(2),
+    Collect,
 ];
 
-fn a_protocol(alloc: Global) -> Result<Versions, PathFault> {
-    let root = Path::from_text(alloc, "/root")?;
-    ObjectStoreSequencedStorageProtocol::new(alloc, &root, "test", "val", ManifestCodec)
-}
+/// What each answers, an error by its number, and the versions that are stored then.
+const ANSWERED: &str = "\
+Ok(2) [1, 2, 3]
+Ok(0) [1, 2, 3, 4]
+Ok(2) [2, 4]
+Ok(0) [2, 4]
+Err(7) [2, 4]
+Ok(0) [2, 4, 5]
+Ok(2) [5]
+5 Manifest { epoch: 1, payload: 5, pins: Pins { ids: [] } }
+";
 
-/// A claimed store of manifests.
-fn opened(
-    alloc: Global,
-    protocol: &mut Versions,
-    store: &mut InMemory,
-    turns: &mut Turns,
-) -> Result<ManifestStore<NoInvariant>, TransactionalObjectError> {
-    let first = Manifest {
-        epoch: 0,
-        payload: 1,
-        pins: Pins::none(alloc),
-    };
-    let view: SimpleTransactionalObject<Manifest, MonotonicId, NoInvariant> =
-        SimpleTransactionalObject::init(alloc, protocol, store, first)?;
-    let mut clock = TickingClock::new();
-    let holder = FenceableTransactionalObject::init(
-        view,
-        protocol,
-        store,
-        turns,
-        100,
-        &mut clock,
-        ManifestEpoch,
-    )?;
-    Ok(ManifestStore::new(alloc, holder))
-}
-
-/// The ids of the stored versions, as text.
-fn stored(alloc: Global, protocol: &mut Versions, store: &mut InMemory) -> Result<String, Fail> {
-    let Ok(listed) = protocol.list(store, Bound::Unbounded, Bound::Unbounded) else {
-        return Err("no listing")?;
-    };
-    let mut text = String::new(alloc);
-    for version in &listed {
-        let id = version.id.id();
-        let digits = format!(in alloc; "{id} ")?;
-        text.push_str(digits.as_str())?;
-    }
-    Ok(text)
-}
-
-/// An answer as text.
-fn told<T: Debug + Drop>(
-    alloc: Global,
-    answer: Result<T, TransactionalObjectError>,
-) -> Result<String, Fail> {
+/// An answer, with the number of an error.
+fn numbered(answer: Result<u64, Error>) -> Result<u64, u8> {
     match answer {
-        Ok(value) => Ok(format!(in alloc; "{value:?}")?),
-        Err(error) => {
-            let number = error.number();
-            Ok(format!(in alloc; "refused {number}")?)
-        }
+        Ok(value) => Ok(value),
+        Err(error) => Err(error.number()),
+    }
+}
+
+/// The same of an answer without a value, as 0.
+fn done(answer: Result<(), Error>) -> Result<u64, u8> {
+    match answer {
+        Ok(()) => Ok(0),
+        Err(error) => Err(error.number()),
     }
 }
 
 /// What a manifest store answers.
 fn answer(
-    alloc: Global,
-    manifests: &mut ManifestStore<NoInvariant>,
+    manifests: &mut Manifests,
     protocol: &mut Versions,
     store: &mut InMemory,
     asked: Asked,
-) -> Result<String, Fail> {
-    let mut turns = Turns::new(20);
+) -> Result<u64, u8> {
     match asked {
-        Checkpoint => told(alloc, manifests.checkpoint(protocol, store)),
-        Release(id) => told(alloc, manifests.release(protocol, store, id)),
-        Payload(payload) => told(alloc, manifests.set_payload(protocol, store, payload)),
-        Collect => told(alloc, manifests.collect(protocol, store, &mut turns)),
+        Checkpoint => numbered(manifests.checkpoint(protocol, store)),
+        Release(id) => done(manifests.release(protocol, store, id)),
+        Payload(payload) => done(manifests.set_payload(protocol, store, payload)),
+        Collect => numbered(manifests.collect(protocol, store, &mut Turns::new(20))),
     }
 }
 
-/// The first row of which something else is told, or which leaves something else stored, if there is one.
-fn first_other(
+/// The ids of versions.
+fn ids_of(
     alloc: Global,
-    manifests: &mut ManifestStore<NoInvariant>,
+    versions: &[IdentifiedObjectMetadata<MonotonicId>],
+) -> Result<Vec<u64>, AllocError> {
+    let mut ids = Vec::new(alloc);
+    for version in versions {
+        ids.push(version.id.id())?;
+    }
+    Ok(ids)
+}
+
+/// The ids of the stored versions.
+fn stored(alloc: Global, protocol: &mut Versions, store: &mut InMemory) -> Result<Vec<u64>, Error> {
+    let listed = protocol.list(store, Bound::Unbounded, Bound::Unbounded)?;
+    Ok(ids_of(alloc, &listed)?)
+}
+
+/// What a manifest store answers and leaves, as a line.
+fn line_of(
+    alloc: Global,
+    manifests: &mut Manifests,
     protocol: &mut Versions,
     store: &mut InMemory,
-) -> Result<Option<usize>, Fail> {
-    for (number, (asked, expected, left)) in ROWS.iter().enumerate() {
-        let told = answer(alloc, manifests, protocol, store, *asked)?;
-        let now = stored(alloc, protocol, store)?;
-        if told.as_str() != *expected || now.as_str() != *left {
-            return Ok(Some(number));
-        }
-    }
-    Ok(None)
+    asked: Asked,
+) -> Result<String, Error> {
+    let answer = answer(manifests, protocol, store, asked);
+    let ids = stored(alloc, protocol, store)?;
+    Ok(format!(in alloc; "{answer:?} {ids:?}\n")?)
 }
 
-/// The manifest that a store's holder is at, as text.
-fn held(alloc: Global, manifests: &ManifestStore<NoInvariant>) -> Result<String, Fail> {
+/// The manifest that a store's holder is at, as a line.
+fn held(alloc: Global, manifests: &Manifests) -> Result<String, AllocError> {
     let holder = manifests.holder();
     let id = holder.id().id();
     let object = holder.object();
-    Ok(format!(in alloc; "{id} {object:?}")?)
+    format!(in alloc; "{id} {object:?}\n")
+}
+
+/// What a manifest store answers to all that is asked, and the manifest that its holder is at then.
+fn answers(
+    alloc: Global,
+    manifests: &mut Manifests,
+    protocol: &mut Versions,
+    store: &mut InMemory,
+) -> Result<String, Error> {
+    let mut text = String::new(alloc);
+    for asked in ASKED {
+        let line = line_of(alloc, manifests, protocol, store, asked)?;
+        text.push_str(line.as_str())?;
+    }
+    text.push_str(held(alloc, manifests)?.as_str())?;
+    Ok(text)
+}
+
+/// The same, of a store that is claimed first.
+fn answers_of(
+    alloc: Global,
+    protocol: &mut Versions,
+    store: &mut InMemory,
+) -> Result<String, Error> {
+    let mut manifests = opened(alloc, protocol, store)?;
+    answers(alloc, &mut manifests, protocol, store)
+}
+
+/// The same, from nothing; or the number of an error.
+fn answers_from_nothing(alloc: Global) -> Result<String, Fail> {
+    let mut protocol = a_protocol(alloc)?;
+    match answers_of(alloc, &mut protocol, &mut InMemory::new(alloc)) {
+        Ok(text) => Ok(text),
+        Err(_) => Err("no answers")?,
+    }
 }
 
 #[test]
 fn a_collection_spares_what_is_pinned(rt: HostRuntime) -> Result<(), Fail> {
-    let alloc = rt.alloc();
-    let mut store = InMemory::new(alloc);
-    let Ok(mut protocol) = a_protocol(alloc) else {
-        return Err("no protocol")?;
-    };
-    let mut turns = Turns::new(100);
-    let Ok(mut manifests) = opened(alloc, &mut protocol, &mut store, &mut turns) else {
-        return Err("not opened")?;
-    };
-    assert_eq!(rt;
-        first_other(alloc, &mut manifests, &mut protocol, &mut store)?,
-        None
-    );
-    assert_eq!(rt;
-        held(alloc, &manifests)?.as_str(),
-        "5 Manifest { epoch: 1, payload: 5, pins: Pins { ids: [] } }"
-    );
+    let text = answers_from_nothing(rt.alloc())?;
+    assert_eq!(rt; text.as_str(), ANSWERED);
     Ok(())
 }
 
@@ -177,11 +212,7 @@ fn is_stored(protocol: &mut Versions, store: &mut InMemory, id: u64) -> bool {
 }
 
 /// Whether every version that a holder pins is stored.
-fn keeps_its_pins(
-    manifests: &ManifestStore<NoInvariant>,
-    protocol: &mut Versions,
-    store: &mut InMemory,
-) -> bool {
+fn keeps_its_pins(manifests: &Manifests, protocol: &mut Versions, store: &mut InMemory) -> bool {
     for id in manifests.holder().object().pins.as_slice() {
         if !is_stored(protocol, store, *id) {
             return false;
@@ -190,35 +221,35 @@ fn keeps_its_pins(
     true
 }
 
-/// Whether a run ends as it is to: with the claimed version pinned, or for want of memory; and what is pinned is stored.
-fn ends_well(
-    alloc: Global,
-    protocol: &mut Versions,
-    store: &mut InMemory,
-) -> Result<bool, TransactionalObjectError> {
-    let mut turns = Turns::new(20);
-    let mut manifests = opened(alloc, protocol, store, &mut turns)?;
-    let is_well = match pin_and_collect(&mut manifests, protocol, store, &mut turns, 5) {
+/// Whether a run ends as it is to: with the claimed version pinned, or for want of memory.
+fn ends_well(manifests: &mut Manifests, protocol: &mut Versions, store: &mut InMemory) -> bool {
+    match numbered(pin_and_collect(manifests, protocol, store, &mut Turns::new(20), 5)) {
         Ok(kept) => kept == 2,
-        Err(error) => error.number() == 9,
-    };
-    Ok(is_well && keeps_its_pins(&manifests, protocol, store))
+        Err(number) => number == 9,
+    }
 }
 
-/// The same, of a store of its own. A store that is not opened lacks memory.
-fn ends_well_from_nothing(alloc: Global) -> bool {
-    let mut store = InMemory::new(alloc);
-    let Ok(mut protocol) = a_protocol(alloc) else {
-        return true;
-    };
-    match ends_well(alloc, &mut protocol, &mut store) {
-        Ok(is_well) => is_well,
+/// Whether it does, and what is pinned is stored. A store that is not opened lacks memory.
+fn keeps_whatever_comes(alloc: Global, protocol: &mut Versions, store: &mut InMemory) -> bool {
+    match opened(alloc, protocol, store) {
+        Ok(mut manifests) => {
+            ends_well(&mut manifests, protocol, store)
+                && keeps_its_pins(&manifests, protocol, store)
+        }
         Err(error) => error.number() == 9,
+    }
+}
+
+/// The same, from nothing.
+fn keeps_from_nothing(alloc: Global) -> bool {
+    match a_protocol(alloc) {
+        Ok(mut protocol) => keeps_whatever_comes(alloc, &mut protocol, &mut InMemory::new(alloc)),
+        Err(_) => true,
     }
 }
 
 #[test]
 fn what_is_pinned_stays_whichever_growth_is_refused(rt: HostRuntime) -> Result<(), Fail> {
-    assert!(rt; ends_well_from_nothing(rt.alloc()));
+    assert!(rt; keeps_from_nothing(rt.alloc()));
     Ok(())
 }

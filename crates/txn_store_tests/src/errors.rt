@@ -5,30 +5,62 @@ use TransactionalObjectError::{
 };
 use anyhow::anyhow;
 use std::alloc::{AllocError, Global};
-use std::fmt::Display;
 use std::test::Fail;
 use txn_store::path::PathFault;
 use txn_store::store::StoreError;
 use txn_types::codec::CodecFault;
 use txn_types::error::TransactionalObjectError;
 
-const STORE_ERRORS: [(StoreError, &str); 7] = [
-    (StoreError::NotFound, "not found"),
-    (StoreError::AlreadyExists, "already exists"),
-    (StoreError::Precondition, "precondition failed"),
-    (StoreError::NotModified, "not modified"),
-    (StoreError::Failed, "failed"),
-    (StoreError::NoMemory, "no memory"),
-    (StoreError::TokensExhausted, "tokens exhausted"),
+/// The errors of a store.
+const STORE_ERRORS: [StoreError; 7] = [
+    StoreError::NotFound,
+    StoreError::AlreadyExists,
+    StoreError::Precondition,
+    StoreError::NotModified,
+    StoreError::Failed,
+    StoreError::NoMemory,
+    StoreError::TokensExhausted,
 ];
 
-const PATH_FAULTS: [(PathFault, &str); 2] = [
-    (PathFault::BadSegment, "bad segment"),
-    (PathFault::NoMemory, "no memory"),
-];
+/// What a store's error becomes.
+fn become_of(error: StoreError) -> Result<(), TransactionalObjectError> {
+    Err(error)?;
+    Ok(())
+}
 
-fn is_shown<E: Display>(alloc: Global, error: &E, text: &str) -> Result<bool, AllocError> {
-    Ok(format!(in alloc; "{error}")?.as_str() == text)
+/// The text of a store's error, and what it becomes: it is kept, but for that of want of memory.
+fn store_words(alloc: Global, error: StoreError) -> Result<String, AllocError> {
+    let became = become_of(error);
+    format!(in alloc; "{error}: {became:?}\n")
+}
+
+/// What each of a store's errors says and becomes, and the faults of paths.
+const STORE_WORDS: &str = "\
+not found: Err(ObjectStoreError(NotFound))
+already exists: Err(ObjectStoreError(AlreadyExists))
+precondition failed: Err(ObjectStoreError(Precondition))
+not modified: Err(ObjectStoreError(NotModified))
+failed: Err(ObjectStoreError(Failed))
+no memory: Err(NoMemory)
+tokens exhausted: Err(ObjectStoreError(TokensExhausted))
+bad segment, no memory
+";
+
+fn all_store_words(alloc: Global) -> Result<String, AllocError> {
+    let mut text = String::new(alloc);
+    for error in STORE_ERRORS {
+        text.push_str(store_words(alloc, error)?.as_str())?;
+    }
+    let (bad, lacking) = (PathFault::BadSegment, PathFault::NoMemory);
+    text.push_str(format!(in alloc; "{bad}, {lacking}\n")?.as_str())?;
+    Ok(text)
+}
+
+#[test]
+fn errors_of_stores_and_paths_have_texts(rt: HostRuntime) -> Result<(), Fail> {
+    let text = all_store_words(rt.alloc())?;
+    assert_eq!(rt; text.as_str(), STORE_WORDS);
+    Ok(())
 }
 
 /// The error of this number.
@@ -48,88 +80,61 @@ fn error_of(number: u8) -> TransactionalObjectError {
     }
 }
 
-const ERRORS: [(u8, &str); 11] = [
-    (1, "io error"),
-    (2, "object store error"),
-    (3, "object update timed out"),
-    (4, "failed to find latest record"),
-    (5, "object version exists"),
-    (6, "detected newer client"),
-    (7, "object in store is in an unexpected state"),
-    (8, "callback error"),
-    (9, "no memory"),
-    (10, "id exhausted"),
-    (11, "turns exhausted"),
-];
+/// Each error: its number, whether it is a conflict, and its text.
+const WORDS: &str = "\
+1 false io error
+2 false object store error
+3 false object update timed out
+4 false failed to find latest record
+5 true object version exists
+6 false detected newer client
+7 false object in store is in an unexpected state
+8 false callback error
+9 false no memory
+10 false id exhausted
+11 false turns exhausted
+ObjectUpdateTimeout { timeout: 1500 }
+";
 
-/// Errors that show what they hold.
-const DEBUGGED: [(u8, &str); 2] = [
-    (3, "ObjectUpdateTimeout { timeout: 1500 }"),
-    (2, "ObjectStoreError(Failed)"),
-];
-
-/// Whether an error has its number and this text, and is a conflict where its number is 5.
-fn is_told(alloc: Global, number: u8, text: &str) -> Result<bool, AllocError> {
-    let error = error_of(number);
+fn words(alloc: Global, error: TransactionalObjectError) -> Result<String, AllocError> {
+    let number = error.number();
     let is_conflict = error.is_sequenced_write_conflict();
-    let is_right = error.number() == number && is_conflict == (number == 5);
-    Ok(is_shown(alloc, &error, text)? && is_right)
+    format!(in alloc; "{number} {is_conflict} {error}\n")
 }
 
-/// Whether an error shows what it holds in this way.
-fn is_debugged(alloc: Global, number: u8, text: &str) -> Result<bool, AllocError> {
-    let error = error_of(number);
-    Ok(format!(in alloc; "{error:?}")?.as_str() == text)
+fn all_words(alloc: Global) -> Result<String, AllocError> {
+    let mut text = String::new(alloc);
+    for number in 1..12u8 {
+        text.push_str(words(alloc, error_of(number))?.as_str())?;
+    }
+    let timeout = ObjectUpdateTimeout { timeout: 1500 };
+    text.push_str(format!(in alloc; "{timeout:?}\n")?.as_str())?;
+    Ok(text)
 }
 
 #[test]
 fn errors_have_their_numbers_and_texts(rt: HostRuntime) -> Result<(), Fail> {
-    for (error, text) in STORE_ERRORS {
-        assert!(rt; is_shown(rt.alloc(), &error, text)?, "{text}");
-    }
-    for (fault, text) in PATH_FAULTS {
-        assert!(rt; is_shown(rt.alloc(), &fault, text)?, "{text}");
-    }
-    for (number, text) in ERRORS {
-        assert!(rt; is_told(rt.alloc(), number, text)?, "{text}");
-    }
-    for (number, text) in DEBUGGED {
-        assert!(rt; is_debugged(rt.alloc(), number, text)?, "{text}");
-    }
+    let text = all_words(rt.alloc())?;
+    assert_eq!(rt; text.as_str(), WORDS);
     Ok(())
 }
 
-fn refused(error: StoreError) -> Result<(), TransactionalObjectError> {
-    Err(error)?;
-    Ok(())
-}
-
-/// Whether a store's error is kept, or, for want of memory, becomes that of any growth.
-fn becomes(error: StoreError) -> bool {
-    match refused(error) {
-        Err(ObjectStoreError(kept)) => kept == error && error != StoreError::NoMemory,
-        Err(TransactionalObjectError::NoMemory) => error == StoreError::NoMemory,
-        _ => false,
-    }
-}
-
-/// Whether a codec's refusal is kept.
-fn keeps_refusal(alloc: Global) -> Result<bool, AllocError> {
-    match TransactionalObjectError::from(CodecFault::Refused(anyhow!("bad bytes"))) {
-        CallbackError(kept) => is_shown(alloc, &kept, "bad bytes"),
-        _ => Ok(false),
+/// The words that an error of a callback keeps.
+fn kept(alloc: Global, error: TransactionalObjectError) -> Result<String, AllocError> {
+    match error {
+        CallbackError(kept) => format!(in alloc; "{kept}"),
+        _ => format!(in alloc; "nothing"),
     }
 }
 
 #[test]
 fn other_errors_become_one_of_these(rt: HostRuntime) -> Result<(), Fail> {
-    for (error, text) in STORE_ERRORS {
-        assert!(rt; becomes(error), "{text}");
-    }
     let no_memory: TransactionalObjectError = AllocError.into();
     assert_eq!(rt; no_memory.number(), 9);
-    assert!(rt; keeps_refusal(rt.alloc())?);
     let no_memory = TransactionalObjectError::from(CodecFault::NoMemory);
     assert_eq!(rt; no_memory.number(), 9);
+    let refusal = CodecFault::Refused(anyhow!("bad bytes"));
+    let words = kept(rt.alloc(), TransactionalObjectError::from(refusal))?;
+    assert_eq!(rt; words.as_str(), "bad bytes");
     Ok(())
 }

@@ -11,8 +11,6 @@ mod many;
 #[cfg(test)]
 mod paths;
 #[cfg(test)]
-mod requests;
-#[cfg(test)]
 mod stores;
 #[cfg(test)]
 mod values;

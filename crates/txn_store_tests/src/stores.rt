@@ -1,167 +1,174 @@
-//! Stores: the calls, one failing, and a large one.
+//! Stores: calls as values, each served, as its copy is, and what they are answered.
 use bytes::Bytes;
 use std::alloc::{AllocError, Global};
 use std::test::Fail;
 use txn_store::failing::{Counts, FailingStore, When};
 use txn_store::in_memory::InMemory;
+use txn_store::page::{Listing, Page};
 use txn_store::path::{Path, PathFault};
-use txn_store::store::StoreError::{
-    AlreadyExists, Failed, NotFound, NotModified, Precondition, TokensExhausted,
-};
-use txn_store::store::{Got, ObjectMeta, ObjectStore, PutMode, StoreError, Token};
+use txn_store::request::{Reply, Request, serve};
+use txn_store::store::{Got, ObjectMeta, ObjectStore, PutMode, Token};
 
-/// The paths and the sizes of files, in order.
-type Told = &'static [(&'static str, u64)];
-
-/// A call of a store, and what it answers.
-enum Step {
-    Create(&'static str, &'static [u8], Result<u64, StoreError>),
+/// What is asked of a store under a path.
+#[derive(Clone, Copy)]
+enum Asked {
+    Create(&'static [u8]),
     /// A put over the file of this token.
-    Update(&'static str, u64, &'static [u8], Result<u64, StoreError>),
-    Overwrite(&'static str, &'static [u8], Result<u64, StoreError>),
-    /// The bytes and their token.
-    Get(&'static str, Result<(&'static [u8], u64), StoreError>),
+    Update(u64, &'static [u8]),
+    Overwrite(&'static [u8]),
+    Get,
     /// A get of what is not of this token.
-    GetNewer(&'static str, u64, Result<(&'static [u8], u64), StoreError>),
-    /// The paths and their sizes, in order, all in one page.
-    List(&'static str, Result<Told, StoreError>),
-    /// A page after a path, of so many files at most; and whether another follows.
-    Page(&'static str, Option<&'static str>, u64, Told, bool),
-    Delete(&'static str, Result<(), StoreError>),
+    GetNewer(u64),
+    /// A page of the files below, after a path, of so many at most.
+    List(Option<&'static str>, u64),
+    Delete,
 }
 
-use Step::{Create, Delete, Get, GetNewer, List, Overwrite, Page, Update};
+use Asked::{Create, Delete, Get, GetNewer, List, Overwrite, Update};
 
-fn puts<S: ObjectStore>(
-    alloc: Global,
-    store: &mut S,
-    path: &str,
-    bytes: &'static [u8],
-    mode: &PutMode,
-) -> Result<Result<u64, StoreError>, PathFault> {
-    let path = Path::from_text(alloc, path)?;
-    match store.put(&path, &Bytes::from_static(bytes), mode) {
-        Ok(token) => Ok(Ok(token.number())),
-        Err(error) => Ok(Err(error)),
-    }
+/// A path, what is asked there, and the answer in words.
+type Step = (&'static str, Asked, &'static str);
+
+fn put(path: Path, bytes: &'static [u8], mode: PutMode) -> Request {
+    let bytes = Bytes::from_static(bytes);
+    Request::Put { path, bytes, mode }
 }
 
-fn gets<S: ObjectStore>(
-    alloc: Global,
-    store: &mut S,
-    path: &str,
-    token: Option<Token>,
-    wanted: Result<(&[u8], u64), StoreError>,
-) -> Result<bool, PathFault> {
-    let path = Path::from_text(alloc, path)?;
-    match store.get(&path, token) {
-        Ok(got) => Ok(is_got(&got, wanted)),
-        Err(error) => Ok(matches!(wanted, Err(wanted) if wanted == error)),
-    }
-}
-
-fn is_got(got: &Got, wanted: Result<(&[u8], u64), StoreError>) -> bool {
-    match wanted {
-        Ok((text, number)) => got.bytes.as_slice() == text && got.token.number() == number,
-        Err(_) => false,
-    }
-}
-
-/// Whether a file was told with this path and size.
-fn is_told(alloc: Global, meta: &ObjectMeta, text: &str, size: u64) -> Result<bool, AllocError> {
-    let location = &meta.location;
-    let shown = format!(in alloc; "{location}")?;
-    Ok(shown.as_str() == text && meta.size == size)
-}
-
-fn are_told(
-    alloc: Global,
-    metas: &[ObjectMeta],
-    wanted: &[(&str, u64)],
-) -> Result<bool, AllocError> {
-    for (meta, (text, size)) in metas.iter().zip(wanted) {
-        if !is_told(alloc, meta, text, *size)? {
-            return Ok(false);
-        }
-    }
-    Ok(metas.len() == wanted.len())
-}
-
-fn paths(alloc: Global, text: Option<&str>) -> Result<Option<Path>, PathFault> {
+fn path_after(alloc: Global, text: Option<&str>) -> Result<Option<Path>, PathFault> {
     match text {
         None => Ok(None),
         Some(text) => Ok(Some(Path::from_text(alloc, text)?)),
     }
 }
 
-/// Whether a page, of one file at least, is answered so: the files and whether another follows, or an error.
-fn lists<S: ObjectStore>(
+fn a_listing(
     alloc: Global,
-    store: &mut S,
-    (prefix, after, limit): (&str, Option<&str>, u64),
-    wanted: Result<(&[(&str, u64)], bool), StoreError>,
-) -> Result<bool, PathFault> {
-    let prefix = Path::from_text(alloc, prefix)?;
-    let after = paths(alloc, after)?;
-    Ok(
-        match (
-            store.list(alloc, &prefix, after.as_ref(), limit.max(1)),
-            wanted,
-        ) {
-            (Ok(page), Ok((wanted, more))) => {
-                are_told(alloc, page.metas.as_slice(), wanted)? && page.more == more
-            }
-            (Err(error), Err(wanted)) => error == wanted,
-            _ => false,
-        },
-    )
-}
-
-/// Whether the call answers what it should.
-fn answers<S: ObjectStore>(alloc: Global, store: &mut S, step: &Step) -> Result<bool, PathFault> {
-    Ok(match step {
-        Create(path, bytes, want) => puts(alloc, store, path, bytes, &PutMode::Create)? == *want,
-        Update(path, token, bytes, want) => {
-            let mode = PutMode::Update(Token::new(*token));
-            puts(alloc, store, path, bytes, &mode)? == *want
-        }
-        Overwrite(path, bytes, want) => {
-            puts(alloc, store, path, bytes, &PutMode::Overwrite)? == *want
-        }
-        Get(path, want) => gets(alloc, store, path, None, *want)?,
-        GetNewer(path, token, want) => gets(alloc, store, path, Some(Token::new(*token)), *want)?,
-        List(prefix, want) => {
-            let want = match want {
-                Ok(told) => Ok((*told, false)),
-                Err(error) => Err(*error),
-            };
-            lists(alloc, store, (prefix, None, 1000), want)?
-        }
-        Page(prefix, after, limit, told, more) => {
-            lists(alloc, store, (prefix, *after, *limit), Ok((*told, *more)))?
-        }
-        Delete(path, want) => {
-            let path = Path::from_text(alloc, path)?;
-            store.delete(&path) == *want
-        }
+    prefix: Path,
+    after: Option<&str>,
+    limit: u64,
+) -> Result<Request, PathFault> {
+    let after = path_after(alloc, after)?;
+    Ok(Request::List {
+        prefix,
+        after,
+        limit,
     })
 }
 
-/// The first step that answers something else, counted from 0, where there is one.
-fn plays<S: ObjectStore>(
+fn request_of(alloc: Global, path: Path, asked: Asked) -> Result<Request, PathFault> {
+    let if_none_match = match asked {
+        Create(bytes) => return Ok(put(path, bytes, PutMode::Create)),
+        Update(token, bytes) => return Ok(put(path, bytes, PutMode::Update(Token::new(token)))),
+        Overwrite(bytes) => return Ok(put(path, bytes, PutMode::Overwrite)),
+        List(after, limit) => return a_listing(alloc, path, after, limit),
+        Delete => return Ok(Request::Delete { path }),
+        Get => None,
+        GetNewer(token) => Some(Token::new(token)),
+    };
+    Ok(Request::Get {
+        path,
+        if_none_match,
+    })
+}
+
+/// A file of a listing.
+fn told(alloc: Global, meta: ObjectMeta) -> Result<String, AllocError> {
+    let location = &meta.location;
+    let size = meta.size;
+    format!(in alloc; " {location} {size}")
+}
+
+/// The files of a listing.
+fn listed(alloc: Global, listing: &Listing) -> Result<String, AllocError> {
+    let mut text = String::from_str(alloc, "listed")?;
+    for meta in listing.as_slice() {
+        text.push_str(&told(alloc, meta.try_clone()?)?)?;
+    }
+    Ok(text)
+}
+
+fn page_words(alloc: Global, page: Page) -> Result<String, AllocError> {
+    let more = page.more;
+    let told = listed(alloc, &Listing::from_vec(page.metas.into_vec()))?;
+    format!(in alloc; "{told}, more: {more}")
+}
+
+fn got_words(alloc: Global, got: &Got) -> Result<String, AllocError> {
+    let bytes = &got.bytes;
+    let number = got.token.number();
+    format!(in alloc; "got {bytes:?} of {number}")
+}
+
+fn put_words(alloc: Global, token: Token) -> Result<String, AllocError> {
+    let number = token.number();
+    format!(in alloc; "put {number}")
+}
+
+/// A reply in words.
+fn words(alloc: Global, reply: Reply) -> Result<String, AllocError> {
+    match reply {
+        Reply::Put(Ok(token)) => put_words(alloc, token),
+        Reply::Get(Ok(got)) => got_words(alloc, &got),
+        Reply::List(Ok(page)) => page_words(alloc, page),
+        Reply::Delete(Ok(())) => String::from_str(alloc, "deleted"),
+        Reply::Put(Err(error))
+        | Reply::Get(Err(error))
+        | Reply::List(Err(error))
+        | Reply::Delete(Err(error)) => format!(in alloc; "{error}"),
+    }
+}
+
+/// A store's reply. A listing asks for a page of one file at least.
+fn reply_to<S: ObjectStore>(
+    alloc: Global,
+    store: &mut S,
+    request: &Request,
+) -> Result<Reply, Fail> {
+    match request {
+        Request::List { limit: 0, .. } => Err("a page of no file")?,
+        _ => Ok(serve(alloc, store, request)),
+    }
+}
+
+/// Whether a step is answered so.
+fn is_answered<S: ObjectStore>(alloc: Global, store: &mut S, step: &Step) -> Result<bool, Fail> {
+    let (path, asked, want) = *step;
+    let request = request_of(alloc, Path::from_text(alloc, path)?, asked)?;
+    let reply = reply_to(alloc, store, &request)?;
+    Ok(words(alloc, reply)?.as_str() == want)
+}
+
+/// Whether the copy of a request is answered so, by a copy of the reply.
+fn is_copy_answered(alloc: Global, store: &mut InMemory, step: &Step) -> Result<bool, Fail> {
+    let (path, asked, want) = *step;
+    let request = request_of(alloc, Path::from_text(alloc, path)?, asked)?.try_clone()?;
+    let reply = store.try_serve(alloc, &request)?.try_clone()?;
+    Ok(words(alloc, reply)?.as_str() == want)
+}
+
+/// The first step that is answered otherwise, counted from 0, where there is one.
+fn other<S: ObjectStore>(
     alloc: Global,
     store: &mut S,
     steps: &[Step],
-) -> Result<Option<usize>, PathFault> {
+) -> Result<Option<usize>, Fail> {
     for (at, step) in steps.iter().enumerate() {
-        if !answers(alloc, store, step)? {
+        if !is_answered(alloc, store, step)? {
             return Ok(Some(at));
         }
     }
     Ok(None)
 }
 
-const ALL_OF_DIR: Told = &[("dir/a", 3), ("dir/a/c", 3), ("dir/b", 3)];
+/// The same of copies.
+fn other_copy(alloc: Global, store: &mut InMemory, steps: &[Step]) -> Result<Option<usize>, Fail> {
+    for (at, step) in steps.iter().enumerate() {
+        if !is_copy_answered(alloc, store, step)? {
+            return Ok(Some(at));
+        }
+    }
+    Ok(None)
+}
 
 /// Steps over a store in memory, and whether files stand under paths in the end.
 struct InMemoryRow {
@@ -177,19 +184,19 @@ const IN_MEMORY: &[InMemoryRow] = &[
         name: "a store keeps what is put",
         first: None,
         steps: &[
-            Get("dir/a", Err(NotFound)),
-            Create("dir/a", b"one", Ok(1)),
-            Create("dir/a", b"two", Err(AlreadyExists)),
-            Update("dir/a", 7, b"two", Err(Precondition)),
-            Get("dir/a", Ok((b"one", 1))),
-            GetNewer("dir/a", 1, Err(NotModified)),
-            Update("dir/a", 1, b"two", Ok(2)),
-            GetNewer("dir/a", 1, Ok((b"two", 2))),
-            Overwrite("dir/a", b"one", Ok(3)),
-            Update("dir/b", 7, b"one", Err(Precondition)),
-            Delete("dir/b", Ok(())),
-            Delete("dir/a", Ok(())),
-            Get("dir/a", Err(NotFound)),
+            ("dir/a", Get, "not found"),
+            ("dir/a", Create(b"one"), "put 1"),
+            ("dir/a", Create(b"two"), "already exists"),
+            ("dir/a", Update(7, b"two"), "precondition failed"),
+            ("dir/a", Get, "got b\"one\" of 1"),
+            ("dir/a", GetNewer(1), "not modified"),
+            ("dir/a", Update(1, b"two"), "put 2"),
+            ("dir/a", GetNewer(1), "got b\"two\" of 2"),
+            ("dir/a", Overwrite(b"one"), "put 3"),
+            ("dir/b", Update(7, b"one"), "precondition failed"),
+            ("dir/b", Delete, "deleted"),
+            ("dir/a", Delete, "deleted"),
+            ("dir/a", Get, "not found"),
         ],
         contains: &[("dir/a", false)],
     },
@@ -197,29 +204,25 @@ const IN_MEMORY: &[InMemoryRow] = &[
         name: "a listing is below its prefix, by whole segments",
         first: None,
         steps: &[
-            Create("dir", b"abc", Ok(1)),
-            Create("dir/b", b"abc", Ok(2)),
-            Create("dir-a/x", b"abc", Ok(3)),
-            Create("dir/a/c", b"abc", Ok(4)),
-            Create("dir/a", b"abc", Ok(5)),
-            Create("di", b"abc", Ok(6)),
-            Create("e", b"abc", Ok(7)),
-            Create("dirr", b"abc", Ok(8)),
-            List("dir", Ok(ALL_OF_DIR)),
-            List(
-                "",
-                Ok(&[
-                    ("di", 3),
-                    ("dir", 3),
-                    ("dir/a", 3),
-                    ("dir/a/c", 3),
-                    ("dir/b", 3),
-                    ("dir-a/x", 3),
-                    ("dirr", 3),
-                    ("e", 3),
-                ]),
+            ("dir", Create(b"abc"), "put 1"),
+            ("dir/b", Create(b"abc"), "put 2"),
+            ("dir-a/x", Create(b"abc"), "put 3"),
+            ("dir/a/c", Create(b"abc"), "put 4"),
+            ("dir/a", Create(b"abc"), "put 5"),
+            ("di", Create(b"abc"), "put 6"),
+            ("e", Create(b"abc"), "put 7"),
+            ("dirr", Create(b"abc"), "put 8"),
+            (
+                "dir",
+                List(None, 1000),
+                "listed dir/a 3 dir/a/c 3 dir/b 3, more: false",
             ),
-            List("dir/b", Ok(&[])),
+            (
+                "",
+                List(None, 1000),
+                "listed di 3 dir 3 dir/a 3 dir/a/c 3 dir/b 3 dir-a/x 3 dirr 3 e 3, more: false",
+            ),
+            ("dir/b", List(None, 1000), "listed, more: false"),
         ],
         contains: &[("dir/a", true)],
     },
@@ -227,23 +230,43 @@ const IN_MEMORY: &[InMemoryRow] = &[
         name: "a page has the first files after a path, and tells whether more follow",
         first: None,
         steps: &[
-            Create("dir/a", b"abc", Ok(1)),
-            Create("dir/a/c", b"abc", Ok(2)),
-            Create("dir/b", b"abc", Ok(3)),
-            Create("dir-a/x", b"abc", Ok(4)),
-            Page("dir", None, 2, &[("dir/a", 3), ("dir/a/c", 3)], true),
-            Page("dir", Some("dir/a/c"), 2, &[("dir/b", 3)], false),
-            Page("dir", Some("dir/a"), 1, &[("dir/a/c", 3)], true),
-            Page("dir", None, 3, ALL_OF_DIR, false),
-            Page("dir", Some("dir/b"), 2, &[], false),
-            Page("dir", Some("dir/aa"), 9, &[("dir/b", 3)], false),
-            Page("dir", Some("dir"), 1, &[("dir/a", 3)], true),
-            Page("dir", Some("a"), 4, ALL_OF_DIR, false),
-            Page("dir", Some("e"), 4, &[], false),
-            Page("none", None, 1, &[], false),
-            Page("", Some("dir/b"), 1, &[("dir-a/x", 3)], false),
-            Delete("dir/a/c", Ok(())),
-            Page("dir", Some("dir/a"), 1, &[("dir/b", 3)], false),
+            ("dir/a", Create(b"abc"), "put 1"),
+            ("dir/a/c", Create(b"abc"), "put 2"),
+            ("dir/b", Create(b"abc"), "put 3"),
+            ("dir-a/x", Create(b"abc"), "put 4"),
+            ("dir", List(None, 2), "listed dir/a 3 dir/a/c 3, more: true"),
+            (
+                "dir",
+                List(Some("dir/a/c"), 2),
+                "listed dir/b 3, more: false",
+            ),
+            (
+                "dir",
+                List(Some("dir/a"), 1),
+                "listed dir/a/c 3, more: true",
+            ),
+            (
+                "dir",
+                List(None, 3),
+                "listed dir/a 3 dir/a/c 3 dir/b 3, more: false",
+            ),
+            ("dir", List(Some("dir/b"), 2), "listed, more: false"),
+            (
+                "dir",
+                List(Some("dir/aa"), 9),
+                "listed dir/b 3, more: false",
+            ),
+            ("dir", List(Some("dir"), 1), "listed dir/a 3, more: true"),
+            (
+                "dir",
+                List(Some("a"), 4),
+                "listed dir/a 3 dir/a/c 3 dir/b 3, more: false",
+            ),
+            ("dir", List(Some("e"), 4), "listed, more: false"),
+            ("none", List(None, 1), "listed, more: false"),
+            ("", List(Some("dir/b"), 1), "listed dir-a/x 3, more: false"),
+            ("dir/a/c", Delete, "deleted"),
+            ("dir", List(Some("dir/a"), 1), "listed dir/b 3, more: false"),
         ],
         contains: &[("dir/a/c", false), ("dir/b", true)],
     },
@@ -256,22 +279,22 @@ const IN_MEMORY: &[InMemoryRow] = &[
     InMemoryRow {
         name: "what was put stands",
         first: None,
-        steps: &[Create("a", b"x", Ok(1))],
+        steps: &[("a", Create(b"x"), "put 1")],
         contains: &[("a", true), ("a/b", false)],
     },
     InMemoryRow {
         name: "what was removed does not stand",
         first: None,
-        steps: &[Create("a", b"x", Ok(1)), Delete("a", Ok(()))],
+        steps: &[("a", Create(b"x"), "put 1"), ("a", Delete, "deleted")],
         contains: &[("a", false)],
     },
     InMemoryRow {
         name: "the last token is the greatest",
         first: Some(u64::MAX),
         steps: &[
-            Create("a", b"x", Ok(u64::MAX)),
-            Create("b", b"x", Err(TokensExhausted)),
-            Create("a", b"x", Err(AlreadyExists)),
+            ("a", Create(b"x"), "put 18446744073709551615"),
+            ("b", Create(b"x"), "tokens exhausted"),
+            ("a", Create(b"x"), "already exists"),
         ],
         contains: &[("a", true), ("b", false)],
     },
@@ -295,32 +318,29 @@ fn other_contained(
     Ok(None)
 }
 
-/// The first step that answers something else, and the first path that stands otherwise.
-fn played(
-    alloc: Global,
-    row: &InMemoryRow,
-) -> Result<(Option<usize>, Option<&'static str>), PathFault> {
-    let mut store = match row.first {
+/// The store of a row, with nothing in it.
+fn store_of(alloc: Global, row: &InMemoryRow) -> InMemory {
+    match row.first {
         None => InMemory::new(alloc),
         Some(first) => InMemory::from_token(alloc, first),
-    };
-    played_in(alloc, &mut store, row)
+    }
 }
 
-fn played_in(
-    alloc: Global,
-    store: &mut InMemory,
-    row: &InMemoryRow,
-) -> Result<(Option<usize>, Option<&'static str>), PathFault> {
-    let other = plays(alloc, store, row.steps)?;
-    Ok((other, other_contained(alloc, store, row.contains)?))
+/// The first step that is answered otherwise, the first copy of a step, and the first path that stands otherwise.
+fn played(alloc: Global, row: &InMemoryRow) -> Result<String, Fail> {
+    let mut store = store_of(alloc, row);
+    let other = other(alloc, &mut store, row.steps)?;
+    let contained = other_contained(alloc, &store, row.contains)?;
+    let copy = other_copy(alloc, &mut store_of(alloc, row), row.steps)?;
+    Ok(format!(in alloc; "{other:?} {copy:?} {contained:?}")?)
 }
 
 #[test]
 fn a_store_in_memory_answers_each_call(rt: HostRuntime) -> Result<(), Fail> {
     for row in IN_MEMORY {
         let name = row.name;
-        assert_eq!(rt; played(rt.alloc(), row)?, (None, None), "{name}");
+        let text = played(rt.alloc(), row)?;
+        assert_eq!(rt; text.as_str(), "None None None", "{name}");
     }
     Ok(())
 }
@@ -342,20 +362,15 @@ const EACH_KIND: Counts = Counts {
     deletes: 1,
 };
 
-/// What is got and listed of a file `a`.
-const FOUND: (&[u8], u64) = (b"x", 1);
-
-const LISTED: Told = &[("a", 1)];
-
 /// The first fails after its effect. The others are a put, a get, a listing, a delete and a get.
 const FAILING: &[FailingRow] = &[
     FailingRow {
         nth: 2,
         when: When::After,
         steps: &[
-            Create("a", b"x", Ok(1)),
-            Create("b", b"x", Err(Failed)),
-            Get("b", Ok((b"x", 2))),
+            ("a", Create(b"x"), "put 1"),
+            ("b", Create(b"x"), "failed"),
+            ("b", Get, "got b\"x\" of 2"),
         ],
         counts: Counts {
             puts: 2,
@@ -363,17 +378,17 @@ const FAILING: &[FailingRow] = &[
             lists: 0,
             deletes: 0,
         },
-        below: &[Get("b", Ok((b"x", 2)))],
+        below: &[("b", Get, "got b\"x\" of 2")],
     },
     FailingRow {
         nth: 0,
         when: When::Before,
         steps: &[
-            Create("a", b"x", Ok(1)),
-            Get("a", Ok(FOUND)),
-            List("", Ok(LISTED)),
-            Delete("a", Ok(())),
-            Get("a", Err(NotFound)),
+            ("a", Create(b"x"), "put 1"),
+            ("a", Get, "got b\"x\" of 1"),
+            ("", List(None, 1000), "listed a 1, more: false"),
+            ("a", Delete, "deleted"),
+            ("a", Get, "not found"),
         ],
         counts: EACH_KIND,
         below: &[],
@@ -382,11 +397,11 @@ const FAILING: &[FailingRow] = &[
         nth: 1,
         when: When::Before,
         steps: &[
-            Create("a", b"x", Err(Failed)),
-            Get("a", Err(NotFound)),
-            List("", Ok(&[])),
-            Delete("a", Ok(())),
-            Get("a", Err(NotFound)),
+            ("a", Create(b"x"), "failed"),
+            ("a", Get, "not found"),
+            ("", List(None, 1000), "listed, more: false"),
+            ("a", Delete, "deleted"),
+            ("a", Get, "not found"),
         ],
         counts: EACH_KIND,
         below: &[],
@@ -395,11 +410,11 @@ const FAILING: &[FailingRow] = &[
         nth: 2,
         when: When::Before,
         steps: &[
-            Create("a", b"x", Ok(1)),
-            Get("a", Err(Failed)),
-            List("", Ok(LISTED)),
-            Delete("a", Ok(())),
-            Get("a", Err(NotFound)),
+            ("a", Create(b"x"), "put 1"),
+            ("a", Get, "failed"),
+            ("", List(None, 1000), "listed a 1, more: false"),
+            ("a", Delete, "deleted"),
+            ("a", Get, "not found"),
         ],
         counts: EACH_KIND,
         below: &[],
@@ -408,11 +423,11 @@ const FAILING: &[FailingRow] = &[
         nth: 3,
         when: When::Before,
         steps: &[
-            Create("a", b"x", Ok(1)),
-            Get("a", Ok(FOUND)),
-            List("", Err(Failed)),
-            Delete("a", Ok(())),
-            Get("a", Err(NotFound)),
+            ("a", Create(b"x"), "put 1"),
+            ("a", Get, "got b\"x\" of 1"),
+            ("", List(None, 1000), "failed"),
+            ("a", Delete, "deleted"),
+            ("a", Get, "not found"),
         ],
         counts: EACH_KIND,
         below: &[],
@@ -421,11 +436,11 @@ const FAILING: &[FailingRow] = &[
         nth: 4,
         when: When::Before,
         steps: &[
-            Create("a", b"x", Ok(1)),
-            Get("a", Ok(FOUND)),
-            List("", Ok(LISTED)),
-            Delete("a", Err(Failed)),
-            Get("a", Ok(FOUND)),
+            ("a", Create(b"x"), "put 1"),
+            ("a", Get, "got b\"x\" of 1"),
+            ("", List(None, 1000), "listed a 1, more: false"),
+            ("a", Delete, "failed"),
+            ("a", Get, "got b\"x\" of 1"),
         ],
         counts: EACH_KIND,
         below: &[],
@@ -434,35 +449,32 @@ const FAILING: &[FailingRow] = &[
         nth: 5,
         when: When::Before,
         steps: &[
-            Create("a", b"x", Ok(1)),
-            Get("a", Ok(FOUND)),
-            List("", Ok(LISTED)),
-            Delete("a", Ok(())),
-            Get("a", Err(Failed)),
+            ("a", Create(b"x"), "put 1"),
+            ("a", Get, "got b\"x\" of 1"),
+            ("", List(None, 1000), "listed a 1, more: false"),
+            ("a", Delete, "deleted"),
+            ("a", Get, "failed"),
         ],
         counts: EACH_KIND,
         below: &[],
     },
 ];
 
-/// The first step that answers something else, the counts, and the first such step over the store below.
-fn played_failing(
-    alloc: Global,
-    row: &FailingRow,
-) -> Result<(Option<usize>, Counts, Option<usize>), PathFault> {
+/// Whether the counts are these, the first step that is answered otherwise, and the first such step over the store below.
+fn played_failing(alloc: Global, row: &FailingRow) -> Result<String, Fail> {
     let mut store = FailingStore::new(InMemory::new(alloc), row.nth, row.when);
-    let other = plays(alloc, &mut store, row.steps)?;
-    let counts = store.counts();
-    let mut below = store.into_inner();
-    Ok((other, counts, plays(alloc, &mut below, row.below)?))
+    let step = other(alloc, &mut store, row.steps)?;
+    let counted = store.counts() == row.counts;
+    let below = other(alloc, &mut store.into_inner(), row.below)?;
+    Ok(format!(in alloc; "{counted} {step:?} {below:?}")?)
 }
 
 #[test]
 fn a_call_fails_before_or_after_its_effect(rt: HostRuntime) -> Result<(), Fail> {
     for row in FAILING {
-        let want = (None, row.counts, None);
         let nth = row.nth;
-        assert_eq!(rt; played_failing(rt.alloc(), row)?, want, "call {nth}");
+        let text = played_failing(rt.alloc(), row)?;
+        assert_eq!(rt; text.as_str(), "true None None", "call {nth}");
     }
     Ok(())
 }

@@ -1,26 +1,7 @@
-//! Calls, events, ids and faults.
-use std::alloc::{AllocError, Global};
+//! Calls and events.
 use std::ops::Bound;
 use std::test::Fail;
-use txn_history::event::{Call, Event, EventFault, Failure};
-use txn_history::ids::Ids;
-
-/// Whether a copy of ids has them in order.
-fn has_copied(alloc: Global, numbers: &[u64]) -> Result<bool, AllocError> {
-    let mut ids = Vec::new(alloc);
-    for number in numbers {
-        ids.push(*number)?;
-    }
-    let ids = Ids::from_vec(ids);
-    Ok(ids.try_clone()?.as_slice() == numbers)
-}
-
-#[test]
-fn ids_are_shown_and_copied(rt: HostRuntime) -> Result<(), Fail> {
-    assert!(rt; has_copied(rt.alloc(), &[])?);
-    assert!(rt; has_copied(rt.alloc(), &[1, 3, 8])?);
-    Ok(())
-}
+use txn_history::event::{Call, Event, Failure};
 
 /// Each call and each event.
 const EVENTS: &[Event<u64>] = &[
@@ -45,25 +26,6 @@ const EVENTS: &[Event<u64>] = &[
 fn calls_and_events_are_copied(rt: HostRuntime) -> Result<(), Fail> {
     for event in EVENTS {
         assert!(rt; event.try_clone()? == *event);
-    }
-    Ok(())
-}
-
-/// The faults by their numbers.
-const FAULTS: &[(EventFault, u8)] = &[
-    (EventFault::UnknownNumber, 1),
-    (EventFault::NotAsked, 2),
-    (EventFault::UnknownBase, 3),
-    (EventFault::BoundaryTooHigh, 4),
-    (EventFault::EpochLowered, 5),
-    (EventFault::ViewBusy, 6),
-    (EventFault::NoMemory, 7),
-];
-
-#[test]
-fn each_fault_has_its_number(rt: HostRuntime) -> Result<(), Fail> {
-    for (fault, number) in FAULTS {
-        assert_eq!(rt; fault.number(), *number);
     }
     Ok(())
 }

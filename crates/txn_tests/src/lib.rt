@@ -9,6 +9,8 @@ mod lines;
 #[cfg(test)]
 mod meetings;
 #[cfg(test)]
+mod played;
+#[cfg(test)]
 mod refused;
 #[cfg(test)]
 mod schedules;

@@ -16,7 +16,7 @@ use txn_threads::finish::finish;
 use txn_threads::gate::{Gate, GateSpent};
 use txn_threads::jobs::{End, Job};
 use txn_threads::kept::Share;
-use txn_threads::work::{Worker, work, work_all};
+use txn_threads::work::{Worked, Worker, work, work_all};
 use txn_types::layout::PAGE;
 use txn_view_history::event::AnyCall;
 
@@ -74,38 +74,51 @@ fn at_a_meeting<'a>(
     Ok(workers)
 }
 
-/// How workers on threads of their own end, and their shares then.
-fn told_on_threads(
+/// How workers ended.
+fn ends_of(alloc: Global, worked: &[Worked]) -> Result<Vec<End>, AllocError> {
+    let mut ends = Vec::new(alloc);
+    for one in worked {
+        ends.push(one.end)?;
+    }
+    Ok(ends)
+}
+
+/// The shares of workers.
+fn shares_of(alloc: Global, worked: Vec<Worked>) -> Result<Vec<Share>, AllocError> {
+    let mut shares = Vec::new(alloc);
+    for one in worked {
+        shares.push(one.share)?;
+    }
+    Ok(shares)
+}
+
+/// How workers ended, and whether their shares finish the kept world.
+fn told(alloc: Global, kept: Records, worked: Vec<Worked>) -> Result<String, AllocError> {
+    let ends = ends_of(alloc, &worked)?;
+    let is_finished = finish(kept, shares_of(alloc, worked)?).is_ok();
+    format!(in alloc; "{ends:?}, {is_finished}")
+}
+
+/// What workers on threads of their own do.
+fn work_on_threads(
     rt: &(impl Threads + Wait + Sync + AllocGlobal),
     kept: &Mutex<Records>,
     shares: Vec<Share>,
-    gate: Meeting<'_>,
-) -> Result<(Vec<End>, Vec<Share>), AllocError> {
-    let workers = at_a_meeting(rt.alloc(), shares, gate)?;
-    let mut ends = Vec::new(rt.alloc());
-    let mut shares = Vec::new(rt.alloc());
-    for one in work_all(rt, kept, workers)? {
-        ends.push(one.end)?;
-        shares.push(one.share)?;
-    }
-    Ok((ends, shares))
-}
-
-/// How workers on threads of their own end, and whether their shares finish the kept world.
-fn ends_on_threads(
-    rt: &(impl Threads + Wait + Sync + AllocGlobal),
-) -> Result<(Vec<End>, bool), AllocError> {
-    let (kept, shares) = kept_by(rt.alloc(), 2)?;
-    let kept = Mutex::new(kept);
+) -> Result<Vec<Worked>, AllocError> {
     let (first, second) = (AtomicU64::new(0), AtomicU64::new(0));
     let gate = Meeting {
         first: &first,
         second: &second,
     };
-    let told = told_on_threads(rt, &kept, shares, gate);
-    let kept = kept.into_inner();
-    let (ends, shares) = told?;
-    Ok((ends, finish(kept, shares).is_ok()))
+    work_all(rt, kept, at_a_meeting(rt.alloc(), shares, gate)?)
+}
+
+/// How workers on threads of their own end, and whether their shares finish the kept world.
+fn told_on_threads(rt: &(impl Threads + Wait + Sync + AllocGlobal)) -> Result<String, AllocError> {
+    let (kept, shares) = kept_by(rt.alloc(), 2)?;
+    let kept = Mutex::new(kept);
+    let worked = work_on_threads(rt, &kept, shares);
+    told(rt.alloc(), kept.into_inner(), worked?)
 }
 
 /// How a worker ends.
@@ -119,38 +132,37 @@ fn end_of(rt: &impl Wait, kept: &Mutex<Records>, worker: Worker<Record, Meeting<
 }
 
 /// How workers end one after the other.
-fn told_in_turn(
+fn ends_in_turn(
     rt: &(impl Wait + AllocGlobal),
     kept: &Mutex<Records>,
-    workers: Vec<Worker<Record, Meeting<'_>>>,
+    shares: Vec<Share>,
 ) -> Result<Vec<End>, AllocError> {
-    let mut ends = Vec::new(rt.alloc());
-    for worker in workers {
-        ends.push(end_of(rt, kept, worker))?;
-    }
-    Ok(ends)
-}
-
-/// How they end one after the other.
-fn ends_in_turn(rt: &(impl Wait + AllocGlobal)) -> Result<Vec<End>, AllocError> {
-    let (kept, shares) = kept_by(rt.alloc(), 2)?;
-    let kept = Mutex::new(kept);
     let (first, second) = (AtomicU64::new(0), AtomicU64::new(0));
     let gate = Meeting {
         first: &first,
         second: &second,
     };
-    told_in_turn(rt, &kept, at_a_meeting(rt.alloc(), shares, gate)?)
+    let mut ends = Vec::new(rt.alloc());
+    for worker in at_a_meeting(rt.alloc(), shares, gate)? {
+        ends.push(end_of(rt, kept, worker))?;
+    }
+    Ok(ends)
+}
+
+/// The same, as text.
+fn told_in_turn(rt: &(impl Wait + AllocGlobal)) -> Result<String, AllocError> {
+    let (kept, shares) = kept_by(rt.alloc(), 2)?;
+    let ends = ends_in_turn(rt, &Mutex::new(kept), shares)?;
+    format!(in rt.alloc(); "{ends:?}")
 }
 
 #[test]
 fn workers_are_at_work_at_the_same_time(rt: HostRuntime) -> Result<(), Fail> {
-    let (ends, finished) = ends_on_threads(&rt)?;
-    assert_eq!(rt; ends.as_slice(), [End::Done, End::Done].as_slice());
-    assert!(rt; finished);
+    let text = told_on_threads(&rt)?;
+    assert_eq!(rt; text.as_str(), "[Done, Done], true");
     // In turn they do not meet.
-    let ends = ends_in_turn(&rt)?;
-    assert_eq!(rt; ends.as_slice(), [End::GateSpent, End::Done].as_slice());
+    let text = told_in_turn(&rt)?;
+    assert_eq!(rt; text.as_str(), "[GateSpent, Done]");
     Ok(())
 }
 

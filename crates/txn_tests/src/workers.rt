@@ -2,17 +2,18 @@
 ghost use Rattle.std.specs.Prelude.{◌≡◌, ◌≤◌, IfOk, vec_len};
 
 use std::alloc::{AllocError, AllocGlobal, Global};
+use std::slice::from_ref;
 use std::sync::{Mutex, Wait};
 use std::test::Fail;
-use txn_history::event::{Call, EventFault};
+use txn_history::event::Call;
 use txn_lines::record::{Record, RecordCodec, RecordEpoch};
 use txn_threads::finish::{FinishFault, finish};
 use txn_threads::gate::{FreeGate, Gate, GateSpent};
 use txn_threads::jobs::{End, Job};
 use txn_threads::kept::{Kept, Share};
-use txn_threads::work::work;
+use txn_threads::work::{Worked, work};
 use txn_types::layout::PAGE;
-use txn_view_history::event::{AnyCall, AnyEvent, AnyTold};
+use txn_view_history::event::{AnyCall, AnyEvent};
 use txn_world::world::World;
 
 pub(crate) type Records = Kept<Record, RecordCodec, RecordEpoch>;
@@ -42,170 +43,109 @@ const THREE: Record = Record {
     payload: 3,
 };
 
-/// Begins a read of client 1, and says whether it was told that it began as the first operation.
-fn begins(kept: &mut Records, share: &mut Share) -> bool {
-    match kept.take(share, AnyEvent::Begin(1, AnyCall::Plain(Call::Read))) {
-        Ok(AnyTold::Began(op)) => *op == 1,
-        _ => false,
-    }
-}
-
-/// What an event and a refused one leave: whether each was told as it should be, the share's worker and
-/// count, the rows and the journal, and the journal's workers that are not the first.
-type Began = (bool, bool, (u64, u64), (usize, usize), usize);
-
-fn began(kept: &mut Records, first: &mut Share) -> Began {
-    let is_told = begins(kept, first);
-    // No operation has the number 2.
-    let is_refused = kept.take(first, AnyEvent::Serve(2)).is_err();
-    let lengths = (kept.world().trace().len(), kept.journal().len());
-    let mut others = 0usize;
-    for row in kept.journal() {
-        if row.worker != 1 {
-            others = others.saturating_add(1);
+/// What finishing a kept world with these shares gives, a fault with its number.
+fn finished(alloc: Global, kept: Records, shares: Vec<Share>) -> Result<String, AllocError> {
+    match finish(kept, shares) {
+        Ok(counts) => format!(in alloc; "{counts:?}"),
+        Err(fault) => {
+            let number = fault.number();
+            format!(in alloc; "{fault:?} {number}")
         }
     }
+}
+
+/// The jobs of a worker alone, and what it leaves: how it ends, how many rows its events made, the entries, and how many
+/// events it took.
+const JOBS: &[(&[Job<Record>], &str)] = &[
     (
-        is_told,
-        is_refused,
-        (first.worker(), first.count()),
-        lengths,
-        others,
-    )
-}
-
-fn began_and_finished(alloc: Global) -> Result<(Began, Result<Vec<u64>, FinishFault>), AllocError> {
-    let (mut kept, mut shares) = kept_by(alloc, 2)?;
-    let began = began(&mut kept, &mut shares[0]);
-    Ok((began, finish(kept, shares)))
-}
-
-#[test]
-fn an_event_adds_one_to_its_share(rt: HostRuntime) -> Result<(), Fail> {
-    let (began, counts) = began_and_finished(rt.alloc())?;
-    assert_eq!(rt; began, (true, true, (1, 1), (1, 1), 0));
-    assert_eq!(rt; counts, Ok(vec![in rt.alloc(); 1, 0]?));
-    Ok(())
-}
-
-/// The jobs of a worker alone, and what it leaves.
-struct JobsRow {
-    jobs: &'static [Job<Record>],
-    end: End,
-    /// How many events it took.
-    count: u64,
-    /// How many rows they made.
-    rows: usize,
-    entries: &'static [Record],
-}
-
-const JOBS: &[JobsRow] = &[
-    JobsRow {
-        jobs: &[
+        &[
             Job::Call(AnyCall::Plain(Call::Write(None, ONE))),
             Job::WriteOnRead(TWO),
             // The boundary is 0, so that nothing is fenced and nothing is removed.
             Job::Call(AnyCall::Plain(Call::Delete(1))),
             Job::WriteOnRead(THREE),
         ],
-        end: End::Done,
-        // A write is six events, a read of what the worker holds six, and a refused delete four.
-        count: 34,
-        // A write makes three rows, and each of the others two.
-        rows: 15,
-        entries: &[ONE, TWO, THREE],
-    },
-    JobsRow {
-        jobs: &[
+        // A write is six events, a read of what the worker holds six, and a refused delete four. A write makes three rows, and
+        // each of the others two.
+        "Some(Done), 15 rows, [Record { epoch: 0, payload: 1 }, Record { epoch: 0, payload: 2 }, Record { epoch: 0, payload: 3 }], [34]",
+    ),
+    (
+        &[
             Job::Call(AnyCall::Plain(Call::Write(Some(5), ONE))),
             Job::WriteOnRead(TWO),
         ],
-        end: End::Refused(EventFault::UnknownBase),
-        count: 0,
-        rows: 0,
-        entries: &[],
-    },
+        "Some(Refused(UnknownBase)), 0 rows, [], [0]",
+    ),
 ];
 
-/// What a worker alone leaves.
-#[derive(Debug, Drop, PartialEq, Eq)]
-struct Left {
-    end: End,
-    count: u64,
-    rows: usize,
-    /// Whether the entries are as they should be.
-    entries: bool,
-    /// What finishing the kept world with its share gives.
-    counts: Result<Vec<u64>, FinishFault>,
-}
-
-/// How a worker alone ends, and how many events it took. Its share goes back among the others.
+/// How a worker ends that does these jobs, and its share.
 fn worked(
     rt: &impl Wait,
     kept: &Mutex<Records>,
-    shares: &mut Vec<Share>,
+    share: Option<Share>,
     jobs: &[Job<Record>],
-) -> Result<(End, u64), Fail> {
-    let Some(share) = shares.pop() else {
-        return Err("no share")?;
-    };
-    let worked = work(rt, kept, share, &mut FreeGate, jobs);
-    let count = worked.share.count();
-    shares.push(worked.share)?;
-    Ok((worked.end, count))
+) -> Option<Worked> {
+    Some(work(rt, kept, share?, &mut FreeGate, jobs))
 }
 
-/// How many rows a kept world has, and whether its entries are these.
-fn seen(alloc: Global, kept: &Records, entries: &[Record]) -> Result<(usize, bool), AllocError> {
-    let world = kept.world();
-    let rows = world.trace().len();
-    Ok((rows, world.entries(alloc)?.as_slice() == entries))
+/// Puts a share among others, and says how its worker ended.
+fn end_of(shares: &mut Vec<Share>, worked: Option<Worked>) -> Option<End> {
+    let Worked { share, end } = worked?;
+    put(shares, Some(share)).is_ok().then_some(end)
 }
 
-fn left_by(rt: &(impl Wait + AllocGlobal), row: &JobsRow) -> Result<Left, Fail> {
+/// Puts a share among others.
+fn put(shares: &mut Vec<Share>, share: Option<Share>) -> Result<(), AllocError> {
+    match share {
+        Some(share) => Ok(shares.push(share)?),
+        None => Ok(()),
+    }
+}
+
+/// How many rows a kept world has, and its entries.
+fn seen(alloc: Global, kept: &Records) -> Result<String, AllocError> {
+    let rows = kept.world().trace().len();
+    let entries = kept.world().entries(alloc)?;
+    format!(in alloc; "{rows} rows, {entries:?}")
+}
+
+/// What a worker alone leaves.
+fn left_by(rt: &(impl Wait + AllocGlobal), jobs: &[Job<Record>]) -> Result<String, AllocError> {
     let (kept, mut shares) = kept_by(rt.alloc(), 1)?;
     let kept = Mutex::new(kept);
-    let worked = worked(rt, &kept, &mut shares, row.jobs);
+    let worked = worked(rt, &kept, shares.pop(), jobs);
+    let end = end_of(&mut shares, worked);
     let kept = kept.into_inner();
-    let seen = seen(rt.alloc(), &kept, row.entries);
-    let counts = finish(kept, shares);
-    let ((end, count), (rows, entries)) = (worked?, seen?);
-    Ok(Left {
-        end,
-        count,
-        rows,
-        entries,
-        counts,
-    })
+    let seen = seen(rt.alloc(), &kept)?;
+    let counts = finished(rt.alloc(), kept, shares)?;
+    format!(in rt.alloc(); "{end:?}, {seen}, {counts}")
 }
 
 #[test]
 fn a_worker_alone_does_its_jobs_in_order(rt: HostRuntime) -> Result<(), Fail> {
-    for row in JOBS {
-        let want = Left {
-            end: row.end,
-            count: row.count,
-            rows: row.rows,
-            entries: true,
-            counts: Ok(vec![in rt.alloc(); row.count]?),
-        };
-        assert_eq!(rt; left_by(&rt, row)?, want);
+    for (jobs, left) in JOBS {
+        let text = left_by(&rt, jobs)?;
+        assert_eq!(rt; text.as_str(), *left);
     }
     Ok(())
 }
 
-/// The faults of finishing by their numbers.
-const FAULTS: [(FinishFault, u8); 3] = [
-    (FinishFault::ShareMissing, 1),
-    (FinishFault::CountsDiffer, 2),
-    (FinishFault::NoMemory, 3),
-];
+/// What finishing gives where the first of two workers began a read.
+fn after_a_read(alloc: Global) -> Result<String, AllocError> {
+    let (mut kept, mut shares) = kept_by(alloc, 2)?;
+    let _told = kept.take(&mut shares[0], read_of_first());
+    finished(alloc, kept, shares)
+}
 
-/// What finishing gives where a share is lost.
-fn with_a_share_lost(alloc: Global) -> Result<Result<Vec<u64>, FinishFault>, AllocError> {
+fn read_of_first() -> AnyEvent<Record> {
+    AnyEvent::Begin(1, AnyCall::Plain(Call::Read))
+}
+
+/// What it gives where a share is lost.
+fn with_a_share_lost(alloc: Global) -> Result<String, AllocError> {
     let (kept, mut shares) = kept_by(alloc, 2)?;
     let _lost = shares.pop();
-    Ok(finish(kept, shares))
+    finished(alloc, kept, shares)
 }
 
 /// The share of worker 1 of another kept world.
@@ -214,57 +154,46 @@ fn another_share(alloc: Global) -> Result<Option<Share>, AllocError> {
     Ok(others.pop())
 }
 
-/// Puts a share in the place of the last.
-fn put_last(shares: &mut Vec<Share>, other: Option<Share>) -> Result<(), AllocError> {
-    let _lost = shares.pop();
-    match other {
-        Some(other) => Ok(shares.push(other)?),
-        None => Ok(()),
-    }
-}
-
 /// What it gives with two shares of worker 1, and none of worker 2.
-fn with_a_share_twice(alloc: Global) -> Result<Result<Vec<u64>, FinishFault>, AllocError> {
-    let other = another_share(alloc)?;
+fn with_a_share_twice(alloc: Global) -> Result<String, AllocError> {
+    let another = another_share(alloc)?;
     let (kept, mut shares) = kept_by(alloc, 2)?;
-    let put = put_last(&mut shares, other);
-    let finished = finish(kept, shares);
-    put?;
-    Ok(finished)
+    let _lost = shares.pop();
+    match put(&mut shares, another) {
+        Ok(()) => finished(alloc, kept, shares),
+        Err(error) => Err(error),
+    }
 }
 
-/// The shares of a world in which a worker began a read.
-fn shares_of_a_read(alloc: Global) -> Result<Vec<Share>, Fail> {
-    let (mut kept, mut shares) = kept_by(alloc, 1)?;
-    if !begins(&mut kept, &mut shares[0]) {
-        return Err("a begin is refused")?;
-    }
+/// The shares of a world in which the first of two workers began a read.
+fn shares_of_a_read(alloc: Global) -> Result<Vec<Share>, AllocError> {
+    let (mut kept, mut shares) = kept_by(alloc, 2)?;
+    let _told = kept.take(&mut shares[0], read_of_first());
     Ok(shares)
 }
 
 /// What it gives where a fresh world was put in the place of one in which a worker began a read.
-fn in_anothers_place(alloc: Global) -> Result<Result<Vec<u64>, FinishFault>, Fail> {
-    let (fresh, _) = kept_by(alloc, 1)?;
-    Ok(finish(fresh, shares_of_a_read(alloc)?))
+fn in_anothers_place(alloc: Global) -> Result<String, AllocError> {
+    let shares = shares_of_a_read(alloc)?;
+    let (fresh, _its) = kept_by(alloc, 2)?;
+    finished(alloc, fresh, shares)
+}
+
+/// What finishing gives in each of these cases.
+fn finishings(alloc: Global) -> Result<String, AllocError> {
+    let read = after_a_read(alloc)?;
+    let lost = with_a_share_lost(alloc)?;
+    let twice = with_a_share_twice(alloc)?;
+    let another = in_anothers_place(alloc)?;
+    let lacking = FinishFault::NoMemory.number();
+    format!(in alloc; "{read}, {lost}, {twice}, {another}, {lacking}")
 }
 
 #[test]
-fn shares_that_do_not_finish_the_kept_world(rt: HostRuntime) -> Result<(), Fail> {
-    assert_eq!(rt;
-        with_a_share_lost(rt.alloc())?,
-        Err(FinishFault::ShareMissing)
-    );
-    assert_eq!(rt;
-        with_a_share_twice(rt.alloc())?,
-        Err(FinishFault::ShareMissing)
-    );
-    assert_eq!(rt;
-        in_anothers_place(rt.alloc())?,
-        Err(FinishFault::CountsDiffer)
-    );
-    for (fault, number) in FAULTS {
-        assert_eq!(rt; fault.number(), number);
-    }
+fn shares_finish_their_kept_world(rt: HostRuntime) -> Result<(), Fail> {
+    let text = finishings(rt.alloc())?;
+    let want = "[1, 0], ShareMissing 1, ShareMissing 1, CountsDiffer 2, 3";
+    assert_eq!(rt; text.as_str(), want);
     Ok(())
 }
 
@@ -290,11 +219,16 @@ impl<R: Wait> Gate for Fencing<'_, R> {
             epoch: 0,
             payload: self.newest,
         };
-        let jobs = [
-            Job::Call(AnyCall::Plain(Call::Write(base, value))),
-            Job::Call(AnyCall::Plain(Call::Advance(self.newest))),
-        ];
-        let worked = work(self.rt, self.kept, share, &mut FreeGate, &jobs);
+        let write = Job::Call(AnyCall::Plain(Call::Write(base, value)));
+        let advance = Job::Call(AnyCall::Plain(Call::Advance(self.newest)));
+        let wrote = work(self.rt, self.kept, share, &mut FreeGate, from_ref(&write));
+        let worked = work(
+            self.rt,
+            self.kept,
+            wrote.share,
+            &mut FreeGate,
+            from_ref(&advance),
+        );
         self.share = Some(worked.share);
         self.newest = self.newest.saturating_add(1);
         Ok(())
@@ -302,30 +236,26 @@ impl<R: Wait> Gate for Fencing<'_, R> {
 }
 
 /// How a read ends that finds what was fenced each time, and how many events its worker took.
-fn fenced(rt: &(impl Wait + AllocGlobal)) -> Result<(End, u64), Fail> {
-    let (kept, mut shares) = kept_by(rt.alloc(), 2)?;
-    let kept = Mutex::new(kept);
+fn fenced(rt: &impl Wait, kept: &Mutex<Records>, shares: &mut Vec<Share>) -> Option<(End, u64)> {
     let mut gate = Fencing {
         rt,
-        kept: &kept,
+        kept,
         share: shares.pop(),
         newest: 0,
     };
-    let Some(share) = shares.pop() else {
-        return Err("no share")?;
-    };
-    let worked = work(
-        rt,
-        &kept,
-        share,
-        &mut gate,
-        &[Job::Call(AnyCall::Plain(Call::Read))],
-    );
-    Ok((worked.end, worked.share.count()))
+    let read = Job::Call(AnyCall::Plain(Call::Read));
+    let worked = work(rt, kept, shares.pop()?, &mut gate, from_ref(&read));
+    Some((worked.end, worked.share.count()))
+}
+
+/// The same, in a world of its own.
+fn fenced_alone(rt: &(impl Wait + AllocGlobal)) -> Result<Option<(End, u64)>, AllocError> {
+    let (kept, mut shares) = kept_by(rt.alloc(), 2)?;
+    Ok(fenced(rt, &Mutex::new(kept), &mut shares))
 }
 
 #[test]
 fn a_call_without_an_end_spends_its_limit(rt: HostRuntime) -> Result<(), Fail> {
-    assert_eq!(rt; fenced(&rt)?, (End::LimitSpent, 200));
+    assert_eq!(rt; fenced_alone(&rt)?, Some((End::LimitSpent, 200)));
     Ok(())
 }

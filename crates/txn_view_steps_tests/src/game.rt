@@ -1,6 +1,7 @@
 //! A game: two clients over one store, and their calls on views, one at a time.
 use crate::calls::{Step, View, arrange, call};
 use crate::driven::{Played, Told};
+use crate::{claims, holders, views};
 use std::alloc::Global;
 use std::test::Fail;
 use txn_caches::caches::Caches;
@@ -18,7 +19,10 @@ pub(crate) enum Seat {
 }
 
 /// A client's step, what it comes to, and how many calls of the store and how many looks it takes.
-pub(crate) type Row = (Seat, Step, Told, u64, u64);
+type Row = (Seat, Step, Told, u64, u64);
+
+/// Steps in a game of their own, by what they show.
+pub(crate) type Scenario = (&'static str, &'static [Row]);
 
 #[derive(Drop)]
 struct Client {
@@ -153,7 +157,17 @@ fn other_in(game: &mut Game, rows: &[Row]) -> Result<Option<(usize, Played)>, Fa
 }
 
 /// The same, in a game of its own.
-pub(crate) fn other(alloc: Global, rows: &[Row]) -> Result<Option<(usize, Played)>, Fail> {
+fn other(alloc: Global, rows: &[Row]) -> Result<Option<(usize, Played)>, Fail> {
     let mut game = a_game(alloc)?;
     other_in(&mut game, rows)
+}
+
+#[test]
+fn each_call_takes_its_steps(rt: HostRuntime) -> Result<(), Fail> {
+    for scenarios in [views::SCENARIOS, claims::SCENARIOS, holders::SCENARIOS] {
+        for (name, rows) in scenarios {
+            assert_eq!(rt; other(rt.alloc(), rows)?, None, "{name}");
+        }
+    }
+    Ok(())
 }
