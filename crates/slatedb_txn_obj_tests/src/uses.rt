@@ -236,7 +236,13 @@ fn other_in_memory(alloc: Global) -> Result<(usize, Option<(usize, Told)>), Fail
         Call::Read,
     ];
     let mut protocol = a_protocol(alloc, "test")?;
-    other_reply(alloc, &mut protocol, &mut InMemory::new(alloc), &calls, ALL_TOLD)
+    other_reply(
+        alloc,
+        &mut protocol,
+        &mut InMemory::new(alloc),
+        &calls,
+        ALL_TOLD,
+    )
 }
 
 #[test]
@@ -308,6 +314,9 @@ fn listed_over_a_list(alloc: Global) -> Result<(Listed, Listed), Fail> {
 fn a_protocol_runs_over_a_list_of_files(rt: HostRuntime) -> Result<(), Fail> {
     let ((other, ids), (later_other, later_ids)) = listed_over_a_list(rt.alloc())?;
     assert_eq!(rt; (other, later_other), ((3, None), (5, None)));
-    assert_eq!(rt; (ids.as_slice(), later_ids.as_slice()), (&[1, 2][..], &[2, 3][..]));
+    assert_eq!(rt;
+        (ids.as_slice(), later_ids.as_slice()),
+        (&[1, 2][..], &[2, 3][..])
+    );
     Ok(())
 }

@@ -3,11 +3,11 @@ use anyhow::anyhow;
 use slatedb_txn_obj::object_store::{
     ObjectStoreBoundaryObject, ObjectStoreSequencedStorageProtocol,
 };
+use slatedb_txn_obj::test_utils::NumberCodec;
 use slatedb_txn_obj::{
-    CallbackFault, Invariant, SimpleTransactionalObject, TransactionalObject,
+    CallbackFault, Invariant, MonotonicId, SimpleTransactionalObject, TransactionalObject,
     TransactionalObjectError, TransactionalStorageProtocol,
 };
-use slatedb_txn_obj::{MonotonicId, test_utils::NumberCodec};
 use std::alloc::{AllocError, Global};
 use std::cell::Cell;
 use std::test::Fail;
@@ -73,16 +73,12 @@ fn updated_under<
 
 fn a_protocol(
     alloc: Global,
-) -> Result<ObjectStoreSequencedStorageProtocol<u64, NumberCodec, ObjectStoreBoundaryObject>, Fail>
-{
+) -> Result<
+    ObjectStoreSequencedStorageProtocol<u64, NumberCodec, ObjectStoreBoundaryObject>,
+    Fail,
+> {
     let root = Path::from_text(alloc, "root")?;
-    Ok(ObjectStoreSequencedStorageProtocol::new(
-        alloc,
-        &root,
-        "test",
-        "val",
-        NumberCodec,
-    )?)
+    Ok(ObjectStoreSequencedStorageProtocol::new(alloc, &root, "test", "val", NumberCodec)?)
 }
 
 /// The number of the error of an update under these ceilings, two at most, or 0, and how often the first and the second were

@@ -10,7 +10,12 @@ const CALLS: u64 = 16;
 fn outcome_with(alloc: Global, nth: u64, when: &str) -> Result<Outcome, AllocError> {
     let failure = format!(in alloc; "fail {nth} {when}")?;
     let error = "refused 2 ObjectStoreError: failed";
-    end_of(alloc, failure.as_str(), AN_UPDATE_BEHIND_THE_BOUNDARY, error)
+    end_of(
+        alloc,
+        failure.as_str(),
+        AN_UPDATE_BEHIND_THE_BOUNDARY,
+        error,
+    )
 }
 
 #[test]

@@ -41,13 +41,38 @@ pub(crate) const A_FENCED_VERSION_AT_HAND: &[Swept] = &[
 pub(crate) const HOLDERS: &[Swept] = &[
     ("1 init 0:0", "show 1", "view 1 at 1 0:0", "read 1 0:0"),
     ("copy 1", "show 2", "view 2 at 1 0:0", "read 1 0:0"),
-    ("1 claim 2", "show 2", "holder 2 at 2 1:0 epoch 1", "read 2 1:0"),
+    (
+        "1 claim 2",
+        "show 2",
+        "holder 2 at 2 1:0 epoch 1",
+        "read 2 1:0",
+    ),
     ("1 load", "show 3", "view 3 at 2 1:0", "read 2 1:0"),
-    ("1 claim 3", "show 3", "holder 3 at 3 2:0 epoch 2", "read 3 2:0"),
-    ("1 holder_refresh 2", "show 3", "refused 6 Fenced", "read 3 2:0"),
-    ("show 2", "show 2", "holder 2 at 3 2:0 epoch 1", "read 3 2:0"),
+    (
+        "1 claim 3",
+        "show 3",
+        "holder 3 at 3 2:0 epoch 2",
+        "read 3 2:0",
+    ),
+    (
+        "1 holder_refresh 2",
+        "show 3",
+        "refused 6 Fenced",
+        "read 3 2:0",
+    ),
+    (
+        "show 2",
+        "show 2",
+        "holder 2 at 3 2:0 epoch 1",
+        "read 3 2:0",
+    ),
     ("candidate 2", "show 2", "refused 6 Fenced", "read 3 2:0"),
-    ("1 holder_refresh 3", "show 3", "view 3 at 3 2:0", "read 3 2:0"),
+    (
+        "1 holder_refresh 3",
+        "show 3",
+        "view 3 at 3 2:0",
+        "read 3 2:0",
+    ),
     ("candidate 3", "show 3", "read 3 2:0", "read 3 2:0"),
 ];
 
@@ -60,7 +85,12 @@ pub(crate) const A_STALE_EPOCH: &[Swept] = &[
 /// An epoch is claimed that is asked for.
 pub(crate) const AN_EPOCH: &[Swept] = &[
     ("1 init 0:0", "show 1", "view 1 at 1 0:0", "read 1 0:0"),
-    ("1 claim_at 1 7", "show 1", "holder 1 at 2 7:0 epoch 7", "read 2 7:0"),
+    (
+        "1 claim_at 1 7",
+        "show 1",
+        "holder 1 at 2 7:0 epoch 7",
+        "read 2 7:0",
+    ),
 ];
 
 /// What comes of lines.

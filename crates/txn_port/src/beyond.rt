@@ -4,17 +4,27 @@ use crate::objects::{Change, Object};
 use crate::plain::{delete_unchecked, latest_unchecked, said_of};
 use crate::reading::{first_word, read_update_at};
 use crate::said::Said;
-use crate::setting::{Client, Desk, Protocol};
+use crate::setting::{Client, Desk, Store};
 use crate::views::{apply, fences, place, try_load, update};
+use slatedb_txn_obj::SequencedStorageProtocol;
 use std::alloc::AllocError;
 use txn_lines::numerals::{read_decimal, read_pair};
+use txn_lines::record::Record;
+use txn_store::store::ObjectStore;
 
-fn read_unchecked(protocol: &mut Protocol, desk: &mut Desk) -> Said {
+fn read_unchecked<S: ObjectStore, P: SequencedStorageProtocol<Record, S>>(
+    protocol: &mut P,
+    desk: &mut Desk<S>,
+) -> Said {
     let Desk { store, turns, .. } = desk;
     said_of(latest_unchecked(protocol, store, turns))
 }
 
-fn remove_unchecked(protocol: &mut Protocol, desk: &mut Desk, words: &str) -> Option<Said> {
+fn remove_unchecked<S: ObjectStore, P: SequencedStorageProtocol<Record, S>>(
+    protocol: &mut P,
+    desk: &mut Desk<S>,
+    words: &str,
+) -> Option<Said> {
     let id = read_decimal(words)?;
     Some(said_of(delete_unchecked(protocol, &mut desk.store, id)))
 }
@@ -31,10 +41,10 @@ fn read_change(words: &str) -> Option<(u64, Change)> {
 }
 
 /// An update by a mutator.
-fn apply_to(
+fn apply_to<S: ObjectStore, P: SequencedStorageProtocol<Record, S>>(
     objects: &mut [Object],
-    protocol: &mut Protocol,
-    desk: &mut Desk,
+    protocol: &mut P,
+    desk: &mut Desk<S>,
     words: &str,
 ) -> Option<Said> {
     let (number, change) = read_change(words)?;
@@ -45,10 +55,10 @@ fn apply_to(
 }
 
 /// An update whose candidate has another id: the object, the id, and the value.
-fn update_at(
+fn update_at<S: ObjectStore, P: SequencedStorageProtocol<Record, S>>(
     objects: &mut [Object],
-    protocol: &mut Protocol,
-    desk: &mut Desk,
+    protocol: &mut P,
+    desk: &mut Desk<S>,
     words: &str,
 ) -> Option<Said> {
     let (number, id, value) = read_update_at(words)?;
@@ -62,7 +72,7 @@ fn update_at(
 pub(crate) fn call_beyond(
     client: &mut Client,
     objects: &mut Vec<Object>,
-    desk: &mut Desk,
+    desk: &mut Desk<Store>,
     words: &str,
 ) -> Result<Option<Said>, AllocError> {
     let (word, rest) = first_word(words);

@@ -5,18 +5,22 @@ use crate::setting::Desk;
 use slatedb_txn_obj::object_store::ObjectStoreBoundaryObject;
 use txn_caches::caches::CachedBoundary;
 use txn_lines::numerals::{read_decimal, read_pair};
-use txn_store::store::Token;
+use txn_store::store::{ObjectStore, Token};
 
 /// A check of an id.
-fn checked(boundary: &mut ObjectStoreBoundaryObject, desk: &mut Desk, words: &str) -> Option<Said> {
+fn checked<S: ObjectStore>(
+    boundary: &mut ObjectStoreBoundaryObject,
+    desk: &mut Desk<S>,
+    words: &str,
+) -> Option<Said> {
     let id = read_decimal(words)?;
     Some(said_of(check(boundary, &mut desk.store, id)))
 }
 
 /// An advance to an id.
-fn advanced(
+fn advanced<S: ObjectStore>(
     boundary: &mut ObjectStoreBoundaryObject,
-    desk: &mut Desk,
+    desk: &mut Desk<S>,
     words: &str,
 ) -> Option<Said> {
     let id = read_decimal(words)?;
@@ -32,9 +36,9 @@ fn learn(boundary: &mut ObjectStoreBoundaryObject, words: &str) -> Option<Said> 
 }
 
 /// A call of a boundary object, by its word and the words after it.
-pub(crate) fn boundary_call(
+pub(crate) fn boundary_call<S: ObjectStore>(
     boundary: &mut ObjectStoreBoundaryObject,
-    desk: &mut Desk,
+    desk: &mut Desk<S>,
     word: &str,
     rest: &str,
 ) -> Option<Said> {

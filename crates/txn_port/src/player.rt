@@ -4,9 +4,9 @@ use crate::clock::LineClock;
 use crate::files::{erase, look, put};
 use crate::objects::Object;
 use crate::plain::{perform, said_of};
-use crate::reading::{first_word, read_failure, read_first, read_numbers};
+use crate::reading::{first_word, read_failure, read_numbers};
 use crate::said::{Cost, Played, Said};
-use crate::setting::{Client, Desk, clients, new_desk};
+use crate::setting::{Client, Desk, Store, clients, new_desk};
 use crate::views::{copy, keep_at, place, prepare, show, view_call};
 use slatedb_txn_obj::Turns;
 use std::alloc::{AllocError, Global};
@@ -23,7 +23,7 @@ const TURNS: u64 = 20;
 /// The clients of a script, what their calls are lent, and the objects that they made, by number.
 #[derive(Drop)]
 pub struct Player {
-    desk: Desk,
+    desk: Desk<Store>,
     clients: Vec<Client>,
     objects: Vec<Object>,
     /// How many files a page of a listing has.
@@ -49,7 +49,7 @@ fn call(
     alloc: Global,
     client: &mut Client,
     objects: &mut Vec<Object>,
-    desk: &mut Desk,
+    desk: &mut Desk<Store>,
     words: &str,
 ) -> Result<Option<Said>, AllocError> {
     let read: Option<AnyCall<Record>> = TextForm::read_text(alloc, words)?;
@@ -66,20 +66,18 @@ fn call(
     }
 }
 
-/// A look at an object, or something done to one, that no client does.
+/// A look at an object, or something done to one, that no client does: its word, its number and the numbers after that.
 fn handle(
     alloc: Global,
     objects: &mut Vec<Object>,
     word: &str,
-    rest: &str,
+    number: u64,
+    more: &[u64],
 ) -> Result<Option<Said>, AllocError> {
-    let Some((number, numbers)) = read_first(alloc, rest)? else {
-        return Ok(None);
-    };
     if word == "keep" {
-        return Ok(Some(keep_at(alloc, objects, number, &numbers)?));
+        return Ok(Some(keep_at(alloc, objects, number, more)?));
     }
-    if !numbers.is_empty() {
+    if !more.is_empty() {
         return Ok(None);
     }
     match word {
@@ -163,11 +161,22 @@ impl Player {
         }
     }
 
+    /// The same by its word and the words after it.
+    fn handle_words(&mut self, word: &str, rest: &str) -> Result<Option<Said>, AllocError> {
+        let alloc = self.desk.alloc;
+        let Some(numbers) = read_numbers(alloc, rest)? else {
+            return Ok(None);
+        };
+        match numbers.as_slice() {
+            [] => Ok(None),
+            [number, more @ ..] => handle(alloc, &mut self.objects, word, *number, more),
+        }
+    }
+
     /// What a line says, by its word and the words after it.
     fn said(&mut self, word: &str, rest: &str) -> Result<Option<Said>, AllocError> {
-        let alloc = self.desk.alloc;
         match word {
-            "show" | "candidate" | "copy" | "keep" => handle(alloc, &mut self.objects, word, rest),
+            "show" | "candidate" | "copy" | "keep" => self.handle_words(word, rest),
             "costs" => {
                 self.shows_costs = true;
                 Ok(Some(Said::Set))

@@ -25,21 +25,6 @@ pub(crate) fn read_numbers(alloc: Global, words: &str) -> Result<Option<Vec<u64>
     Ok(Some(numbers))
 }
 
-/// A number, and the numbers after it.
-pub(crate) fn read_first(
-    alloc: Global,
-    words: &str,
-) -> Result<Option<(u64, Vec<u64>)>, AllocError> {
-    let (word, rest) = first_word(words);
-    let Some(first) = read_decimal(word) else {
-        return Ok(None);
-    };
-    match read_numbers(alloc, rest)? {
-        Some(numbers) => Ok(Some((first, numbers))),
-        None => Ok(None),
-    }
-}
-
 /// Which call fails, and how.
 pub(crate) fn read_failure(words: &str) -> Option<(u64, When)> {
     let (word, rest) = words.split_once(' ')?;

@@ -44,14 +44,25 @@ impl Said {
     }
 }
 
+/// The number and the name of an error.
+#[derive(Clone, Copy)]
+struct Named(u8);
+
+impl fmt::Display for Named {
+    fn fmt<W: fmt::Write>(&self, f: &mut fmt::Formatter<W>) -> fmt::Result {
+        let answer: AnyAnswer<Record> = AnyAnswer::Plain(Answer::Refused(self.0));
+        let answered = Answered(&answer);
+        write!(f, "{answered}")
+    }
+}
+
 /// An error by its number and name, with what the store, the clock or a callback says of it.
 #[derive(Clone, Copy)]
 struct Refusal<'a>(&'a TransactionalObjectError);
 
 impl fmt::Display for Refusal<'_> {
     fn fmt<W: fmt::Write>(&self, f: &mut fmt::Formatter<W>) -> fmt::Result {
-        let answer: AnyAnswer<Record> = AnyAnswer::Plain(Answer::Refused(self.0.number()));
-        let refused = Answered(&answer);
+        let refused = Named(self.0.number());
         match self.0 {
             TransactionalObjectError::ObjectStoreError(error) => write!(f, "{refused}: {error}"),
             TransactionalObjectError::ObjectUpdateTimeout { timeout } => {

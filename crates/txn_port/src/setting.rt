@@ -28,9 +28,9 @@ const CLIENTS: usize = 4;
 
 /// What each call is lent.
 #[derive(Drop)]
-pub(crate) struct Desk {
+pub(crate) struct Desk<S> {
     pub(crate) alloc: Global,
-    pub(crate) store: Store,
+    pub(crate) store: S,
     pub(crate) turns: Turns,
     pub(crate) clock: LineClock,
     /// How long a claim may take, in milliseconds.
@@ -50,7 +50,7 @@ fn empty_store(alloc: Global, first: u64) -> Store {
 }
 
 /// What calls are lent over an empty store, which gives this token first.
-pub(crate) fn new_desk(alloc: Global, first: u64) -> Desk {
+pub(crate) fn new_desk(alloc: Global, first: u64) -> Desk<Store> {
     Desk {
         alloc,
         store: empty_store(alloc, first),
@@ -60,7 +60,7 @@ pub(crate) fn new_desk(alloc: Global, first: u64) -> Desk {
     }
 }
 
-impl Desk {
+impl Desk<Store> {
     /// From here on the nth call of the store fails, so.
     pub(crate) fn fail(&mut self, nth: u64, when: When) {
         let store = mem::replace(&mut self.store, empty_store(self.alloc, 1));

@@ -4,11 +4,12 @@ use crate::objects::{
 };
 use crate::plain::newest;
 use crate::said::Said;
-use crate::setting::{Desk, Protocol};
-use slatedb_txn_obj::TransactionalObjectError;
+use crate::setting::Desk;
+use slatedb_txn_obj::{MonotonicId, TransactionalObjectError, TransactionalStorageProtocol};
 use std::alloc::{AllocError, Global};
 use std::mem;
 use txn_lines::record::{Record, RecordEpoch};
+use txn_store::store::ObjectStore;
 use txn_view_history::event::{AnyAnswer, ViewCall};
 use uses_of_protocol::holders::fences_older_holder;
 
@@ -42,10 +43,10 @@ fn opened(
 }
 
 /// A view of the first version, which it writes.
-fn init(
+fn init<S: ObjectStore, P: TransactionalStorageProtocol<Record, MonotonicId, S>>(
     objects: &mut Vec<Object>,
-    protocol: &mut Protocol,
-    desk: &mut Desk,
+    protocol: &mut P,
+    desk: &mut Desk<S>,
     value: Record,
 ) -> Result<Said, AllocError> {
     match View::init(desk.alloc, protocol, &mut desk.store, value) {
@@ -54,10 +55,10 @@ fn init(
     }
 }
 
-fn load(
+fn load<S: ObjectStore, P: TransactionalStorageProtocol<Record, MonotonicId, S>>(
     objects: &mut Vec<Object>,
-    protocol: &mut Protocol,
-    desk: &mut Desk,
+    protocol: &mut P,
+    desk: &mut Desk<S>,
 ) -> Result<Said, AllocError> {
     match View::load(desk.alloc, protocol, &mut desk.store, &mut desk.turns) {
         Ok(view) => enter(objects, view),
@@ -66,10 +67,10 @@ fn load(
 }
 
 /// A view of the newest version, where there is one.
-pub(crate) fn try_load(
+pub(crate) fn try_load<S: ObjectStore, P: TransactionalStorageProtocol<Record, MonotonicId, S>>(
     objects: &mut Vec<Object>,
-    protocol: &mut Protocol,
-    desk: &mut Desk,
+    protocol: &mut P,
+    desk: &mut Desk<S>,
 ) -> Result<Said, AllocError> {
     let answer = View::try_load(desk.alloc, protocol, &mut desk.store, &mut desk.turns);
     opened(objects, answer)
@@ -87,11 +88,11 @@ fn take_view(object: &mut Object) -> Option<View> {
 }
 
 /// The view leaves its place, and its holder takes it.
-fn claim(
+fn claim<S: ObjectStore, P: TransactionalStorageProtocol<Record, MonotonicId, S>>(
     number: u64,
     object: &mut Object,
-    protocol: &mut Protocol,
-    desk: &mut Desk,
+    protocol: &mut P,
+    desk: &mut Desk<S>,
     epoch: Option<u64>,
 ) -> Said {
     let Some(view) = take_view(object) else {
@@ -113,7 +114,12 @@ fn claim(
     }
 }
 
-fn refresh(number: u64, object: &mut Object, protocol: &mut Protocol, desk: &mut Desk) -> Said {
+fn refresh<S: ObjectStore, P: TransactionalStorageProtocol<Record, MonotonicId, S>>(
+    number: u64,
+    object: &mut Object,
+    protocol: &mut P,
+    desk: &mut Desk<S>,
+) -> Said {
     let Desk { store, turns, .. } = desk;
     match object {
         Object::Ended => Said::Misplaced,
@@ -123,11 +129,11 @@ fn refresh(number: u64, object: &mut Object, protocol: &mut Protocol, desk: &mut
 }
 
 /// An update to this value, whose candidate has this id where one is given.
-pub(crate) fn update(
+pub(crate) fn update<S: ObjectStore, P: TransactionalStorageProtocol<Record, MonotonicId, S>>(
     number: u64,
     object: &mut Object,
-    protocol: &mut Protocol,
-    desk: &mut Desk,
+    protocol: &mut P,
+    desk: &mut Desk<S>,
     id: Option<u64>,
     value: Record,
 ) -> Said {
@@ -140,11 +146,11 @@ pub(crate) fn update(
 }
 
 /// An update of a view by a mutator.
-pub(crate) fn apply(
+pub(crate) fn apply<S: ObjectStore, P: TransactionalStorageProtocol<Record, MonotonicId, S>>(
     number: u64,
     object: &mut Object,
-    protocol: &mut Protocol,
-    desk: &mut Desk,
+    protocol: &mut P,
+    desk: &mut Desk<S>,
     change: Change,
 ) -> Said {
     let Desk { store, turns, .. } = desk;
@@ -155,11 +161,11 @@ pub(crate) fn apply(
 }
 
 /// A call of an object that is there.
-fn act(
+fn act<S: ObjectStore, P: TransactionalStorageProtocol<Record, MonotonicId, S>>(
     number: u64,
     object: &mut Object,
-    protocol: &mut Protocol,
-    desk: &mut Desk,
+    protocol: &mut P,
+    desk: &mut Desk<S>,
     call: ViewCall<Record>,
 ) -> Said {
     match call {
@@ -188,10 +194,10 @@ fn number_of(call: &ViewCall<Record>) -> u64 {
 }
 
 /// A call that makes a view, or uses one.
-pub(crate) fn view_call(
+pub(crate) fn view_call<S: ObjectStore, P: TransactionalStorageProtocol<Record, MonotonicId, S>>(
     objects: &mut Vec<Object>,
-    protocol: &mut Protocol,
-    desk: &mut Desk,
+    protocol: &mut P,
+    desk: &mut Desk<S>,
     call: ViewCall<Record>,
 ) -> Result<Said, AllocError> {
     match call {
@@ -208,7 +214,10 @@ pub(crate) fn view_call(
 }
 
 /// A holder claims what is stored, and another holder after it: whether the older one is fenced.
-pub(crate) fn fences(protocol: &mut Protocol, desk: &mut Desk) -> Said {
+pub(crate) fn fences<S: ObjectStore, P: TransactionalStorageProtocol<Record, MonotonicId, S>>(
+    protocol: &mut P,
+    desk: &mut Desk<S>,
+) -> Said {
     let Desk {
         alloc,
         store,
