@@ -15,11 +15,14 @@ from dataclasses import dataclass
 from crate_copies import all_below, crates_listed, lines_of_crates
 from refuse_growths import TESTS as SWEPT
 from refuse_growths import TESTS_ENDING
+from replay_cases import PORT
 
 # How the names of the two builds of a program end that `rt ci` leaves in its out/: LLVM's, and Rattle's own compiler's.
 BUILDS = ("", ".by-rattle")
-# The program whose scripts the cases are. What any other prints, `rt ci` holds against its own stdout.
+# The program whose scripts the cases are, and the programs that cases are replayed on, each with the step's name and the words
+# of its folders. What any other prints, `rt ci` holds against its own stdout.
 PROGRAM_OF_CASES = "txnworld_cli"
+CASES = {PROGRAM_OF_CASES: ("cases", []), "txnport_cli": ("cases of the port", ["--folder", PORT])}
 # The program of which processes are let work on one folder.
 PROGRAM_OF_FOLDERS = "txnobj_cli"
 # How the name of a crate of tests ends.
@@ -161,8 +164,9 @@ def case_steps(root, programs):
         if lacking:
             say(f"FAILED: rt ci built no {' and no '.join(lacking)}")
             yield Step(f"builds of {program}", 0, len(lacking), 1)
-        if made and program == PROGRAM_OF_CASES:
-            yield step("cases", [f"{root}/tools/replay-cases", *made], root)
+        if made and program in CASES:
+            name, folders = CASES[program]
+            yield step(name, [f"{root}/tools/replay-cases", *made, *folders], root)
 
 
 def refusal_steps(root, programs):
@@ -218,7 +222,7 @@ def steps_of(root, top, given):
     with_edits = [it for it in given.crates if os.path.isdir(f"{top}/crates/{it}/wrong-bodies")]
     if with_edits or not given.crates:
         yield step("wrong bodies", [f"{top}/tools/wrong-bodies", *with_edits, "--after-ci", *every, *anew], top)
-    programs = programs_in(top) if given.crates else sorted({*programs_in(top), PROGRAM_OF_CASES})
+    programs = programs_in(top) if given.crates else sorted({*programs_in(top), *CASES})
     yield from case_steps(top, programs)
     yield from refusal_steps(top, programs)
     yield from folder_steps(top, programs)

@@ -10,6 +10,8 @@ import sys
 SECONDS = 60
 LINES_SHOWN = 20
 ENDINGS = (".stdout", ".stderr", ".status", ".args")
+# The folder of the cases that are of another program than the others.
+PORT = "cases/port"
 
 
 class BadCase(Exception):
@@ -71,11 +73,12 @@ def difference(what, wanted, written):
     return [f"{what}:", *shown[:LINES_SHOWN], *more]
 
 
-def stems_in(folder):
-    """The cases below a folder by their paths without an ending, and what makes the folder wrong, as lines."""
+def stems_in(folder, without=()):
+    """The cases below a folder, aside from some folders in it, by their paths without an ending, and what makes the folder
+    wrong, as lines."""
     stems, wrong, paths = [], [], set()
     for at, folders, names in os.walk(folder):
-        folders.sort()
+        folders[:] = sorted(it for it in folders if os.path.abspath(f"{at}/{it}") not in without)
         paths.update(f"{at}/{it}" for it in names)
     for path in sorted(paths):
         stem, ending = os.path.splitext(path)
@@ -90,11 +93,11 @@ def stems_in(folder):
     return [it for it in stems if f"{it}.stdout" in paths], wrong
 
 
-def replay(programs, folders):
+def replay(programs, folders, without=()):
     """Runs each case on each program. Returns how many passed and how many failed."""
     passed = failed = 0
     for folder in folders:
-        stems, wrong = stems_in(folder)
+        stems, wrong = stems_in(folder, without)
         for line in wrong:
             say(f"FAILED: {line}")
         failed += len(wrong)
@@ -119,7 +122,7 @@ def main(words, usage=""):
     given = parser.parse_args(words)
     top = os.path.dirname(os.path.dirname(os.path.realpath(__file__)))
     folders = given.folder or [f"{top}/cases", f"{top}/examples"]
-    passed, failed = replay([os.path.abspath(it) for it in given.programs], folders)
+    passed, failed = replay([os.path.abspath(it) for it in given.programs], folders, [f"{top}/{PORT}"])
     say(f"{passed} passed, {failed} failed")
     return 1 if failed or not passed else 0
 

@@ -118,6 +118,14 @@ class Steps(unittest.TestCase):
         steps = silently(lambda: list(case_steps(self.room, ["app", PROGRAM])))
         self.assertEqual([it.name for it in steps], ["cases"])
 
+    def test_the_cases_of_the_port(self):
+        self.file("tools/replay-cases", "#!/bin/sh\necho \"$*\" > told\necho '3 passed, 0 failed'\n", 0o755)
+        builds = [self.file(f"crates/txnport_cli/out/{it}") for it in ("txnport_cli", "txnport_cli.by-rattle")]
+        steps = silently(lambda: list(case_steps(self.room, ["txnport_cli"])))
+        self.assertEqual([(it.name, it.passed, it.failed) for it in steps], [("cases of the port", 3, 0)])
+        with open(f"{self.room}/told", encoding="utf-8") as file:
+            self.assertEqual(file.read(), f"{' '.join(builds)} --folder cases/port\n")
+
     def test_what_is_swept(self):
         self.file("tools/refuse-growths", "#!/bin/sh\necho \"$# refusals, 0 odd\"\n", 0o755)
         self.assertEqual(silently(lambda: list(refusal_steps(self.room, ["app"]))), [])
@@ -174,8 +182,9 @@ class Steps(unittest.TestCase):
 
     def test_all_crates_where_they_are(self):
         status, said = self.run_command()
-        self.assertEqual((status, said.split("\n")[-2]), (1, "16 passed, 2 failed"))
-        self.assertIn("FAILED: rt ci built no txnworld_cli and no txnworld_cli.by-rattle", said)
+        self.assertEqual((status, said.split("\n")[-2]), (1, "16 passed, 4 failed"))
+        for it in ("txnworld_cli", "txnport_cli"):
+            self.assertIn(f"FAILED: rt ci built no {it} and no {it}.by-rattle", said)
         self.assertIn("edits of --after-ci\n", said)
         self.assertRegex(said, "swept \\S+/out/txnworld_cli \\S+/out/txnworld_cli.by-rattle\n")
         self.assertEqual(said.count("/out/made"), 5)

@@ -79,6 +79,21 @@ class Replays(unittest.TestCase):
         self.assertIn("two.txt has no .stdout", said)
         self.assertIn("three.stdout has no .txt", said)
 
+    def test_the_cases_of_another_program(self):
+        room = f"{self.room}/cases"
+        self.case("one", txt=b"a\n", stdout=b"script\na\n")
+        os.makedirs(f"{room}/port/deep")
+        for name in ("port/two", "port/deep/three"):
+            for ending in ("txt", "stdout"):
+                with open(f"{room}/{name}.{ending}", "wb"):
+                    pass
+        stems = ([f"{room}/topic/one"], [])
+        self.assertEqual(replay_cases.stems_in(room, [f"{room}/port"]), stems)
+        self.assertEqual(len(replay_cases.stems_in(room)[0]), 3)
+        self.assertEqual(replay_cases.stems_in(f"{room}/port", [f"{room}/port"])[0], [f"{room}/port/deep/three", f"{room}/port/two"])
+        top = os.path.dirname(os.path.dirname(os.path.dirname(os.path.realpath(__file__))))
+        self.assertTrue(replay_cases.stems_in(f"{top}/{replay_cases.PORT}")[0])
+
     def test_no_case(self):
         self.assertEqual(self.replay()[:2], (1, "0 passed, 1 failed"))
 

@@ -1,19 +1,12 @@
-//! Tests of the protocols over any store: what no clause says, and that each call succeeds with ample memory. Most are
-//! tables of calls, each with what it says and what it cost, that one function plays.
+//! Tests of the protocols that no script of `txn_port` shows: types of one's own, uses from outside, and workloads.
 #![tactic(auto)]
 
 #[cfg(test)]
-mod boundaries;
-#[cfg(test)]
-mod calls;
-#[cfg(test)]
 mod checked;
 #[cfg(test)]
+mod names;
+#[cfg(test)]
 mod over_boundary;
-#[cfg(test)]
-mod played;
-#[cfg(test)]
-mod protocols;
 pub mod scripted;
 #[cfg(test)]
 mod uses;

@@ -1,10 +1,11 @@
 //! Uses of the protocols from outside.
-use crate::calls::Op::{Advance, Delete, List, Read, Write};
-use crate::calls::Told::{Did, Fails, Found, Ids, Wrote};
-use crate::calls::{Op, Protocol, Told, a_protocol, a_protocol_of, did, found, perform, wrote};
 use bytes::Bytes;
+use slatedb_txn_obj::object_store::boundary::ObjectStoreBoundaryObject;
+use slatedb_txn_obj::object_store::protocol::ObjectStoreSequencedStorageProtocol;
 use slatedb_txn_obj::protocol::TransactionalStorageProtocol;
-use std::alloc::{AllocError, Global};
+use slatedb_txn_obj::sequenced::SequencedStorageProtocol;
+use slatedb_txn_obj::test_utils::NumberCodec;
+use std::alloc::Global;
 use std::ops::Bound::Unbounded;
 use std::test::Fail;
 use txn_drivers::turns::Turns;
@@ -18,6 +19,22 @@ use uses_of_protocol::list_store::ListStore;
 use uses_of_protocol::one_client::{Call, Reply, perform_all};
 use uses_of_protocol::register::{Register, Revision};
 use uses_of_protocol::through::append;
+
+/// A protocol over a store of files, of values that are numbers.
+type Protocol = ObjectStoreSequencedStorageProtocol<u64, NumberCodec, ObjectStoreBoundaryObject>;
+
+/// The protocol of a folder, with one file a page.
+fn a_protocol(alloc: Global, subdir: &str) -> Result<Protocol, Fail> {
+    let root = Path::from_text(alloc, "root")?;
+    let protocol = ObjectStoreSequencedStorageProtocol::new(
+        alloc,
+        &root,
+        subdir,
+        "val",
+        NumberCodec,
+    )?;
+    Ok(protocol.with_page(1))
+}
 
 /// The ids of two values that are appended, and what is newest then.
 type Appended<Id> = (Id, Id, Option<(Id, u64)>);
@@ -34,7 +51,7 @@ fn append_two<Id: Drop, S: ObjectStore, P: TransactionalStorageProtocol<u64, Id,
 }
 
 fn append_two_to_files(alloc: Global) -> Result<Appended<MonotonicId>, Fail> {
-    let mut protocol = a_protocol(alloc, 1)?;
+    let mut protocol = a_protocol(alloc, "test")?;
     append_two(&mut protocol, &mut InMemory::new(alloc), 20)
 }
 
@@ -66,8 +83,8 @@ fn values_are_appended_to_a_register(rt: HostRuntime) -> Result<(), Fail> {
 fn newest_beside(alloc: Global) -> Result<[Option<(MonotonicId, u64)>; 2], Fail> {
     let mut store = InMemory::new(alloc);
     let mut turns = Turns::new(20);
-    let mut one = a_protocol(alloc, 1)?;
-    let mut other = a_protocol_of(alloc, "other", 1)?;
+    let mut one = a_protocol(alloc, "test")?;
+    let mut other = a_protocol(alloc, "other")?;
     let before = write_beside(&mut one, &mut other, &mut store, &mut turns, None, &10)?;
     other.write(&mut store, None, &20)?;
     let first = Some(MonotonicId::new(1));
@@ -79,43 +96,6 @@ fn newest_beside(alloc: Global) -> Result<[Option<(MonotonicId, u64)>; 2], Fail>
 fn two_folders_of_a_store_leave_each_other_alone(rt: HostRuntime) -> Result<(), Fail> {
     let newest = newest_beside(rt.alloc())?;
     assert_eq!(rt; newest, [None, Some((MonotonicId::new(1), 20))]);
-    Ok(())
-}
-
-/// Calls of a protocol over a list of files, one file a page, and what they say.
-const OVER_A_LIST: &[(Op, Told)] = &[
-    (Write(None, 10), Wrote(1)),
-    (Write(Some(1), 20), Wrote(2)),
-    (Read(20), Found(2, 20)),
-    (List(Unbounded, Unbounded), Ids(12)),
-    (Advance(1), Did),
-    (Delete(1), Did),
-    (Delete(2), Fails(7)),
-    (Write(Some(1), 30), Fails(5)),
-    (Write(Some(2), 30), Wrote(3)),
-    (List(Unbounded, Unbounded), Ids(23)),
-];
-
-/// The first of these calls that says something else, counted from 0, with what it says, where there is one.
-fn first_other(protocol: &mut Protocol, store: &mut ListStore) -> Option<(usize, Told)> {
-    let mut turns = Turns::new(20);
-    for (at, (op, told)) in OVER_A_LIST.iter().enumerate() {
-        let said = perform(protocol, store, *op, &mut turns);
-        if said != *told {
-            return Some((at, said));
-        }
-    }
-    None
-}
-
-fn other_over_a_list(alloc: Global) -> Result<Option<(usize, Told)>, Fail> {
-    let mut protocol = a_protocol(alloc, 1)?;
-    Ok(first_other(&mut protocol, &mut ListStore::new(alloc)))
-}
-
-#[test]
-fn a_protocol_runs_over_a_list_of_files(rt: HostRuntime) -> Result<(), Fail> {
-    assert_eq!(rt; other_over_a_list(rt.alloc())?, None);
     Ok(())
 }
 
@@ -173,16 +153,37 @@ fn a_list_of_files_is_a_store(rt: HostRuntime) -> Result<(), Fail> {
     Ok(())
 }
 
-/// What each reply of `calls_are_made_one_after_another` says.
-const ALL_TOLD: [Told; 7] = [
-    Wrote(1),
-    Found(1, 10),
-    Wrote(2),
+/// What a reply says, an error as its number.
+#[derive(Clone, Copy, Debug, PartialEq, Eq)]
+enum Told {
     Did,
-    Did,
-    Fails(5),
-    Found(2, 20),
-];
+    Wrote(u64),
+    Found(u64, u64),
+    Nothing,
+    Fails(u8),
+}
+
+fn did(answer: Result<(), TransactionalObjectError>) -> Told {
+    match answer {
+        Ok(()) => Told::Did,
+        Err(error) => Told::Fails(error.number()),
+    }
+}
+
+fn wrote(answer: Result<MonotonicId, TransactionalObjectError>) -> Told {
+    match answer {
+        Ok(id) => Told::Wrote(id.id()),
+        Err(error) => Told::Fails(error.number()),
+    }
+}
+
+fn found(answer: Result<Option<(MonotonicId, u64)>, TransactionalObjectError>) -> Told {
+    match answer {
+        Ok(Some((id, value))) => Told::Found(id.id(), value),
+        Ok(None) => Told::Nothing,
+        Err(error) => Told::Fails(error.number()),
+    }
+}
 
 fn told_by(reply: Reply<u64>) -> Told {
     match reply {
@@ -192,8 +193,38 @@ fn told_by(reply: Reply<u64>) -> Told {
     }
 }
 
-/// The replies of calls of one protocol, one after another.
-fn replies_of(alloc: Global, protocol: &mut Protocol) -> Result<Vec<Reply<u64>>, AllocError> {
+/// How many replies there are to these calls, made one after another, and the first that says something else, counted from
+/// 0, with what it says, where there is one.
+fn other_reply<S: ObjectStore>(
+    alloc: Global,
+    protocol: &mut Protocol,
+    store: &mut S,
+    calls: &[Call<u64>],
+    told: &[Told],
+) -> Result<(usize, Option<(usize, Told)>), Fail> {
+    let replies = perform_all(alloc, protocol, store, &mut Turns::new(20), calls)?;
+    let count = replies.len();
+    for (at, (reply, told)) in replies.into_iter().zip(told).enumerate() {
+        let said = told_by(reply);
+        if said != *told {
+            return Ok((count, Some((at, said))));
+        }
+    }
+    Ok((count, None))
+}
+
+/// What the calls of `calls_are_made_one_after_another` say.
+const ALL_TOLD: &[Told] = &[
+    Told::Wrote(1),
+    Told::Found(1, 10),
+    Told::Wrote(2),
+    Told::Did,
+    Told::Did,
+    Told::Fails(5),
+    Told::Found(2, 20),
+];
+
+fn other_in_memory(alloc: Global) -> Result<(usize, Option<(usize, Told)>), Fail> {
     let first = MonotonicId::new(1);
     let calls = [
         Call::Write(None, 10),
@@ -204,30 +235,88 @@ fn replies_of(alloc: Global, protocol: &mut Protocol) -> Result<Vec<Reply<u64>>,
         Call::Check(first),
         Call::Read,
     ];
-    let mut store = InMemory::new(alloc);
-    perform_all(alloc, protocol, &mut store, &mut Turns::new(20), &calls)
-}
-
-/// How many replies there are, and the first that says something else, counted from 0, with what it says, where there is
-/// one.
-fn first_other_reply(replies: Vec<Reply<u64>>) -> (usize, Option<(usize, Told)>) {
-    let count = replies.len();
-    for (at, (reply, told)) in replies.into_iter().zip(ALL_TOLD).enumerate() {
-        let said = told_by(reply);
-        if said != told {
-            return (count, Some((at, said)));
-        }
-    }
-    (count, None)
-}
-
-fn other_reply(alloc: Global) -> Result<(usize, Option<(usize, Told)>), Fail> {
-    let mut protocol = a_protocol(alloc, 1)?;
-    Ok(first_other_reply(replies_of(alloc, &mut protocol)?))
+    let mut protocol = a_protocol(alloc, "test")?;
+    other_reply(
+        alloc,
+        &mut protocol,
+        &mut InMemory::new(alloc),
+        &calls,
+        ALL_TOLD,
+    )
 }
 
 #[test]
 fn calls_are_made_one_after_another(rt: HostRuntime) -> Result<(), Fail> {
-    assert_eq!(rt; other_reply(rt.alloc())?, (ALL_TOLD.len(), None));
+    assert_eq!(rt; other_in_memory(rt.alloc())?, (7, None));
+    Ok(())
+}
+
+/// What the calls over a list of files say, those before its first listing and those after it.
+const TOLD_BY_A_LIST: (&[Told], &[Told]) = (
+    &[Told::Wrote(1), Told::Wrote(2), Told::Found(2, 20)],
+    &[
+        Told::Did,
+        Told::Did,
+        Told::Fails(7),
+        Told::Fails(5),
+        Told::Wrote(3),
+    ],
+);
+
+fn calls_over_a_list() -> ([Call<u64>; 3], [Call<u64>; 5]) {
+    let (first, second) = (MonotonicId::new(1), MonotonicId::new(2));
+    (
+        [
+            Call::Write(None, 10),
+            Call::Write(Some(first), 20),
+            Call::Read,
+        ],
+        [
+            Call::Advance(first),
+            Call::Delete(first),
+            Call::Delete(second),
+            Call::Write(Some(first), 30),
+            Call::Write(Some(second), 30),
+        ],
+    )
+}
+
+/// The ids of a protocol's versions.
+fn ids<S: ObjectStore>(
+    alloc: Global,
+    protocol: &mut Protocol,
+    store: &mut S,
+) -> Result<Vec<u64>, Fail> {
+    let mut ids = Vec::new(alloc);
+    for version in protocol.list(store, Unbounded, Unbounded)?.as_slice() {
+        ids.push(version.id.id())?;
+    }
+    Ok(ids)
+}
+
+/// How many replies there are to calls over a list of files, one file a page, with the first that says something else, and
+/// the ids that are listed then.
+type Listed = ((usize, Option<(usize, Told)>), Vec<u64>);
+
+/// The same of the calls before the first listing, and of those after it.
+fn listed_over_a_list(alloc: Global) -> Result<(Listed, Listed), Fail> {
+    let mut protocol = a_protocol(alloc, "test")?;
+    let mut store = ListStore::new(alloc);
+    let (before, after) = calls_over_a_list();
+    let (told_before, told_after) = TOLD_BY_A_LIST;
+    let other = other_reply(alloc, &mut protocol, &mut store, &before, told_before)?;
+    let first = (other, ids(alloc, &mut protocol, &mut store)?);
+    let other = other_reply(alloc, &mut protocol, &mut store, &after, told_after)?;
+    Ok((first, (other, ids(alloc, &mut protocol, &mut store)?)))
+}
+
+#[test]
+fn a_protocol_runs_over_a_list_of_files(rt: HostRuntime) -> Result<(), Fail> {
+    let ((other, ids), (later_other, later_ids)) = listed_over_a_list(rt.alloc())?;
+    assert_eq!(rt; (other, later_other), ((3, None), (5, None)));
+    assert_eq!(rt;
+        (ids.as_slice(), later_ids.as_slice()),
+        (&[1, 2][..], &[2, 3][..])
+    );
     Ok(())
 }

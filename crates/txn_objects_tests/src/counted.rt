@@ -1,8 +1,9 @@
 //! How often an update tests its invariants.
-use crate::calls::updated;
-use crate::game::a_protocol;
-use crate::invariants::Ceiling;
-use crate::steps::Told;
+use anyhow::anyhow;
+use slatedb_txn_obj::object_store::{
+    ObjectStoreBoundaryObject, ObjectStoreSequencedStorageProtocol,
+};
+use slatedb_txn_obj::test_utils::NumberCodec;
 use slatedb_txn_obj::{
     CallbackFault, Invariant, MonotonicId, SimpleTransactionalObject, TransactionalObject,
     TransactionalObjectError, TransactionalStorageProtocol,
@@ -10,34 +11,37 @@ use slatedb_txn_obj::{
 use std::alloc::{AllocError, Global};
 use std::cell::Cell;
 use std::test::Fail;
-use txn_lines::record::Record;
 use txn_store::in_memory::InMemory;
+use txn_store::path::Path;
 use txn_store::store::ObjectStore;
 
-/// A ceiling that counts how often it is tested.
+/// A ceiling of numbers that counts how often it is tested.
 #[derive(Clone, Copy)]
 struct CountedCeiling<'a> {
-    ceiling: Ceiling,
+    ceiling: u64,
     tests: &'a Cell<u64>,
 }
 
-impl Invariant<Record> for CountedCeiling<'_> {
+impl Invariant<u64> for CountedCeiling<'_> {
     ghost use Rattle.std.specs.Prelude.{◌≤◌};
 
-    ghost holds = { λ i dirty _. dirty.payload ≤ i.ceiling.ceiling };
+    ghost holds = { λ i dirty _. dirty ≤ i.ceiling };
 
     ghost fails = { λ _ _ _ _. Unit {0} };
 
-    fn test(&self, dirty: &Record, current: &Record) -> Result<(), CallbackFault> {
+    fn test(&self, dirty: &u64, _current: &u64) -> Result<(), CallbackFault> {
         self.tests.set(self.tests.get().saturating_add(1));
-        self.ceiling.test(dirty, current)
+        if *dirty <= self.ceiling {
+            return Ok(());
+        }
+        Err(CallbackFault::Refused(anyhow!("above its ceiling")))
     }
 }
 
 /// These ceilings, two at most, each with where it counts its tests.
 fn counted<'a>(
     alloc: Global,
-    ceilings: &[Ceiling],
+    ceilings: &[u64],
     tests: [&'a Cell<u64>; 2],
 ) -> Result<Vec<CountedCeiling<'a>>, AllocError> {
     let mut counted = Vec::new(alloc);
@@ -48,39 +52,60 @@ fn counted<'a>(
     Ok(counted)
 }
 
-/// What an update to this payload tells, of a view of payload 1 under these invariants.
+/// An update to this number, of a view of 1 under these invariants.
 fn updated_under<
     S: ObjectStore,
-    P: TransactionalStorageProtocol<Record, MonotonicId, S>,
-    I: Invariant<Record> + Drop,
+    P: TransactionalStorageProtocol<u64, MonotonicId, S>,
+    I: Invariant<u64> + Drop,
 >(
     alloc: Global,
     protocol: &mut P,
     store: &mut S,
     invariants: Vec<I>,
-    payload: u64,
-) -> Result<Told, TransactionalObjectError> {
-    let value = Record {
-        epoch: 0,
-        payload: 1,
-    };
-    let view = SimpleTransactionalObject::init(alloc, protocol, store, value)?;
+    number: u64,
+) -> Result<(), TransactionalObjectError> {
+    let view = SimpleTransactionalObject::init(alloc, protocol, store, 1)?;
     let mut view = view.with_invariants(invariants);
     let mut dirty = view.prepare_dirty()?;
-    dirty.value.payload = payload;
-    Ok(updated(alloc, view.update(protocol, store, dirty)))
+    dirty.value = number;
+    view.update(protocol, store, dirty)
 }
 
-/// What it tells under these ceilings, two at most, and how often the first and the second were tested.
-pub(crate) fn tested(
+fn a_protocol(
     alloc: Global,
-    ceilings: &[Ceiling],
-    payload: u64,
-) -> Result<(Told, u64, u64), Fail> {
+) -> Result<
+    ObjectStoreSequencedStorageProtocol<u64, NumberCodec, ObjectStoreBoundaryObject>,
+    Fail,
+> {
+    let root = Path::from_text(alloc, "root")?;
+    Ok(ObjectStoreSequencedStorageProtocol::new(alloc, &root, "test", "val", NumberCodec)?)
+}
+
+/// The number of the error of an update under these ceilings, two at most, or 0, and how often the first and the second were
+/// tested.
+fn tested(alloc: Global, ceilings: &[u64], number: u64) -> Result<(u8, u64, u64), Fail> {
     let (first, second) = (Cell::new(0), Cell::new(0));
     let counted = counted(alloc, ceilings, [&first, &second])?;
     let mut protocol = a_protocol(alloc)?;
     let mut store = InMemory::new(alloc);
-    let told = updated_under(alloc, &mut protocol, &mut store, counted, payload)?;
-    Ok((told, first.get(), second.get()))
+    let updated = updated_under(alloc, &mut protocol, &mut store, counted, number);
+    let error = match &updated {
+        Ok(()) => 0,
+        Err(error) => error.number(),
+    };
+    Ok((error, first.get(), second.get()))
+}
+
+#[test]
+fn test_update_runs_invariants_and_allows_passing_write(rt: HostRuntime) -> Result<(), Fail> {
+    assert_eq!(rt; tested(rt.alloc(), &[100], 42)?, (0, 1, 0));
+    Ok(())
+}
+
+#[test]
+fn test_update_invariant_failure_aborts_write_and_short_circuits(
+    rt: HostRuntime,
+) -> Result<(), Fail> {
+    assert_eq!(rt; tested(rt.alloc(), &[5, 1000], 10)?, (8, 1, 0));
+    Ok(())
 }

@@ -1,29 +1,14 @@
-//! Tests of the objects and their holders: what no clause says, and that each call succeeds with ample memory. Most are
-//! tables of steps, each with what it tells, that one function plays.
+//! Tests of the objects and their holders that no script of `txn_port` shows: rows of which a call is broken off, how often an
+//! update tests its invariants, and a view with ids of its own.
 #![tactic(auto)]
 
-#[cfg(test)]
-mod calls;
-#[cfg(test)]
-mod clock;
 #[cfg(test)]
 mod counted;
 #[cfg(test)]
 mod failing;
 #[cfg(test)]
-mod game;
-#[cfg(test)]
-mod holders;
-pub mod invariants;
-#[cfg(test)]
-mod looks;
-#[cfg(test)]
 mod refused;
 #[cfg(test)]
 mod register;
 #[cfg(test)]
-mod steps;
-#[cfg(test)]
 mod swept;
-#[cfg(test)]
-mod views;

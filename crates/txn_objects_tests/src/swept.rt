@@ -1,155 +1,224 @@
-//! Rows of which a call may be broken off, by a store that fails or by a growth that is refused, and what that leaves.
-use crate::game::{Game, a_game, a_store, mended, play};
-use crate::steps::Seat::{A, B};
-use crate::steps::Step::{
-    Advance, Anew, ApplyAttempt, Calls, Claim, ClaimAt, Delete, Elsewhere, Init, List, Load,
-    Newest, Prepare, Refresh, Shows, Update, Write,
-};
-use crate::steps::Told::{At, Attempts, Claimed, Did, Fails, Ids, Made, Misplaced, Nothing, Wrote};
-use crate::steps::{Row, Step, Told};
-use std::alloc::Global;
-use txn_store::failing::When;
-use txn_store::path::PathFault;
+//! Lines of which a call may be broken off, by a store that fails or by a growth that is refused, and what that leaves.
+use std::alloc::{AllocError, Global};
+use txn_lines::numerals::read_decimal;
+use txn_lines::record::{Record, read_record};
+use txn_port::player::Player;
 
-/// A row, and the newest version after it.
-pub(crate) type Swept = (Row, Told);
+/// A line, the look at its object, what the line says, and what a read says after it.
+pub(crate) type Swept = (&'static str, &'static str, &'static str, &'static str);
 
 /// A view is made, and updated.
 pub(crate) const AN_UPDATE: &[Swept] = &[
-    ((A, Init(0, 1), Did), At(1, 0, 1)),
-    ((A, Update(2), Did), At(2, 0, 2)),
-    ((A, Newest, At(2, 0, 2)), At(2, 0, 2)),
+    ("1 init 0:1", "show 1", "view 1 at 1 0:1", "read 1 0:1"),
+    ("1 update 1 0:2", "show 1", "view 1 at 2 0:2", "read 2 0:2"),
+    ("1 read", "show 1", "read 2 0:2", "read 2 0:2"),
 ];
 
 /// A stale view is updated by a mutator behind the boundary: the first attempt creates a removed version again, and the
 /// second enters the next one.
 pub(crate) const AN_UPDATE_BEHIND_THE_BOUNDARY: &[Swept] = &[
-    ((A, Init(0, 1), Did), At(1, 0, 1)),
-    ((A, Elsewhere(&Write(1, 0, 2)), Wrote(2)), At(2, 0, 2)),
-    ((A, Elsewhere(&Write(2, 0, 3)), Wrote(3)), At(3, 0, 3)),
-    ((A, Advance(2), Did), At(3, 0, 3)),
-    ((A, Delete(2), Did), At(3, 0, 3)),
-    ((A, ApplyAttempt, Attempts(2)), At(4, 0, 2)),
-    ((A, List, Ids(1234)), At(4, 0, 2)),
-    ((A, Calls, Made(6, 7, 2, 1)), At(4, 0, 2)),
+    ("1 init 0:1", "show 1", "view 1 at 1 0:1", "read 1 0:1"),
+    ("2 write 1 0:2", "show 1", "wrote 2", "read 2 0:2"),
+    ("2 write 2 0:3", "show 1", "wrote 3", "read 3 0:3"),
+    ("1 advance 2", "show 1", "done", "read 3 0:3"),
+    ("1 delete 2", "show 1", "done", "read 3 0:3"),
+    ("1 apply 1", "show 1", "view 1 at 4 0:2", "read 4 0:2"),
+    ("1 list - -", "show 1", "ids 1 2 3 4", "read 4 0:2"),
 ];
 
 /// A protocol has read a version that others overtook, fenced and removed.
 pub(crate) const A_FENCED_VERSION_AT_HAND: &[Swept] = &[
-    ((A, Elsewhere(&Write(0, 0, 1)), Wrote(1)), At(1, 0, 1)),
-    ((A, Newest, At(1, 0, 1)), At(1, 0, 1)),
-    ((A, Elsewhere(&Write(1, 0, 2)), Wrote(2)), At(2, 0, 2)),
-    ((A, Elsewhere(&Write(2, 0, 3)), Wrote(3)), At(3, 0, 3)),
-    ((A, Elsewhere(&Advance(2)), Did), At(3, 0, 3)),
-    ((A, Elsewhere(&Delete(2)), Did), At(3, 0, 3)),
-    ((A, Newest, At(3, 0, 3)), At(3, 0, 3)),
+    ("2 write - 0:1", "show 1", "wrote 1", "read 1 0:1"),
+    ("1 read", "show 1", "read 1 0:1", "read 1 0:1"),
+    ("2 write 1 0:2", "show 1", "wrote 2", "read 2 0:2"),
+    ("2 write 2 0:3", "show 1", "wrote 3", "read 3 0:3"),
+    ("2 advance 2", "show 1", "done", "read 3 0:3"),
+    ("2 delete 2", "show 1", "done", "read 3 0:3"),
+    ("1 read", "show 1", "read 3 0:3", "read 3 0:3"),
 ];
 
-/// An older holder is fenced, and epochs are claimed that are asked for.
+/// An older holder is fenced.
 pub(crate) const HOLDERS: &[Swept] = &[
-    ((B, Init(0, 0), Did), At(1, 0, 0)),
-    ((A, Step::Copy, Did), At(1, 0, 0)),
-    ((A, Claim, Claimed(2, 1)), At(2, 1, 0)),
-    ((B, Load, Did), At(2, 1, 0)),
-    ((B, Claim, Claimed(3, 2)), At(3, 2, 0)),
-    ((A, Refresh, Fails(6)), At(3, 2, 0)),
-    ((A, Shows, At(3, 2, 0)), At(3, 2, 0)),
-    ((A, Prepare, Fails(6)), At(3, 2, 0)),
-    ((B, Refresh, At(3, 2, 0)), At(3, 2, 0)),
-    ((B, Prepare, At(3, 2, 0)), At(3, 2, 0)),
-    ((A, Anew, Did), Nothing),
-    ((A, Init(3, 0), Did), At(1, 3, 0)),
-    ((A, ClaimAt(3), Fails(6)), At(1, 3, 0)),
-    ((A, Anew, Did), Nothing),
-    ((A, Init(0, 0), Did), At(1, 0, 0)),
-    ((A, ClaimAt(7), Claimed(2, 7)), At(2, 7, 0)),
+    ("1 init 0:0", "show 1", "view 1 at 1 0:0", "read 1 0:0"),
+    ("copy 1", "show 2", "view 2 at 1 0:0", "read 1 0:0"),
+    (
+        "1 claim 2",
+        "show 2",
+        "holder 2 at 2 1:0 epoch 1",
+        "read 2 1:0",
+    ),
+    ("1 load", "show 3", "view 3 at 2 1:0", "read 2 1:0"),
+    (
+        "1 claim 3",
+        "show 3",
+        "holder 3 at 3 2:0 epoch 2",
+        "read 3 2:0",
+    ),
+    (
+        "1 holder_refresh 2",
+        "show 3",
+        "refused 6 Fenced",
+        "read 3 2:0",
+    ),
+    (
+        "show 2",
+        "show 2",
+        "holder 2 at 3 2:0 epoch 1",
+        "read 3 2:0",
+    ),
+    ("candidate 2", "show 2", "refused 6 Fenced", "read 3 2:0"),
+    (
+        "1 holder_refresh 3",
+        "show 3",
+        "view 3 at 3 2:0",
+        "read 3 2:0",
+    ),
+    ("candidate 3", "show 3", "read 3 2:0", "read 3 2:0"),
 ];
 
-/// What comes of rows.
+/// An epoch is claimed that is not above the version's.
+pub(crate) const A_STALE_EPOCH: &[Swept] = &[
+    ("1 init 3:0", "show 1", "view 1 at 1 3:0", "read 1 3:0"),
+    ("1 claim_at 1 3", "show 1", "refused 6 Fenced", "read 1 3:0"),
+];
+
+/// An epoch is claimed that is asked for.
+pub(crate) const AN_EPOCH: &[Swept] = &[
+    ("1 init 0:0", "show 1", "view 1 at 1 0:0", "read 1 0:0"),
+    (
+        "1 claim_at 1 7",
+        "show 1",
+        "holder 1 at 2 7:0 epoch 7",
+        "read 2 7:0",
+    ),
+];
+
+/// What comes of lines.
 #[derive(Clone, Copy, Debug, PartialEq, Eq)]
 pub(crate) enum Outcome {
-    /// What they tell.
+    /// What they are to say.
     AsTold,
     /// A call was broken off, and left what it may.
     BrokenOff,
-    /// The row of this number, counted from 0, told this, or left what it may not.
-    Other(usize, Told),
+    /// The line of this number, counted from 0, said something else, or left what it may not.
+    Other(usize),
 }
 
-/// The newest version after so many rows.
-fn newest_after(rows: &[Swept], count: usize) -> Told {
+/// What a line says.
+fn say(alloc: Global, player: &mut Player, line: &str) -> Result<String, AllocError> {
+    match player.play(line)? {
+        None => String::from_str(alloc, "bad line"),
+        Some(played) => format!(in alloc; "{played}"),
+    }
+}
+
+/// What a read says after so many lines.
+fn newest_after(rows: &[Swept], count: usize) -> &'static str {
     let Some(last) = count.checked_sub(1) else {
-        return Nothing;
+        return "read none";
     };
     match rows.get(last) {
-        Some((_, newest)) => *newest,
-        None => Nothing,
+        Some((_, _, _, newest)) => *newest,
+        None => "read none",
+    }
+}
+
+/// Whether an object is at what a read says.
+fn is_at(shown: &str, read: &str) -> bool {
+    match (shown.split_once(" at "), read.split_once(' ')) {
+        (Some((_, shown)), Some((_, read))) => shown == read,
+        _ => false,
     }
 }
 
 /// Whether a call that was broken off may leave an object that was at `before` at `after`. A claim takes the view with
 /// it, and an update by a mutator may have refreshed its view; each other call leaves its object as it was.
-fn may_leave(step: Step, before: Told, after: Told, newest: Told) -> bool {
-    match step {
-        Claim | ClaimAt(_) => after == Misplaced,
-        ApplyAttempt => after == before || after == newest,
-        _ => after == before,
+fn may_leave(line: &str, before: &str, after: &str, newest: &str) -> bool {
+    if line.contains("claim") {
+        return after == "misplaced";
     }
+    if line.contains("apply") {
+        return after == before || is_at(after, newest);
+    }
+    after == before
 }
 
-/// The first row that goes otherwise, counted from 0, with what it tells, and whether it left its object as it may.
-fn first_other(game: &mut Game, rows: &[Swept]) -> Option<(usize, Told, bool)> {
-    for (at, ((seat, step, told), _)) in rows.iter().enumerate() {
-        let before = play(game, *seat, Shows);
-        let played = play(game, *seat, *step);
-        if played != *told {
-            let after = play(game, *seat, Shows);
-            let is_left = may_leave(*step, before, after, newest_after(rows, at));
-            return Some((at, played, is_left));
+/// The first line that says something else, counted from 0, with what it says, and whether it left its object as it may.
+fn first_other(
+    alloc: Global,
+    player: &mut Player,
+    rows: &[Swept],
+) -> Result<Option<(usize, String, bool)>, AllocError> {
+    for (at, (line, show, told, _)) in rows.iter().enumerate() {
+        let before = say(alloc, player, show)?;
+        let said = say(alloc, player, line)?;
+        if said.as_str() != *told {
+            let after = say(alloc, player, show)?;
+            let newest = newest_after(rows, at);
+            let is_left = may_leave(line, before.as_str(), after.as_str(), newest);
+            return Ok(Some((at, said, is_left)));
         }
     }
-    None
+    Ok(None)
+}
+
+/// The number, the id and the record of a view, as it is printed.
+fn read_view(shown: &str) -> Option<(u64, u64, Record)> {
+    let (number, rest) = shown.strip_prefix("view ")?.split_once(" at ")?;
+    let (id, record) = rest.split_once(' ')?;
+    let number = read_decimal(number)?;
+    let id = read_decimal(id)?;
+    Some((number, id, read_record(record.as_bytes())?))
 }
 
 /// Whether a new client's update of the newest version is the next one.
-fn updates(fresh: &mut Game, id: u64, epoch: u64) -> bool {
-    let is_updated = play(fresh, A, Load) == Did && play(fresh, A, Update(77)) == Did;
-    is_updated && play(fresh, A, Newest) == At(id.saturating_add(1), epoch, 77)
-}
-
-/// Whether new clients read one of these as the newest version, and write on that.
-fn goes_on(game: Game, before: Told, after: Told) -> Result<bool, PathFault> {
-    let mut fresh = mended(game)?;
-    let newest = play(&mut fresh, A, Newest);
-    let is_written_on = match newest {
-        At(id, epoch, _) => updates(&mut fresh, id, epoch),
-        _ => play(&mut fresh, A, Init(0, 77)) == Did,
+fn updates(alloc: Global, player: &mut Player) -> Result<bool, AllocError> {
+    let loaded = say(alloc, player, "3 load")?;
+    let Some((number, id, Record { epoch, .. })) = read_view(loaded.as_str()) else {
+        return Ok(false);
     };
-    Ok(is_written_on && (newest == before || newest == after))
+    let update = format!(in alloc; "3 update {number} {epoch}:77")?;
+    let updated = say(alloc, player, update.as_str())?;
+    let newest = say(alloc, player, "3 read")?;
+    let next = id.saturating_add(1);
+    let is_newest = newest.as_str() == format!(in alloc; "read {next} {epoch}:77")?.as_str();
+    Ok(is_newest && is_at(updated.as_str(), newest.as_str()))
 }
 
-/// What comes of rows in a game in which a call may be broken off with the error of this number. Where one is, new clients
-/// read what was newest before its row or after it, and go on from there.
-pub(crate) fn outcome_of(game: Game, rows: &[Swept], error: u8) -> Result<Outcome, PathFault> {
-    let mut game = game;
-    let Some((at, told, is_left)) = first_other(&mut game, rows) else {
+/// Whether a new client reads one of these as the newest version, over a store that fails no more, and writes on that.
+fn goes_on(
+    alloc: Global,
+    player: &mut Player,
+    before: &str,
+    after: &str,
+) -> Result<bool, AllocError> {
+    player.play("fail 0 before")?;
+    let newest = say(alloc, player, "3 read")?;
+    let is_written_on = if newest.as_str() == "read none" {
+        is_at(say(alloc, player, "3 init 0:77")?.as_str(), "read 1 0:77")
+    } else {
+        updates(alloc, player)?
+    };
+    Ok(is_written_on && (newest.as_str() == before || newest.as_str() == after))
+}
+
+/// What comes of lines of which a call may be broken off with this error, over a store whose call fails as this line says.
+/// Where one is, a new client reads what was newest before its line or after it, and goes on from there.
+pub(crate) fn end_of(
+    alloc: Global,
+    failure: &str,
+    rows: &[Swept],
+    error: &str,
+) -> Result<Outcome, AllocError> {
+    let mut player = Player::new(alloc)?;
+    player.play(failure)?;
+    let Some((at, said, is_left)) = first_other(alloc, &mut player, rows)? else {
         return Ok(Outcome::AsTold);
     };
     let after = newest_after(rows, at.saturating_add(1));
-    let is_well = goes_on(game, newest_after(rows, at), after)?;
-    if is_left && is_well && told == Fails(error) {
+    let is_well = goes_on(alloc, &mut player, newest_after(rows, at), after)?;
+    if is_left && is_well && said.as_str() == error {
         return Ok(Outcome::BrokenOff);
     }
-    Ok(Outcome::Other(at, told))
-}
-
-/// The same over a store of its own, whose nth call fails.
-pub(crate) fn outcome_with(
-    alloc: Global,
-    nth: u64,
-    when: When,
-    rows: &[Swept],
-    error: u8,
-) -> Result<Outcome, PathFault> {
-    outcome_of(a_game(alloc, a_store(alloc, nth, when))?, rows, error)
+    Ok(Outcome::Other(at))
 }

@@ -1,0 +1,162 @@
+//! The calls of a protocol and of a boundary object.
+use crate::said::Said;
+use slatedb_txn_obj::{
+    BoundaryObject, IdentifiedObjectMetadata, MonotonicId, SequencedStorageProtocol,
+    TransactionalObjectError, TransactionalStorageProtocol, Turns,
+};
+use std::alloc::{AllocError, Global};
+use std::ops::Bound;
+use txn_history::event::{Answer, Call};
+use txn_history::ids::Ids;
+use txn_lines::record::Record;
+use txn_store::store::ObjectStore;
+use txn_view_history::event::AnyAnswer;
+
+/// What a call without a view answers, or its error.
+pub(crate) type PlainResult = Result<Answer<Record>, TransactionalObjectError>;
+
+/// What an answer of a call without a view, or an error, says.
+pub(crate) fn said_of(answer: PlainResult) -> Said {
+    match answer {
+        Ok(answer) => Said::Answered(AnyAnswer::Plain(answer)),
+        Err(error) => Said::Refused(error),
+    }
+}
+
+fn base_of(base: Option<u64>) -> Option<MonotonicId> {
+    match base {
+        None => None,
+        Some(id) => Some(MonotonicId::new(id)),
+    }
+}
+
+fn bound_of(bound: Bound<u64>) -> Bound<MonotonicId> {
+    match bound {
+        Bound::Included(id) => Bound::Included(MonotonicId::new(id)),
+        Bound::Excluded(id) => Bound::Excluded(MonotonicId::new(id)),
+        Bound::Unbounded => Bound::Unbounded,
+    }
+}
+
+fn ids_of(
+    alloc: Global,
+    versions: &[IdentifiedObjectMetadata<MonotonicId>],
+) -> Result<Ids, AllocError> {
+    let mut ids = Vec::new(alloc);
+    for version in versions {
+        ids.push(version.id.id())?;
+    }
+    Ok(Ids::from_vec(ids))
+}
+
+/// The newest version, as it is answered.
+pub(crate) fn newest(found: Option<(MonotonicId, Record)>) -> Answer<Record> {
+    match found {
+        None => Answer::Read(None),
+        Some((id, value)) => Answer::Read(Some((id.id(), value))),
+    }
+}
+
+fn list<S: ObjectStore, P: SequencedStorageProtocol<Record, S>>(
+    alloc: Global,
+    protocol: &mut P,
+    store: &mut S,
+    from: Bound<u64>,
+    to: Bound<u64>,
+) -> PlainResult {
+    let versions = protocol.list(store, bound_of(from), bound_of(to))?;
+    Ok(Answer::Ids(ids_of(alloc, versions.as_slice())?))
+}
+
+/// A call that writes, checks, advances or deletes.
+fn change<S: ObjectStore, P: SequencedStorageProtocol<Record, S>>(
+    protocol: &mut P,
+    store: &mut S,
+    turns: &mut Turns,
+    call: Call<Record>,
+) -> PlainResult {
+    match call {
+        Call::Write(base, value) => Ok(Answer::Wrote(
+            protocol.write(store, base_of(base), &value)?.id(),
+        )),
+        Call::WriteUnchecked(base, value) => Ok(Answer::Wrote(
+            protocol.write_unchecked(store, base_of(base), &value)?.id(),
+        )),
+        Call::Check(id) => {
+            protocol.check(store, MonotonicId::new(id))?;
+            Ok(Answer::Done)
+        }
+        Call::Advance(id) => {
+            protocol.advance(store, MonotonicId::new(id), turns)?;
+            Ok(Answer::Done)
+        }
+        Call::Delete(id) => {
+            protocol.delete(store, MonotonicId::new(id))?;
+            Ok(Answer::Done)
+        }
+        _ => Ok(Answer::Done),
+    }
+}
+
+/// A call without a view.
+pub(crate) fn perform<S: ObjectStore, P: SequencedStorageProtocol<Record, S>>(
+    alloc: Global,
+    protocol: &mut P,
+    store: &mut S,
+    turns: &mut Turns,
+    call: Call<Record>,
+) -> PlainResult {
+    match call {
+        Call::Read => Ok(newest(protocol.try_read_latest(store, turns)?)),
+        Call::ReadUnchecked(id) => Ok(Answer::Value(protocol.try_read_unchecked(
+            store,
+            MonotonicId::new(id),
+        )?)),
+        Call::ReadSeen(id) => Ok(Answer::Value(protocol.try_read_seen(
+            store,
+            MonotonicId::new(id),
+        )?)),
+        Call::ListIds(from, to) => list(alloc, protocol, store, from, to),
+        _ => change(protocol, store, turns, call),
+    }
+}
+
+/// The newest version, which may be behind the boundary.
+pub(crate) fn latest_unchecked<S: ObjectStore, P: SequencedStorageProtocol<Record, S>>(
+    protocol: &mut P,
+    store: &mut S,
+    turns: &mut Turns,
+) -> PlainResult {
+    Ok(newest(protocol.try_read_latest_unchecked(store, turns)?))
+}
+
+/// A version is removed, whatever the boundary is.
+pub(crate) fn delete_unchecked<S: ObjectStore, P: SequencedStorageProtocol<Record, S>>(
+    protocol: &mut P,
+    store: &mut S,
+    id: u64,
+) -> PlainResult {
+    protocol.delete_unchecked(store, MonotonicId::new(id))?;
+    Ok(Answer::Done)
+}
+
+/// A check by a boundary.
+pub(crate) fn check<S: ObjectStore, B: BoundaryObject<S>>(
+    boundary: &mut B,
+    store: &mut S,
+    id: u64,
+) -> PlainResult {
+    boundary.check(store, MonotonicId::new(id))?;
+    Ok(Answer::Done)
+}
+
+/// An advance of a boundary.
+pub(crate) fn advance<S: ObjectStore, B: BoundaryObject<S>>(
+    boundary: &mut B,
+    store: &mut S,
+    turns: &mut Turns,
+    id: u64,
+) -> PlainResult {
+    boundary.advance(store, MonotonicId::new(id), turns)?;
+    Ok(Answer::Done)
+}
