@@ -6,7 +6,7 @@ ghost use Rattle.txn_files.specs.Findings.{first_failed, fault_in};
 use crate::fault::{Doing, Fault, Halt, at_error};
 use crate::lock::{LockFile, Sharing, open_lock};
 use crate::publish::{is_same_file, remove, stands, synced};
-use crate::written::{number_now, write_new};
+use crate::written::{Writing, number_now, write_new};
 use std::alloc::{AllocError, Global};
 use std::fs::OpenFile;
 use std::io::{ErrorKind, Read};
@@ -216,7 +216,11 @@ fn at(doing: Doing) -> Halt {
 
 /// Writes a new file, which has to be there then.
 fn write<R: Files>(rt: &R, name: &str, number: u64, bytes: &[u8]) -> Result<(), Halt> {
-    if write_new(rt, name, number, bytes, false)? {
+    let how = Writing {
+        syncs: false,
+        reads_back: true,
+    };
+    if write_new(rt, name, number, bytes, how)? {
         return Ok(());
     }
     let error = io::Error::from(ErrorKind::AlreadyExists);

@@ -37,6 +37,15 @@ pub fn number_of(metadata: &Metadata) -> Option<u64> {
     time_number(metadata.mtime(), metadata.mtime_nsec())
 }
 
+/// How a file is written.
+#[derive(Clone, Copy)]
+pub struct Writing {
+    /// Whether it is synced.
+    pub syncs: bool,
+    /// Whether its time is read back, to see whether the file system keeps it.
+    pub reads_back: bool,
+}
+
 /// Writes the bytes to a new file of this name. Whether it did: not where something has the name. Where it fails no file
 /// is left.
 pub fn write_new<R: Files>(
@@ -44,7 +53,7 @@ pub fn write_new<R: Files>(
     name: &str,
     number: u64,
     bytes: &[u8],
-    syncs: bool,
+    how: Writing,
 ) -> Result<bool, Halt> {
     let opened = OpenOptions::new()
         .write(true)
@@ -55,7 +64,7 @@ pub fn write_new<R: Files>(
         Err(error) if error.kind() == ErrorKind::AlreadyExists => return Ok(false),
         Err(error) => return Err(at_error(Doing::WritingTemporary, error)),
     };
-    let done = fill(&mut file, bytes, number, syncs);
+    let done = fill(&mut file, bytes, number, how);
     drop(file);
     match done {
         Ok(()) => Ok(true),
@@ -71,13 +80,16 @@ fn fill<F: Write + OpenFile>(
     file: &mut F,
     bytes: &[u8],
     number: u64,
-    syncs: bool,
+    how: Writing,
 ) -> Result<(), Halt> {
     if let Err(error) = file.write_all(bytes) {
         return Err(at_error(Doing::WritingTemporary, error));
     }
     set_number(file, number)?;
-    if !syncs {
+    if how.reads_back {
+        keeps_number(file, number)?;
+    }
+    if !how.syncs {
         return Ok(());
     }
     match file.sync_all() {
@@ -86,14 +98,19 @@ fn fill<F: Write + OpenFile>(
     }
 }
 
-/// Sets the time of change to a number, which the file system has to keep.
+/// Sets the time of change to a number.
 fn set_number<F: OpenFile>(file: &F, number: u64) -> Result<(), Halt> {
     let Some(time) = UNIX_EPOCH.checked_add(Duration::from_nanos(number)) else {
         return Err(Halt::Fault(Fault::at(Doing::SettingTime)));
     };
-    if let Err(error) = file.set_times(FileTimes::new().set_modified(time)) {
-        return Err(at_error(Doing::SettingTime, error));
+    match file.set_times(FileTimes::new().set_modified(time)) {
+        Ok(()) => Ok(()),
+        Err(error) => Err(at_error(Doing::SettingTime, error)),
     }
+}
+
+/// Whether the file system keeps the number that a file's time of change was set to. Else it is a fault.
+fn keeps_number<F: OpenFile>(file: &F, number: u64) -> Result<(), Halt> {
     match file.metadata() {
         Ok(metadata) if number_of(&metadata) == Some(number) => Ok(()),
         Ok(_) => Err(Halt::Fault(Fault::at(Doing::KeepingTime))),

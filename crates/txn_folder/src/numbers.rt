@@ -1,20 +1,24 @@
 //! The numbers of a process's files, and files written whole under temporary names.
-ghost use Rattle.std.specs.Prelude.{◌≡◌, ◌<◌, ◌≤◌, IfOk, OnErr};
+ghost use Rattle.std.specs.Prelude.{◌≡◌, ◌<◌, ◌≤◌, IfOk, IfSome, OnErr};
 
 use std::alloc::Global;
 use std::io;
 use std::io::ErrorKind;
 use std::rt::{Clock, Files};
 use txn_files::fault::{Doing, Fault, Halt, at_error};
-use txn_files::written::{number_now, write_new};
+use txn_files::written::{Writing, number_now, write_new};
 
 /// How many temporary names are tried.
 const TRIES: u64 = 64;
 
-/// The numbers that a process gives to the files that it writes: the nanoseconds since 1970, and more than the last.
+/// The numbers that a process gives to the files that it writes: the nanoseconds since 1970, more than the last, and ending
+/// in 1.
 #[derive(Drop)]
 pub(crate) struct Numbers {
     last: u64,
+    /// Whether the file system kept a number as a time. None that ends in 1 is kept by a clock that counts in anything more
+    /// than a nanosecond, so one file shows it.
+    are_kept: bool,
 }
 
 /// A file that was written whole under a temporary name.
@@ -25,11 +29,22 @@ pub(crate) struct Written {
     pub number: u64,
 }
 
+/// The first number from this one on that ends in 1, where there is one.
+fn ending_in_1(number: u64) -> Option<u64>
+    ensures { IfSome result (λ found. number ≤ found) }
+{
+    let digit = number % 10;
+    number.checked_add(11_u64.saturating_sub(digit) % 10)
+}
+
 impl Numbers {
     pub fn new() -> Numbers
         ensures { result.last ≡ 0 }
     {
-        Numbers { last: 0 }
+        Numbers {
+            last: 0,
+            are_kept: false,
+        }
     }
 
     /// The next number. Where none is left, or the clock fails, it is a fault.
@@ -45,13 +60,16 @@ impl Numbers {
         let Some(next) = self.last.checked_add(1) else {
             return Err(Halt::Fault(Fault::at(Doing::ReadingClock)));
         };
-        let number = now.max(next);
+        let Some(number) = ending_in_1(now.max(next)) else {
+            return Err(Halt::Fault(Fault::at(Doing::ReadingClock)));
+        };
         self.last = number;
         Ok(number)
     }
 
     /// Writes the bytes whole to a new file beside the target, whose name and whose time of change are a number that no file
-    /// beside the target has. It is synced where that is asked. Where it fails no file is left.
+    /// beside the target has. It is synced where that is asked. The first file's time is read back. Where it fails no file is
+    /// left.
     pub fn write<R: Files + Clock>(
         &mut self,
         alloc: Global,
@@ -67,7 +85,12 @@ impl Numbers {
         for _ in 0..TRIES {
             let number = self.next(rt)?;
             let name = format!(in alloc; "{target}#{number:020}")?;
-            if write_new(rt, name.as_str(), number, bytes, syncs)? {
+            let how = Writing {
+                syncs,
+                reads_back: !self.are_kept,
+            };
+            if write_new(rt, name.as_str(), number, bytes, how)? {
+                self.are_kept = true;
                 return Ok(Written { name, number });
             }
         }
