@@ -207,6 +207,7 @@ def kills(program, root, seconds):
                     now = int(text.read())
                 expect(last <= now, f"the boundary fell from {last} to {now}")
                 last = now
+            time.sleep(0.001)
 
     together([*(lambda w=w: count(w) for w in range(4)), raise_boundary, kill, watch])
     stored = it.history()
