@@ -136,13 +136,12 @@ fn in_order(
 fn linked(alloc: Global, effects: &Effects<'_>, times: &[u64]) -> Result<Graph, AllocError> {
     let calls = effects.calls.as_slice();
     let fates = effects.fates.as_slice();
-    let raised = raised(alloc, &effects.boundaries)?;
     let mut graph = Graph::new(alloc, calls.len().saturating_add(times.len()))?;
     let precedence = Precedence {
         calls,
         fates,
         lives: &effects.lives,
-        raised: raised.as_slice(),
+        raised: raised(alloc, &effects.boundaries)?,
         boundaries: &effects.boundaries,
     };
     precedence.link(alloc, &mut graph, effects.idle.as_slice())?;

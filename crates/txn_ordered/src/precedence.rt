@@ -20,7 +20,7 @@ pub(crate) struct Precedence<'a> {
     pub fates: &'a [Fate],
     pub lives: &'a Lives,
     /// The boundaries that were written, ascending, each with its call.
-    pub raised: &'a [(u64, usize)],
+    pub raised: Vec<(u64, usize)>,
     pub boundaries: &'a Boundaries,
 }
 
@@ -44,8 +44,9 @@ impl<'a> Precedence<'a> {
 
     /// The call that wrote the boundary after this one.
     fn writer_after(&self, number: u64) -> Option<usize> {
-        let place = self.raised.partition_point(|raised| raised.0 <= number);
-        match self.raised.get(place) {
+        let raised = self.raised.as_slice();
+        let place = raised.partition_point(|raised| raised.0 <= number);
+        match raised.get(place) {
             Some((_, call)) => Some(*call),
             None => None,
         }
@@ -63,7 +64,7 @@ impl<'a> Precedence<'a> {
 
     /// The call that wrote the first boundary.
     fn first_writer(&self) -> Option<usize> {
-        match self.raised.first() {
+        match self.raised.as_slice().first() {
             Some((_, call)) => Some(*call),
             None => None,
         }
@@ -80,7 +81,7 @@ impl<'a> Precedence<'a> {
     /// The boundaries rise.
     fn rises(&self, graph: &mut Graph) -> Result<(), AllocError> {
         let mut last = None;
-        for (_, call) in self.raised {
+        for (_, call) in self.raised.as_slice() {
             graph.edge(last, Some(*call))?;
             last = Some(*call);
         }
@@ -209,6 +210,62 @@ impl<'a> Precedence<'a> {
         self.boundaries.of_token.get(&token.number()).copied()
     }
 
+    /// A call saw the boundary of a token, where that is known.
+    fn saw_token(
+        &self,
+        graph: &mut Graph,
+        at: usize,
+        token: Option<Token>,
+    ) -> Result<(), AllocError> {
+        match token {
+            Some(token) => match self.number_of(token) {
+                Some(number) => self.saw_boundary(graph, at, number),
+                None => Ok(()),
+            },
+            None => Ok(()),
+        }
+    }
+
+    /// What a get of a version shows.
+    fn get_version(
+        &self,
+        graph: &mut Graph,
+        at: usize,
+        call: &Asked<'_>,
+        id: u64,
+    ) -> Result<(), AllocError> {
+        match call.reply {
+            Some(Reply::Get(Ok(got))) => {
+                self.saw(graph, at, self.lives.with_token(got.token.number()))
+            }
+            Some(Reply::Get(Err(StoreError::NotFound))) => {
+                self.absent(graph, at, call, id, false)
+            }
+            _ => Ok(()),
+        }
+    }
+
+    /// What a get of the boundary shows.
+    fn get_boundary(
+        &self,
+        graph: &mut Graph,
+        at: usize,
+        call: &Asked<'_>,
+        known: Option<Token>,
+    ) -> Result<(), AllocError> {
+        match call.reply {
+            Some(Reply::Get(Ok(got))) => match number_in(&got.bytes) {
+                Some(number) => self.saw_boundary(graph, at, number),
+                None => Ok(()),
+            },
+            Some(Reply::Get(Err(StoreError::NotModified))) => self.saw_token(graph, at, known),
+            Some(Reply::Get(Err(StoreError::NotFound))) => {
+                graph.edge(Some(at), self.first_writer())
+            }
+            _ => Ok(()),
+        }
+    }
+
     /// What a get shows.
     fn get(
         &self,
@@ -218,29 +275,30 @@ impl<'a> Precedence<'a> {
         path: &Path,
         known: Option<Token>,
     ) -> Result<(), AllocError> {
-        match (name_of(path), call.reply) {
-            (Name::Version(_), Some(Reply::Get(Ok(got)))) => {
-                self.saw(graph, at, self.lives.with_token(got.token.number()))
-            }
-            (Name::Version(id), Some(Reply::Get(Err(StoreError::NotFound)))) => {
-                self.absent(graph, at, call, id, false)
-            }
-            (Name::Boundary, Some(Reply::Get(Ok(got)))) => match number_in(&got.bytes) {
-                Some(number) => self.saw_boundary(graph, at, number),
-                None => Ok(()),
-            },
-            (Name::Boundary, Some(Reply::Get(Err(StoreError::NotModified)))) => match known {
-                Some(token) => match self.number_of(token) {
-                    Some(number) => self.saw_boundary(graph, at, number),
-                    None => Ok(()),
-                },
-                None => Ok(()),
-            },
-            (Name::Boundary, Some(Reply::Get(Err(StoreError::NotFound)))) => {
-                graph.edge(Some(at), self.first_writer())
-            }
-            _ => Ok(()),
+        match name_of(path) {
+            Name::Version(id) => self.get_version(graph, at, call, id),
+            Name::Boundary => self.get_boundary(graph, at, call, known),
         }
+    }
+
+    /// What an update of the boundary over the one of a token shows: what was written came after that, what was refused after
+    /// another.
+    fn update(
+        &self,
+        graph: &mut Graph,
+        at: usize,
+        token: Token,
+        written: bool,
+    ) -> Result<(), AllocError> {
+        let Some(number) = self.number_of(token) else {
+            return Ok(());
+        };
+        let before = if written {
+            self.writer(number)
+        } else {
+            self.writer_after(number)
+        };
+        graph.edge(before, Some(at))
     }
 
     /// What a put shows that was refused, or that wrote over another.
@@ -252,27 +310,20 @@ impl<'a> Precedence<'a> {
         path: &Path,
         mode: PutMode,
     ) -> Result<(), AllocError> {
-        match (name_of(path), mode, call.reply) {
-            (Name::Version(id), _, Some(Reply::Put(Err(StoreError::AlreadyExists)))) => {
+        let Some(Reply::Put(answer)) = call.reply else {
+            return Ok(());
+        };
+        match (name_of(path), answer, mode) {
+            (Name::Version(id), Err(StoreError::AlreadyExists), _) => {
                 self.present(graph, at, call, id)
             }
-            (Name::Boundary, _, Some(Reply::Put(Err(StoreError::AlreadyExists)))) => {
+            (Name::Boundary, Err(StoreError::AlreadyExists), _) => {
                 graph.edge(self.first_writer(), Some(at))
             }
-            (Name::Boundary, PutMode::Update(token), Some(Reply::Put(Ok(_)))) => {
-                match self.number_of(token) {
-                    Some(number) => graph.edge(self.writer(number), Some(at)),
-                    None => Ok(()),
-                }
+            (Name::Boundary, Ok(_), PutMode::Update(token)) => self.update(graph, at, token, true),
+            (Name::Boundary, Err(StoreError::Precondition), PutMode::Update(token)) => {
+                self.update(graph, at, token, false)
             }
-            (
-                Name::Boundary,
-                PutMode::Update(token),
-                Some(Reply::Put(Err(StoreError::Precondition))),
-            ) => match self.number_of(token) {
-                Some(number) => graph.edge(self.writer_after(number), Some(at)),
-                None => Ok(()),
-            },
             _ => Ok(()),
         }
     }
