@@ -79,17 +79,26 @@ fn values_are_appended_to_a_register(rt: HostRuntime) -> Result<(), Fail> {
     Ok(())
 }
 
-/// What is newest in one folder, before and after a value is written there, each time once another folder has a new version.
+/// What is newest by one protocol, before and after a value is written by it, each time once another one has a new version.
+fn newest_with<S: ObjectStore, P: TransactionalStorageProtocol<u64, MonotonicId, S>>(
+    one: &mut P,
+    other: &mut P,
+    store: &mut S,
+    turns: &mut Turns,
+) -> Result<[Option<(MonotonicId, u64)>; 2], TransactionalObjectError> {
+    let before = write_beside(one, other, store, turns, None, &10)?;
+    other.write(store, None, &20)?;
+    let first = Some(MonotonicId::new(1));
+    let after = write_beside(one, other, store, turns, first, &30)?;
+    Ok([before, after])
+}
+
+/// The same of two folders of a store.
 fn newest_beside(alloc: Global) -> Result<[Option<(MonotonicId, u64)>; 2], Fail> {
-    let mut store = InMemory::new(alloc);
-    let mut turns = Turns::new(20);
     let mut one = a_protocol(alloc, "test")?;
     let mut other = a_protocol(alloc, "other")?;
-    let before = write_beside(&mut one, &mut other, &mut store, &mut turns, None, &10)?;
-    other.write(&mut store, None, &20)?;
-    let first = Some(MonotonicId::new(1));
-    let after = write_beside(&mut one, &mut other, &mut store, &mut turns, first, &30)?;
-    Ok([before, after])
+    let mut store = InMemory::new(alloc);
+    Ok(newest_with(&mut one, &mut other, &mut store, &mut Turns::new(20))?)
 }
 
 #[test]
@@ -251,36 +260,6 @@ fn calls_are_made_one_after_another(rt: HostRuntime) -> Result<(), Fail> {
     Ok(())
 }
 
-/// What the calls over a list of files say, those before its first listing and those after it.
-const TOLD_BY_A_LIST: (&[Told], &[Told]) = (
-    &[Told::Wrote(1), Told::Wrote(2), Told::Found(2, 20)],
-    &[
-        Told::Did,
-        Told::Did,
-        Told::Fails(7),
-        Told::Fails(5),
-        Told::Wrote(3),
-    ],
-);
-
-fn calls_over_a_list() -> ([Call<u64>; 3], [Call<u64>; 5]) {
-    let (first, second) = (MonotonicId::new(1), MonotonicId::new(2));
-    (
-        [
-            Call::Write(None, 10),
-            Call::Write(Some(first), 20),
-            Call::Read,
-        ],
-        [
-            Call::Advance(first),
-            Call::Delete(first),
-            Call::Delete(second),
-            Call::Write(Some(first), 30),
-            Call::Write(Some(second), 30),
-        ],
-    )
-}
-
 /// The ids of a protocol's versions.
 fn ids<S: ObjectStore>(
     alloc: Global,
@@ -294,20 +273,63 @@ fn ids<S: ObjectStore>(
     Ok(ids)
 }
 
-/// How many replies there are to calls over a list of files, one file a page, with the first that says something else, and
-/// the ids that are listed then.
+/// The replies to the calls over a list of files before its first listing: how many, and the first that says something else.
+fn other_before_a_listing<S: ObjectStore>(
+    alloc: Global,
+    protocol: &mut Protocol,
+    store: &mut S,
+) -> Result<(usize, Option<(usize, Told)>), Fail> {
+    let calls = [
+        Call::Write(None, 10),
+        Call::Write(Some(MonotonicId::new(1)), 20),
+        Call::Read,
+    ];
+    let told = [Told::Wrote(1), Told::Wrote(2), Told::Found(2, 20)];
+    other_reply(alloc, protocol, store, &calls, &told)
+}
+
+/// The same of the calls after it.
+fn other_after_a_listing<S: ObjectStore>(
+    alloc: Global,
+    protocol: &mut Protocol,
+    store: &mut S,
+) -> Result<(usize, Option<(usize, Told)>), Fail> {
+    let (first, second) = (MonotonicId::new(1), MonotonicId::new(2));
+    let calls = [
+        Call::Advance(first),
+        Call::Delete(first),
+        Call::Delete(second),
+        Call::Write(Some(first), 30),
+        Call::Write(Some(second), 30),
+    ];
+    let told = [
+        Told::Did,
+        Told::Did,
+        Told::Fails(7),
+        Told::Fails(5),
+        Told::Wrote(3),
+    ];
+    other_reply(alloc, protocol, store, &calls, &told)
+}
+
+/// How many replies come that are as they should be, and the ids that are listed then.
 type Listed = ((usize, Option<(usize, Told)>), Vec<u64>);
 
-/// The same of the calls before the first listing, and of those after it.
+/// Calls over a list of files, one file a page, and a listing, twice.
+fn listed_over<S: ObjectStore>(
+    alloc: Global,
+    protocol: &mut Protocol,
+    store: &mut S,
+) -> Result<(Listed, Listed), Fail> {
+    let before = other_before_a_listing(alloc, protocol, store)?;
+    let first = ids(alloc, protocol, store)?;
+    let after = other_after_a_listing(alloc, protocol, store)?;
+    Ok(((before, first), (after, ids(alloc, protocol, store)?)))
+}
+
 fn listed_over_a_list(alloc: Global) -> Result<(Listed, Listed), Fail> {
     let mut protocol = a_protocol(alloc, "test")?;
-    let mut store = ListStore::new(alloc);
-    let (before, after) = calls_over_a_list();
-    let (told_before, told_after) = TOLD_BY_A_LIST;
-    let other = other_reply(alloc, &mut protocol, &mut store, &before, told_before)?;
-    let first = (other, ids(alloc, &mut protocol, &mut store)?);
-    let other = other_reply(alloc, &mut protocol, &mut store, &after, told_after)?;
-    Ok((first, (other, ids(alloc, &mut protocol, &mut store)?)))
+    listed_over(alloc, &mut protocol, &mut ListStore::new(alloc))
 }
 
 #[test]

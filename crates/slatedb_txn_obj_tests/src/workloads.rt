@@ -72,9 +72,10 @@ const SAID: &[(Workload, &str, &str)] = &[
     (Workload::LoadClaimFresh, "done", "wrong answer"),
 ];
 
-/// Calls of a workload, where this version is taken as the newest.
-fn call(
+/// Calls of a workload below a root, where this version is taken as the newest.
+fn call_below(
     alloc: Global,
+    root: &Path,
     setting: &mut Setting,
     workload: Workload,
     newest: u64,
@@ -84,14 +85,24 @@ fn call(
         store,
         ..
     } = setting;
-    let root = Path::from_text(alloc, "bench")?;
     match workload {
         Workload::Update => Ok(update_versions(alloc, protocol, store, newest)?),
         Workload::ReadWarm => read_newest(protocol, store, newest, 2),
-        Workload::LoadCold100 => load_newest(alloc, &root, store, newest),
+        Workload::LoadCold100 => load_newest(alloc, root, store, newest),
         Workload::List10000 => list_all(protocol, store, newest, 2),
-        Workload::LoadClaimFresh => load_claim(alloc, &root, store, newest),
+        Workload::LoadClaimFresh => load_claim(alloc, root, store, newest),
     }
+}
+
+/// The same below the root of the workloads.
+fn call(
+    alloc: Global,
+    setting: &mut Setting,
+    workload: Workload,
+    newest: u64,
+) -> Result<(), Fault> {
+    let root = Path::from_text(alloc, "bench")?;
+    call_below(alloc, &root, setting, workload, newest)
 }
 
 /// How a workload's calls are told, by the line of what stopped them where they stopped.

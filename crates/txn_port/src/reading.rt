@@ -7,22 +7,28 @@ use txn_store::failing::When;
 
 /// The first word, and the words after it.
 pub(crate) fn first_word(words: &str) -> (&str, &str) {
-    words.split_once(' ').unwrap_or((words, ""))
+    match words.split_once(' ') {
+        Some(parts) => parts,
+        None => (words, ""),
+    }
+}
+
+/// Adds the numbers that words are, divided by one space. False where a word is none.
+fn push_numbers(numbers: &mut Vec<u64>, words: &str) -> Result<bool, AllocError> {
+    for word in words.split(' ') {
+        let Some(number) = read_decimal(word) else {
+            return Ok(false);
+        };
+        numbers.push(number)?;
+    }
+    Ok(true)
 }
 
 /// The numbers that words are, divided by one space, none where there are no words.
 pub(crate) fn read_numbers(alloc: Global, words: &str) -> Result<Option<Vec<u64>>, AllocError> {
     let mut numbers = Vec::new(alloc);
-    if words.is_empty() {
-        return Ok(Some(numbers));
-    }
-    for word in words.split(' ') {
-        let Some(number) = read_decimal(word) else {
-            return Ok(None);
-        };
-        numbers.push(number)?;
-    }
-    Ok(Some(numbers))
+    let are_read = words.is_empty() || push_numbers(&mut numbers, words)?;
+    Ok(are_read.then_some(numbers))
 }
 
 /// Which call fails, and how.

@@ -56,20 +56,19 @@ impl fmt::Display for Named {
     }
 }
 
-/// An error by its number and name, with what the store, the clock or a callback says of it.
+/// What the store, the clock or a callback says of an error.
 #[derive(Clone, Copy)]
-struct Refusal<'a>(&'a TransactionalObjectError);
+struct Cause<'a>(&'a TransactionalObjectError);
 
-impl fmt::Display for Refusal<'_> {
+impl fmt::Display for Cause<'_> {
     fn fmt<W: fmt::Write>(&self, f: &mut fmt::Formatter<W>) -> fmt::Result {
-        let refused = Named(self.0.number());
         match self.0 {
-            TransactionalObjectError::ObjectStoreError(error) => write!(f, "{refused}: {error}"),
+            TransactionalObjectError::ObjectStoreError(error) => write!(f, ": {error}"),
             TransactionalObjectError::ObjectUpdateTimeout { timeout } => {
-                write!(f, "{refused}: {timeout} ms")
+                write!(f, ": {timeout} ms")
             }
-            TransactionalObjectError::CallbackError(error) => write!(f, "{refused}: {error}"),
-            _ => write!(f, "{refused}"),
+            TransactionalObjectError::CallbackError(error) => write!(f, ": {error}"),
+            _ => Ok(()),
         }
     }
 }
@@ -117,8 +116,9 @@ impl fmt::Display for Said {
                 write!(f, "{answered}")
             }
             Said::Refused(error) => {
-                let refusal = Refusal(error);
-                write!(f, "{refusal}")
+                let named = Named(error.number());
+                let cause = Cause(error);
+                write!(f, "{named}{cause}")
             }
             Said::Cached(cached) => {
                 let known = Known(cached);

@@ -44,24 +44,40 @@ fn play_all<R: BufRead, W: Write>(
     Err(Stop::ReadFailed)
 }
 
+/// How a script ended, once what it printed is flushed.
+fn flushed<W: Write>(ended: Result<(), Stop>, out: &mut W) -> Result<(), Stop> {
+    match out.flush() {
+        Ok(()) => ended,
+        Err(_) => Err(Stop::WriteFailed),
+    }
+}
+
 /// Reads a script and prints what its lines say. What the lines before a stop say stands.
 fn print_script<R: Read + Drop, W: Write>(
     alloc: Global,
     reader: R,
+    player: &mut Player,
     out: &mut W,
 ) -> Result<(), Stop> {
-    let Ok(reader) = BufReader::new(alloc, reader) else {
-        return Err(Stop::NoMemory);
-    };
-    let Ok(mut player) = Player::new(alloc) else {
-        return Err(Stop::NoMemory);
-    };
-    let mut lines = Lines::new(alloc, reader);
-    let ended = play_all(&mut player, &mut lines, out);
-    let Ok(()) = out.flush() else {
-        return Err(Stop::WriteFailed);
-    };
-    ended
+    match BufReader::new(alloc, reader) {
+        Ok(reader) => {
+            let ended = play_all(player, &mut Lines::new(alloc, reader), out);
+            flushed(ended, out)
+        }
+        Err(_) => Err(Stop::NoMemory),
+    }
+}
+
+/// The exit status of a script that ended so. A stop is named on `err`.
+fn status_of<E: Write>(ended: Result<(), Stop>, err: &mut E) -> u8 {
+    match ended {
+        Ok(()) => 0,
+        Err(stop) => {
+            // Nothing is left to tell a failure to.
+            let _ = err.writeln(stop);
+            stop.status()
+        }
+    }
 }
 
 /// Runs a script, and gives the exit status: 0, 2 for a bad line, 1 for another stop, which is named on `err`.
@@ -71,12 +87,8 @@ pub fn run_script<R: Read + Drop, W: Write, E: Write>(
     out: &mut W,
     err: &mut E,
 ) -> u8 {
-    match print_script(alloc, reader, out) {
-        Ok(()) => 0,
-        Err(stop) => {
-            // Nothing is left to tell a failure to.
-            let _ = err.writeln(stop);
-            stop.status()
-        }
+    match Player::new(alloc) {
+        Ok(mut player) => status_of(print_script(alloc, reader, &mut player, out), err),
+        Err(_) => status_of(Err(Stop::NoMemory), err),
     }
 }
