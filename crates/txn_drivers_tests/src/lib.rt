@@ -1,4 +1,4 @@
-//! Tests of operations over the store in memory: that each call succeeds with ample memory, and what it answers.
+//! Tests of operations and calls on views over the store in memory: that each succeeds with ample memory, and what it answers.
 #![tactic(auto)]
 
 #[cfg(test)]
@@ -6,6 +6,14 @@ mod alone;
 #[cfg(test)]
 mod calls;
 #[cfg(test)]
+mod claims;
+#[cfg(test)]
+mod game;
+#[cfg(test)]
+mod holders;
+#[cfg(test)]
 mod operations;
+#[cfg(test)]
+mod view_calls;
 #[cfg(test)]
 mod views;

@@ -76,55 +76,47 @@ fn a_candidate_has_its_id_and_value(rt: HostRuntime) -> Result<(), Fail> {
     Ok(())
 }
 
-/// Values of a number, and their bytes.
-const NUMBERS: &[(u64, &[u8])] = &[
-    (0, b"\0\0\0\0\0\0\0\0"),
-    (1, b"\0\0\0\0\0\0\0\x01"),
-    (258, b"\0\0\0\0\0\0\x01\x02"),
-    (u64::MAX, b"\xff\xff\xff\xff\xff\xff\xff\xff"),
-];
+/// Numbers, each with its bytes and what is read of them; and what is read of bytes that are no number, and of some that are.
+const NUMBERS: &str = r#"b"\0\0\0\0\0\0\0\0" 0
+b"\0\0\0\0\0\0\0\x01" 1
+b"\0\0\0\0\0\0\x01\x02" 258
+b"\xff\xff\xff\xff\xff\xff\xff\xff" 18446744073709551615
+b"" not eight bytes
+b"7 bytes" not eight bytes
+b"9 bytes!!" not eight bytes
+b"8 bytes!" 4044340739162075937
+"#;
 
-/// Bytes that are no number.
-const NO_NUMBERS: &[&[u8]] = &[b"", b"7 bytes", b"9 bytes!!"];
-
-/// Whether a number is written as these bytes, and read back from them.
-fn is_written(alloc: Global, number: u64, bytes: &[u8]) -> Result<bool, Fail> {
-    let is_written = NumberCodec.encode(alloc, &number)?.as_slice() == bytes;
-    Ok(is_written && is_read_back(alloc, number))
-}
-
-fn is_read_back(alloc: Global, number: u64) -> bool {
-    match round_trip(&NumberCodec, alloc, &number) {
-        Ok(copy) => copy == number,
-        Err(_) => false,
-    }
-}
-
-/// With what words bytes are refused, where they are.
-fn refusal(alloc: Global, bytes: &'static [u8]) -> Result<Option<String>, AllocError> {
-    match NumberCodec.decode(alloc, &Bytes::from_static(bytes)) {
-        Ok(_) => Ok(None),
-        Err(CodecFault::Refused(error)) => Ok(Some(format!(in alloc; "{error}")?)),
+/// Bytes, and what the codec reads of them, or with what words it refuses.
+fn decoded(alloc: Global, bytes: &Bytes) -> Result<String, AllocError> {
+    match NumberCodec.decode(alloc, bytes) {
+        Ok(number) => format!(in alloc; "{bytes:?} {number}\n"),
+        Err(CodecFault::Refused(error)) => format!(in alloc; "{bytes:?} {error}\n"),
         Err(CodecFault::NoMemory) => Err(AllocError),
     }
 }
 
-fn is_refused(alloc: Global, bytes: &'static [u8]) -> Result<bool, AllocError> {
-    Ok(match refusal(alloc, bytes)? {
-        Some(said) => said.as_str() == "not eight bytes",
-        None => false,
-    })
+fn encoded(alloc: Global, number: u64) -> Result<String, AllocError> {
+    decoded(alloc, &NumberCodec.encode(alloc, &number)?)
+}
+
+fn all_decoded(alloc: Global) -> Result<String, AllocError> {
+    let mut text = String::new(alloc);
+    for number in [0, 1, 258, u64::MAX] {
+        text.push_str(encoded(alloc, number)?.as_str())?;
+    }
+    for bytes in ["", "7 bytes", "9 bytes!!", "8 bytes!"] {
+        let bytes = Bytes::from_static(bytes.as_bytes());
+        text.push_str(decoded(alloc, &bytes)?.as_str())?;
+    }
+    Ok(text)
 }
 
 #[test]
 fn a_codec_reads_what_it_writes(rt: HostRuntime) -> Result<(), Fail> {
-    for (number, bytes) in NUMBERS {
-        assert!(rt; is_written(rt.alloc(), *number, bytes)?, "{number}");
-    }
-    assert!(rt; refusal(rt.alloc(), b"8 bytes!")?.is_none());
-    for bytes in NO_NUMBERS {
-        assert!(rt; is_refused(rt.alloc(), bytes)?, "{bytes:?}");
-    }
+    let text = all_decoded(rt.alloc())?;
+    assert_eq!(rt; text.as_str(), NUMBERS);
+    assert!(rt; matches!(round_trip(&NumberCodec, rt.alloc(), &258), Ok(258)));
     Ok(())
 }
 

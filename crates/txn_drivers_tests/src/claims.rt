@@ -1,8 +1,8 @@
 //! Claims: of the next epoch or of one that is asked for, alone and overtaken.
-use crate::calls::Step::{Boundary, Claim, ClaimAt, Has, Init, Load, Update};
-use crate::driven::Told::{Did, Held, Refused, Viewed};
 use crate::game::Scenario;
 use crate::game::Seat::{A, B};
+use crate::view_calls::Step::{Boundary, Claim, ClaimAt, Has, Init, Load, Update};
+use crate::view_calls::Told::{Did, Held, Refused, Viewed};
 
 pub(crate) const SCENARIOS: &[Scenario] = &[
     (

@@ -1,11 +1,13 @@
 //! A game: two clients over one store, and their calls on views, one at a time.
-use crate::calls::{Step, View, arrange, call};
-use crate::driven::{Played, Told};
+ghost use Rattle.std.specs.Prelude.{◌≡◌, ◌≤◌, IfOk};
+
+use crate::view_calls::{Played, Step, Store, Told, View, played};
 use crate::{claims, holders, views};
 use std::alloc::Global;
 use std::test::Fail;
 use txn_caches::caches::Caches;
 use txn_lines::record::{Record, RecordCodec};
+use txn_store::failing::{FailingStore, When};
 use txn_store::in_memory::InMemory;
 use txn_store::path::{Path, PathFault};
 use txn_types::id::MonotonicId;
@@ -33,14 +35,14 @@ struct Client {
 /// Two clients and their store.
 #[derive(Drop)]
 struct Game {
-    alloc: Global,
-    store: InMemory,
-    layout: Layout<RecordCodec>,
+    store: Store,
     a: Client,
     b: Client,
 }
 
-fn a_layout(alloc: Global) -> Result<Layout<RecordCodec>, PathFault> {
+fn a_layout(alloc: Global) -> Result<Layout<RecordCodec>, PathFault>
+    ensures { IfOk result (λ layout. layout.page ≡ 1000) }
+{
     let root = Path::from_text(alloc, "root")?;
     Layout::new(alloc, &root, "test", "val", RecordCodec)
 }
@@ -52,15 +54,12 @@ fn a_client() -> Client {
     }
 }
 
-fn a_game(alloc: Global) -> Result<Game, PathFault> {
-    let layout = a_layout(alloc)?;
-    Ok(Game {
-        alloc,
-        store: InMemory::new(alloc),
-        layout,
+fn a_game(alloc: Global) -> Game {
+    Game {
+        store: FailingStore::new(InMemory::new(alloc), 0, When::Before),
         a: a_client(),
         b: a_client(),
-    })
+    }
 }
 
 fn view_at(id: u64, epoch: u64, payload: u64, held: Option<u64>) -> Option<View> {
@@ -94,72 +93,68 @@ fn left(view: Option<View>, step: Step, told: Told) -> Option<View> {
         Told::Held(id, epoch, payload, held) => view_at(id, epoch, payload, Some(held)),
         Told::Shut(id, epoch, payload, _) => view_at(id, epoch, payload, held_after(view, step)),
         Told::Refused(_) => kept(view, step),
-        Told::Did => view,
+        _ => view,
     }
 }
 
-fn perform(
-    alloc: Global,
-    store: &mut InMemory,
-    layout: &Layout<RecordCodec>,
-    client: &mut Client,
-    others: &mut Caches,
-    step: Step,
-) -> Result<Played, Fail> {
-    let Client { caches, view } = client;
-    match step {
-        Step::Has(..) | Step::Boundary(_) | Step::Init(..) | Step::Load => {
-            arrange(alloc, store, layout, caches, step)
-        }
-        _ => match *view {
-            Some(view) => call(alloc, store, layout, caches, others, view, step),
-            None => Err("no view")?,
-        },
-    }
-}
-
+/// A client's step, driven for so many steps.
 fn turn(
     alloc: Global,
-    store: &mut InMemory,
+    store: &mut Store,
     layout: &Layout<RecordCodec>,
     client: &mut Client,
     others: &mut Caches,
     step: Step,
-) -> Result<Played, Fail> {
-    let played = perform(alloc, store, layout, client, others, step)?;
-    client.view = left(client.view, step, played.0);
-    Ok(played)
+    steps: u64,
+) -> Played
+    requires { 1 ≤ layout.now.page }
+{
+    let Client { caches, view } = client;
+    let played = played(alloc, store, layout, caches, others, *view, step, steps);
+    *view = left(*view, step, played.0);
+    played
 }
 
-fn play(game: &mut Game, seat: Seat, step: Step) -> Result<Played, Fail> {
-    let Game {
-        alloc,
-        store,
-        layout,
-        a,
-        b,
-    } = game;
+fn play(
+    alloc: Global,
+    layout: &Layout<RecordCodec>,
+    game: &mut Game,
+    seat: Seat,
+    step: Step,
+    steps: u64,
+) -> Played
+    requires { 1 ≤ layout.now.page }
+{
+    let Game { store, a, b } = game;
     match seat {
-        Seat::A => turn(*alloc, store, layout, a, &mut b.caches, step),
-        Seat::B => turn(*alloc, store, layout, b, &mut a.caches, step),
+        Seat::A => turn(alloc, store, layout, a, &mut b.caches, step, steps),
+        Seat::B => turn(alloc, store, layout, b, &mut a.caches, step, steps),
     }
 }
 
-/// The first row that goes otherwise, counted from 0, with what it comes to and takes, where there is one.
-fn other_in(game: &mut Game, rows: &[Row]) -> Result<Option<(usize, Played)>, Fail> {
+/// The first row that goes otherwise, counted from 0, with what it comes to and its calls of the store, where there is one.
+fn other_in(
+    alloc: Global,
+    layout: &Layout<RecordCodec>,
+    game: &mut Game,
+    rows: &[Row],
+) -> Option<(usize, Played)>
+    requires { 1 ≤ layout.now.page }
+{
     for (at, (seat, step, told, calls, looks)) in rows.iter().enumerate() {
-        let played = play(game, *seat, *step)?;
-        if played != (*told, *calls, *looks) {
-            return Ok(Some((at, played)));
+        let steps = calls.saturating_add(*looks);
+        let played = play(alloc, layout, game, *seat, *step, steps);
+        if played != (*told, *calls) {
+            return Some((at, played));
         }
     }
-    Ok(None)
+    None
 }
 
 /// The same, in a game of its own.
-fn other(alloc: Global, rows: &[Row]) -> Result<Option<(usize, Played)>, Fail> {
-    let mut game = a_game(alloc)?;
-    other_in(&mut game, rows)
+fn other(alloc: Global, rows: &[Row]) -> Result<Option<(usize, Played)>, PathFault> {
+    let layout = a_layout(alloc)?;
+    Ok(other_in(alloc, &layout, &mut a_game(alloc), rows))
 }
 
 #[test]

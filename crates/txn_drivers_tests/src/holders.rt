@@ -1,8 +1,10 @@
 //! Holders: their refreshes and updates, with their own epoch and with others.
-use crate::calls::Step::{Boundary, Claim, HolderRefresh, HolderUpdate, Init, Load, Update};
-use crate::driven::Told::{Did, Held, Refused, Shut, Viewed};
 use crate::game::Scenario;
 use crate::game::Seat::{A, B};
+use crate::view_calls::Step::{
+    Boundary, Claim, ClaimAt, HolderRefresh, HolderUpdate, Init, Load, Refresh, Update,
+};
+use crate::view_calls::Told::{Did, Held, Refused, Shut, Viewed};
 
 pub(crate) const SCENARIOS: &[Scenario] = &[
     (
@@ -58,6 +60,22 @@ pub(crate) const SCENARIOS: &[Scenario] = &[
             (A, Claim(None), Held(2, 1, 1, 1), 2, 3),
             (A, Boundary(b"5"), Did, 1, 0),
             (A, HolderUpdate(1, 2), Refused(5), 2, 5),
+        ],
+    ),
+    (
+        "a holder claims from an older view, and a greater epoch is claimed from its view",
+        &[
+            (A, Init(5, 0), Viewed(1, 5, 0), 2, 3),
+            (B, Load, Viewed(1, 5, 0), 3, 5),
+            (B, Update(6, 0), Viewed(2, 6, 0), 2, 3),
+            (A, Claim(None), Held(3, 7, 0, 7), 6, 7),
+            (A, HolderRefresh, Viewed(3, 7, 0), 2, 3),
+            (A, HolderUpdate(7, 0), Viewed(4, 7, 0), 2, 3),
+            (A, HolderUpdate(8, 0), Refused(7), 0, 0),
+            (B, Refresh, Viewed(4, 7, 0), 4, 5),
+            (B, ClaimAt(9, None), Held(5, 9, 0, 9), 2, 3),
+            (A, HolderRefresh, Shut(5, 9, 0, 6), 3, 4),
+            (B, ClaimAt(9, None), Refused(6), 0, 0),
         ],
     ),
 ];
