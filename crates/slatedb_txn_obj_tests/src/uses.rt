@@ -79,17 +79,34 @@ fn values_are_appended_to_a_register(rt: HostRuntime) -> Result<(), Fail> {
     Ok(())
 }
 
-/// What is newest by one protocol, before and after a value is written by it, each time once another one has a new version.
+/// A value is written by one protocol, and what is newest by another is read then.
+fn read_beside<S: ObjectStore, P: TransactionalStorageProtocol<u64, MonotonicId, S>>(
+    one: &mut P,
+    other: &mut P,
+    store: &mut S,
+    base: Option<MonotonicId>,
+    value: u64,
+) -> Result<Option<(MonotonicId, u64)>, TransactionalObjectError> {
+    write_beside(one, other, store, &mut Turns::new(10), base, &value)
+}
+
+fn write_first<S: ObjectStore, P: TransactionalStorageProtocol<u64, MonotonicId, S>>(
+    protocol: &mut P,
+    store: &mut S,
+    value: u64,
+) -> Result<MonotonicId, TransactionalObjectError> {
+    protocol.write(store, None, &value)
+}
+
+/// What is newest by one protocol, before and after it has a version, each time once another one has a new version.
 fn newest_with<S: ObjectStore, P: TransactionalStorageProtocol<u64, MonotonicId, S>>(
     one: &mut P,
     other: &mut P,
     store: &mut S,
-    turns: &mut Turns,
 ) -> Result<[Option<(MonotonicId, u64)>; 2], TransactionalObjectError> {
-    let before = write_beside(one, other, store, turns, None, &10)?;
-    other.write(store, None, &20)?;
-    let first = Some(MonotonicId::new(1));
-    let after = write_beside(one, other, store, turns, first, &30)?;
+    let before = read_beside(one, other, store, None, 10)?;
+    write_first(other, store, 20)?;
+    let after = read_beside(one, other, store, Some(MonotonicId::new(1)), 30)?;
     Ok([before, after])
 }
 
@@ -98,7 +115,7 @@ fn newest_beside(alloc: Global) -> Result<[Option<(MonotonicId, u64)>; 2], Fail>
     let mut one = a_protocol(alloc, "test")?;
     let mut other = a_protocol(alloc, "other")?;
     let mut store = InMemory::new(alloc);
-    Ok(newest_with(&mut one, &mut other, &mut store, &mut Turns::new(20))?)
+    Ok(newest_with(&mut one, &mut other, &mut store)?)
 }
 
 #[test]
