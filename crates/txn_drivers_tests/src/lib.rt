@@ -14,6 +14,8 @@ mod holders;
 #[cfg(test)]
 mod operations;
 #[cfg(test)]
+mod scenarios;
+#[cfg(test)]
 mod view_calls;
 #[cfg(test)]
 mod views;

@@ -1,8 +1,8 @@
 //! Operations driven to their answer: each asks, is given a reply or looks, and takes that.
+use crate::by_hand::Script;
 use crate::fits::{
     fits_advance, fits_boundary, fits_boundary_advance, fits_boundary_check, fits_check,
-    fits_delete, fits_latest, fits_read, fits_removal, fits_seen, fits_write, fits_write_unchecked,
-    is_got, is_listed,
+    fits_latest, fits_read, fits_seen, fits_write_unchecked,
 };
 use std::alloc::Global;
 use std::test::Fail;
@@ -12,15 +12,12 @@ use txn_caches::boundary_read::{BoundaryRead, Known};
 use txn_caches::caches::{CachedBoundary, Caches};
 use txn_caches::check::{BoundaryCheck, CheckOp};
 use txn_caches::turned::Turned;
-use txn_steps::delete::{DeleteOp, DeleteUncheckedOp};
 use txn_steps::latest::LatestOp;
-use txn_steps::listing::{ListAnswer, ListOp};
 use txn_steps::read::ReadOp;
-use txn_steps::seen::{ReadSeenOp, ReadUncheckedOp};
-use txn_steps::versions::{Listed, Versions};
-use txn_steps::write::{WriteOp, WriteUncheckedOp};
+use txn_steps::seen::ReadSeenOp;
+use txn_steps::write::WriteUncheckedOp;
 use txn_store::path::{Path, PathFault};
-use txn_store::request::{Reply, Request};
+use txn_store::request::Reply;
 use txn_types::error::TransactionalObjectError;
 use txn_types::id::MonotonicId;
 use txn_types::layout::Layout;
@@ -51,17 +48,6 @@ pub(crate) enum Said {
 /// What an operation says in the end, and how many calls of the store and how many looks it took.
 pub(crate) type Played = (Said, u64, u64);
 
-/// Something that replies to requests as a store does. Between its calls others may change the boundary that a
-/// client has cached.
-pub(crate) trait Replies {
-    fn reply(
-        &mut self,
-        alloc: Global,
-        request: &Request,
-        boundary: &mut Option<CachedBoundary>,
-    ) -> Result<Reply, Fail>;
-}
-
 /// An operation as a driver sees it.
 pub(crate) trait Operation {
     fn asks(&self) -> Ask<'_>;
@@ -77,14 +63,14 @@ pub(crate) trait Operation {
 }
 
 /// Makes the call of the store that is asked for, or none for a look.
-fn made<R: Replies>(
+fn made(
     alloc: Global,
-    store: &mut R,
+    script: &mut Script,
     boundary: &mut Option<CachedBoundary>,
     ask: Ask<'_>,
 ) -> Result<Option<Reply>, Fail> {
     match ask {
-        Ask::Store(request) => Ok(Some(store.reply(alloc, request, boundary)?)),
+        Ask::Store(request) => Ok(Some(script.reply(alloc, request, boundary)?)),
         Ask::Look => Ok(None),
     }
 }
@@ -93,28 +79,28 @@ fn made<R: Replies>(
 const STEPS: u64 = 40;
 
 /// Drives an operation to its answer.
-pub(crate) fn drive<O: Operation + Drop, R: Replies>(
+pub(crate) fn drive<O: Operation + Drop>(
     alloc: Global,
-    store: &mut R,
+    script: &mut Script,
     layout: &Layout<NumberCodec>,
     caches: &mut Caches,
     op: O,
 ) -> Result<Played, Fail> {
     let mut op = op;
-    drive_on(alloc, store, layout, caches, &mut op)
+    drive_on(alloc, script, layout, caches, &mut op)
 }
 
 /// The same, of an operation that its caller drops.
-fn drive_on<O: Operation, R: Replies>(
+fn drive_on<O: Operation>(
     alloc: Global,
-    store: &mut R,
+    script: &mut Script,
     layout: &Layout<NumberCodec>,
     caches: &mut Caches,
     op: &mut O,
 ) -> Result<Played, Fail> {
     let mut looks = 0u64;
     for step in 1..STEPS {
-        let reply = made(alloc, store, &mut caches.boundary, op.asks())?;
+        let reply = made(alloc, script, &mut caches.boundary, op.asks())?;
         if reply.is_none() {
             looks = looks.saturating_add(1);
         }
@@ -164,28 +150,6 @@ fn valued(turned: Turned<Result<Option<u64>, Error>>) -> Option<Said> {
     match turned {
         Turned::Goes => None,
         Turned::Done(Ok(value)) => Some(Said::Value(value)),
-        Turned::Done(Err(error)) => Some(Said::Fails(error.number())),
-    }
-}
-
-fn have_ids(versions: &[Listed], ids: &[u64]) -> bool {
-    for (version, id) in versions.iter().zip(ids) {
-        if !version.id.is(*id) {
-            return false;
-        }
-    }
-    true
-}
-
-/// Whether the versions have these ids, in this order.
-fn are_versions(versions: Versions, ids: &[u64]) -> bool {
-    versions.as_slice().len() == ids.len() && have_ids(versions.into_vec().as_slice(), ids)
-}
-
-fn listed(turned: Turned<ListAnswer>, ids: &[u64]) -> Option<Said> {
-    match turned {
-        Turned::Goes => None,
-        Turned::Done(Ok(versions)) => Some(Said::Is(are_versions(versions, ids))),
         Turned::Done(Err(error)) => Some(Said::Fails(error.number())),
     }
 }
@@ -315,26 +279,6 @@ impl Operation for WriteUncheckedOp {
     }
 }
 
-impl Operation for WriteOp {
-    fn asks(&self) -> Ask<'_> {
-        self.ask()
-    }
-
-    fn turn(
-        &mut self,
-        _alloc: Global,
-        _layout: &Layout<NumberCodec>,
-        caches: &mut Caches,
-        reply: Option<Reply>,
-    ) -> Result<Option<Said>, Fail> {
-        if fits_write(self, &reply) {
-            Ok(wrote(self.take(caches, reply)))
-        } else {
-            of_another_kind(reply)
-        }
-    }
-}
-
 impl Operation for LatestOp<u64> {
     fn asks(&self) -> Ask<'_> {
         self.ask()
@@ -375,26 +319,6 @@ impl Operation for ReadOp<u64> {
     }
 }
 
-impl Operation for ReadUncheckedOp {
-    fn asks(&self) -> Ask<'_> {
-        self.ask()
-    }
-
-    fn turn(
-        &mut self,
-        alloc: Global,
-        layout: &Layout<NumberCodec>,
-        _caches: &mut Caches,
-        reply: Option<Reply>,
-    ) -> Result<Option<Said>, Fail> {
-        if is_got(&reply) {
-            Ok(valued(self.take(alloc, layout, reply)))
-        } else {
-            of_another_kind(reply)
-        }
-    }
-}
-
 impl Operation for ReadSeenOp<u64> {
     fn asks(&self) -> Ask<'_> {
         self.ask()
@@ -409,73 +333,6 @@ impl Operation for ReadSeenOp<u64> {
     ) -> Result<Option<Said>, Fail> {
         if fits_seen(self, &reply) {
             Ok(valued(self.take(alloc, layout, &mut caches.latest, reply)))
-        } else {
-            of_another_kind(reply)
-        }
-    }
-}
-
-/// A listing, and the ids that it should tell.
-#[derive(Drop)]
-pub(crate) struct Listing {
-    pub op: ListOp,
-    pub ids: &'static [u64],
-}
-
-impl Operation for Listing {
-    fn asks(&self) -> Ask<'_> {
-        self.op.ask()
-    }
-
-    fn turn(
-        &mut self,
-        alloc: Global,
-        layout: &Layout<NumberCodec>,
-        _caches: &mut Caches,
-        reply: Option<Reply>,
-    ) -> Result<Option<Said>, Fail> {
-        if is_listed(&reply) {
-            Ok(listed(self.op.take(alloc, layout, reply), self.ids))
-        } else {
-            of_another_kind(reply)
-        }
-    }
-}
-
-impl Operation for DeleteUncheckedOp {
-    fn asks(&self) -> Ask<'_> {
-        self.ask()
-    }
-
-    fn turn(
-        &mut self,
-        _alloc: Global,
-        _layout: &Layout<NumberCodec>,
-        caches: &mut Caches,
-        reply: Option<Reply>,
-    ) -> Result<Option<Said>, Fail> {
-        if fits_removal(self, &reply) {
-            Ok(did(self.take(&mut caches.latest, reply)))
-        } else {
-            of_another_kind(reply)
-        }
-    }
-}
-
-impl Operation for DeleteOp {
-    fn asks(&self) -> Ask<'_> {
-        self.ask()
-    }
-
-    fn turn(
-        &mut self,
-        _alloc: Global,
-        _layout: &Layout<NumberCodec>,
-        caches: &mut Caches,
-        reply: Option<Reply>,
-    ) -> Result<Option<Said>, Fail> {
-        if fits_delete(self, &reply) {
-            Ok(did(self.take(caches, reply)))
         } else {
             of_another_kind(reply)
         }

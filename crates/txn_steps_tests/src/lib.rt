@@ -14,6 +14,4 @@ mod fits;
 #[cfg(test)]
 mod parts;
 #[cfg(test)]
-mod scenarios;
-#[cfg(test)]
 mod windows;
