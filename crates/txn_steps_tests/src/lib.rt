@@ -1,6 +1,5 @@
-//! Tests of the caches of a client and of the operations: what no clause says, and that each call succeeds with
-//! ample memory. Most are tables of calls, each with what it says and how many calls of the store and looks it
-//! took, that one function plays.
+//! Tests of the caches of a client and of the operations: what no clause says and no store shows. Most are calls to which a
+//! hand made the replies, each with what it says and how many calls of the store and looks it took, that one function plays.
 #![tactic(auto)]
 
 #[cfg(test)]
