@@ -1,11 +1,13 @@
 //! Calls of a client to which a hand made the replies, and what others leave in its caches meanwhile.
-use crate::calls::Call::{
+use crate::driven::Played;
+use crate::hand_calls::Call::{
     Advance, BoundaryAdvance, BoundaryCheck, BoundaryRead, Check, Holds, Knows, KnowsBy, Latest,
     Read, ReadSeen, WriteUnchecked,
 };
-use crate::calls::{Call, known, perform};
-use crate::driven::Said::{Did, Fails, Found, Is, Reads, Value, Wrote};
-use crate::driven::{Played, Said, a_layout};
+use crate::hand_calls::{Call, known, perform};
+use crate::operations::Told;
+use crate::operations::Told::{Did, Fails, Is, Newest, Reads, Value, Wrote};
+use crate::writes::a_layout;
 use bytes::Bytes;
 use std::alloc::{AllocError, Global};
 use std::test::Fail;
@@ -17,7 +19,7 @@ use txn_store::store::StoreError::{
     AlreadyExists, Failed, NoMemory, NotFound, NotModified, Precondition,
 };
 use txn_store::store::{Got, ObjectMeta, StoreError, Token};
-use txn_types::layout::Layout;
+use txn_types::layout::{Layout, PAGE};
 use txn_types::test_utils::NumberCodec;
 
 /// A reply that is made up, or something that another call of the client does before the next one.
@@ -129,7 +131,7 @@ fn got_by(alloc: Global, request: &Request) -> Result<String, AllocError> {
 }
 
 /// A client's call, the replies, what it says, and how many calls of the store and how many looks it takes.
-type Row = (Call, &'static [Made], Said, u64, u64);
+type Row = (Call, &'static [Made], Told, u64, u64);
 
 fn a_script(alloc: Global, made: &'static [Made]) -> Script {
     Script {
@@ -173,7 +175,7 @@ fn other_from(
 
 /// The same, with nothing cached.
 fn other(alloc: Global, rows: &[Row]) -> Result<Option<(usize, Played)>, Fail> {
-    let layout = a_layout(alloc)?;
+    let layout = a_layout(alloc, PAGE)?;
     other_from(alloc, &layout, &mut Caches::new(), rows)
 }
 
@@ -250,7 +252,7 @@ const SCENARIOS: &[(&str, &[Row])] = &[
         &[(
             Read,
             &[Lists(Some(SECOND)), Refuses(NotFound), Lists(None)],
-            Found(None),
+            Newest(None),
             3,
             3,
         )],
@@ -329,7 +331,7 @@ fn test_latest_read_invalidates_cache_when_list_is_empty(rt: HostRuntime) -> Res
         (
             Latest,
             &[Lists(Some(FIRST)), Finds(TEN)],
-            Found(Some((1, 10))),
+            Newest(Some((1, 10))),
             2,
             3,
         ),
@@ -338,7 +340,7 @@ fn test_latest_read_invalidates_cache_when_list_is_empty(rt: HostRuntime) -> Res
         (
             Latest,
             &[Finds(TEN), Finds(TEN), Finds(TEN), Finds(TEN), Lists(None)],
-            Found(None),
+            Newest(None),
             5,
             7,
         ),
@@ -361,7 +363,7 @@ fn test_try_read_latest_retries_missing_listed_file(rt: HostRuntime) -> Result<(
                 // There is no boundary.
                 Refuses(NotFound),
             ],
-            Found(Some((2, 10))),
+            Newest(Some((2, 10))),
             5,
             6,
         ),
@@ -377,7 +379,7 @@ const UNCHANGED: &[Made] = &[Refuses(NotModified)];
 /// The get of a check of an id where a boundary of this number and token is cached, what the check says and takes, and the
 /// cached boundary and its token then.
 fn checked_with(alloc: Global, id: u64, number: u64, token: u64) -> Result<String, Fail> {
-    let layout = a_layout(alloc)?;
+    let layout = a_layout(alloc, PAGE)?;
     let mut script = a_script(alloc, UNCHANGED);
     let mut caches = Caches::new();
     let token = Token::new(token);

@@ -4,6 +4,8 @@ use crate::fits::{
     fits_advance, fits_boundary, fits_boundary_advance, fits_boundary_check, fits_check,
     fits_latest, fits_read, fits_seen, fits_write_unchecked,
 };
+use crate::operations::Told::{Fails, GoesOn, Reads};
+use crate::operations::{Told, did, newest, valued, wrote};
 use std::alloc::Global;
 use std::test::Fail;
 use txn_caches::advance::{AdvanceOp, BoundaryAdvance};
@@ -16,50 +18,26 @@ use txn_steps::latest::LatestOp;
 use txn_steps::read::ReadOp;
 use txn_steps::seen::ReadSeenOp;
 use txn_steps::write::WriteUncheckedOp;
-use txn_store::path::{Path, PathFault};
 use txn_store::request::Reply;
 use txn_types::error::TransactionalObjectError;
-use txn_types::id::MonotonicId;
 use txn_types::layout::Layout;
 use txn_types::test_utils::NumberCodec;
 
-pub(crate) fn a_layout(alloc: Global) -> Result<Layout<NumberCodec>, PathFault> {
-    let root = Path::from_text(alloc, "root")?;
-    Layout::new(alloc, &root, "test", "val", NumberCodec)
-}
-
-/// What a call says, an error as its number.
-#[derive(Clone, Copy, Debug, PartialEq, Eq)]
-pub(crate) enum Said {
-    Wrote(u64),
-    /// An advance, a check or a delete.
-    Did,
-    /// The newest version and its value.
-    Found(Option<(u64, u64)>),
-    /// The value of one id.
-    Value(Option<u64>),
-    /// Whether something is as it was told.
-    Is(bool),
-    /// What a read of the boundary gives.
-    Reads(u64),
-    Fails(u8),
-}
-
 /// What an operation says in the end, and how many calls of the store and how many looks it took.
-pub(crate) type Played = (Said, u64, u64);
+pub(crate) type Played = (Told, u64, u64);
 
 /// An operation as a driver sees it.
 pub(crate) trait Operation {
     fn asks(&self) -> Ask<'_>;
 
-    /// Takes a reply, or none for a look, and says its answer where it is done. What it didn't ask for is a failure.
+    /// Takes a reply, or none for a look, and says its answer, or that it goes on. What it didn't ask for is a failure.
     fn turn(
         &mut self,
         alloc: Global,
         layout: &Layout<NumberCodec>,
         caches: &mut Caches,
         reply: Option<Reply>,
-    ) -> Result<Option<Said>, Fail>;
+    ) -> Result<Told, Fail>;
 }
 
 /// Makes the call of the store that is asked for, or none for a look.
@@ -104,58 +82,32 @@ fn drive_on<O: Operation>(
         if reply.is_none() {
             looks = looks.saturating_add(1);
         }
-        if let Some(said) = op.turn(alloc, layout, caches, reply)? {
-            return Ok((said, step.saturating_sub(looks), looks));
+        let told = op.turn(alloc, layout, caches, reply)?;
+        if told != GoesOn {
+            return Ok((told, step.saturating_sub(looks), looks));
         }
     }
     Err("it goes on")?
 }
 
-type Error = TransactionalObjectError;
-
-fn did(turned: Turned<Result<(), Error>>) -> Option<Said> {
+/// What an operation answers, where it is done.
+fn done<A>(turned: Turned<A>) -> Option<A> {
     match turned {
         Turned::Goes => None,
-        Turned::Done(Ok(())) => Some(Said::Did),
-        Turned::Done(Err(error)) => Some(Said::Fails(error.number())),
+        Turned::Done(answer) => Some(answer),
     }
 }
 
-fn known(turned: Turned<Result<Known, Error>>) -> Option<Said> {
-    match turned {
-        Turned::Goes => None,
-        Turned::Done(Ok(known)) => Some(Said::Reads(known.0)),
-        Turned::Done(Err(error)) => Some(Said::Fails(error.number())),
-    }
-}
-
-fn wrote(turned: Turned<Result<MonotonicId, Error>>) -> Option<Said> {
-    match turned {
-        Turned::Goes => None,
-        Turned::Done(Ok(id)) => Some(Said::Wrote(id.id())),
-        Turned::Done(Err(error)) => Some(Said::Fails(error.number())),
-    }
-}
-
-fn found(turned: Turned<Result<Option<(MonotonicId, u64)>, Error>>) -> Option<Said> {
-    match turned {
-        Turned::Goes => None,
-        Turned::Done(Ok(None)) => Some(Said::Found(None)),
-        Turned::Done(Ok(Some((id, value)))) => Some(Said::Found(Some((id.id(), value)))),
-        Turned::Done(Err(error)) => Some(Said::Fails(error.number())),
-    }
-}
-
-fn valued(turned: Turned<Result<Option<u64>, Error>>) -> Option<Said> {
-    match turned {
-        Turned::Goes => None,
-        Turned::Done(Ok(value)) => Some(Said::Value(value)),
-        Turned::Done(Err(error)) => Some(Said::Fails(error.number())),
+fn known(answer: Option<Result<Known, TransactionalObjectError>>) -> Told {
+    match answer {
+        None => GoesOn,
+        Some(Ok(known)) => Reads(known.0),
+        Some(Err(error)) => Fails(error.number()),
     }
 }
 
 /// It drops the reply.
-fn of_another_kind(_reply: Option<Reply>) -> Result<Option<Said>, Fail> {
+fn of_another_kind(_reply: Option<Reply>) -> Result<Told, Fail> {
     Err("a reply of another kind")?
 }
 
@@ -170,9 +122,9 @@ impl Operation for BoundaryRead {
         _layout: &Layout<NumberCodec>,
         caches: &mut Caches,
         reply: Option<Reply>,
-    ) -> Result<Option<Said>, Fail> {
+    ) -> Result<Told, Fail> {
         if fits_boundary(self, &reply) {
-            Ok(known(self.take(&mut caches.boundary, reply)))
+            Ok(known(done(self.take(&mut caches.boundary, reply))))
         } else {
             of_another_kind(reply)
         }
@@ -190,9 +142,9 @@ impl Operation for BoundaryCheck {
         _layout: &Layout<NumberCodec>,
         caches: &mut Caches,
         reply: Option<Reply>,
-    ) -> Result<Option<Said>, Fail> {
+    ) -> Result<Told, Fail> {
         if fits_boundary_check(self, &reply) {
-            Ok(did(self.take(&mut caches.boundary, reply)))
+            Ok(did(done(self.take(&mut caches.boundary, reply))))
         } else {
             of_another_kind(reply)
         }
@@ -210,9 +162,9 @@ impl Operation for BoundaryAdvance {
         layout: &Layout<NumberCodec>,
         caches: &mut Caches,
         reply: Option<Reply>,
-    ) -> Result<Option<Said>, Fail> {
+    ) -> Result<Told, Fail> {
         if fits_boundary_advance(self, &reply) {
-            Ok(did(self.take(alloc, &layout.boundary, &mut caches.boundary, reply)))
+            Ok(did(done(self.take(alloc, &layout.boundary, &mut caches.boundary, reply))))
         } else {
             of_another_kind(reply)
         }
@@ -230,9 +182,9 @@ impl Operation for CheckOp {
         _layout: &Layout<NumberCodec>,
         caches: &mut Caches,
         reply: Option<Reply>,
-    ) -> Result<Option<Said>, Fail> {
+    ) -> Result<Told, Fail> {
         if fits_check(self, &reply) {
-            Ok(did(self.take(caches, reply)))
+            Ok(did(done(self.take(caches, reply))))
         } else {
             of_another_kind(reply)
         }
@@ -250,9 +202,9 @@ impl Operation for AdvanceOp {
         layout: &Layout<NumberCodec>,
         caches: &mut Caches,
         reply: Option<Reply>,
-    ) -> Result<Option<Said>, Fail> {
+    ) -> Result<Told, Fail> {
         if fits_advance(self, &reply) {
-            Ok(did(self.take(alloc, layout, caches, reply)))
+            Ok(did(done(self.take(alloc, layout, caches, reply))))
         } else {
             of_another_kind(reply)
         }
@@ -270,9 +222,9 @@ impl Operation for WriteUncheckedOp {
         _layout: &Layout<NumberCodec>,
         caches: &mut Caches,
         reply: Option<Reply>,
-    ) -> Result<Option<Said>, Fail> {
+    ) -> Result<Told, Fail> {
         if fits_write_unchecked(self, &reply) {
-            Ok(wrote(self.take(&mut caches.latest, reply)))
+            Ok(wrote(done(self.take(&mut caches.latest, reply))))
         } else {
             of_another_kind(reply)
         }
@@ -290,9 +242,9 @@ impl Operation for LatestOp<u64> {
         layout: &Layout<NumberCodec>,
         caches: &mut Caches,
         reply: Option<Reply>,
-    ) -> Result<Option<Said>, Fail> {
+    ) -> Result<Told, Fail> {
         if fits_latest(self, &reply) {
-            Ok(found(self.take(alloc, layout, &mut caches.latest, reply)))
+            Ok(newest(done(self.take(alloc, layout, &mut caches.latest, reply))))
         } else {
             of_another_kind(reply)
         }
@@ -310,9 +262,9 @@ impl Operation for ReadOp<u64> {
         layout: &Layout<NumberCodec>,
         caches: &mut Caches,
         reply: Option<Reply>,
-    ) -> Result<Option<Said>, Fail> {
+    ) -> Result<Told, Fail> {
         if fits_read(self, &reply) {
-            Ok(found(self.take(alloc, layout, caches, reply)))
+            Ok(newest(done(self.take(alloc, layout, caches, reply))))
         } else {
             of_another_kind(reply)
         }
@@ -330,9 +282,9 @@ impl Operation for ReadSeenOp<u64> {
         layout: &Layout<NumberCodec>,
         caches: &mut Caches,
         reply: Option<Reply>,
-    ) -> Result<Option<Said>, Fail> {
+    ) -> Result<Told, Fail> {
         if fits_seen(self, &reply) {
-            Ok(valued(self.take(alloc, layout, &mut caches.latest, reply)))
+            Ok(valued(done(self.take(alloc, layout, &mut caches.latest, reply))))
         } else {
             of_another_kind(reply)
         }

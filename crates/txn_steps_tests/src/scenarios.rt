@@ -2,13 +2,13 @@
 //! took.
 ghost use Rattle.std.specs.Prelude.{◌≤◌};
 
-use crate::calls::a_layout;
 use crate::operations::Call::{
     Advance, Check, Delete, DeleteUnchecked, Holds, Knows, Latest, Lists, Put, Read, ReadSeen,
     ReadUnchecked, Write, WriteUnchecked,
 };
 use crate::operations::Told::{Did, Fails, Is, Newest, Value, Wrote};
 use crate::operations::{Call, Place, Store, Told, a_place, answered};
+use crate::writes::a_layout;
 use std::alloc::Global;
 use std::mem;
 use std::ops::Bound::{Excluded, Included, Unbounded};

@@ -1,6 +1,8 @@
 //! Calls of a client, as values.
 use crate::by_hand::Script;
-use crate::driven::{Played, Said, drive};
+use crate::driven::{Played, drive};
+use crate::operations::Told;
+use crate::writes::base;
 use std::alloc::Global;
 use std::test::Fail;
 use txn_caches::advance::{AdvanceOp, BoundaryAdvance};
@@ -39,25 +41,17 @@ pub(crate) enum Call {
     KnowsBy(u64, u64),
 }
 
-fn base_of(base: u64) -> Option<MonotonicId> {
-    if base == 0 {
-        None
-    } else {
-        Some(MonotonicId::new(base))
-    }
-}
-
 fn write_unchecked(
     alloc: Global,
     script: &mut Script,
     layout: &Layout<NumberCodec>,
     caches: &mut Caches,
-    base: u64,
+    on: u64,
     value: u64,
 ) -> Result<Played, Fail> {
-    match WriteUncheckedOp::start(alloc, layout, base_of(base), &value) {
+    match WriteUncheckedOp::start(alloc, layout, base(on), &value) {
         Ok(op) => drive(alloc, script, layout, caches, op),
-        Err(error) => Ok((Said::Fails(error.number()), 0, 0)),
+        Err(error) => Ok((Told::Fails(error.number()), 0, 0)),
     }
 }
 
@@ -190,10 +184,10 @@ pub(crate) fn perform(
         Call::BoundaryAdvance(target) => boundary_advance(alloc, script, layout, caches, target),
         Call::Check(id) => check(alloc, script, layout, caches, id),
         Call::Advance(target) => advance(alloc, script, layout, caches, target),
-        Call::Holds(ids) => Ok((Said::Is(holds(&caches.latest, ids)), 0, 0)),
-        Call::Knows(number) => Ok((Said::Is(knows(caches) == number), 0, 0)),
+        Call::Holds(ids) => Ok((Told::Is(holds(&caches.latest, ids)), 0, 0)),
+        Call::Knows(number) => Ok((Told::Is(knows(caches) == number), 0, 0)),
         Call::KnowsBy(number, token) => {
-            Ok((Said::Is(known(caches) == Some((number, token))), 0, 0))
+            Ok((Told::Is(known(caches) == Some((number, token))), 0, 0))
         }
     }
 }

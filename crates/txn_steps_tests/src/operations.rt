@@ -1,7 +1,8 @@
 //! Operations that run alone, as values.
 ghost use Rattle.std.specs.Prelude.{◌≤◌};
 
-use crate::calls::{are_listed, base};
+use crate::hand_calls::holds;
+use crate::writes::{are_listed, base};
 use bytes::Bytes;
 use std::alloc::Global;
 use std::ops::Bound;
@@ -68,6 +69,8 @@ pub(crate) enum Told {
     Value(Option<u64>),
     /// Whether something is as it was told.
     Is(bool),
+    /// What a read of the boundary gives.
+    Reads(u64),
     /// An error as its number.
     Fails(u8),
     /// Its steps were spent first.
@@ -78,7 +81,7 @@ use Told::{Did, Fails, GoesOn, Is, Newest, Value, Wrote};
 
 type Error = TransactionalObjectError;
 
-fn did(answer: Option<Result<(), Error>>) -> Told {
+pub(crate) fn did(answer: Option<Result<(), Error>>) -> Told {
     match answer {
         None => GoesOn,
         Some(Ok(())) => Did,
@@ -86,7 +89,7 @@ fn did(answer: Option<Result<(), Error>>) -> Told {
     }
 }
 
-fn wrote(answer: Option<WriteAnswer>) -> Told {
+pub(crate) fn wrote(answer: Option<WriteAnswer>) -> Told {
     match answer {
         None => GoesOn,
         Some(Ok(id)) => Wrote(id.id()),
@@ -94,7 +97,7 @@ fn wrote(answer: Option<WriteAnswer>) -> Told {
     }
 }
 
-fn newest(answer: Option<ReadAnswer<u64>>) -> Told {
+pub(crate) fn newest(answer: Option<ReadAnswer<u64>>) -> Told {
     match answer {
         None => GoesOn,
         Some(Ok(None)) => Newest(None),
@@ -103,7 +106,7 @@ fn newest(answer: Option<ReadAnswer<u64>>) -> Told {
     }
 }
 
-fn valued(answer: Option<ValueAnswer<u64>>) -> Told {
+pub(crate) fn valued(answer: Option<ValueAnswer<u64>>) -> Told {
     match answer {
         None => GoesOn,
         Some(Ok(value)) => Value(value),
@@ -295,20 +298,6 @@ fn says(layout: &Layout<NumberCodec>, place: &mut Place, text: &[u8]) -> bool {
         Ok(got) => got.bytes.as_slice() == text,
         Err(_) => false,
     }
-}
-
-/// Whether these ids are held.
-fn holds(window: &Window, ids: &[u64]) -> bool {
-    let held = window.as_slice();
-    if held.len() != ids.len() {
-        return false;
-    }
-    for (version, id) in held.iter().zip(ids) {
-        if !version.id.is(*id) {
-            return false;
-        }
-    }
-    true
 }
 
 /// Whether this is the cached boundary.

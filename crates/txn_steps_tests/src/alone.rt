@@ -1,13 +1,13 @@
 //! Operations that run alone, each with what it answers.
 ghost use Rattle.std.specs.Prelude.{◌≤◌};
 
-use crate::calls::a_layout;
 use crate::operations::Call::{
     Advance, Check, Delete, DeleteUnchecked, Forgets, Latest, Lists, Read, ReadSeen, ReadUnchecked,
     Says, Write, WriteUnchecked,
 };
 use crate::operations::Told::{Did, Fails, GoesOn, Is, Newest, Value, Wrote};
 use crate::operations::{Call, Place, Told, a_place, answered};
+use crate::writes::a_layout;
 use std::alloc::Global;
 use std::ops::Bound::Unbounded;
 use std::test::Fail;
