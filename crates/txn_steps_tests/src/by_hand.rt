@@ -1,27 +1,30 @@
 //! Calls of a client to which a hand made the replies, and what others leave in its caches meanwhile.
-use crate::calls::Call::{
-    Advance, Check, Holds, Knows, KnowsBy, Latest, Read, ReadSeen, WriteUnchecked,
+use crate::driven::Played;
+use crate::hand_calls::Call::{
+    Advance, BoundaryAdvance, BoundaryCheck, BoundaryRead, Check, Holds, Knows, KnowsBy, Latest,
+    Read, ReadSeen, WriteUnchecked,
 };
-use crate::calls::{Call, known, perform};
-use crate::driven::Said::{Did, Fails, Found, Is, Value, Wrote};
-use crate::driven::{Played, Replies, Said, a_layout};
+use crate::hand_calls::{Call, known, perform};
+use crate::operations::Told;
+use crate::operations::Told::{Did, Fails, Is, Newest, Reads, Value, Wrote};
+use crate::writes::a_layout;
 use bytes::Bytes;
-use std::alloc::Global;
+use std::alloc::{AllocError, Global};
 use std::test::Fail;
 use txn_caches::caches::{CachedBoundary, Caches};
 use txn_store::page::{Listing, Page};
-use txn_store::path::{Path, PathFault};
+use txn_store::path::Path;
 use txn_store::request::{Reply, Request};
 use txn_store::store::StoreError::{
     AlreadyExists, Failed, NoMemory, NotFound, NotModified, Precondition,
 };
 use txn_store::store::{Got, ObjectMeta, StoreError, Token};
-use txn_types::layout::Layout;
+use txn_types::layout::{Layout, PAGE};
 use txn_types::test_utils::NumberCodec;
 
 /// A reply that is made up, or something that another call of the client does before the next one.
 #[derive(Clone, Copy)]
-enum Made {
+pub(crate) enum Made {
     /// A put is done.
     Puts,
     /// A get finds these bytes.
@@ -36,11 +39,12 @@ enum Made {
 
 use Made::{Finds, Learns, Lists, Puts, Refuses};
 
-/// Replies in their order.
+/// Replies in their order, and the path of the last get with the token that it names.
 #[derive(Drop)]
-struct Script {
+pub(crate) struct Script {
     made: &'static [Made],
     next: usize,
+    got: String,
 }
 
 /// The token of whatever is made up.
@@ -93,15 +97,15 @@ impl Script {
         self.next = self.next.saturating_add(1);
         made
     }
-}
 
-impl Replies for Script {
-    fn reply(
+    /// The reply to a request. Before it others may change the boundary that the client has cached.
+    pub(crate) fn reply(
         &mut self,
         alloc: Global,
         request: &Request,
         boundary: &mut Option<CachedBoundary>,
     ) -> Result<Reply, Fail> {
+        self.got = got_by(alloc, request)?;
         let mut made = self.take();
         if let Some(Made::Learns(number)) = made {
             let token = a_token();
@@ -115,8 +119,27 @@ impl Replies for Script {
     }
 }
 
+/// The path of a get and the token that it names, or nothing.
+fn got_by(alloc: Global, request: &Request) -> Result<String, AllocError> {
+    match request {
+        Request::Get {
+            path,
+            if_none_match,
+        } => format!(in alloc; "{path} {if_none_match:?}"),
+        _ => Ok(String::new(alloc)),
+    }
+}
+
 /// A client's call, the replies, what it says, and how many calls of the store and how many looks it takes.
-type Row = (Call, &'static [Made], Said, u64, u64);
+type Row = (Call, &'static [Made], Told, u64, u64);
+
+fn a_script(alloc: Global, made: &'static [Made]) -> Script {
+    Script {
+        made,
+        next: 0,
+        got: String::new(alloc),
+    }
+}
 
 /// A call with these replies, of which none may be left.
 fn play(
@@ -126,7 +149,7 @@ fn play(
     call: Call,
     made: &'static [Made],
 ) -> Result<Played, Fail> {
-    let mut script = Script { made, next: 0 };
+    let mut script = a_script(alloc, made);
     let played = perform(alloc, &mut script, layout, caches, call)?;
     if script.next != made.len() {
         return Err("a reply is left")?;
@@ -152,7 +175,7 @@ fn other_from(
 
 /// The same, with nothing cached.
 fn other(alloc: Global, rows: &[Row]) -> Result<Option<(usize, Played)>, Fail> {
-    let layout = a_layout(alloc)?;
+    let layout = a_layout(alloc, PAGE)?;
     other_from(alloc, &layout, &mut Caches::new(), rows)
 }
 
@@ -229,7 +252,7 @@ const SCENARIOS: &[(&str, &[Row])] = &[
         &[(
             Read,
             &[Lists(Some(SECOND)), Refuses(NotFound), Lists(None)],
-            Found(None),
+            Newest(None),
             3,
             3,
         )],
@@ -248,6 +271,30 @@ const SCENARIOS: &[(&str, &[Row])] = &[
             (Holds(&[]), &[], Is(true), 0, 0),
             (ReadSeen(2), &[Finds(TEN)], Value(Some(10)), 1, 2),
             (ReadSeen(2), &[], Value(Some(10)), 0, 1),
+        ],
+    ),
+    (
+        "the parts on the boundary leave the cached versions as they are",
+        &[
+            (WriteUnchecked(0, 10), &[Puts], Wrote(1), 1, 1),
+            (BoundaryRead, &[Refuses(NotFound)], Reads(0), 1, 1),
+            (BoundaryCheck(0), &[Refuses(NotFound)], Fails(5), 1, 2),
+            (BoundaryCheck(1), &[Refuses(NotFound)], Did, 1, 2),
+            (BoundaryAdvance(3), &[Refuses(NotFound), Puts], Did, 2, 3),
+            (Knows(Some(3)), &[], Is(true), 0, 0),
+            (BoundaryRead, &[Refuses(NotModified)], Reads(3), 1, 2),
+            (BoundaryCheck(3), &[], Fails(5), 0, 1),
+            (BoundaryCheck(4), &[Refuses(NotModified)], Did, 1, 3),
+            (BoundaryAdvance(3), &[], Did, 0, 1),
+            (BoundaryAdvance(4), &[Puts], Did, 1, 2),
+            (Holds(&[1]), &[], Is(true), 0, 0),
+        ],
+    ),
+    (
+        "a boundary that another client put",
+        &[
+            (BoundaryRead, &[Finds(b"4")], Reads(4), 1, 2),
+            (Knows(Some(4)), &[], Is(true), 0, 0),
         ],
     ),
     (
@@ -284,7 +331,7 @@ fn test_latest_read_invalidates_cache_when_list_is_empty(rt: HostRuntime) -> Res
         (
             Latest,
             &[Lists(Some(FIRST)), Finds(TEN)],
-            Found(Some((1, 10))),
+            Newest(Some((1, 10))),
             2,
             3,
         ),
@@ -293,7 +340,7 @@ fn test_latest_read_invalidates_cache_when_list_is_empty(rt: HostRuntime) -> Res
         (
             Latest,
             &[Finds(TEN), Finds(TEN), Finds(TEN), Finds(TEN), Lists(None)],
-            Found(None),
+            Newest(None),
             5,
             7,
         ),
@@ -316,7 +363,7 @@ fn test_try_read_latest_retries_missing_listed_file(rt: HostRuntime) -> Result<(
                 // There is no boundary.
                 Refuses(NotFound),
             ],
-            Found(Some((2, 10))),
+            Newest(Some((2, 10))),
             5,
             6,
         ),
@@ -326,54 +373,27 @@ fn test_try_read_latest_retries_missing_listed_file(rt: HostRuntime) -> Result<(
     Ok(())
 }
 
-/// A store whose boundary file did not change since it was cached. It keeps the token that the last get of it names.
-#[derive(Drop)]
-struct Unchanged {
-    named: Option<u64>,
-}
+/// The file did not change.
+const UNCHANGED: &[Made] = &[Refuses(NotModified)];
 
-/// Whether this is the path of the boundary's file.
-fn is_of_boundary(alloc: Global, path: &Path) -> Result<bool, PathFault> {
-    Ok(*path == Path::from_text(alloc, "root/gc/test.boundary")?)
-}
-
-impl Replies for Unchanged {
-    fn reply(
-        &mut self,
-        alloc: Global,
-        request: &Request,
-        _boundary: &mut Option<CachedBoundary>,
-    ) -> Result<Reply, Fail> {
-        match request {
-            Request::Get {
-                path,
-                if_none_match,
-            } if is_of_boundary(alloc, path)? => {
-                self.named = if_none_match.map(|token| token.number());
-                Ok(Reply::Get(Err(NotModified)))
-            }
-            _ => Err("it is no get of the boundary's file")?,
-        }
-    }
-}
-
-/// The token that the get of a check names, what the check says and takes, and the cached boundary and its token then.
-type Checked = (Option<u64>, Played, Option<(u64, u64)>);
-
-/// A check of an id where a boundary of this number and token is cached.
-fn checked_with(alloc: Global, id: u64, number: u64, token: u64) -> Result<Checked, Fail> {
-    let layout = a_layout(alloc)?;
-    let mut store = Unchanged { named: None };
+/// The get of a check of an id where a boundary of this number and token is cached, what the check says and takes, and the
+/// cached boundary and its token then.
+fn checked_with(alloc: Global, id: u64, number: u64, token: u64) -> Result<String, Fail> {
+    let layout = a_layout(alloc, PAGE)?;
+    let mut script = a_script(alloc, UNCHANGED);
     let mut caches = Caches::new();
     let token = Token::new(token);
     caches.boundary = Some(CachedBoundary { number, token });
-    let played = perform(alloc, &mut store, &layout, &mut caches, Check(id))?;
-    Ok((store.named, played, known(&caches)))
+    let played = perform(alloc, &mut script, &layout, &mut caches, Check(id))?;
+    let got = script.got;
+    let known = known(&caches);
+    Ok(format!(in alloc; "{got}: {played:?}, {known:?}")?)
 }
 
 #[test]
 fn a_check_asks_for_the_file_unless_it_is_as_cached(rt: HostRuntime) -> Result<(), Fail> {
     let checked = checked_with(rt.alloc(), 3, 2, 31)?;
-    assert_eq!(rt; checked, (Some(31), (Did, 1, 3), Some((2, 31))));
+    let want = "root/gc/test.boundary Some(Token(31)): (Did, 1, 3), Some((2, 31))";
+    assert_eq!(rt; checked.as_str(), want);
     Ok(())
 }

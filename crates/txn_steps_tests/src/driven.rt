@@ -1,9 +1,11 @@
 //! Operations driven to their answer: each asks, is given a reply or looks, and takes that.
+use crate::by_hand::Script;
 use crate::fits::{
     fits_advance, fits_boundary, fits_boundary_advance, fits_boundary_check, fits_check,
-    fits_delete, fits_latest, fits_read, fits_removal, fits_seen, fits_write, fits_write_unchecked,
-    is_got, is_listed,
+    fits_latest, fits_read, fits_seen, fits_write_unchecked,
 };
+use crate::operations::Told::{Fails, GoesOn, Reads};
+use crate::operations::{Told, did, newest, valued, wrote};
 use std::alloc::Global;
 use std::test::Fail;
 use txn_caches::advance::{AdvanceOp, BoundaryAdvance};
@@ -12,79 +14,41 @@ use txn_caches::boundary_read::{BoundaryRead, Known};
 use txn_caches::caches::{CachedBoundary, Caches};
 use txn_caches::check::{BoundaryCheck, CheckOp};
 use txn_caches::turned::Turned;
-use txn_steps::delete::{DeleteOp, DeleteUncheckedOp};
 use txn_steps::latest::LatestOp;
-use txn_steps::listing::{ListAnswer, ListOp};
 use txn_steps::read::ReadOp;
-use txn_steps::seen::{ReadSeenOp, ReadUncheckedOp};
-use txn_steps::versions::{Listed, Versions};
-use txn_steps::write::{WriteOp, WriteUncheckedOp};
-use txn_store::path::{Path, PathFault};
-use txn_store::request::{Reply, Request};
+use txn_steps::seen::ReadSeenOp;
+use txn_steps::write::WriteUncheckedOp;
+use txn_store::request::Reply;
 use txn_types::error::TransactionalObjectError;
-use txn_types::id::MonotonicId;
 use txn_types::layout::Layout;
 use txn_types::test_utils::NumberCodec;
 
-pub(crate) fn a_layout(alloc: Global) -> Result<Layout<NumberCodec>, PathFault> {
-    let root = Path::from_text(alloc, "root")?;
-    Layout::new(alloc, &root, "test", "val", NumberCodec)
-}
-
-/// What a call says, an error as its number.
-#[derive(Clone, Copy, Debug, PartialEq, Eq)]
-pub(crate) enum Said {
-    Wrote(u64),
-    /// An advance, a check or a delete.
-    Did,
-    /// The newest version and its value.
-    Found(Option<(u64, u64)>),
-    /// The value of one id.
-    Value(Option<u64>),
-    /// Whether something is as it was told.
-    Is(bool),
-    /// What a read of the boundary gives.
-    Reads(u64),
-    Fails(u8),
-}
-
 /// What an operation says in the end, and how many calls of the store and how many looks it took.
-pub(crate) type Played = (Said, u64, u64);
-
-/// Something that replies to requests as a store does. Between its calls others may change the boundary that a
-/// client has cached.
-pub(crate) trait Replies {
-    fn reply(
-        &mut self,
-        alloc: Global,
-        request: &Request,
-        boundary: &mut Option<CachedBoundary>,
-    ) -> Result<Reply, Fail>;
-}
+pub(crate) type Played = (Told, u64, u64);
 
 /// An operation as a driver sees it.
 pub(crate) trait Operation {
     fn asks(&self) -> Ask<'_>;
 
-    /// Takes a reply, or none for a look, and says its answer where it is done. What it didn't ask for is a failure.
+    /// Takes a reply, or none for a look, and says its answer, or that it goes on. What it didn't ask for is a failure.
     fn turn(
         &mut self,
         alloc: Global,
         layout: &Layout<NumberCodec>,
         caches: &mut Caches,
         reply: Option<Reply>,
-    ) -> Result<Option<Said>, Fail>;
+    ) -> Result<Told, Fail>;
 }
 
 /// Makes the call of the store that is asked for, or none for a look.
-fn made<R: Replies>(
+fn made(
     alloc: Global,
-    store: &mut R,
+    script: &mut Script,
     boundary: &mut Option<CachedBoundary>,
     ask: Ask<'_>,
 ) -> Result<Option<Reply>, Fail> {
     match ask {
-        Ask::Store(request) => Ok(Some(store.reply(alloc, request, boundary)?)),
+        Ask::Store(request) => Ok(Some(script.reply(alloc, request, boundary)?)),
         Ask::Look => Ok(None),
     }
 }
@@ -93,105 +57,57 @@ fn made<R: Replies>(
 const STEPS: u64 = 40;
 
 /// Drives an operation to its answer.
-pub(crate) fn drive<O: Operation + Drop, R: Replies>(
+pub(crate) fn drive<O: Operation + Drop>(
     alloc: Global,
-    store: &mut R,
+    script: &mut Script,
     layout: &Layout<NumberCodec>,
     caches: &mut Caches,
     op: O,
 ) -> Result<Played, Fail> {
     let mut op = op;
-    drive_on(alloc, store, layout, caches, &mut op)
+    drive_on(alloc, script, layout, caches, &mut op)
 }
 
 /// The same, of an operation that its caller drops.
-fn drive_on<O: Operation, R: Replies>(
+fn drive_on<O: Operation>(
     alloc: Global,
-    store: &mut R,
+    script: &mut Script,
     layout: &Layout<NumberCodec>,
     caches: &mut Caches,
     op: &mut O,
 ) -> Result<Played, Fail> {
     let mut looks = 0u64;
     for step in 1..STEPS {
-        let reply = made(alloc, store, &mut caches.boundary, op.asks())?;
+        let reply = made(alloc, script, &mut caches.boundary, op.asks())?;
         if reply.is_none() {
             looks = looks.saturating_add(1);
         }
-        if let Some(said) = op.turn(alloc, layout, caches, reply)? {
-            return Ok((said, step.saturating_sub(looks), looks));
+        let told = op.turn(alloc, layout, caches, reply)?;
+        if told != GoesOn {
+            return Ok((told, step.saturating_sub(looks), looks));
         }
     }
     Err("it goes on")?
 }
 
-type Error = TransactionalObjectError;
-
-fn did(turned: Turned<Result<(), Error>>) -> Option<Said> {
+/// What an operation answers, where it is done.
+fn done<A>(turned: Turned<A>) -> Option<A> {
     match turned {
         Turned::Goes => None,
-        Turned::Done(Ok(())) => Some(Said::Did),
-        Turned::Done(Err(error)) => Some(Said::Fails(error.number())),
+        Turned::Done(answer) => Some(answer),
     }
 }
 
-fn known(turned: Turned<Result<Known, Error>>) -> Option<Said> {
-    match turned {
-        Turned::Goes => None,
-        Turned::Done(Ok(known)) => Some(Said::Reads(known.0)),
-        Turned::Done(Err(error)) => Some(Said::Fails(error.number())),
-    }
-}
-
-fn wrote(turned: Turned<Result<MonotonicId, Error>>) -> Option<Said> {
-    match turned {
-        Turned::Goes => None,
-        Turned::Done(Ok(id)) => Some(Said::Wrote(id.id())),
-        Turned::Done(Err(error)) => Some(Said::Fails(error.number())),
-    }
-}
-
-fn found(turned: Turned<Result<Option<(MonotonicId, u64)>, Error>>) -> Option<Said> {
-    match turned {
-        Turned::Goes => None,
-        Turned::Done(Ok(None)) => Some(Said::Found(None)),
-        Turned::Done(Ok(Some((id, value)))) => Some(Said::Found(Some((id.id(), value)))),
-        Turned::Done(Err(error)) => Some(Said::Fails(error.number())),
-    }
-}
-
-fn valued(turned: Turned<Result<Option<u64>, Error>>) -> Option<Said> {
-    match turned {
-        Turned::Goes => None,
-        Turned::Done(Ok(value)) => Some(Said::Value(value)),
-        Turned::Done(Err(error)) => Some(Said::Fails(error.number())),
-    }
-}
-
-fn have_ids(versions: &[Listed], ids: &[u64]) -> bool {
-    for (version, id) in versions.iter().zip(ids) {
-        if !version.id.is(*id) {
-            return false;
-        }
-    }
-    true
-}
-
-/// Whether the versions have these ids, in this order.
-fn are_versions(versions: Versions, ids: &[u64]) -> bool {
-    versions.as_slice().len() == ids.len() && have_ids(versions.into_vec().as_slice(), ids)
-}
-
-fn listed(turned: Turned<ListAnswer>, ids: &[u64]) -> Option<Said> {
-    match turned {
-        Turned::Goes => None,
-        Turned::Done(Ok(versions)) => Some(Said::Is(are_versions(versions, ids))),
-        Turned::Done(Err(error)) => Some(Said::Fails(error.number())),
+fn known(answer: Option<Result<Known, TransactionalObjectError>>) -> Told {
+    match answer {
+        None => GoesOn,
+        Some(Ok(known)) => Reads(known.0),
+        Some(Err(error)) => Fails(error.number()),
     }
 }
 
 /// It drops the reply.
-fn of_another_kind(_reply: Option<Reply>) -> Result<Option<Said>, Fail> {
+fn of_another_kind(_reply: Option<Reply>) -> Result<Told, Fail> {
     Err("a reply of another kind")?
 }
 
@@ -206,9 +122,9 @@ impl Operation for BoundaryRead {
         _layout: &Layout<NumberCodec>,
         caches: &mut Caches,
         reply: Option<Reply>,
-    ) -> Result<Option<Said>, Fail> {
+    ) -> Result<Told, Fail> {
         if fits_boundary(self, &reply) {
-            Ok(known(self.take(&mut caches.boundary, reply)))
+            Ok(known(done(self.take(&mut caches.boundary, reply))))
         } else {
             of_another_kind(reply)
         }
@@ -226,9 +142,9 @@ impl Operation for BoundaryCheck {
         _layout: &Layout<NumberCodec>,
         caches: &mut Caches,
         reply: Option<Reply>,
-    ) -> Result<Option<Said>, Fail> {
+    ) -> Result<Told, Fail> {
         if fits_boundary_check(self, &reply) {
-            Ok(did(self.take(&mut caches.boundary, reply)))
+            Ok(did(done(self.take(&mut caches.boundary, reply))))
         } else {
             of_another_kind(reply)
         }
@@ -246,9 +162,9 @@ impl Operation for BoundaryAdvance {
         layout: &Layout<NumberCodec>,
         caches: &mut Caches,
         reply: Option<Reply>,
-    ) -> Result<Option<Said>, Fail> {
+    ) -> Result<Told, Fail> {
         if fits_boundary_advance(self, &reply) {
-            Ok(did(self.take(alloc, &layout.boundary, &mut caches.boundary, reply)))
+            Ok(did(done(self.take(alloc, &layout.boundary, &mut caches.boundary, reply))))
         } else {
             of_another_kind(reply)
         }
@@ -266,9 +182,9 @@ impl Operation for CheckOp {
         _layout: &Layout<NumberCodec>,
         caches: &mut Caches,
         reply: Option<Reply>,
-    ) -> Result<Option<Said>, Fail> {
+    ) -> Result<Told, Fail> {
         if fits_check(self, &reply) {
-            Ok(did(self.take(caches, reply)))
+            Ok(did(done(self.take(caches, reply))))
         } else {
             of_another_kind(reply)
         }
@@ -286,9 +202,9 @@ impl Operation for AdvanceOp {
         layout: &Layout<NumberCodec>,
         caches: &mut Caches,
         reply: Option<Reply>,
-    ) -> Result<Option<Said>, Fail> {
+    ) -> Result<Told, Fail> {
         if fits_advance(self, &reply) {
-            Ok(did(self.take(alloc, layout, caches, reply)))
+            Ok(did(done(self.take(alloc, layout, caches, reply))))
         } else {
             of_another_kind(reply)
         }
@@ -306,29 +222,9 @@ impl Operation for WriteUncheckedOp {
         _layout: &Layout<NumberCodec>,
         caches: &mut Caches,
         reply: Option<Reply>,
-    ) -> Result<Option<Said>, Fail> {
+    ) -> Result<Told, Fail> {
         if fits_write_unchecked(self, &reply) {
-            Ok(wrote(self.take(&mut caches.latest, reply)))
-        } else {
-            of_another_kind(reply)
-        }
-    }
-}
-
-impl Operation for WriteOp {
-    fn asks(&self) -> Ask<'_> {
-        self.ask()
-    }
-
-    fn turn(
-        &mut self,
-        _alloc: Global,
-        _layout: &Layout<NumberCodec>,
-        caches: &mut Caches,
-        reply: Option<Reply>,
-    ) -> Result<Option<Said>, Fail> {
-        if fits_write(self, &reply) {
-            Ok(wrote(self.take(caches, reply)))
+            Ok(wrote(done(self.take(&mut caches.latest, reply))))
         } else {
             of_another_kind(reply)
         }
@@ -346,9 +242,9 @@ impl Operation for LatestOp<u64> {
         layout: &Layout<NumberCodec>,
         caches: &mut Caches,
         reply: Option<Reply>,
-    ) -> Result<Option<Said>, Fail> {
+    ) -> Result<Told, Fail> {
         if fits_latest(self, &reply) {
-            Ok(found(self.take(alloc, layout, &mut caches.latest, reply)))
+            Ok(newest(done(self.take(alloc, layout, &mut caches.latest, reply))))
         } else {
             of_another_kind(reply)
         }
@@ -366,29 +262,9 @@ impl Operation for ReadOp<u64> {
         layout: &Layout<NumberCodec>,
         caches: &mut Caches,
         reply: Option<Reply>,
-    ) -> Result<Option<Said>, Fail> {
+    ) -> Result<Told, Fail> {
         if fits_read(self, &reply) {
-            Ok(found(self.take(alloc, layout, caches, reply)))
-        } else {
-            of_another_kind(reply)
-        }
-    }
-}
-
-impl Operation for ReadUncheckedOp {
-    fn asks(&self) -> Ask<'_> {
-        self.ask()
-    }
-
-    fn turn(
-        &mut self,
-        alloc: Global,
-        layout: &Layout<NumberCodec>,
-        _caches: &mut Caches,
-        reply: Option<Reply>,
-    ) -> Result<Option<Said>, Fail> {
-        if is_got(&reply) {
-            Ok(valued(self.take(alloc, layout, reply)))
+            Ok(newest(done(self.take(alloc, layout, caches, reply))))
         } else {
             of_another_kind(reply)
         }
@@ -406,76 +282,9 @@ impl Operation for ReadSeenOp<u64> {
         layout: &Layout<NumberCodec>,
         caches: &mut Caches,
         reply: Option<Reply>,
-    ) -> Result<Option<Said>, Fail> {
+    ) -> Result<Told, Fail> {
         if fits_seen(self, &reply) {
-            Ok(valued(self.take(alloc, layout, &mut caches.latest, reply)))
-        } else {
-            of_another_kind(reply)
-        }
-    }
-}
-
-/// A listing, and the ids that it should tell.
-#[derive(Drop)]
-pub(crate) struct Listing {
-    pub op: ListOp,
-    pub ids: &'static [u64],
-}
-
-impl Operation for Listing {
-    fn asks(&self) -> Ask<'_> {
-        self.op.ask()
-    }
-
-    fn turn(
-        &mut self,
-        alloc: Global,
-        layout: &Layout<NumberCodec>,
-        _caches: &mut Caches,
-        reply: Option<Reply>,
-    ) -> Result<Option<Said>, Fail> {
-        if is_listed(&reply) {
-            Ok(listed(self.op.take(alloc, layout, reply), self.ids))
-        } else {
-            of_another_kind(reply)
-        }
-    }
-}
-
-impl Operation for DeleteUncheckedOp {
-    fn asks(&self) -> Ask<'_> {
-        self.ask()
-    }
-
-    fn turn(
-        &mut self,
-        _alloc: Global,
-        _layout: &Layout<NumberCodec>,
-        caches: &mut Caches,
-        reply: Option<Reply>,
-    ) -> Result<Option<Said>, Fail> {
-        if fits_removal(self, &reply) {
-            Ok(did(self.take(&mut caches.latest, reply)))
-        } else {
-            of_another_kind(reply)
-        }
-    }
-}
-
-impl Operation for DeleteOp {
-    fn asks(&self) -> Ask<'_> {
-        self.ask()
-    }
-
-    fn turn(
-        &mut self,
-        _alloc: Global,
-        _layout: &Layout<NumberCodec>,
-        caches: &mut Caches,
-        reply: Option<Reply>,
-    ) -> Result<Option<Said>, Fail> {
-        if fits_delete(self, &reply) {
-            Ok(did(self.take(caches, reply)))
+            Ok(valued(done(self.take(alloc, layout, &mut caches.latest, reply))))
         } else {
             of_another_kind(reply)
         }

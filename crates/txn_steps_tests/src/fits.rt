@@ -1,25 +1,23 @@
 //! Whether a reply, or none for a look, is what an operation asks for.
 ghost use Rattle.std.specs.Prelude.{IsTrue};
-ghost use Rattle.txn_caches.specs.Asking.{IsLook, IsPut, IsGot, IsListed, IsDeleted};
+ghost use Rattle.txn_caches.specs.Asking.{IsLook, IsPut, IsGot, IsListed};
 ghost use Rattle.txn_caches.specs.BoundaryReads.{IsBoundaryReply};
 ghost use Rattle.txn_caches.specs.BoundaryChecks.{IsBoundaryCheckReply};
 ghost use Rattle.txn_caches.specs.BoundaryAdvances.{IsBoundaryAdvanceReply};
 ghost use Rattle.txn_caches.specs.Checks.{IsCheckReply};
 ghost use Rattle.txn_caches.specs.Advances.{IsAdvanceReply};
-ghost use Rattle.txn_steps.specs.Writes.{IsUncheckedReply, IsWriteReply};
+ghost use Rattle.txn_steps.specs.Writes.{IsUncheckedReply};
 ghost use Rattle.txn_steps.specs.Latest.{IsLatestReply, InRange};
 ghost use Rattle.txn_steps.specs.Reads.{IsReadReply, IsInRange};
 ghost use Rattle.txn_steps.specs.SeenSteps.{IsSeenReply};
-ghost use Rattle.txn_steps.specs.Deletes.{IsRemovalReply, IsDeleteReply};
 
 use txn_caches::advance::{AdvanceOp, BoundaryAdvance};
 use txn_caches::boundary_read::BoundaryRead;
 use txn_caches::check::{BoundaryCheck, BoundaryStep, CheckOp};
-use txn_steps::delete::{DeleteOp, DeleteStep, DeleteUncheckedOp, RemovalStep};
 use txn_steps::latest::LatestOp;
 use txn_steps::read::ReadOp;
 use txn_steps::seen::ReadSeenOp;
-use txn_steps::write::{WriteOp, WriteStep, WriteUncheckedOp};
+use txn_steps::write::WriteUncheckedOp;
 use txn_store::request::Reply;
 
 fn is_look(reply: &Option<Reply>) -> bool
@@ -34,22 +32,16 @@ fn is_put(reply: &Option<Reply>) -> bool
     matches!(reply, Some(Reply::Put(_)))
 }
 
-pub(crate) fn is_got(reply: &Option<Reply>) -> bool
+fn is_got(reply: &Option<Reply>) -> bool
     ensures { IsTrue result → IsGot reply.now }
 {
     matches!(reply, Some(Reply::Get(_)))
 }
 
-pub(crate) fn is_listed(reply: &Option<Reply>) -> bool
+fn is_listed(reply: &Option<Reply>) -> bool
     ensures { IsTrue result → IsListed reply.now }
 {
     matches!(reply, Some(Reply::List(_)))
-}
-
-fn is_deleted(reply: &Option<Reply>) -> bool
-    ensures { IsTrue result → IsDeleted reply.now }
-{
-    matches!(reply, Some(Reply::Delete(_)))
 }
 
 pub(crate) fn fits_boundary(op: &BoundaryRead, reply: &Option<Reply>) -> bool
@@ -108,15 +100,6 @@ pub(crate) fn fits_write_unchecked(op: &WriteUncheckedOp, reply: &Option<Reply>)
     }
 }
 
-pub(crate) fn fits_write(op: &WriteOp, reply: &Option<Reply>) -> bool
-    ensures { IsTrue result → IsWriteReply op.now reply.now }
-{
-    match op.step {
-        WriteStep::Writes => fits_write_unchecked(&op.write, reply),
-        WriteStep::Checks => fits_check(&op.check, reply),
-    }
-}
-
 /// It has found no more than four successors besides.
 pub(crate) fn fits_latest(op: &LatestOp<u64>, reply: &Option<Reply>) -> bool
     ensures reply { IsTrue result → IsLatestReply op.now reply.now }
@@ -150,23 +133,5 @@ pub(crate) fn fits_seen(op: &ReadSeenOp<u64>, reply: &Option<Reply>) -> bool
         ReadSeenOp::Gets(..) => is_got(reply),
         ReadSeenOp::Ended => false,
         _ => is_look(reply),
-    }
-}
-
-pub(crate) fn fits_removal(op: &DeleteUncheckedOp, reply: &Option<Reply>) -> bool
-    ensures { IsTrue result → IsRemovalReply op.now reply.now }
-{
-    match op.step {
-        RemovalStep::Removes => is_deleted(reply),
-        RemovalStep::Drops => is_look(reply),
-    }
-}
-
-pub(crate) fn fits_delete(op: &DeleteOp, reply: &Option<Reply>) -> bool
-    ensures { IsTrue result → IsDeleteReply op.now reply.now }
-{
-    match op.step {
-        DeleteStep::Checks => fits_check(&op.check, reply),
-        DeleteStep::Removes => fits_removal(&op.removal, reply),
     }
 }

@@ -1,20 +1,20 @@
 //! Scenarios: calls of two clients over one store, each with what it says and how many calls of the store and looks it
 //! took.
-use crate::calls::Call::{
-    Advance, BoundaryAdvance, BoundaryCheck, BoundaryRead, Check, Delete, DeleteUnchecked, Holds,
-    Knows, Latest, Lists, Put, Read, ReadSeen, ReadUnchecked, Write, WriteUnchecked,
+ghost use Rattle.std.specs.Prelude.{◌≤◌};
+
+use crate::operations::Call::{
+    Advance, Check, Delete, DeleteUnchecked, Holds, Knows, Latest, Lists, Put, Read, ReadSeen,
+    ReadUnchecked, Write, WriteUnchecked,
 };
-use crate::calls::{Call, perform};
-use crate::driven::Said::{Did, Fails, Found, Is, Reads, Value, Wrote};
-use crate::driven::{Played, Replies, Said, a_layout};
+use crate::operations::Told::{Did, Fails, Is, Newest, Value, Wrote};
+use crate::operations::{Call, Place, Store, Told, a_place, answered};
+use crate::writes::a_layout;
 use std::alloc::Global;
+use std::mem;
 use std::ops::Bound::{Excluded, Included, Unbounded};
 use std::test::Fail;
-use txn_caches::caches::{CachedBoundary, Caches};
-use txn_store::failing::{FailingStore, When};
-use txn_store::in_memory::InMemory;
-use txn_store::request::{Reply, Request, serve};
-use txn_types::layout::{Layout, PAGE};
+use txn_store::path::PathFault;
+use txn_types::layout::Layout;
 use txn_types::test_utils::NumberCodec;
 
 /// Which client makes a call.
@@ -27,80 +27,72 @@ enum Client {
 use Client::{A, B};
 
 /// A client's call, what it says, and how many calls of the store and how many looks it takes.
-type Row = (Client, Call, Said, u64, u64);
+type Row = (Client, Call, Told, u64, u64);
 
-/// Two clients and their store.
-#[derive(Drop)]
-struct World {
-    store: FailingStore<InMemory>,
-    layout: Layout<NumberCodec>,
-    a: Caches,
-    b: Caches,
+/// What a call says, how many calls of the store it made, and whether it was done with fewer steps than it was given.
+type Played = (Told, u64, bool);
+
+/// How many calls a store has served.
+pub(crate) fn calls_of(store: &Store) -> u64 {
+    let counts = store.counts();
+    counts
+        .puts
+        .saturating_add(counts.gets)
+        .saturating_add(counts.lists)
+        .saturating_add(counts.deletes)
 }
 
-impl Replies for FailingStore<InMemory> {
-    fn reply(
-        &mut self,
-        alloc: Global,
-        request: &Request,
-        _boundary: &mut Option<CachedBoundary>,
-    ) -> Result<Reply, Fail> {
-        match request {
-            Request::List { limit: 0, .. } => Err("a page of no file")?,
-            _ => Ok(serve(alloc, self, request)),
-        }
-    }
+/// Makes a call, driven for so many steps.
+fn play(
+    alloc: Global,
+    layout: &Layout<NumberCodec>,
+    place: &mut Place,
+    call: Call,
+    steps: u64,
+) -> Played
+    requires { 1 ≤ layout.now.page }
+{
+    let before = calls_of(&place.store);
+    place.early = false;
+    let told = answered(alloc, layout, place, call, steps);
+    let calls = calls_of(&place.store).saturating_sub(before);
+    (told, calls, place.early)
 }
 
-/// A world with nothing in it, whose pages have so many files at most, and whose nth call of the store fails.
-fn a_world(alloc: Global, page: u64, nth: u64) -> Result<World, Fail> {
-    let mut layout = a_layout(alloc)?;
-    layout.page = page;
-    Ok(World {
-        store: FailingStore::new(InMemory::new(alloc), nth, When::Before),
-        layout,
-        a: Caches::new(),
-        b: Caches::new(),
-    })
-}
-
-fn play(alloc: Global, world: &mut World, client: Client, call: Call) -> Result<Played, Fail> {
-    let World {
-        store,
-        layout,
-        a,
-        b,
-    } = world;
-    match client {
-        A => perform(alloc, store, layout, a, call),
-        B => perform(alloc, store, layout, b, call),
-    }
-}
-
-/// The first row that goes otherwise, counted from 0, with what it says and takes, where there is one.
+/// The first row that goes otherwise, counted from 0, with what it says and takes, where there is one. Client A begins.
 fn other_in(
     alloc: Global,
-    world: &mut World,
+    layout: &Layout<NumberCodec>,
+    place: &mut Place,
     rows: &[Row],
-) -> Result<Option<(usize, Played)>, Fail> {
+) -> Option<(usize, Played)>
+    requires { 1 ≤ layout.now.page }
+{
+    let mut at_call = A;
     for (at, (client, call, said, calls, looks)) in rows.iter().enumerate() {
-        let played = play(alloc, world, *client, *call)?;
-        if played != (*said, *calls, *looks) {
-            return Ok(Some((at, played)));
+        if *client != at_call {
+            at_call = *client;
+            mem::swap(&mut place.caches, &mut place.others);
+        }
+        let played = play(alloc, layout, place, *call, calls.saturating_add(*looks));
+        if played != (*said, *calls, false) {
+            return Some((at, played));
         }
     }
-    Ok(None)
+    None
 }
 
-/// The same, in a world of its own.
+/// The same, in a place of its own.
 fn other(
     alloc: Global,
     page: u64,
     nth: u64,
     rows: &[Row],
-) -> Result<Option<(usize, Played)>, Fail> {
-    let mut world = a_world(alloc, page, nth)?;
-    other_in(alloc, &mut world, rows)
+) -> Result<Option<(usize, Played)>, PathFault>
+    requires { 1 ≤ page }
+{
+    let layout = a_layout(alloc, page)?;
+    Ok(other_in(alloc, &layout, &mut a_place(alloc, nth), rows))
 }
 
 const BOUNDARY: &str = "root/gc/test.boundary";
@@ -150,12 +142,12 @@ const SCENARIOS: &[(&str, &[Row])] = &[
     (
         "calls with nothing cached and with something cached",
         &[
-            (A, Read, Found(None), 1, 2),
+            (A, Read, Newest(None), 1, 2),
             (A, Write(0, 10), Wrote(1), 2, 3),
             (A, Write(1, 20), Wrote(2), 2, 3),
-            (B, Read, Found(Some((2, 20))), 3, 5),
+            (B, Read, Newest(Some((2, 20))), 3, 5),
             (B, Holds(&[2]), Is(true), 0, 0),
-            (B, Read, Found(Some((2, 20))), 2, 3),
+            (B, Read, Newest(Some((2, 20))), 2, 3),
             (B, Check(1), Did, 1, 2),
             (A, Advance(1), Did, 2, 4),
             (A, Holds(&[2]), Is(true), 0, 0),
@@ -166,11 +158,11 @@ const SCENARIOS: &[(&str, &[Row])] = &[
             (B, Check(1), Fails(5), 0, 2),
             (B, Holds(&[2]), Is(true), 0, 0),
             (A, Check(2), Did, 1, 3),
-            (B, Read, Found(Some((2, 20))), 2, 4),
+            (B, Read, Newest(Some((2, 20))), 2, 4),
             (A, Write(2, 30), Wrote(3), 2, 4),
             (B, Write(2, 31), Fails(5), 1, 0),
             (B, Holds(&[2]), Is(true), 0, 0),
-            (B, Read, Found(Some((3, 30))), 3, 5),
+            (B, Read, Newest(Some((3, 30))), 3, 5),
             (B, Holds(&[2, 3]), Is(true), 0, 0),
             (A, Advance(2), Did, 1, 3),
             (A, Holds(&[3]), Is(true), 0, 0),
@@ -190,9 +182,9 @@ const SCENARIOS: &[(&str, &[Row])] = &[
             (A, ReadSeen(2), Value(None), 1, 1),
             (A, DeleteUnchecked(3), Did, 1, 1),
             (A, Holds(&[]), Is(true), 0, 0),
-            (A, Read, Found(None), 1, 2),
+            (A, Read, Newest(None), 1, 2),
             // It reads what it holds.
-            (B, Read, Found(Some((3, 30))), 2, 4),
+            (B, Read, Newest(Some((3, 30))), 2, 4),
         ],
     ),
     (
@@ -242,25 +234,6 @@ const SCENARIOS: &[(&str, &[Row])] = &[
         ],
     ),
     (
-        "the parts on the boundary leave the cached versions as they are",
-        &[
-            (A, WriteUnchecked(0, 10), Wrote(1), 1, 1),
-            (A, BoundaryRead, Reads(0), 1, 1),
-            (A, BoundaryCheck(0), Fails(5), 1, 2),
-            (A, BoundaryCheck(1), Did, 1, 2),
-            (A, BoundaryAdvance(3), Did, 2, 3),
-            (A, Knows(Some(3)), Is(true), 0, 0),
-            (A, BoundaryRead, Reads(3), 1, 2),
-            (A, BoundaryCheck(3), Fails(5), 0, 1),
-            (A, BoundaryCheck(4), Did, 1, 3),
-            (A, BoundaryAdvance(3), Did, 0, 1),
-            (A, BoundaryAdvance(4), Did, 1, 2),
-            (B, BoundaryRead, Reads(4), 1, 2),
-            (B, Knows(Some(4)), Is(true), 0, 0),
-            (A, Holds(&[1]), Is(true), 0, 0),
-        ],
-    ),
-    (
         "a write under the boundary conflicts and stays",
         &[
             (A, Advance(2), Did, 2, 4),
@@ -278,7 +251,7 @@ const SCENARIOS: &[(&str, &[Row])] = &[
     (
         "a bad boundary is an unexpected state",
         &[
-            (A, Put(BOUNDARY, b"seven"), Did, 1, 0),
+            (A, Put(BOUNDARY, b"seven"), Is(true), 1, 0),
             (A, Check(8), Fails(7), 1, 2),
             (A, Advance(8), Fails(7), 1, 2),
             (A, Delete(8), Fails(7), 1, 2),
@@ -294,23 +267,23 @@ const SCENARIOS: &[(&str, &[Row])] = &[
             (A, Write(u64::MAX, 7), Fails(10), 0, 0),
             (A, WriteUnchecked(u64::MAX, 7), Fails(10), 0, 0),
             (A, Write(u64::MAX - 1, 7), Wrote(u64::MAX), 2, 3),
-            (A, Latest, Found(Some((u64::MAX, 7))), 0, 1),
-            (A, Read, Found(Some((u64::MAX, 7))), 1, 3),
-            (B, Read, Found(Some((u64::MAX, 7))), 3, 5),
+            (A, Latest, Newest(Some((u64::MAX, 7))), 0, 1),
+            (A, Read, Newest(Some((u64::MAX, 7))), 1, 3),
+            (B, Read, Newest(Some((u64::MAX, 7))), 3, 5),
         ],
     ),
     (
         "a read probes four successors, and then lists",
         &[
             (A, WriteUnchecked(0, 10), Wrote(1), 1, 1),
-            (B, Latest, Found(Some((1, 10))), 2, 3),
-            (B, Latest, Found(Some((1, 10))), 1, 1),
+            (B, Latest, Newest(Some((1, 10))), 2, 3),
+            (B, Latest, Newest(Some((1, 10))), 1, 1),
             (A, WriteUnchecked(1, 20), Wrote(2), 1, 1),
             (A, WriteUnchecked(2, 30), Wrote(3), 1, 1),
             (A, WriteUnchecked(3, 40), Wrote(4), 1, 1),
             (A, WriteUnchecked(4, 50), Wrote(5), 1, 1),
             // The greatest listed is the fourth that it found.
-            (B, Latest, Found(Some((5, 50))), 5, 7),
+            (B, Latest, Newest(Some((5, 50))), 5, 7),
             (B, Holds(&[1, 2, 3, 4, 5]), Is(true), 0, 0),
             (A, WriteUnchecked(5, 60), Wrote(6), 1, 1),
             (A, WriteUnchecked(6, 70), Wrote(7), 1, 1),
@@ -318,14 +291,14 @@ const SCENARIOS: &[(&str, &[Row])] = &[
             (A, WriteUnchecked(8, 90), Wrote(9), 1, 1),
             (A, WriteUnchecked(9, 100), Wrote(10), 1, 1),
             // The greatest listed is one more.
-            (B, Latest, Found(Some((10, 100))), 6, 7),
+            (B, Latest, Newest(Some((10, 100))), 6, 7),
             (B, Holds(&[3, 4, 5, 6, 7, 8, 9, 10]), Is(true), 0, 0),
             (A, WriteUnchecked(10, 110), Wrote(11), 1, 1),
             (A, WriteUnchecked(11, 120), Wrote(12), 1, 1),
             (A, WriteUnchecked(12, 130), Wrote(13), 1, 1),
-            (B, Latest, Found(Some((13, 130))), 4, 4),
+            (B, Latest, Newest(Some((13, 130))), 4, 4),
             (B, Holds(&[6, 7, 8, 9, 10, 11, 12, 13]), Is(true), 0, 0),
-            (B, Read, Found(Some((13, 130))), 2, 3),
+            (B, Read, Newest(Some((13, 130))), 2, 3),
         ],
     ),
     (
@@ -343,7 +316,7 @@ const SCENARIOS: &[(&str, &[Row])] = &[
             (B, Delete(3), Did, 1, 3),
             (B, Delete(4), Did, 1, 3),
             // It finds no successor of what it holds, which the boundary has reached.
-            (A, Read, Found(Some((5, 50))), 5, 11),
+            (A, Read, Newest(Some((5, 50))), 5, 11),
             (A, Holds(&[5]), Is(true), 0, 0),
             (A, Knows(Some(4)), Is(true), 0, 0),
         ],
@@ -354,34 +327,40 @@ const SCENARIOS: &[(&str, &[Row])] = &[
             (
                 A,
                 Put("root/test/00000000000000000009.vat", NOTES),
-                Did,
+                Is(true),
                 1,
                 0,
             ),
-            (A, Latest, Found(None), 1, 2),
-            (A, Put("root/test/9.val", NOTES), Did, 1, 0),
-            (A, Latest, Found(None), 1, 2),
-            (A, Put("root/test/notes.txt", NOTES), Did, 1, 0),
-            (A, Latest, Found(None), 1, 2),
+            (A, Latest, Newest(None), 1, 2),
+            (A, Put("root/test/9.val", NOTES), Is(true), 1, 0),
+            (A, Latest, Newest(None), 1, 2),
+            (A, Put("root/test/notes.txt", NOTES), Is(true), 1, 0),
+            (A, Latest, Newest(None), 1, 2),
             (
                 A,
                 Put("root/test/a/00000000000000000009.val", NOTES),
-                Did,
+                Is(true),
                 1,
                 0,
             ),
-            (A, Latest, Found(None), 1, 2),
-            (A, Put("root/00000000000000000009.val", NOTES), Did, 1, 0),
-            (A, Latest, Found(None), 1, 2),
+            (A, Latest, Newest(None), 1, 2),
+            (
+                A,
+                Put("root/00000000000000000009.val", NOTES),
+                Is(true),
+                1,
+                0,
+            ),
+            (A, Latest, Newest(None), 1, 2),
             (A, WriteUnchecked(0, 40), Wrote(1), 1, 1),
-            (B, Read, Found(Some((1, 40))), 3, 5),
+            (B, Read, Newest(Some((1, 40))), 3, 5),
         ],
     ),
     (
         "bytes that the codec refuses",
         &[
             (A, Write(0, 10), Wrote(1), 2, 3),
-            (A, Put(SECOND, REFUSED), Did, 1, 0),
+            (A, Put(SECOND, REFUSED), Is(true), 1, 0),
             (B, Latest, Fails(8), 2, 2),
             (B, Read, Fails(8), 2, 2),
             (B, ReadSeen(2), Fails(8), 1, 1),
@@ -398,11 +377,11 @@ const SCENARIOS: &[(&str, &[Row])] = &[
         "bytes that the codec refuses, as the fourth that is found",
         &[
             (A, WriteUnchecked(0, 10), Wrote(1), 1, 1),
-            (B, Latest, Found(Some((1, 10))), 2, 3),
+            (B, Latest, Newest(Some((1, 10))), 2, 3),
             (A, WriteUnchecked(1, 20), Wrote(2), 1, 1),
             (A, WriteUnchecked(2, 30), Wrote(3), 1, 1),
             (A, WriteUnchecked(3, 40), Wrote(4), 1, 1),
-            (A, Put(FIFTH, REFUSED), Did, 1, 0),
+            (A, Put(FIFTH, REFUSED), Is(true), 1, 0),
             (B, Latest, Fails(8), 5, 6),
             (B, Holds(&[1, 2, 3, 4, 5]), Is(true), 0, 0),
         ],
@@ -412,7 +391,7 @@ const SCENARIOS: &[(&str, &[Row])] = &[
 #[test]
 fn each_call_takes_its_steps(rt: HostRuntime) -> Result<(), Fail> {
     for (name, rows) in SCENARIOS {
-        assert_eq!(rt; other(rt.alloc(), PAGE, 0, rows)?, None, "{name}");
+        assert_eq!(rt; other(rt.alloc(), 1000, 0, rows)?, None, "{name}");
     }
     Ok(())
 }
@@ -444,12 +423,12 @@ const FIVE: &[Row] = &[
     (A, Lists(Included(6), Unbounded, &[]), Is(true), 3, 0),
     (A, Lists(Unbounded, Excluded(1), &[]), Is(true), 3, 0),
     // Three pages, a get of the newest and one of the boundary.
-    (B, Read, Found(Some((5, 50))), 5, 5),
+    (B, Read, Newest(Some((5, 50))), 5, 5),
     (B, Holds(&[5]), Is(true), 0, 0),
-    (B, Read, Found(Some((5, 50))), 2, 3),
+    (B, Read, Newest(Some((5, 50))), 2, 3),
     // A file that is no version is a file of a page.
-    (A, Put("root/test/notes.txt", b"8 bytes!"), Did, 1, 0),
-    (A, Put("root/test/zzz.txt", b"8 bytes!"), Did, 1, 0),
+    (A, Put("root/test/notes.txt", b"8 bytes!"), Is(true), 1, 0),
+    (A, Put("root/test/zzz.txt", b"8 bytes!"), Is(true), 1, 0),
     (
         A,
         Lists(Unbounded, Unbounded, &[1, 2, 3, 4, 5]),
@@ -473,7 +452,7 @@ const FAILING: &[(u64, &[Row])] = &[
         &[
             (A, Write(0, 10), Fails(2), 1, 0),
             (A, Holds(&[]), Is(true), 0, 0),
-            (A, Read, Found(None), 1, 2),
+            (A, Read, Newest(None), 1, 2),
         ],
     ),
     (
@@ -481,7 +460,7 @@ const FAILING: &[(u64, &[Row])] = &[
         &[
             (A, Write(0, 10), Fails(2), 2, 3),
             (A, Holds(&[1]), Is(true), 0, 0),
-            (A, Read, Found(Some((1, 10))), 2, 3),
+            (A, Read, Newest(Some((1, 10))), 2, 3),
         ],
     ),
     (1, &[(A, WriteUnchecked(0, 10), Fails(2), 1, 0)]),
@@ -534,7 +513,7 @@ const FAILING: &[(u64, &[Row])] = &[
 #[test]
 fn a_failing_store_ends_a_call(rt: HostRuntime) -> Result<(), Fail> {
     for (at, (nth, rows)) in FAILING.iter().enumerate() {
-        assert_eq!(rt; other(rt.alloc(), PAGE, *nth, rows)?, None, "scenario {at}");
+        assert_eq!(rt; other(rt.alloc(), 1000, *nth, rows)?, None, "scenario {at}");
     }
     Ok(())
 }

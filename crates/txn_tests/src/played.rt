@@ -1,5 +1,7 @@
 //! Transcripts: what clients do, line by line as in a script, each with what it is told after `=>`, or with what is asked for
 //! below it, two spaces in.
+ghost use Rattle.std.specs.Prelude.{◌≤◌, vec_len};
+
 use crate::workers::{Records, kept_by};
 use crate::{refused, schedules, worlds};
 use std::alloc::{AllocError, Global};
@@ -278,12 +280,24 @@ fn play(
     Ok(())
 }
 
+/// A transcript, whose events the first of these workers takes.
+fn played_by(
+    alloc: Global,
+    kept: &mut Records,
+    shares: &mut Vec<Share>,
+    transcript: &str,
+) -> Result<String, AllocError>
+    requires { 1 ≤ vec_len shares.old }
+{
+    let mut text = String::new(alloc);
+    play(alloc, kept, &mut shares[0], transcript, &mut text)?;
+    Ok(text)
+}
+
 /// A transcript as three clients make it, whose events the first of three workers takes.
 pub(crate) fn played(alloc: Global, transcript: &str) -> Result<String, AllocError> {
     let (mut kept, mut shares) = kept_by(alloc, 3)?;
-    let mut text = String::new(alloc);
-    play(alloc, &mut kept, &mut shares[0], transcript, &mut text)?;
-    Ok(text)
+    played_by(alloc, &mut kept, &mut shares, transcript)
 }
 
 /// Whether a transcript came as it stands, or some growth was refused on the way and nothing else came.
@@ -297,17 +311,23 @@ pub(crate) fn is_right(played: Result<String, AllocError>, transcript: &str) -> 
     }
 }
 
-#[test]
-fn transcripts_come_as_they_stand(rt: HostRuntime) -> Result<(), Fail> {
-    for transcripts in [
-        worlds::TRANSCRIPTS,
-        schedules::TRANSCRIPTS,
-        refused::TRANSCRIPTS,
-    ] {
-        for transcript in transcripts {
-            let text = played(rt.alloc(), transcript)?;
-            assert_eq!(rt; text.as_str(), *transcript);
+/// Adds each transcript that comes otherwise than it stands, as it comes.
+fn add_others(alloc: Global, transcripts: &[&str], text: &mut String) -> Result<(), AllocError> {
+    for transcript in transcripts {
+        let came = played(alloc, transcript)?;
+        if came.as_str() != *transcript {
+            text.push_str(came.as_str())?;
         }
     }
+    Ok(())
+}
+
+#[test]
+fn transcripts_come_as_they_stand(rt: HostRuntime) -> Result<(), Fail> {
+    let mut others = String::new(rt.alloc());
+    add_others(rt.alloc(), worlds::TRANSCRIPTS, &mut others)?;
+    add_others(rt.alloc(), schedules::TRANSCRIPTS, &mut others)?;
+    add_others(rt.alloc(), refused::TRANSCRIPTS, &mut others)?;
+    assert_eq!(rt; others.as_str(), "");
     Ok(())
 }

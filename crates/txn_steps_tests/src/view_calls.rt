@@ -1,13 +1,13 @@
 //! Calls on views that run alone, as values.
 ghost use Rattle.std.specs.Prelude.{◌≤◌};
 
+use crate::operations::Store;
+use crate::scenarios::calls_of;
 use bytes::Bytes;
 use std::alloc::Global;
 use txn_caches::caches::Caches;
 use txn_drivers::drive::Drive;
 use txn_lines::record::{Record, RecordCodec, RecordEpoch};
-use txn_store::failing::FailingStore;
-use txn_store::in_memory::InMemory;
 use txn_store::store::{ObjectStore, PutMode};
 use txn_types::error::TransactionalObjectError;
 use txn_types::id::MonotonicId;
@@ -22,9 +22,6 @@ use txn_view_steps::load::LoadOp;
 use txn_view_steps::outcome::{Outcome, ViewAnswer};
 use txn_view_steps::refresh::RefreshOp;
 use txn_view_steps::update::UpdateOp;
-
-/// A store that counts its calls, of which none fails.
-pub(crate) type Store = FailingStore<InMemory>;
 
 /// What a call comes to: an id with its record's epoch and payload, an error as its number.
 #[derive(Clone, Copy, Debug, PartialEq, Eq)]
@@ -100,16 +97,6 @@ fn said(answer: Option<ViewAnswer<Record>>) -> Told {
         Some(Ok(outcome)) => came(outcome),
         Some(Err(error)) => Told::Refused(error.number()),
     }
-}
-
-/// How many calls a store has served.
-fn calls_of(store: &Store) -> u64 {
-    let counts = store.counts();
-    counts
-        .puts
-        .saturating_add(counts.gets)
-        .saturating_add(counts.lists)
-        .saturating_add(counts.deletes)
 }
 
 /// Drives a call for so many steps and drops it. It is to end with the last of them. That is proved once here, for any call.

@@ -1,12 +1,15 @@
 //! Operations that run alone, as values.
 ghost use Rattle.std.specs.Prelude.{◌≤◌};
 
-use crate::calls::{are_listed, base};
+use crate::hand_calls::holds;
+use crate::writes::{are_listed, base};
+use bytes::Bytes;
 use std::alloc::Global;
 use std::ops::Bound;
 use txn_caches::advance::AdvanceOp;
 use txn_caches::caches::Caches;
 use txn_caches::check::CheckOp;
+use txn_caches::window::Window;
 use txn_drivers::drive::Drive;
 use txn_drivers::drive_version::ReadVersion;
 use txn_steps::delete::{DeleteOp, DeleteUncheckedOp};
@@ -15,8 +18,10 @@ use txn_steps::listing::{ListAnswer, ListOp};
 use txn_steps::read::ReadOp;
 use txn_steps::seen::{ReadSeenOp, ValueAnswer};
 use txn_steps::write::{WriteAnswer, WriteOp, WriteUncheckedOp};
+use txn_store::failing::{FailingStore, When};
 use txn_store::in_memory::InMemory;
-use txn_store::store::ObjectStore;
+use txn_store::path::Path;
+use txn_store::store::{ObjectStore, PutMode};
 use txn_types::error::TransactionalObjectError;
 use txn_types::id::MonotonicId;
 use txn_types::layout::Layout;
@@ -38,12 +43,18 @@ pub(crate) enum Call {
     /// The unchecked read of one version.
     ReadUnchecked(u64),
     ReadSeen(u64),
-    /// Whether these are the ids of all versions.
-    Lists(&'static [u64]),
+    /// Whether the versions within the bounds have these ids.
+    Lists(Bound<u64>, Bound<u64>, &'static [u64]),
     /// Whether the boundary's file says this.
     Says(&'static [u8]),
     /// The client loses what it has cached.
     Forgets,
+    /// Whether these ids are cached.
+    Holds(&'static [u64]),
+    /// Whether this boundary is cached.
+    Knows(Option<u64>),
+    /// A file that is put by hand, in place of any other.
+    Put(&'static str, &'static [u8]),
 }
 
 /// What an operation answers.
@@ -58,6 +69,8 @@ pub(crate) enum Told {
     Value(Option<u64>),
     /// Whether something is as it was told.
     Is(bool),
+    /// What a read of the boundary gives.
+    Reads(u64),
     /// An error as its number.
     Fails(u8),
     /// Its steps were spent first.
@@ -68,7 +81,7 @@ use Told::{Did, Fails, GoesOn, Is, Newest, Value, Wrote};
 
 type Error = TransactionalObjectError;
 
-fn did(answer: Option<Result<(), Error>>) -> Told {
+pub(crate) fn did(answer: Option<Result<(), Error>>) -> Told {
     match answer {
         None => GoesOn,
         Some(Ok(())) => Did,
@@ -76,7 +89,7 @@ fn did(answer: Option<Result<(), Error>>) -> Told {
     }
 }
 
-fn wrote(answer: Option<WriteAnswer>) -> Told {
+pub(crate) fn wrote(answer: Option<WriteAnswer>) -> Told {
     match answer {
         None => GoesOn,
         Some(Ok(id)) => Wrote(id.id()),
@@ -84,7 +97,7 @@ fn wrote(answer: Option<WriteAnswer>) -> Told {
     }
 }
 
-fn newest(answer: Option<ReadAnswer<u64>>) -> Told {
+pub(crate) fn newest(answer: Option<ReadAnswer<u64>>) -> Told {
     match answer {
         None => GoesOn,
         Some(Ok(None)) => Newest(None),
@@ -93,7 +106,7 @@ fn newest(answer: Option<ReadAnswer<u64>>) -> Told {
     }
 }
 
-fn valued(answer: Option<ValueAnswer<u64>>) -> Told {
+pub(crate) fn valued(answer: Option<ValueAnswer<u64>>) -> Told {
     match answer {
         None => GoesOn,
         Some(Ok(value)) => Value(value),
@@ -104,25 +117,35 @@ fn valued(answer: Option<ValueAnswer<u64>>) -> Told {
 fn listed(answer: Option<ListAnswer>, ids: &[u64]) -> Told {
     match answer {
         None => GoesOn,
-        Some(answer) => Is(are_listed(answer, ids)),
+        Some(Ok(found)) => Is(are_listed(Ok(found), ids)),
+        Some(Err(error)) => Fails(error.number()),
     }
 }
 
-/// The store, and the caches of its client.
+/// A store that counts its calls, of which one may fail.
+pub(crate) type Store = FailingStore<InMemory>;
+
+/// The store, the caches of the client that makes a call, and those of another.
 #[derive(Drop)]
 pub(crate) struct Place {
-    store: InMemory,
-    caches: Caches,
+    pub store: Store,
+    pub caches: Caches,
+    pub others: Caches,
+    /// Whether the last operation came to its end before the last of its steps.
+    pub early: bool,
 }
 
-pub(crate) fn a_place(alloc: Global) -> Place {
+/// A place in which nothing has happened, the nth call of whose store fails.
+pub(crate) fn a_place(alloc: Global, nth: u64) -> Place {
     Place {
-        store: InMemory::new(alloc),
+        store: FailingStore::new(InMemory::new(alloc), nth, When::Before),
         caches: Caches::new(),
+        others: Caches::new(),
+        early: false,
     }
 }
 
-/// Drives an operation and drops it. That is proved once here, for any of them.
+/// Drives an operation for so many steps and drops it. That is proved once here, for any of them.
 fn driven<A: Drop, O: Drive<NumberCodec, Answer = A> + Drop>(
     alloc: Global,
     layout: &Layout<NumberCodec>,
@@ -133,7 +156,18 @@ fn driven<A: Drop, O: Drive<NumberCodec, Answer = A> + Drop>(
     requires { O.asks layout.now op }
 {
     let mut op = op;
-    op.drive(alloc, &mut place.store, layout, &mut place.caches, steps)
+    let Place {
+        store,
+        caches,
+        early,
+        ..
+    } = place;
+    let before = op.drive(alloc, store, layout, caches, steps.saturating_sub(1));
+    *early = before.is_some();
+    match before {
+        Some(answer) => Some(answer),
+        None => op.drive(alloc, store, layout, caches, 1),
+    }
 }
 
 /// What an operation answers within its steps, or why it cannot be started.
@@ -247,12 +281,14 @@ fn lists(
     alloc: Global,
     layout: &Layout<NumberCodec>,
     place: &mut Place,
+    from: Bound<u64>,
+    to: Bound<u64>,
     ids: &[u64],
     steps: u64,
 ) -> Played
     requires { 1 ≤ layout.now.page }
 {
-    let op = ListOp::start(alloc, layout, Bound::Unbounded, Bound::Unbounded)?;
+    let op = ListOp::start(alloc, layout, from, to)?;
     Ok(listed(driven(alloc, layout, place, op, steps), ids))
 }
 
@@ -260,6 +296,22 @@ fn lists(
 fn says(layout: &Layout<NumberCodec>, place: &mut Place, text: &[u8]) -> bool {
     match place.store.get(&layout.boundary, None) {
         Ok(got) => got.bytes.as_slice() == text,
+        Err(_) => false,
+    }
+}
+
+/// Whether this is the cached boundary.
+fn knows(caches: &Caches, number: Option<u64>) -> bool {
+    caches.boundary.map(|known| known.number) == number
+}
+
+/// Puts a file, and says whether that is done.
+fn put(alloc: Global, store: &mut Store, path: &str, bytes: &'static [u8]) -> bool {
+    match Path::from_text(alloc, path) {
+        Ok(path) => {
+            let bytes = Bytes::from_static(bytes);
+            store.put(&path, &bytes, &PutMode::Overwrite).is_ok()
+        }
         Err(_) => false,
     }
 }
@@ -286,7 +338,10 @@ fn called(
         Call::Latest => latest(alloc, layout, place, steps),
         Call::ReadUnchecked(id) => read_unchecked(alloc, layout, place, id, steps),
         Call::ReadSeen(id) => read_seen(alloc, layout, place, id, steps),
-        Call::Lists(ids) => lists(alloc, layout, place, ids, steps),
+        Call::Lists(from, to, ids) => lists(alloc, layout, place, from, to, ids, steps),
+        Call::Holds(ids) => Ok(Is(holds(&place.caches.latest, ids))),
+        Call::Knows(number) => Ok(Is(knows(&place.caches, number))),
+        Call::Put(path, bytes) => Ok(Is(put(alloc, &mut place.store, path, bytes))),
         Call::Says(text) => Ok(Is(says(layout, place, text))),
         Call::Forgets => {
             place.caches = Caches::new();

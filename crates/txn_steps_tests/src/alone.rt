@@ -1,14 +1,15 @@
 //! Operations that run alone, each with what it answers.
 ghost use Rattle.std.specs.Prelude.{◌≤◌};
 
-use crate::calls::a_layout;
 use crate::operations::Call::{
     Advance, Check, Delete, DeleteUnchecked, Forgets, Latest, Lists, Read, ReadSeen, ReadUnchecked,
     Says, Write, WriteUnchecked,
 };
 use crate::operations::Told::{Did, Fails, GoesOn, Is, Newest, Value, Wrote};
 use crate::operations::{Call, Place, Told, a_place, answered};
+use crate::writes::a_layout;
 use std::alloc::Global;
+use std::ops::Bound::Unbounded;
 use std::test::Fail;
 use txn_store::path::PathFault;
 use txn_types::layout::Layout;
@@ -37,8 +38,8 @@ fn other_in(
 
 /// The same, over a store of their own, whose pages have one file.
 fn other(alloc: Global, rows: &[Row]) -> Result<Option<(usize, Told)>, PathFault> {
-    let layout = a_layout(alloc)?;
-    Ok(other_in(alloc, &layout, &mut a_place(alloc), rows))
+    let layout = a_layout(alloc, 1)?;
+    Ok(other_in(alloc, &layout, &mut a_place(alloc, 0), rows))
 }
 
 /// All but those that go on have as many steps as are always enough.
@@ -96,7 +97,7 @@ const SCENARIOS: &[(&str, &[Row])] = &[
             (Delete(2), 7, Did),
             (Delete(2), 7, Did),
             (Delete(3), 7, Fails(7)),
-            (Lists(&[3]), 1, Is(true)),
+            (Lists(Unbounded, Unbounded, &[3]), 1, Is(true)),
         ],
     ),
     (
@@ -107,14 +108,14 @@ const SCENARIOS: &[(&str, &[Row])] = &[
             (DeleteUnchecked(2), 2, Did),
             (ReadUnchecked(2), 1, Value(None)),
             (DeleteUnchecked(2), 2, Did),
-            (Lists(&[1]), 1, Is(true)),
+            (Lists(Unbounded, Unbounded, &[1]), 1, Is(true)),
             (Latest, 16, Newest(Some((1, 10)))),
         ],
     ),
     (
         "reads answer what was written",
         &[
-            (Lists(&[]), 1, Is(true)),
+            (Lists(Unbounded, Unbounded, &[]), 1, Is(true)),
             (Latest, 16, Newest(None)),
             (Read, 42, Newest(None)),
             (ReadUnchecked(1), 1, Value(None)),
@@ -132,7 +133,7 @@ const SCENARIOS: &[(&str, &[Row])] = &[
             (Latest, 17, Newest(Some((2, 20)))),
             (Forgets, 0, Did),
             (Read, 44, Newest(Some((2, 20)))),
-            (Lists(&[1, 2]), 2, Is(true)),
+            (Lists(Unbounded, Unbounded, &[1, 2]), 2, Is(true)),
         ],
     ),
     (
@@ -148,11 +149,11 @@ const SCENARIOS: &[(&str, &[Row])] = &[
             (Says(b"1"), 0, Is(true)),
             // It has not removed its version.
             (Delete(1), 3, GoesOn),
-            (Lists(&[1]), 1, Is(true)),
+            (Lists(Unbounded, Unbounded, &[1]), 1, Is(true)),
             // None of these has got its version.
             (ReadSeen(1), 1, GoesOn),
             (Latest, 1, GoesOn),
-            (Read, 0, GoesOn),
+            (Read, 1, GoesOn),
         ],
     ),
 ];

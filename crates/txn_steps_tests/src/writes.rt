@@ -16,13 +16,13 @@ use txn_types::id::MonotonicId;
 use txn_types::layout::Layout;
 use txn_types::test_utils::NumberCodec;
 
-/// A layout whose pages have one file.
-pub(crate) fn a_layout(alloc: Global) -> Result<Layout<NumberCodec>, PathFault>
-    ensures { IfOk result (λ layout. layout.page ≡ 1) }
+/// A layout whose pages have so many files at most.
+pub(crate) fn a_layout(alloc: Global, page: u64) -> Result<Layout<NumberCodec>, PathFault>
+    ensures { IfOk result (λ layout. layout.page ≡ page) }
 {
     let root = Path::from_text(alloc, "root")?;
     let mut layout = Layout::new(alloc, &root, "test", "val", NumberCodec)?;
-    layout.page = 1;
+    layout.page = page;
     Ok(layout)
 }
 
@@ -126,7 +126,7 @@ const ALL: (Bound<MonotonicId>, Bound<MonotonicId>) = (Bound::Unbounded, Bound::
 
 /// The first write that answers something else, and whether the listings of all versions and of some are as they should.
 fn written_and_listed(alloc: Global) -> Result<(Option<(u64, u64)>, bool, bool), PathFault> {
-    let layout = a_layout(alloc)?;
+    let layout = a_layout(alloc, 1)?;
     let mut place = a_place(alloc);
     let other = other_write(alloc, &layout, &mut place, &WRITES);
     let all = lists(alloc, &layout, &mut place.store, ALL, &[1, 2, 3, 7]);
@@ -180,7 +180,7 @@ fn deleted_of_three(alloc: Global, layout: &Layout<NumberCodec>, place: &mut Pla
 
 #[test]
 fn deletes_remove_one_version(rt: HostRuntime) -> Result<(), Fail> {
-    let layout = a_layout(rt.alloc())?;
+    let layout = a_layout(rt.alloc(), 1)?;
     let deleted = deleted_of_three(rt.alloc(), &layout, &mut a_place(rt.alloc()));
     assert_eq!(rt; deleted, (None, [true, true], true, [false, true]));
     Ok(())

@@ -1,7 +1,8 @@
 //! A game: two clients over one store, and their calls on views, one at a time.
 ghost use Rattle.std.specs.Prelude.{◌≡◌, ◌≤◌, IfOk};
 
-use crate::view_calls::{Played, Step, Store, Told, View, played};
+use crate::operations::Store;
+use crate::view_calls::{Played, Step, Told, View, played};
 use crate::{claims, holders, views};
 use std::alloc::Global;
 use std::test::Fail;
