@@ -41,9 +41,9 @@ pub(crate) fn is_same_file<R: Files>(rt: &R, one: &str, other: &str) -> bool {
     one.ino() != 0 && one.ino() == other.ino() && one.dev() == other.dev()
 }
 
-/// A link was refused: a file stands at the target, or it is a fault.
+/// A link was refused: a file stands at the target, or it is a fault, also where what stands there is no regular file.
 fn refused<R: Files>(rt: &R, target: &str, error: io::Error) -> Result<bool, Halt> {
-    if error.kind() == ErrorKind::AlreadyExists && fs::symlink_metadata(rt, target).is_ok() {
+    if error.kind() == ErrorKind::AlreadyExists && stands(rt, target)? {
         return Ok(false);
     }
     Err(Halt::Fault(Fault::of(Doing::Linking, error)))

@@ -110,7 +110,8 @@ where
         self.make_last(place, number)
     }
 
-    /// Makes a file, where none stands, and tells its token.
+    /// Makes a file, where none stands, and tells its token. With syncs the name is looked up first, since what is
+    /// written and then refused was synced for nothing; without, the link alone finds that it is taken.
     pub fn create(
         &mut self,
         alloc: Global,
@@ -121,7 +122,7 @@ where
         ensures rises { self.old.numbers.last ≤ self.new.numbers.last }
     {
         let file = self.file_of(alloc, place)?;
-        if stands(&self.rt, file.as_str())? {
+        if self.syncs && stands(&self.rt, file.as_str())? {
             return Ok(None);
         }
         let written = self.write(alloc, place, file.as_str(), bytes)?;

@@ -14,9 +14,9 @@ use txn_folder::store::FolderStore;
 
 /// With no sync.
 const FAST: &str = "1 delete 1 = deleted
-8 create 1 0:1 = put
-4 create 2 0:2 = put
-1 create 2 0:2 = already exists
+7 create 1 0:1 = put
+3 create 2 0:2 = put
+6 create 2 0:2 = already exists
 2 get 2 = got 0:2
 other create 3 0:3 = put
 2 get 3 = got 0:3
