@@ -13,6 +13,7 @@ import time
 from dataclasses import dataclass
 
 from crate_copies import all_below, crates_listed, lines_of_crates
+from kept_verdicts import MOST_SHEETS, cache_folder, remove_old, sum_of, sum_of_file
 from refuse_growths import TESTS as SWEPT
 from refuse_growths import TESTS_ENDING
 from replay_cases import PORT
@@ -25,6 +26,8 @@ PROGRAM_OF_CASES = "txnworld_cli"
 CASES = {PROGRAM_OF_CASES: ("cases", []), "txnport_cli": ("cases of the port", ["--folder", PORT])}
 # The program of which processes are let work on one folder.
 PROGRAM_OF_FOLDERS = "txnobj_cli"
+# For how many seconds processes of a program are killed that passed this on this machine before.
+SECONDS_AGAIN = 10
 # How the name of a crate of tests ends.
 TESTS = "_tests"
 LAST_LINE = re.compile(r"(\d+) passed, (\d+) failed")
@@ -178,11 +181,39 @@ def refusal_steps(root, programs):
         yield step("refused growths", [f"{root}/tools/refuse-growths", *builds], root, count_of_refusals)
 
 
-def folder_steps(root, programs):
-    """Lets processes of the program work on one folder at once, where LLVM's build of it was made."""
+def mark_of_folders(root, build):
+    """The file that says that this build passed on a folder on this machine, as tools/try-folder now is; "" where nothing is
+    kept."""
+    folder, tool = cache_folder(os.environ), [f"{root}/tools/try-folder", f"{root}/tools/try_folder.py"]
+    return folder and f"{folder}/processes/{sum_of(*map(sum_of_file, [build, *tool]))[:40]}"
+
+
+def keep_mark(mark, is_passed):
+    """Makes a file that says that something passed, or removes it; where none can be made, all of it is done again."""
+    with contextlib.suppress(OSError):
+        if not is_passed:
+            os.remove(mark)
+            return
+        os.makedirs(os.path.dirname(mark), mode=0o700, exist_ok=True)
+        with open(mark, "w", encoding="utf-8"):
+            os.utime(mark)
+        remove_old(os.path.dirname(mark), MOST_SHEETS)
+
+
+def folder_steps(root, programs, anew=False):
+    """Lets processes of the program work on one folder at once, where LLVM's build of it was made, and for less long where
+    just this build did so before."""
     build = builds_of(root, PROGRAM_OF_FOLDERS)[0]
     if PROGRAM_OF_FOLDERS in programs and os.path.isfile(build):
-        yield step("processes on a folder", [f"{root}/tools/try-folder", build], root)
+        mark = mark_of_folders(root, build)
+        again = not anew and os.path.isfile(mark)
+        if again:
+            say(f"this build passed on this machine before: processes are killed for {SECONDS_AGAIN} seconds")
+        how_long = ["--seconds", f"{SECONDS_AGAIN}"] * again
+        done = step("processes on a folder", [f"{root}/tools/try-folder", build, *how_long], root)
+        if mark:
+            keep_mark(mark, not done.failed)
+        yield done
 
 
 def table(steps):
@@ -225,7 +256,7 @@ def steps_of(root, top, given):
     programs = programs_in(top) if given.crates else sorted({*programs_in(top), *CASES})
     yield from case_steps(top, programs)
     yield from refusal_steps(top, programs)
-    yield from folder_steps(top, programs)
+    yield from folder_steps(top, programs, given.anew)
 
 
 def arguments_of(words, usage):

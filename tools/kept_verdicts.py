@@ -1,36 +1,51 @@
 """The refusals of wrong bodies that this machine keeps, so that a run tries again only what has changed.
 
-A refusal holds for the toolchain, the tool, the texts of the crate, what its check can see of the crates below it with
-their libraries, and the text of the edit. A check proves each function from the contracts of what it calls, so it sees of
-another crate all but the bodies of its functions, and the proofs of these. A file of the folder is the sheet of a crate as
-it stands over the first four: under their sum it has a line for each edit that was refused. A line that is damaged, or of
-another sheet, is as none. What was not refused is tried by each run."""
+A refusal holds for the toolchain, the tool, what a check of a function can see of its crate and of the crates below with
+their libraries, the text of the edit, and the functions that this changes. A check proves each function from the contracts
+of what it calls, so it sees of all others all but their bodies, and the proofs of these. A file of the folder is the sheet
+of a crate as others see it, over the first two: under their sum it has a line for each edit that was refused. A line that is
+damaged, or of another sheet, is as none. What was not refused is tried by each run."""
 from __future__ import annotations
 
 import functools
 import hashlib
 import os
+import re
 import shutil
 import sys
 
 from crate_copies import libraries_listed, texts_of
-from rattle_source import without_own_bodies
+from rattle_source import homes_of, module_of, places_in, without_own_bodies
 
 # The variable that names another folder than the user's cache folder.
 FOLDER_VARIABLE = "TENDRIFALO_CACHE"
-# How many sheets are kept of a crate, those that were used last.
+# How many sheets are kept of a crate, and how many marks of runs, those that were used last.
 MOST_SHEETS = 30
-# The files that prove a function by its body: no other function's proof can name what is in them.
+# The files that prove a function by its body, in a folder of its name: no other function's proof can name what is in them.
 PROOFS_OF_BODIES = ("Answers.antt", "Invariants.antt", "Proof.antt")
+# A line by which a file of one of these names is a module like others.
+DECLARED = re.compile(r"^\s*(?:pub\s+)?mod\s+(?:Answers|Invariants|Proof)\b", re.M)
 # The files of the tool that a verdict rests on.
 TOOL = ("crate_copies.py", "kept_verdicts.py", "rattle_source.py", "wrong_bodies.py", "wrong_bodies_run.py")
 
 
-def default_folder(environment):
-    """The folder of what is kept, by the variables of this environment; "" where none of them tells one."""
+def cache_folder(environment):
+    """The folder of all that is kept, by the variables of this environment; "" where none of them tells one."""
     cache = environment.get("XDG_CACHE_HOME") or os.path.join(environment.get("HOME", ""), ".cache")
-    given = environment.get(FOLDER_VARIABLE) or (f"{cache}/tendrifalo" if os.path.isabs(cache) else "")
+    return environment.get(FOLDER_VARIABLE) or (f"{cache}/tendrifalo" if os.path.isabs(cache) else "")
+
+
+def default_folder(environment):
+    """The folder of the refusals that are kept; "" where the environment tells none."""
+    given = cache_folder(environment)
     return given and f"{given}/wrong-bodies"
+
+
+def remove_old(folder, most):
+    """Removes the files of a folder that were used longest ago, past so many."""
+    paths = [f"{folder}/{name}" for name in os.listdir(folder)]
+    for path in sorted(paths, key=os.path.getmtime, reverse=True)[most:]:
+        os.remove(path)
 
 
 def sum_of(*parts):
@@ -41,10 +56,33 @@ def sum_of(*parts):
     return found.hexdigest()
 
 
-def seen_by_others(texts):
-    """What a check of another crate can see of a crate's texts by path, as texts by path."""
-    seen = {path: text for path, text in texts.items() if os.path.basename(path) not in PROOFS_OF_BODIES}
-    return {path: without_own_bodies(text) if path.endswith(".rt") else text for path, text in seen.items()}
+class Bodies:
+    """The bodies of the functions in a crate's texts by path, and the files that prove these, looked for once."""
+
+    def __init__(self, texts):
+        self.texts = texts
+        sources = {path: text for path, text in texts.items() if path.startswith("src/")}
+        homes = homes_of(sources)
+        self.places = [(path, it) for path, text in sources.items() for it in places_in(text, module_of(path), homes)]
+        names = {it.function.name for _, it in self.places}
+        proofs = [it for it in texts if it.startswith("proofs/") and os.path.basename(it) in PROOFS_OF_BODIES]
+        declares = any(DECLARED.search(text) for path, text in texts.items() if path.endswith(".antt"))
+        self.proofs = set() if declares else {it for it in proofs if it.split("/")[-2] in names}
+
+    def seen_by_others(self):
+        """What a check of other functions can see of the crate, as texts by path."""
+        seen = {path: text for path, text in self.texts.items() if path not in self.proofs}
+        return {path: without_own_bodies(text) if path.endswith(".rt") else text for path, text in seen.items()}
+
+    def changed_by(self, edit):
+        """The functions that an edit changes, with the proofs of their bodies, as texts by name or path; all texts where it
+        changes more than bodies."""
+        if not edit.is_of_bodies or not edit.functions:
+            return self.texts
+        places = [(path, it) for path, it in self.places if it.function in edit.functions]
+        found = {f"function {n}": self.texts[path][it.start : it.end] for n, (path, it) in enumerate(places)}
+        names = {it.name for it in edit.functions}
+        return {**found, **{path: self.texts[path] for path in self.proofs if names & {*path.split("/")}}}
 
 
 def sum_of_file(path):
@@ -67,13 +105,18 @@ def sum_of_toolchain(commands, root):
     return sum_of(commands.run(["rt", "version"], root)[1], sum_of_file(prover) if prover else "")
 
 
+def flat(texts):
+    """Texts by path as one list, in the order of the paths."""
+    return [part for pair in sorted(texts.items()) for part in pair]
+
+
 class Verdicts:
     """What is kept in a folder of the crates of a repository, of which these are the texts by crate and path. With no
     folder nothing is kept. Anew nothing is known, and what is refused is kept."""
 
     def __init__(self, folder, root, texts, commands, is_anew=False):
         self.folder, self.root, self.texts, self.commands, self.is_anew = folder, root, texts, commands, is_anew
-        self.libraries, self.seen_of = libraries_listed(root), {}
+        self.libraries, self.bodies_of, self.seen_of = libraries_listed(root), {}, {}
 
     @functools.cached_property
     def base(self):
@@ -81,19 +124,23 @@ class Verdicts:
         return sum_of(sum_of_tool(), sum_of_toolchain(self.commands, self.root))
 
     def sum_of_crate(self, name, below):
-        """A checksum of all that a verdict on an edit of this crate rests on but the edit."""
+        """A checksum of all that a verdict on an edit of this crate rests on but the edit and what this changes."""
         parts = [self.base]
         for it in [name, *below]:
-            texts = self.texts[it] if it == name else self.seen(it)
-            parts += [it, *self.libraries[it], ""]
-            parts += [part for path, text in sorted(texts.items()) for part in (path, text)]
+            parts += [it, *self.libraries[it], "", *flat(self.seen(it))]
         return sum_of(*parts)
 
     def seen(self, name):
-        """What a check of a crate above can see of this one, read once."""
+        """What a check of other functions can see of this crate, read once."""
         if name not in self.seen_of:
-            self.seen_of[name] = seen_by_others(self.texts[name])
+            self.seen_of[name] = self.bodies(name).seen_by_others()
         return self.seen_of[name]
+
+    def bodies(self, name):
+        """The bodies of this crate's functions."""
+        if name not in self.bodies_of:
+            self.bodies_of[name] = Bodies(self.texts[name])
+        return self.bodies_of[name]
 
     def sheet(self, name, below):
         """The sheet of a crate over these crates below it."""
@@ -131,7 +178,7 @@ class Sheet:
 
     def line_of(self, edit):
         """The line that says of an edit of this sheet that it was refused."""
-        of_edit = sum_of(edit.text)
+        of_edit = sum_of(edit.text, *flat(self.verdicts.bodies(self.name).changed_by(edit)))
         return f"refused {of_edit} {sum_of(self.sum, of_edit)[:20]}"
 
     def read(self):
@@ -157,13 +204,6 @@ class Sheet:
             with open(self.path, "a", encoding="utf-8") as file:
                 # (from the start of a line, also after one that was cut off)
                 file.write("".join(f"\n{self.line_of(it)}\n" for it in edits))
-            self.remove_old()
+            remove_old(os.path.dirname(self.path), MOST_SHEETS)
         except OSError as error:
             self.verdicts.warn(error)
-
-    def remove_old(self):
-        """Removes the sheets of the crate that were used longest ago, past those that are kept."""
-        folder = os.path.dirname(self.path)
-        paths = [f"{folder}/{name}" for name in os.listdir(folder)]
-        for path in sorted(paths, key=os.path.getmtime, reverse=True)[MOST_SHEETS:]:
-            os.remove(path)

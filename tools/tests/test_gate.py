@@ -12,7 +12,7 @@ sys.path.insert(0, os.path.dirname(os.path.dirname(os.path.realpath(__file__))))
 
 import gate_steps  # noqa: E402
 from gate_steps import Step, case_steps, count_of_ci, count_of_last_line, count_of_refusals  # noqa: E402
-from gate_steps import count_of_unittest, date_builds, part_of, refusal_steps, step, table  # noqa: E402
+from gate_steps import count_of_unittest, date_builds, folder_steps, part_of, refusal_steps, step, table  # noqa: E402
 
 PROGRAM = "txnworld_cli"
 CI = """\
@@ -134,6 +134,29 @@ class Steps(unittest.TestCase):
         self.assertEqual([(it.name, it.passed, it.failed) for it in steps], [("refused growths", 1, 0)])
         steps = silently(lambda: list(refusal_steps(self.room, ["app", PROGRAM])))
         self.assertEqual([(it.passed, it.failed) for it in steps], [(3, 0)])
+
+    def test_processes_of_a_build_that_passed(self):
+        tool = "#!/bin/sh\nshift\necho \"$*\" > told\necho \"2 passed, $(cat fails) failed\"\n"
+        self.file("tools/try-folder", tool, 0o755)
+        self.file("tools/try_folder.py", "checks")
+        build, short = self.file("crates/txnobj_cli/out/txnobj_cli", "one"), "--seconds 10\n"
+
+        def told(fails, anew=False):
+            self.file("fails", f"{fails}")
+            with mock.patch.dict(os.environ, TENDRIFALO_CACHE=f"{self.room}/cache"):
+                steps = silently(lambda: list(folder_steps(self.room, ["txnobj_cli"], anew)))
+            self.assertEqual([(it.name, it.passed, it.failed) for it in steps], [("processes on a folder", 2, fails)])
+            with open(f"{self.room}/told", encoding="utf-8") as file:
+                return file.read()
+
+        # (what failed is done again as long)
+        self.assertEqual([told(1), told(0), told(0), told(0, anew=True)], ["\n", "\n", short, "\n"])
+        self.file("tools/try_folder.py", "other checks")
+        self.assertEqual([told(0), told(1), told(0)], ["\n", short, "\n"])
+        self.file("crates/txnobj_cli/out/txnobj_cli", "two")
+        self.assertEqual([told(0), told(0)], ["\n", short])
+        os.remove(build)
+        self.assertEqual(silently(lambda: list(folder_steps(self.room, ["txnobj_cli"]))), [])
 
     def test_a_part(self):
         uses = {"base": [], "low": ["base"], "high": ["low"], "side": [], "some_tests": ["high", "low", "side"], "app": ["high"]}

@@ -234,6 +234,22 @@ class Runs(unittest.TestCase):
         self.file("repository/crates/low/src/lib.rt", body.replace("second() -> u8", "second() -> u8\n    ensures { result ≡ 2 }\n"))
         self.assertEqual(self.run_command("high", anew=False)[3].count("high rattle check"), 1)
 
+    def test_a_body_beside_is_not_seen(self):
+        self.run_command("low", anew=False)
+        self.file("repository/crates/low/src/lib.rt", SOURCE.replace("    2\n", "    // Two.\n    2\n"))
+        self.file("repository/crates/low/proofs/second/Answers.antt", "of two\n")
+        self.assertIn("low: 1 edits in 1 checks", self.run_command("low", anew=False)[2])
+        self.file("repository/crates/low/proofs/second/Answers.antt", "of one\n")
+        self.assertIn("low: 1 edits in 1 checks", self.run_command("low", anew=False)[2])
+        # (what is declared in a file, or stands with what is stated, is a module like others)
+        self.file("repository/crates/low/specs/second/Answers.antt", "of two\n")
+        self.assertIn("low: 2 edits in 1 checks", self.run_command("low", anew=False)[2])
+        self.file("repository/crates/low/proofs/second.antt", "pub mod Answers\n")
+        self.assertIn("low: 2 edits in 1 checks", self.run_command("low", anew=False)[2])
+        self.assertEqual(self.run_command("low", anew=False)[3], [])
+        self.file("repository/crates/low/proofs/second/Answers.antt", "of three\n")
+        self.assertIn("low: 2 edits in 1 checks", self.run_command("low", anew=False)[2])
+
     def test_a_damaged_line_is_as_none(self):
         self.run_command("low", anew=False)
         folder = f"{self.room}/cache/wrong-bodies/low"
