@@ -36,12 +36,22 @@ use txn_view_history::event::{AnyAnswer, AnyCall, AnyTold};
 /// Its type keeps that the journal leads to what it keeps.
 ///
 /// Clauses see its number, its codec, where its values keep their epochs, what it keeps, and its journal.
-#[derive(Drop)]
 pub struct Diary<T: Clone, C: ObjectCodec<T> + Drop, E: EpochField<T>> {
     tables: Tables<T, C, E>,
     rows: Vec<JournalRow<T>>,
     /// Whether it was not killed.
     alive: bool,
+}
+
+impl<T: Clone, C: ObjectCodec<T> + Drop, E: EpochField<T>> Drop for Diary<T, C, E> {
+    /// Drops all that the diary keeps: here, so that no crate above has to prove how each part is dropped.
+    fn drop(self) {
+        let Diary {
+            tables: _,
+            rows: _,
+            alive: _,
+        } = self;
+    }
 }
 
 impl<T: Clone, C: ObjectCodec<T> + Drop, E: EpochField<T>> Model for Diary<T, C, E> {

@@ -29,9 +29,15 @@ use txn_view_history::view::View;
 
 /// Clients over one store. Contracts see its codec, where its values keep their epochs, and the state that
 /// its events lead to.
-#[derive(Drop)]
 pub struct World<T: Clone, C: ObjectCodec<T> + Drop, E: EpochField<T>> {
     tables: Tables<T, C, E>,
+}
+
+impl<T: Clone, C: ObjectCodec<T> + Drop, E: EpochField<T>> Drop for World<T, C, E> {
+    /// Drops all that the world keeps: here, so that no crate above has to prove how each part is dropped.
+    fn drop(self) {
+        let World { tables: _ } = self;
+    }
 }
 
 impl<T: Clone, C: ObjectCodec<T> + Drop, E: EpochField<T>> Model for World<T, C, E> {
