@@ -1,13 +1,14 @@
 //! Operations that run alone, each with what it answers.
 ghost use Rattle.std.specs.Prelude.{◌≤◌};
 
+use crate::operations::Call;
 use crate::operations::Call::{
     Advance, Check, Delete, DeleteUnchecked, Forgets, Latest, Lists, Read, ReadSeen, ReadUnchecked,
     Says, Write, WriteUnchecked,
 };
-use crate::operations::Told::{Did, Fails, GoesOn, Is, Newest, Value, Wrote};
-use crate::operations::{Call, Place, Told, a_place, answered};
-use crate::writes::a_layout;
+use crate::place::{Place, a_layout, a_place, answered};
+use crate::told::Told;
+use crate::told::Told::{Did, Fails, GoesOn, Is, Newest, Value, Wrote};
 use std::alloc::Global;
 use std::ops::Bound::Unbounded;
 use std::test::Fail;
@@ -38,7 +39,7 @@ fn other_in(
 
 /// The same, over a store of their own, whose pages have one file.
 fn other(alloc: Global, rows: &[Row]) -> Result<Option<(usize, Told)>, PathFault> {
-    let layout = a_layout(alloc, 1)?;
+    let layout = a_layout(alloc, 1, NumberCodec)?;
     Ok(other_in(alloc, &layout, &mut a_place(alloc, 0), rows))
 }
 

@@ -1,13 +1,14 @@
 //! Calls of a client to which a hand made the replies, and what others leave in its caches meanwhile.
 use crate::driven::Played;
-use crate::hand_calls::Call::{
+use crate::hand_calls::perform;
+use crate::operations::Call::{
     Advance, BoundaryAdvance, BoundaryCheck, BoundaryRead, Check, Holds, Knows, KnowsBy, Latest,
     Read, ReadSeen, WriteUnchecked,
 };
-use crate::hand_calls::{Call, known, perform};
-use crate::operations::Told;
-use crate::operations::Told::{Did, Fails, Is, Newest, Reads, Value, Wrote};
-use crate::writes::a_layout;
+use crate::operations::{Call, known};
+use crate::place::a_layout;
+use crate::told::Told;
+use crate::told::Told::{Did, Fails, Is, Newest, Reads, Value, Wrote};
 use bytes::Bytes;
 use std::alloc::{AllocError, Global};
 use std::test::Fail;
@@ -175,7 +176,7 @@ fn other_from(
 
 /// The same, with nothing cached.
 fn other(alloc: Global, rows: &[Row]) -> Result<Option<(usize, Played)>, Fail> {
-    let layout = a_layout(alloc, PAGE)?;
+    let layout = a_layout(alloc, PAGE, NumberCodec)?;
     other_from(alloc, &layout, &mut Caches::new(), rows)
 }
 
@@ -379,7 +380,7 @@ const UNCHANGED: &[Made] = &[Refuses(NotModified)];
 /// The get of a check of an id where a boundary of this number and token is cached, what the check says and takes, and the
 /// cached boundary and its token then.
 fn checked_with(alloc: Global, id: u64, number: u64, token: u64) -> Result<String, Fail> {
-    let layout = a_layout(alloc, PAGE)?;
+    let layout = a_layout(alloc, PAGE, NumberCodec)?;
     let mut script = a_script(alloc, UNCHANGED);
     let mut caches = Caches::new();
     let token = Token::new(token);

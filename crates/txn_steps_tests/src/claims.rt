@@ -1,10 +1,11 @@
 //! Claims: of the next epoch or of one that is asked for, alone and overtaken.
-use crate::game::Scenario;
-use crate::game::Seat::{A, B};
+use crate::place::Scenario;
+use crate::place::Seat::{A, B};
+use crate::told::Told::{Fails, Held, Is, Viewed};
+use crate::view_calls::Step;
 use crate::view_calls::Step::{Boundary, Claim, ClaimAt, Has, Init, Load, Update};
-use crate::view_calls::Told::{Did, Held, Refused, Viewed};
 
-pub(crate) const SCENARIOS: &[Scenario] = &[
+pub(crate) const SCENARIOS: &[Scenario<Step>] = &[
     (
         "a claim holds with the next epoch",
         &[
@@ -24,7 +25,7 @@ pub(crate) const SCENARIOS: &[Scenario] = &[
     (
         "a claim below the boundary goes on above it",
         &[
-            (A, Boundary(b"6"), Did, 1, 0),
+            (A, Boundary(b"6"), Is(true), 1, 0),
             (B, Has(6, 0, 1), Viewed(6, 0, 1), 0, 0),
             (B, Update(0, 2), Viewed(7, 0, 2), 2, 4),
             (A, Has(1, 0, 1), Viewed(1, 0, 1), 0, 0),
@@ -35,9 +36,9 @@ pub(crate) const SCENARIOS: &[Scenario] = &[
         "no epoch is above the greatest",
         &[
             (A, Init(u64::MAX, 1), Viewed(1, u64::MAX, 1), 2, 3),
-            (A, Claim(None), Refused(10), 0, 0),
+            (A, Claim(None), Fails(10), 0, 0),
             (A, Has(1, u64::MAX - 1, 1), Viewed(1, u64::MAX - 1, 1), 0, 0),
-            (A, Claim(Some((1, u64::MAX, 2))), Refused(10), 4, 4),
+            (A, Claim(Some((1, u64::MAX, 2))), Fails(10), 4, 4),
             (B, Load, Viewed(2, u64::MAX, 2), 2, 3),
         ],
     ),
@@ -54,16 +55,16 @@ pub(crate) const SCENARIOS: &[Scenario] = &[
         "a claim of an epoch that stands is fenced",
         &[
             (A, Init(3, 1), Viewed(1, 3, 1), 2, 3),
-            (A, ClaimAt(3, None), Refused(6), 0, 0),
+            (A, ClaimAt(3, None), Fails(6), 0, 0),
             (A, Load, Viewed(1, 3, 1), 2, 3),
-            (A, ClaimAt(2, None), Refused(6), 0, 0),
+            (A, ClaimAt(2, None), Fails(6), 0, 0),
         ],
     ),
     (
         "a claim of an epoch tests it after each conflict",
         &[
             (A, Init(0, 1), Viewed(1, 0, 1), 2, 3),
-            (A, ClaimAt(2, Some((1, 5, 7))), Refused(6), 4, 4),
+            (A, ClaimAt(2, Some((1, 5, 7))), Fails(6), 4, 4),
             (A, Load, Viewed(2, 5, 7), 2, 3),
         ],
     ),

@@ -1,34 +1,32 @@
-//! Operations driven to their answer: each asks, is given a reply or looks, and takes that.
+//! Operations driven to their answer by a hand: each asks, is given a reply or looks, and takes that.
 use crate::by_hand::Script;
 use crate::fits::{
     fits_advance, fits_boundary, fits_boundary_advance, fits_boundary_check, fits_check,
     fits_latest, fits_read, fits_seen, fits_write_unchecked,
 };
-use crate::operations::Told::{Fails, GoesOn, Reads};
-use crate::operations::{Told, did, newest, valued, wrote};
+use crate::told::Told::GoesOn;
+use crate::told::{Told, said};
 use std::alloc::Global;
 use std::test::Fail;
 use txn_caches::advance::{AdvanceOp, BoundaryAdvance};
 use txn_caches::ask::Ask;
-use txn_caches::boundary_read::{BoundaryRead, Known};
+use txn_caches::boundary_read::BoundaryRead;
 use txn_caches::caches::{CachedBoundary, Caches};
 use txn_caches::check::{BoundaryCheck, CheckOp};
-use txn_caches::turned::Turned;
 use txn_steps::latest::LatestOp;
 use txn_steps::read::ReadOp;
 use txn_steps::seen::ReadSeenOp;
 use txn_steps::write::WriteUncheckedOp;
 use txn_store::request::Reply;
-use txn_types::error::TransactionalObjectError;
 use txn_types::layout::Layout;
 use txn_types::test_utils::NumberCodec;
 
 /// What an operation says in the end, and how many calls of the store and how many looks it took.
 pub(crate) type Played = (Told, u64, u64);
 
-/// An operation as a driver sees it.
-pub(crate) trait Operation {
-    fn asks(&self) -> Ask<'_>;
+/// What a hand drives. Who drives it takes any such type, so that the drop of all nine below stands in no body of its own.
+pub(crate) trait Driven {
+    fn ask(&self) -> Ask<'_>;
 
     /// Takes a reply, or none for a look, and says its answer, or that it goes on. What it didn't ask for is a failure.
     fn turn(
@@ -38,6 +36,76 @@ pub(crate) trait Operation {
         caches: &mut Caches,
         reply: Option<Reply>,
     ) -> Result<Told, Fail>;
+}
+
+/// An operation that a hand drives.
+#[derive(Drop)]
+pub(crate) enum Op {
+    BoundaryRead(BoundaryRead),
+    BoundaryCheck(BoundaryCheck),
+    BoundaryAdvance(BoundaryAdvance),
+    Check(CheckOp),
+    Advance(AdvanceOp),
+    WriteUnchecked(WriteUncheckedOp),
+    Latest(LatestOp<u64>),
+    Read(ReadOp<u64>),
+    ReadSeen(ReadSeenOp<u64>),
+}
+
+impl Driven for Op {
+    fn ask(&self) -> Ask<'_> {
+        match self {
+            Op::BoundaryRead(op) => op.ask(),
+            Op::BoundaryCheck(op) => op.ask(),
+            Op::BoundaryAdvance(op) => op.ask(),
+            Op::Check(op) => op.ask(),
+            Op::Advance(op) => op.ask(),
+            Op::WriteUnchecked(op) => op.ask(),
+            Op::Latest(op) => op.ask(),
+            Op::Read(op) => op.ask(),
+            Op::ReadSeen(op) => op.ask(),
+        }
+    }
+
+    fn turn(
+        &mut self,
+        alloc: Global,
+        layout: &Layout<NumberCodec>,
+        caches: &mut Caches,
+        reply: Option<Reply>,
+    ) -> Result<Told, Fail> {
+        let boundary = &mut caches.boundary;
+        let latest = &mut caches.latest;
+        Ok(match self {
+            Op::BoundaryRead(op) if fits_boundary(op, &reply) => said(op.take(boundary, reply)),
+            Op::BoundaryCheck(op) if fits_boundary_check(op, &reply) => {
+                said(op.take(boundary, reply))
+            }
+            Op::BoundaryAdvance(op) if fits_boundary_advance(op, &reply) => {
+                said(op.take(alloc, &layout.boundary, boundary, reply))
+            }
+            Op::Check(op) if fits_check(op, &reply) => said(op.take(caches, reply)),
+            Op::Advance(op) if fits_advance(op, &reply) => {
+                said(op.take(alloc, layout, caches, reply))
+            }
+            Op::WriteUnchecked(op) if fits_write_unchecked(op, &reply) => {
+                said(op.take(latest, reply))
+            }
+            Op::Latest(op) if fits_latest(op, &reply) => {
+                said(op.take(alloc, layout, latest, reply))
+            }
+            Op::Read(op) if fits_read(op, &reply) => said(op.take(alloc, layout, caches, reply)),
+            Op::ReadSeen(op) if fits_seen(op, &reply) => {
+                said(op.take(alloc, layout, latest, reply))
+            }
+            _ => return of_another_kind(reply),
+        })
+    }
+}
+
+/// It drops the reply.
+fn of_another_kind(_reply: Option<Reply>) -> Result<Told, Fail> {
+    Err("a reply of another kind")?
 }
 
 /// Makes the call of the store that is asked for, or none for a look.
@@ -56,8 +124,8 @@ fn made(
 /// How many steps an operation has at most.
 const STEPS: u64 = 40;
 
-/// Drives an operation to its answer.
-pub(crate) fn drive<O: Operation + Drop>(
+/// Drives an operation to its answer, and drops it.
+pub(crate) fn drive<O: Driven + Drop>(
     alloc: Global,
     script: &mut Script,
     layout: &Layout<NumberCodec>,
@@ -69,7 +137,7 @@ pub(crate) fn drive<O: Operation + Drop>(
 }
 
 /// The same, of an operation that its caller drops.
-fn drive_on<O: Operation>(
+fn drive_on<O: Driven>(
     alloc: Global,
     script: &mut Script,
     layout: &Layout<NumberCodec>,
@@ -78,7 +146,7 @@ fn drive_on<O: Operation>(
 ) -> Result<Played, Fail> {
     let mut looks = 0u64;
     for step in 1..STEPS {
-        let reply = made(alloc, script, &mut caches.boundary, op.asks())?;
+        let reply = made(alloc, script, &mut caches.boundary, op.ask())?;
         if reply.is_none() {
             looks = looks.saturating_add(1);
         }
@@ -88,205 +156,4 @@ fn drive_on<O: Operation>(
         }
     }
     Err("it goes on")?
-}
-
-/// What an operation answers, where it is done.
-fn done<A>(turned: Turned<A>) -> Option<A> {
-    match turned {
-        Turned::Goes => None,
-        Turned::Done(answer) => Some(answer),
-    }
-}
-
-fn known(answer: Option<Result<Known, TransactionalObjectError>>) -> Told {
-    match answer {
-        None => GoesOn,
-        Some(Ok(known)) => Reads(known.0),
-        Some(Err(error)) => Fails(error.number()),
-    }
-}
-
-/// It drops the reply.
-fn of_another_kind(_reply: Option<Reply>) -> Result<Told, Fail> {
-    Err("a reply of another kind")?
-}
-
-impl Operation for BoundaryRead {
-    fn asks(&self) -> Ask<'_> {
-        self.ask()
-    }
-
-    fn turn(
-        &mut self,
-        _alloc: Global,
-        _layout: &Layout<NumberCodec>,
-        caches: &mut Caches,
-        reply: Option<Reply>,
-    ) -> Result<Told, Fail> {
-        if fits_boundary(self, &reply) {
-            Ok(known(done(self.take(&mut caches.boundary, reply))))
-        } else {
-            of_another_kind(reply)
-        }
-    }
-}
-
-impl Operation for BoundaryCheck {
-    fn asks(&self) -> Ask<'_> {
-        self.ask()
-    }
-
-    fn turn(
-        &mut self,
-        _alloc: Global,
-        _layout: &Layout<NumberCodec>,
-        caches: &mut Caches,
-        reply: Option<Reply>,
-    ) -> Result<Told, Fail> {
-        if fits_boundary_check(self, &reply) {
-            Ok(did(done(self.take(&mut caches.boundary, reply))))
-        } else {
-            of_another_kind(reply)
-        }
-    }
-}
-
-impl Operation for BoundaryAdvance {
-    fn asks(&self) -> Ask<'_> {
-        self.ask()
-    }
-
-    fn turn(
-        &mut self,
-        alloc: Global,
-        layout: &Layout<NumberCodec>,
-        caches: &mut Caches,
-        reply: Option<Reply>,
-    ) -> Result<Told, Fail> {
-        if fits_boundary_advance(self, &reply) {
-            Ok(did(done(self.take(alloc, &layout.boundary, &mut caches.boundary, reply))))
-        } else {
-            of_another_kind(reply)
-        }
-    }
-}
-
-impl Operation for CheckOp {
-    fn asks(&self) -> Ask<'_> {
-        self.ask()
-    }
-
-    fn turn(
-        &mut self,
-        _alloc: Global,
-        _layout: &Layout<NumberCodec>,
-        caches: &mut Caches,
-        reply: Option<Reply>,
-    ) -> Result<Told, Fail> {
-        if fits_check(self, &reply) {
-            Ok(did(done(self.take(caches, reply))))
-        } else {
-            of_another_kind(reply)
-        }
-    }
-}
-
-impl Operation for AdvanceOp {
-    fn asks(&self) -> Ask<'_> {
-        self.ask()
-    }
-
-    fn turn(
-        &mut self,
-        alloc: Global,
-        layout: &Layout<NumberCodec>,
-        caches: &mut Caches,
-        reply: Option<Reply>,
-    ) -> Result<Told, Fail> {
-        if fits_advance(self, &reply) {
-            Ok(did(done(self.take(alloc, layout, caches, reply))))
-        } else {
-            of_another_kind(reply)
-        }
-    }
-}
-
-impl Operation for WriteUncheckedOp {
-    fn asks(&self) -> Ask<'_> {
-        self.ask()
-    }
-
-    fn turn(
-        &mut self,
-        _alloc: Global,
-        _layout: &Layout<NumberCodec>,
-        caches: &mut Caches,
-        reply: Option<Reply>,
-    ) -> Result<Told, Fail> {
-        if fits_write_unchecked(self, &reply) {
-            Ok(wrote(done(self.take(&mut caches.latest, reply))))
-        } else {
-            of_another_kind(reply)
-        }
-    }
-}
-
-impl Operation for LatestOp<u64> {
-    fn asks(&self) -> Ask<'_> {
-        self.ask()
-    }
-
-    fn turn(
-        &mut self,
-        alloc: Global,
-        layout: &Layout<NumberCodec>,
-        caches: &mut Caches,
-        reply: Option<Reply>,
-    ) -> Result<Told, Fail> {
-        if fits_latest(self, &reply) {
-            Ok(newest(done(self.take(alloc, layout, &mut caches.latest, reply))))
-        } else {
-            of_another_kind(reply)
-        }
-    }
-}
-
-impl Operation for ReadOp<u64> {
-    fn asks(&self) -> Ask<'_> {
-        self.ask()
-    }
-
-    fn turn(
-        &mut self,
-        alloc: Global,
-        layout: &Layout<NumberCodec>,
-        caches: &mut Caches,
-        reply: Option<Reply>,
-    ) -> Result<Told, Fail> {
-        if fits_read(self, &reply) {
-            Ok(newest(done(self.take(alloc, layout, caches, reply))))
-        } else {
-            of_another_kind(reply)
-        }
-    }
-}
-
-impl Operation for ReadSeenOp<u64> {
-    fn asks(&self) -> Ask<'_> {
-        self.ask()
-    }
-
-    fn turn(
-        &mut self,
-        alloc: Global,
-        layout: &Layout<NumberCodec>,
-        caches: &mut Caches,
-        reply: Option<Reply>,
-    ) -> Result<Told, Fail> {
-        if fits_seen(self, &reply) {
-            Ok(valued(done(self.take(alloc, layout, &mut caches.latest, reply))))
-        } else {
-            of_another_kind(reply)
-        }
-    }
 }

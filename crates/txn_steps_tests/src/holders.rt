@@ -1,12 +1,13 @@
 //! Holders: their refreshes and updates, with their own epoch and with others.
-use crate::game::Scenario;
-use crate::game::Seat::{A, B};
+use crate::place::Scenario;
+use crate::place::Seat::{A, B};
+use crate::told::Told::{Fails, Held, Is, Shut, Viewed};
+use crate::view_calls::Step;
 use crate::view_calls::Step::{
     Boundary, Claim, ClaimAt, HolderRefresh, HolderUpdate, Init, Load, Refresh, Update,
 };
-use crate::view_calls::Told::{Did, Held, Refused, Shut, Viewed};
 
-pub(crate) const SCENARIOS: &[Scenario] = &[
+pub(crate) const SCENARIOS: &[Scenario<Step>] = &[
     (
         "a holder moves with its own epoch",
         &[
@@ -26,9 +27,9 @@ pub(crate) const SCENARIOS: &[Scenario] = &[
             (B, Load, Viewed(1, 0, 1), 3, 5),
             (A, Claim(None), Held(2, 1, 1, 1), 2, 3),
             (B, Claim(None), Held(3, 2, 1, 2), 6, 7),
-            (A, HolderUpdate(1, 2), Refused(5), 1, 0),
+            (A, HolderUpdate(1, 2), Fails(5), 1, 0),
             (A, HolderRefresh, Shut(3, 2, 1, 6), 3, 4),
-            (A, HolderUpdate(1, 3), Refused(6), 0, 0),
+            (A, HolderUpdate(1, 3), Fails(6), 0, 0),
             (B, HolderUpdate(2, 4), Viewed(4, 2, 4), 2, 3),
         ],
     ),
@@ -40,7 +41,7 @@ pub(crate) const SCENARIOS: &[Scenario] = &[
             (B, Load, Viewed(2, 1, 1), 3, 5),
             (B, Update(0, 2), Viewed(3, 0, 2), 2, 3),
             (A, HolderRefresh, Shut(3, 0, 2, 7), 3, 4),
-            (A, HolderUpdate(1, 3), Refused(7), 0, 0),
+            (A, HolderUpdate(1, 3), Fails(7), 0, 0),
         ],
     ),
     (
@@ -48,8 +49,8 @@ pub(crate) const SCENARIOS: &[Scenario] = &[
         &[
             (A, Init(0, 1), Viewed(1, 0, 1), 2, 3),
             (A, Claim(None), Held(2, 1, 1, 1), 2, 3),
-            (A, HolderUpdate(2, 5), Refused(7), 0, 0),
-            (A, HolderUpdate(0, 5), Refused(7), 0, 0),
+            (A, HolderUpdate(2, 5), Fails(7), 0, 0),
+            (A, HolderUpdate(0, 5), Fails(7), 0, 0),
             (A, HolderUpdate(1, 5), Viewed(3, 1, 5), 2, 3),
         ],
     ),
@@ -58,8 +59,8 @@ pub(crate) const SCENARIOS: &[Scenario] = &[
         &[
             (A, Init(0, 1), Viewed(1, 0, 1), 2, 3),
             (A, Claim(None), Held(2, 1, 1, 1), 2, 3),
-            (A, Boundary(b"5"), Did, 1, 0),
-            (A, HolderUpdate(1, 2), Refused(5), 2, 5),
+            (A, Boundary(b"5"), Is(true), 1, 0),
+            (A, HolderUpdate(1, 2), Fails(5), 2, 5),
         ],
     ),
     (
@@ -71,11 +72,11 @@ pub(crate) const SCENARIOS: &[Scenario] = &[
             (A, Claim(None), Held(3, 7, 0, 7), 6, 7),
             (A, HolderRefresh, Viewed(3, 7, 0), 2, 3),
             (A, HolderUpdate(7, 0), Viewed(4, 7, 0), 2, 3),
-            (A, HolderUpdate(8, 0), Refused(7), 0, 0),
+            (A, HolderUpdate(8, 0), Fails(7), 0, 0),
             (B, Refresh, Viewed(4, 7, 0), 4, 5),
             (B, ClaimAt(9, None), Held(5, 9, 0, 9), 2, 3),
             (A, HolderRefresh, Shut(5, 9, 0, 6), 3, 4),
-            (B, ClaimAt(9, None), Refused(6), 0, 0),
+            (B, ClaimAt(9, None), Fails(6), 0, 0),
         ],
     ),
 ];

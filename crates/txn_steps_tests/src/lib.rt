@@ -24,7 +24,11 @@ mod operations;
 #[cfg(test)]
 mod parts;
 #[cfg(test)]
+mod place;
+#[cfg(test)]
 mod scenarios;
+#[cfg(test)]
+mod told;
 #[cfg(test)]
 mod view_calls;
 #[cfg(test)]

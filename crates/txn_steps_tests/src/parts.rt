@@ -1,5 +1,5 @@
 //! Small parts: copies of versions, versions that no listing found, and a codec's refusal in an answer.
-use crate::writes::a_layout;
+use crate::place::a_layout;
 use bytes::Bytes;
 use std::alloc::{AllocError, Global};
 use std::test::Fail;
@@ -11,6 +11,7 @@ use txn_store::request::Reply;
 use txn_store::store::{Got, Token};
 use txn_types::error::TransactionalObjectError;
 use txn_types::id::MonotonicId;
+use txn_types::test_utils::NumberCodec;
 
 fn is_version(version: &Cached, id: u64, bytes: &[u8]) -> bool {
     version.id.is(id) && version.bytes.as_slice() == bytes
@@ -38,7 +39,7 @@ fn a_copy_is_the_same(rt: HostRuntime) -> Result<(), Fail> {
 
 /// What a read of one id makes of a version whose bytes are no number.
 fn read_of_no_number(alloc: Global) -> Result<Turned<ValueAnswer<u64>>, Fail> {
-    let layout = a_layout(alloc, 1)?;
+    let layout = a_layout(alloc, 1, NumberCodec)?;
     let op = ReadUncheckedOp::start(alloc, &layout, MonotonicId::new(1))?;
     let got = Got {
         bytes: Bytes::from_static(b"7 bytes"),

@@ -1,99 +1,17 @@
 //! Scenarios: calls of two clients over one store, each with what it says and how many calls of the store and looks it
 //! took.
-ghost use Rattle.std.specs.Prelude.{◌≤◌};
-
+use crate::operations::Call;
 use crate::operations::Call::{
     Advance, Check, Delete, DeleteUnchecked, Holds, Knows, Latest, Lists, Put, Read, ReadSeen,
     ReadUnchecked, Write, WriteUnchecked,
 };
-use crate::operations::Told::{Did, Fails, Is, Newest, Value, Wrote};
-use crate::operations::{Call, Place, Store, Told, a_place, answered};
-use crate::writes::a_layout;
-use std::alloc::Global;
-use std::mem;
+use crate::place::Seat::{A, B};
+use crate::place::{Row, Scenario, other};
+use crate::told::Told::{Did, Fails, Is, Newest, Value, Wrote};
 use std::ops::Bound::{Excluded, Included, Unbounded};
 use std::test::Fail;
-use txn_store::path::PathFault;
-use txn_types::layout::Layout;
+use txn_types::layout::PAGE;
 use txn_types::test_utils::NumberCodec;
-
-/// Which client makes a call.
-#[derive(Clone, Copy, Debug, PartialEq, Eq)]
-enum Client {
-    A,
-    B,
-}
-
-use Client::{A, B};
-
-/// A client's call, what it says, and how many calls of the store and how many looks it takes.
-type Row = (Client, Call, Told, u64, u64);
-
-/// What a call says, how many calls of the store it made, and whether it was done with fewer steps than it was given.
-type Played = (Told, u64, bool);
-
-/// How many calls a store has served.
-pub(crate) fn calls_of(store: &Store) -> u64 {
-    let counts = store.counts();
-    counts
-        .puts
-        .saturating_add(counts.gets)
-        .saturating_add(counts.lists)
-        .saturating_add(counts.deletes)
-}
-
-/// Makes a call, driven for so many steps.
-fn play(
-    alloc: Global,
-    layout: &Layout<NumberCodec>,
-    place: &mut Place,
-    call: Call,
-    steps: u64,
-) -> Played
-    requires { 1 ≤ layout.now.page }
-{
-    let before = calls_of(&place.store);
-    place.early = false;
-    let told = answered(alloc, layout, place, call, steps);
-    let calls = calls_of(&place.store).saturating_sub(before);
-    (told, calls, place.early)
-}
-
-/// The first row that goes otherwise, counted from 0, with what it says and takes, where there is one. Client A begins.
-fn other_in(
-    alloc: Global,
-    layout: &Layout<NumberCodec>,
-    place: &mut Place,
-    rows: &[Row],
-) -> Option<(usize, Played)>
-    requires { 1 ≤ layout.now.page }
-{
-    let mut at_call = A;
-    for (at, (client, call, said, calls, looks)) in rows.iter().enumerate() {
-        if *client != at_call {
-            at_call = *client;
-            mem::swap(&mut place.caches, &mut place.others);
-        }
-        let played = play(alloc, layout, place, *call, calls.saturating_add(*looks));
-        if played != (*said, *calls, false) {
-            return Some((at, played));
-        }
-    }
-    None
-}
-
-/// The same, in a place of its own.
-fn other(
-    alloc: Global,
-    page: u64,
-    nth: u64,
-    rows: &[Row],
-) -> Result<Option<(usize, Played)>, PathFault>
-    requires { 1 ≤ page }
-{
-    let layout = a_layout(alloc, page)?;
-    Ok(other_in(alloc, &layout, &mut a_place(alloc, nth), rows))
-}
 
 const BOUNDARY: &str = "root/gc/test.boundary";
 
@@ -107,7 +25,7 @@ const REFUSED: &[u8] = b"7 bytes";
 /// Eight bytes, which it reads.
 const NOTES: &[u8] = b"8 bytes!";
 
-const SCENARIOS: &[(&str, &[Row])] = &[
+const SCENARIOS: &[Scenario<Call>] = &[
     (
         "one client alone knows what it wrote, as far as it holds that",
         &[
@@ -391,13 +309,17 @@ const SCENARIOS: &[(&str, &[Row])] = &[
 #[test]
 fn each_call_takes_its_steps(rt: HostRuntime) -> Result<(), Fail> {
     for (name, rows) in SCENARIOS {
-        assert_eq!(rt; other(rt.alloc(), 1000, 0, rows)?, None, "{name}");
+        assert_eq!(rt;
+            other(rt.alloc(), PAGE, NumberCodec, 0, rows)?,
+            None,
+            "{name}"
+        );
     }
     Ok(())
 }
 
 /// Five versions that one client wrote.
-const FIVE: &[Row] = &[
+const FIVE: &[Row<Call>] = &[
     (A, Lists(Unbounded, Unbounded, &[]), Is(true), 1, 0),
     (A, WriteUnchecked(0, 10), Wrote(1), 1, 1),
     (A, WriteUnchecked(1, 20), Wrote(2), 1, 1),
@@ -441,12 +363,12 @@ const FIVE: &[Row] = &[
 
 #[test]
 fn a_listing_asks_for_each_page_once(rt: HostRuntime) -> Result<(), Fail> {
-    assert_eq!(rt; other(rt.alloc(), 2, 0, FIVE)?, None);
+    assert_eq!(rt; other(rt.alloc(), 2, NumberCodec, 0, FIVE)?, None);
     Ok(())
 }
 
 /// Calls of the store that fail, counted from 1, and what is said then.
-const FAILING: &[(u64, &[Row])] = &[
+const FAILING: &[(u64, &[Row<Call>])] = &[
     (
         1,
         &[
@@ -513,7 +435,11 @@ const FAILING: &[(u64, &[Row])] = &[
 #[test]
 fn a_failing_store_ends_a_call(rt: HostRuntime) -> Result<(), Fail> {
     for (at, (nth, rows)) in FAILING.iter().enumerate() {
-        assert_eq!(rt; other(rt.alloc(), 1000, *nth, rows)?, None, "scenario {at}");
+        assert_eq!(rt;
+            other(rt.alloc(), PAGE, NumberCodec, *nth, rows)?,
+            None,
+            "scenario {at}"
+        );
     }
     Ok(())
 }

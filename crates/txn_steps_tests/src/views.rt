@@ -1,10 +1,11 @@
 //! Views: made, moved and written on.
-use crate::game::Scenario;
-use crate::game::Seat::{A, B};
+use crate::place::Scenario;
+use crate::place::Seat::{A, B};
+use crate::told::Told::{Fails, GoesOn, Is, Viewed};
+use crate::view_calls::Step;
 use crate::view_calls::Step::{Boundary, Has, Init, Load, Refresh, Update};
-use crate::view_calls::Told::{Did, GoesOn, Refused, Viewed};
 
-pub(crate) const SCENARIOS: &[Scenario] = &[
+pub(crate) const SCENARIOS: &[Scenario<Step>] = &[
     (
         "a view follows what another client writes",
         &[
@@ -21,8 +22,8 @@ pub(crate) const SCENARIOS: &[Scenario] = &[
             (A, Init(0, 1), Viewed(1, 0, 1), 2, 3),
             (B, Load, Viewed(1, 0, 1), 3, 5),
             (B, Update(0, 2), Viewed(2, 0, 2), 2, 3),
-            (A, Update(0, 3), Refused(5), 1, 0),
-            (A, Update(0, 4), Refused(5), 1, 0),
+            (A, Update(0, 3), Fails(5), 1, 0),
+            (A, Update(0, 4), Fails(5), 1, 0),
             (B, Update(0, 5), Viewed(3, 0, 5), 2, 3),
         ],
     ),
@@ -30,39 +31,39 @@ pub(crate) const SCENARIOS: &[Scenario] = &[
         "the first version is written once",
         &[
             (A, Init(0, 1), Viewed(1, 0, 1), 2, 3),
-            (B, Init(0, 2), Refused(5), 1, 0),
+            (B, Init(0, 2), Fails(5), 1, 0),
             (B, Load, Viewed(1, 0, 1), 3, 5),
         ],
     ),
     (
         "where nothing stands nothing is viewed",
         &[
-            (A, Load, Refused(4), 1, 2),
+            (A, Load, Fails(4), 1, 2),
             (A, Has(1, 0, 1), Viewed(1, 0, 1), 0, 0),
-            (A, Refresh, Refused(7), 1, 2),
+            (A, Refresh, Fails(7), 1, 2),
         ],
     ),
     (
         "a write below the boundary looks most often",
         &[
-            (A, Boundary(b"5"), Did, 1, 0),
-            (A, Init(0, 1), Refused(5), 2, 5),
+            (A, Boundary(b"5"), Is(true), 1, 0),
+            (A, Init(0, 1), Fails(5), 2, 5),
             (B, Has(1, 0, 1), Viewed(1, 0, 1), 0, 0),
-            (B, Update(0, 2), Refused(5), 2, 5),
+            (B, Update(0, 2), Fails(5), 2, 5),
         ],
     ),
     (
         "no id is above the greatest",
         &[
             (A, Has(u64::MAX, 0, 1), Viewed(u64::MAX, 0, 1), 0, 0),
-            (A, Update(0, 2), Refused(10), 0, 0),
+            (A, Update(0, 2), Fails(10), 0, 0),
         ],
     ),
     (
         "a call that goes on leaves what it wrote",
         &[
             (A, Init(5, 0), GoesOn, 1, 0),
-            (A, Init(5, 0), Refused(5), 1, 0),
+            (A, Init(5, 0), Fails(5), 1, 0),
             (A, Load, Viewed(1, 5, 0), 3, 5),
         ],
     ),

@@ -1,5 +1,5 @@
 //! The window of versions alone.
-use crate::hand_calls::holds;
+use crate::operations::holds;
 use bytes::Bytes;
 use std::test::Fail;
 use txn_caches::caches::Cached;

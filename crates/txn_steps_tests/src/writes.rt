@@ -1,6 +1,7 @@
 //! Writes, listings and deletes.
-ghost use Rattle.std.specs.Prelude.{◌≡◌, ◌≤◌, IfOk};
+ghost use Rattle.std.specs.Prelude.{◌≤◌};
 
+use crate::place::a_layout;
 use std::alloc::Global;
 use std::ops::Bound;
 use std::test::Fail;
@@ -10,21 +11,11 @@ use txn_drivers::removal::delete_version;
 use txn_drivers::writing::write_version;
 use txn_steps::listing::ListAnswer;
 use txn_store::in_memory::InMemory;
-use txn_store::path::{Path, PathFault};
+use txn_store::path::PathFault;
 use txn_types::error::TransactionalObjectError;
 use txn_types::id::MonotonicId;
 use txn_types::layout::Layout;
 use txn_types::test_utils::NumberCodec;
-
-/// A layout whose pages have so many files at most.
-pub(crate) fn a_layout(alloc: Global, page: u64) -> Result<Layout<NumberCodec>, PathFault>
-    ensures { IfOk result (λ layout. layout.page ≡ page) }
-{
-    let root = Path::from_text(alloc, "root")?;
-    let mut layout = Layout::new(alloc, &root, "test", "val", NumberCodec)?;
-    layout.page = page;
-    Ok(layout)
-}
 
 /// The number of what a write answers, 0 where it conflicts and 100 where it fails otherwise.
 pub(crate) fn written(answer: Result<MonotonicId, TransactionalObjectError>) -> u64 {
@@ -126,7 +117,7 @@ const ALL: (Bound<MonotonicId>, Bound<MonotonicId>) = (Bound::Unbounded, Bound::
 
 /// The first write that answers something else, and whether the listings of all versions and of some are as they should.
 fn written_and_listed(alloc: Global) -> Result<(Option<(u64, u64)>, bool, bool), PathFault> {
-    let layout = a_layout(alloc, 1)?;
+    let layout = a_layout(alloc, 1, NumberCodec)?;
     let mut place = a_place(alloc);
     let other = other_write(alloc, &layout, &mut place, &WRITES);
     let all = lists(alloc, &layout, &mut place.store, ALL, &[1, 2, 3, 7]);
@@ -180,7 +171,7 @@ fn deleted_of_three(alloc: Global, layout: &Layout<NumberCodec>, place: &mut Pla
 
 #[test]
 fn deletes_remove_one_version(rt: HostRuntime) -> Result<(), Fail> {
-    let layout = a_layout(rt.alloc(), 1)?;
+    let layout = a_layout(rt.alloc(), 1, NumberCodec)?;
     let deleted = deleted_of_three(rt.alloc(), &layout, &mut a_place(rt.alloc()));
     assert_eq!(rt; deleted, (None, [true, true], true, [false, true]));
     Ok(())
