@@ -129,7 +129,7 @@ class Steps(unittest.TestCase):
     def test_what_is_swept(self):
         self.file("tools/refuse-growths", "#!/bin/sh\necho \"$# refusals, 0 odd\"\n", 0o755)
         self.assertEqual(silently(lambda: list(refusal_steps(self.room, ["app"]))), [])
-        self.file("crates/txn_tests/src/lib.rt")
+        self.file("crates/tests_world/src/lib.rt")
         steps = silently(lambda: list(refusal_steps(self.room, ["app"])))
         self.assertEqual([(it.name, it.passed, it.failed) for it in steps], [("refused growths", 1, 0)])
         steps = silently(lambda: list(refusal_steps(self.room, ["app", PROGRAM])))

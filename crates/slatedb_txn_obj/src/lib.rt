@@ -39,7 +39,7 @@
 //!
 //! ## Example
 //! A holder claims an object, writes on it, and is fenced once another has claimed it (a part of `fences_older_holder` of
-//! `uses_of_protocol`, which is proved for every protocol, store and codec):
+//! `slatedb_txn_obj_uses`, which is proved for every protocol, store and codec):
 //! ```text
 //! let view: SimpleTransactionalObject<T, MonotonicId, NoInvariant> =
 //!     SimpleTransactionalObject::load(alloc, protocol, store, turns)?;

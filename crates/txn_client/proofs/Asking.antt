@@ -5,10 +5,10 @@ use Rattle.txn_store.specs.declared.request.Reply.{Reply}
 use Rattle.txn_history.specs.Added.{told_of}
 use Rattle.txn_history.specs.Seen.{Store}
 use Rattle.txn_history.specs.declared.event.ToldOf.TheVariants as told
-use Rattle.txn_view_history.specs.declared.event.AnyAnswer.{AnyAnswer}
-use Rattle.txn_view_history.specs.Trace.{AnyTold}
-use Rattle.txn_any_machine.specs.declared.doing.AnyOperation.{AnyOperation}
-use Rattle.txn_any_machine.specs.Doing.{asked}
+use Rattle.txn_history.specs.declared.event.Answer.{Answer}
+use Rattle.txn_history.specs.Trace.{Told}
+use Rattle.txn_machine.specs.declared.doing.Operation.{Operation}
+use Rattle.txn_machine.specs.Doing.{asked}
 use Rattle.txn_clients.specs.Operations.{asked_of}
 use Rattle.txn_journals.specs.declared.rows.Act.{Act}
 use Rattle.txn_journals.specs.declared.rows.Step.{Step}
@@ -30,13 +30,13 @@ module _ {T : Type 0} where
   act_begun begun op (steps.Killed lefts) h = absurd h
 
   -- the store call that failed is the one that the operation asked for
-  pub fails_asked : (alive : Bool) (found : Option (AnyOperation T)) (operation : AnyOperation T) (request wanted : Request) → found ≡ Some operation → asked operation.doing ≡ Some (Store request) → (if alive then asked_of found else None) ≡ Some (Store wanted) → request ≡ wanted
+  pub fails_asked : (alive : Bool) (found : Option (Operation T)) (operation : Operation T) (request wanted : Request) → found ≡ Some operation → asked operation.doing ≡ Some (Store request) → (if alive then asked_of found else None) ≡ Some (Store wanted) → request ≡ wanted
   fails_asked true found operation request wanted is asks wants = let at : asked_of found ≡ asked operation.doing = ap asked_of is in cc
   fails_asked false found operation request wanted is asks wants = cc
 
 module _ {T C E R S F : Type 0} (hands : R → Noted T → R → Type 0) (serves : S → Request → Reply → S → Type 0) where
   -- an operation acts on what came of its store call, of which the recorder is handed this
-  pub takes_asked : (result : Result (Heard T) F) (op : ℕ) (request : Request) (called : Happening T) (note : Noted T) (act : Act) (answer : Option (AnyAnswer T)) (said : AnyTold T) (old new : DiaryState T C E) (recorder between recorder' : R) (store store' : S) (begun begun' : ℕ)
+  pub takes_asked : (result : Result (Heard T) F) (op : ℕ) (request : Request) (called : Happening T) (note : Noted T) (act : Act) (answer : Option (Answer T)) (said : Told T) (old new : DiaryState T C E) (recorder between recorder' : R) (store store' : S) (begun begun' : ℕ)
       → act_happens op act ≡ Handed (Asked op request) ∷ called ∷ Handed note ∷ []
       → Does old (record { step = steps.Act op act; answer = answer } ∷ []) new
       → said ≡ told_of (told.Went op) op answer

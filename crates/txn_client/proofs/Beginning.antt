@@ -2,9 +2,9 @@
 use Rattle.std.proofs.Common.{◌≡◌, ◌+◌, ℕ, List, [], ◌∷◌, ◌++◌, Option, Some, None, refl, sym, ap, subst, ◌∙◌, append-nil}
 use Rattle.txn_history.specs.Added.{told_of}
 use Rattle.txn_history.specs.declared.event.ToldOf.TheVariants as told
-use Rattle.txn_view_history.specs.declared.event.AnyCall.{AnyCall}
-use Rattle.txn_view_history.specs.declared.event.AnyAnswer.{AnyAnswer}
-use Rattle.txn_view_history.specs.Trace.{AnyTold}
+use Rattle.txn_history.specs.declared.event.Call.{Call}
+use Rattle.txn_history.specs.declared.event.Answer.{Answer}
+use Rattle.txn_history.specs.Trace.{Told}
 use Rattle.txn_journals.specs.declared.rows.Step.TheVariants as steps
 use Rattle.txn_diary.specs.Diaries.{DiaryState}
 use Rattle.txn_client.specs.declared.work.Heard.TheVariants as heards
@@ -17,25 +17,25 @@ use Rattle.txn_client.specs.Working.{heard_of, heard_in, told_happens, BeginsWit
 use Rattle.txn_client.proofs.Hearing.{heard_began, happens_began}
 
 module _ {T : Type 0} where
-  goes_none : (found : Option (AnyAnswer T)) → heard_in found ≡ heards.Goes → found ≡ None
+  goes_none : (found : Option (Answer T)) → heard_in found ≡ heards.Goes → found ≡ None
   goes_none None h = refl
   goes_none (Some answer) h = cc
 
-  answered_some : (found : Option (AnyAnswer T)) (answer : AnyAnswer T) → heard_in found ≡ heards.Answered answer → found ≡ Some answer
+  answered_some : (found : Option (Answer T)) (answer : Answer T) → heard_in found ≡ heards.Answered answer → found ≡ Some answer
   answered_some None answer h = cc
   answered_some (Some found) answer h = cc
 
-  heard_so : (said : AnyTold T) (op : ℕ) (found : Option (AnyAnswer T)) → said ≡ told_of (told.Began op) op found → heard_of said ≡ heard_in found
+  heard_so : (said : Told T) (op : ℕ) (found : Option (Answer T)) → said ≡ told_of (told.Began op) op found → heard_of said ≡ heard_in found
   heard_so said op found is = ap heard_of is ∙ heard_began op found
 
-  pub began_goes : (said : AnyTold T) (op : ℕ) (found : Option (AnyAnswer T)) → said ≡ told_of (told.Began op) op found → heards.Goes ≡ heard_of said → found ≡ None
+  pub began_goes : (said : Told T) (op : ℕ) (found : Option (Answer T)) → said ≡ told_of (told.Began op) op found → heards.Goes ≡ heard_of said → found ≡ None
   began_goes said op found is heard = goes_none found (sym (heard ∙ heard_so said op found is))
 
-  pub began_answered : (said : AnyTold T) (op : ℕ) (found : Option (AnyAnswer T)) (answer : AnyAnswer T) → said ≡ told_of (told.Began op) op found → heards.Answered answer ≡ heard_of said → found ≡ Some answer
+  pub began_answered : (said : Told T) (op : ℕ) (found : Option (Answer T)) (answer : Answer T) → said ≡ told_of (told.Began op) op found → heards.Answered answer ≡ heard_of said → found ≡ Some answer
   began_answered said op found answer is heard = answered_some found answer (sym (heard ∙ heard_so said op found is))
 
 module _ {T C E R S : Type 0} (hands : R → Noted T → R → Type 0) (serves : S → Request → Reply → S → Type 0) where
-  pub begins_with : (call handed : AnyCall T) (found answer : Option (AnyAnswer T)) (said : AnyTold T) (op : ℕ) (old new : DiaryState T C E) (recorder between recorder' : R) (store store' : S) (begun begun' end : ℕ)
+  pub begins_with : (call handed : Call T) (found answer : Option (Answer T)) (said : Told T) (op : ℕ) (old new : DiaryState T C E) (recorder between recorder' : R) (store store' : S) (begun begun' end : ℕ)
       → Does old (record { step = steps.Begin call; answer = found } ∷ []) new → handed ≡ call → begun' ≡ begun + 1 → hands recorder (Begun begun' handed) between
       → said ≡ told_of (told.Began op) op found → HappensAll hands serves between store (told_happens begun' said) recorder' store' → found ≡ answer → end ≡ begun' → BeginsWith hands serves call answer old recorder store begun new recorder' store' end
   begins_with call handed found answer said op old new recorder between recorder' store store' begun begun' end does call_is begun_is first told_is second answer_is end_is =

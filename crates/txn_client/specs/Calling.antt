@@ -4,8 +4,8 @@ use Rattle.txn_store.specs.declared.request.Request.{Request}
 use Rattle.txn_store.specs.declared.request.Reply.{Reply}
 use Rattle.txn_history.specs.declared.event.EventFault.{EventFault}
 use Rattle.txn_history.specs.declared.event.EventFault.TheVariants as faults
-use Rattle.txn_view_history.specs.declared.event.AnyCall.{AnyCall}
-use Rattle.txn_view_history.specs.declared.event.AnyAnswer.{AnyAnswer}
+use Rattle.txn_history.specs.declared.event.Call.{Call}
+use Rattle.txn_history.specs.declared.event.Answer.{Answer}
 use Rattle.txn_journals.specs.declared.rows.Step.{Step}
 use Rattle.txn_journals.specs.declared.rows.Step.TheVariants as steps
 use Rattle.txn_journals.specs.declared.rows.JournalRow.{JournalRow}
@@ -31,7 +31,7 @@ module _ {T : Type 0} where
   IsActOf op (steps.Killed lefts) = ⊥
 
   -- These rows, before which so many operations began, are one call: its begin, and what its operation did. They tell this answer, if one, and no other.
-  pub record IsCall (begun op : ℕ) (call : AnyCall T) (answer : Option (AnyAnswer T)) (rows : List (JournalRow T)) : Type 0 where
+  pub record IsCall (begun op : ℕ) (call : Call T) (answer : Option (Answer T)) (rows : List (JournalRow T)) : Type 0 where
     pub first : JournalRow T
     pub turns : List (JournalRow T)
     pub rows_are : rows ≡ first ∷ turns
@@ -57,7 +57,7 @@ module _ {T C E R S : Type 0} where
 
 module _ {T C E R S : Type 0} (hands : R → Noted T → R → Type 0) (serves : S → Request → Reply → S → Type 0) where
   -- A client that goes on made this call, with this answer, if one: it has the rows of one call more, and what happens with them happened to its recorder and its store, and nothing else.
-  pub record MakesCall (call : AnyCall T) (answer : Option (AnyAnswer T)) (old new : ClientState T C E R S) : Type 0 where
+  pub record MakesCall (call : Call T) (answer : Option (Answer T)) (old new : ClientState T C E R S) : Type 0 where
     pub op : ℕ
     pub rows : List (JournalRow T)
     pub is_call : IsCall (begun_with 0 old.diary.rows) op call answer rows
@@ -67,7 +67,7 @@ module _ {T C E R S : Type 0} (hands : R → Noted T → R → Type 0) (serves :
 
   -- Why a call has no answer, where its begin is refused so, if it is, and what that leaves.
   module _ (refusal : Option EventFault) where
-    abbrev pub Stops : AnyCall T → ClientState T C E R S → ClientState T C E R S → Stop → Type 0
+    abbrev pub Stops : Call T → ClientState T C E R S → ClientState T C E R S → Stop → Type 0
     Stops call old new (stops.Refused fault) = (new ≡ old) × (old.goes_on ≡ true) × ((refusal ≡ Some fault) ⊎ (fault ≡ faults.NoMemory))
     Stops call old new stops.StepsSpent = MakesCall call None old new
     Stops call old new (stops.Unrecorded error) = Ends old new

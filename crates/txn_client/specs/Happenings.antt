@@ -2,7 +2,7 @@
 use Rattle.std.specs.Prelude.{◌≡◌, ℕ, List, [], ◌∷◌, ◌++◌, Option, Some, None}
 use Rattle.txn_store.specs.declared.request.Request.{Request}
 use Rattle.txn_store.specs.declared.request.Reply.{Reply}
-use Rattle.txn_view_history.specs.declared.event.AnyAnswer.{AnyAnswer}
+use Rattle.txn_history.specs.declared.event.Answer.{Answer}
 use Rattle.txn_journals.specs.declared.rows.Act.{Act}
 use Rattle.txn_journals.specs.declared.rows.Act.TheVariants as acts
 use Rattle.txn_journals.specs.declared.rows.Step.{Step}
@@ -34,7 +34,7 @@ module _ {T : Type 0} where
   step_happens op (steps.Act _ act) = act_happens op act
   step_happens op (steps.Killed lefts) = []
 
-  abbrev pub answer_happens : ℕ → Option (AnyAnswer T) → List (Happening T)
+  abbrev pub answer_happens : ℕ → Option (Answer T) → List (Happening T)
   answer_happens op None = []
   answer_happens op (Some answer) = Handed (Answered op answer) ∷ []
 

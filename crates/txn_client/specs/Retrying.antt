@@ -2,14 +2,14 @@
 use Rattle.std.specs.Prelude.{◌≡◌, ◌⊎◌, ◌<◌, ℕ, zero, suc, nat_eq, if◌then◌else◌, Option, Some, None, Result, Ok, Err}
 use Rattle.txn_store.specs.declared.request.Request.{Request}
 use Rattle.txn_store.specs.declared.request.Reply.{Reply}
-use Rattle.txn_history.specs.declared.event.Answer.{Answer}
-use Rattle.txn_history.specs.declared.event.Answer.TheVariants as plain
+use Rattle.txn_history.specs.declared.event.PlainAnswer.{PlainAnswer}
+use Rattle.txn_history.specs.declared.event.PlainAnswer.TheVariants as plain
 use Rattle.txn_history.specs.declared.event.EventFault.TheVariants as faults
-use Rattle.txn_view_history.specs.declared.event.AnyCall.{AnyCall}
-use Rattle.txn_view_history.specs.declared.event.AnyCall.TheVariants as calls
-use Rattle.txn_view_history.specs.declared.event.AnyAnswer.{AnyAnswer}
-use Rattle.txn_view_history.specs.declared.event.AnyAnswer.TheVariants as answers
-use Rattle.txn_view_history.specs.declared.event.ViewCall.TheVariants as view_calls
+use Rattle.txn_history.specs.declared.event.Call.{Call}
+use Rattle.txn_history.specs.declared.event.Call.TheVariants as calls
+use Rattle.txn_history.specs.declared.event.Answer.{Answer}
+use Rattle.txn_history.specs.declared.event.Answer.TheVariants as answers
+use Rattle.txn_history.specs.declared.event.ViewCall.TheVariants as view_calls
 use Rattle.txn_diary.specs.Diaries.{refusal_of}
 use Rattle.txn_client.specs.declared.retry.Applied.{Applied}
 use Rattle.txn_client.specs.declared.retry.Applied.TheVariants as applied
@@ -23,31 +23,31 @@ use Rattle.txn_client.specs.Calling.{ClientState, MakesCall, Stops}
 
 module _ {T : Type 0} where
   -- the refusal of a call whose base was overtaken
-  abbrev pub conflict : AnyAnswer T
+  abbrev pub conflict : Answer T
   conflict = answers.Plain (plain.Refused 5)
 
   -- the answer that gives this view
-  abbrev pub gives : Viewed T → AnyAnswer T
+  abbrev pub gives : Viewed T → Answer T
   gives viewed = answers.View viewed.view viewed.id viewed.value
 
   -- an answer that gives no view
-  abbrev pub GivesNoView : AnyAnswer T → Type 0
+  abbrev pub GivesNoView : Answer T → Type 0
   GivesNoView (answers.View view id value) = ⊥
   GivesNoView _ = Unit {0}
 
   -- the update of a view by a candidate, and the refresh of it
-  abbrev pub update_of : Viewed T → T → AnyCall T
+  abbrev pub update_of : Viewed T → T → Call T
   update_of viewed candidate = calls.View (view_calls.Update viewed.view candidate)
 
-  abbrev pub refresh_of : Viewed T → AnyCall T
+  abbrev pub refresh_of : Viewed T → Call T
   refresh_of viewed = calls.View (view_calls.Refresh viewed.view)
 
   -- A word of private contracts: what an answer to an update or a refresh says.
-  abbrev pub tried_plain : Answer T → Tried T
+  abbrev pub tried_plain : PlainAnswer T → Tried T
   tried_plain (plain.Refused number) = if nat_eq number 5 then trials.Conflict else trials.Answered (answers.Plain (plain.Refused number))
   tried_plain answer = trials.Answered (answers.Plain answer)
 
-  abbrev pub trial_of : AnyAnswer T → Tried T
+  abbrev pub trial_of : Answer T → Tried T
   trial_of (answers.View view id value) = trials.Viewed (record { view = view; id = id; value = value })
   trial_of (answers.Plain answer) = tried_plain answer
   trial_of (answers.Held view id value epoch) = trials.Answered (answers.Held view id value epoch)
@@ -55,13 +55,13 @@ module _ {T : Type 0} where
 -- `asks` says what the mutator may ask for, of a value.
 module _ {T C E R S F : Type 0} (hands : R → Noted T → R → Type 0) (serves : S → Request → Reply → S → Type 0) (asks : T → Result (Option T) F → Type 0) where
   -- The mutator asked for a candidate, made of the value that is viewed, and the update of the view by this candidate was answered so.
-  pub record Updates (viewed : Viewed T) (old : ClientState T C E R S) (answer : AnyAnswer T) (new : ClientState T C E R S) : Type 0 where
+  pub record Updates (viewed : Viewed T) (old : ClientState T C E R S) (answer : Answer T) (new : ClientState T C E R S) : Type 0 where
     pub candidate : T
     pub asked : asks viewed.value (Ok (Some candidate))
     pub made : MakesCall hands serves (update_of viewed candidate) (Some answer) old new
 
   -- Such an update was a conflict, and the refresh of the view, which was made next, was answered so.
-  pub record Refreshes (viewed : Viewed T) (old : ClientState T C E R S) (answer : AnyAnswer T) (new : ClientState T C E R S) : Type 0 where
+  pub record Refreshes (viewed : Viewed T) (old : ClientState T C E R S) (answer : Answer T) (new : ClientState T C E R S) : Type 0 where
     pub between : ClientState T C E R S
     pub updates : Updates viewed old conflict between
     pub made : MakesCall hands serves (refresh_of viewed) (Some answer) between new
@@ -94,7 +94,7 @@ module _ {T C E R S F : Type 0} (hands : R → Noted T → R → Type 0) (serves
   -- Why an update was not made to its end, and what that leaves. `epoch_of` says where a value has its epoch.
   module _ (epoch_of : E → T → ℕ) where
     -- this call of a client has no answer, for this reason
-    abbrev pub CallStops : AnyCall T → ClientState T C E R S → Stop → ClientState T C E R S → Type 0
+    abbrev pub CallStops : Call T → ClientState T C E R S → Stop → ClientState T C E R S → Type 0
     CallStops call old stop new = Stops hands serves (refusal_of (epoch_of old.diary.epochs) old.diary call) call old new stop
 
     -- why there was no further round from a version that is viewed

@@ -3,9 +3,9 @@ use Rattle.std.specs.Prelude.{◌≡◌, ◌⊎◌, ◌-◌, ℕ, slice_get, len
 use Rattle.txn_history.specs.declared.event.ToldOf.TheVariants as told
 use Rattle.txn_history.specs.declared.event.EventFault.{EventFault}
 use Rattle.txn_history.specs.declared.event.EventFault.TheVariants as faults
-use Rattle.txn_view_history.specs.declared.event.AnyCall.{AnyCall}
-use Rattle.txn_view_history.specs.declared.event.AnyAnswer.{AnyAnswer}
-use Rattle.txn_view_history.specs.Trace.{AnyTold}
+use Rattle.txn_history.specs.declared.event.Call.{Call}
+use Rattle.txn_history.specs.declared.event.Answer.{Answer}
+use Rattle.txn_history.specs.Trace.{Told}
 use Rattle.txn_store.specs.declared.request.Request.{Request}
 use Rattle.txn_store.specs.declared.request.Reply.{Reply}
 use Rattle.txn_journals.specs.declared.rows.JournalRow.{JournalRow}
@@ -26,17 +26,17 @@ use Rattle.txn_client.specs.Calling.{IsActOf, IsCall, Does}
 
 module _ {T : Type 0} where
   -- what is heard of what was told
-  abbrev pub heard_of : AnyTold T → Heard T
+  abbrev pub heard_of : Told T → Heard T
   heard_of (told.Answered op answer) = heards.Answered answer
   heard_of _ = heards.Goes
 
   -- what happens with what was told of this operation
-  abbrev pub told_happens : ℕ → AnyTold T → List (Happening T)
+  abbrev pub told_happens : ℕ → Told T → List (Happening T)
   told_happens op (told.Answered _ answer) = Handed (Answered op answer) ∷ []
   told_happens op _ = []
 
   -- the operation that was told of
-  abbrev pub op_told : AnyTold T → ℕ
+  abbrev pub op_told : Told T → ℕ
   op_told (told.Began op) = op
   op_told (told.Went op) = op
   op_told (told.Answered op answer) = op
@@ -45,26 +45,26 @@ module _ {T : Type 0} where
   op_told (told.Crashed client) = client
 
   -- the call that a step begins, where it begins one
-  abbrev pub call_of : Step T → Option (AnyCall T)
+  abbrev pub call_of : Step T → Option (Call T)
   call_of (steps.Begin call) = Some call
   call_of _ = None
 
-  abbrev pub call_in : Option (JournalRow T) → Option (AnyCall T)
+  abbrev pub call_in : Option (JournalRow T) → Option (Call T)
   call_in None = None
   call_in (Some row) = call_of row.step
 
   -- the call that the last of these rows begins, where it begins one
-  abbrev pub last_begun : List (JournalRow T) → Option (AnyCall T)
+  abbrev pub last_begun : List (JournalRow T) → Option (Call T)
   last_begun rows = call_in (slice_get rows (length rows - 1))
 
   -- what is heard of an answer
-  abbrev pub heard_in : Option (AnyAnswer T) → Heard T
+  abbrev pub heard_in : Option (Answer T) → Heard T
   heard_in None = heards.Goes
   heard_in (Some answer) = heards.Answered answer
 
 module _ {T : Type 0} where
   -- a call's answer, or why it has none
-  abbrev pub settled : Done T → Result (AnyAnswer T) Stop
+  abbrev pub settled : Done T → Result (Answer T) Stop
   settled (dones.Answered answer) = Ok answer
   settled (dones.Refused fault) = Err (stops.Refused fault)
   settled dones.Spent = Err stops.StepsSpent
@@ -106,17 +106,17 @@ module _ {T C E R S : Type 0} (hands : R → Noted T → R → Type 0) (serves :
     pub begun_is : begun' ≡ begun
 
   -- A call is this operation's so far, with this answer, if one.
-  pub record CallsAs (op : ℕ) (call : AnyCall T) (answer : Option (AnyAnswer T)) (old : DiaryState T C E) (recorder : R) (store : S) (begun : ℕ) (new : DiaryState T C E) (recorder' : R) (store' : S) (begun' : ℕ) : Type 0 where
+  pub record CallsAs (op : ℕ) (call : Call T) (answer : Option (Answer T)) (old : DiaryState T C E) (recorder : R) (store : S) (begun : ℕ) (new : DiaryState T C E) (recorder' : R) (store' : S) (begun' : ℕ) : Type 0 where
     pub rows : List (JournalRow T)
     pub is_call : IsCall begun op call answer rows
     pub advances : Advances old recorder store begun rows new recorder' store' begun'
 
   -- A call was made, with this answer, if one.
-  abbrev pub Calls : AnyCall T → Option (AnyAnswer T) → DiaryState T C E → R → S → ℕ → DiaryState T C E → R → S → ℕ → Type 0
+  abbrev pub Calls : Call T → Option (Answer T) → DiaryState T C E → R → S → ℕ → DiaryState T C E → R → S → ℕ → Type 0
   Calls call answer old recorder store begun new recorder' store' begun' = (op : ℕ) × CallsAs op call answer old recorder store begun new recorder' store' begun'
 
   -- A call begins, and tells this answer, if it tells one.
-  pub record BeginsWith (call : AnyCall T) (answer : Option (AnyAnswer T)) (old : DiaryState T C E) (recorder : R) (store : S) (begun : ℕ) (new : DiaryState T C E) (recorder' : R) (store' : S) (begun' : ℕ) : Type 0 where
+  pub record BeginsWith (call : Call T) (answer : Option (Answer T)) (old : DiaryState T C E) (recorder : R) (store : S) (begun : ℕ) (new : DiaryState T C E) (recorder' : R) (store' : S) (begun' : ℕ) : Type 0 where
     pub row : JournalRow T
     pub begins : row.step ≡ steps.Begin call
     pub answer_is : row.answer ≡ answer
@@ -133,13 +133,13 @@ module _ {T C E R S : Type 0} (hands : R → Noted T → R → Type 0) (serves :
       pub reason : (refusal ≡ Some fault) ⊎ (fault ≡ faults.NoMemory)
 
     -- what became of a begin
-    abbrev pub IsBegun : AnyCall T → DiaryState T C E → R → S → ℕ → Begun T → DiaryState T C E → R → S → ℕ → Type 0
+    abbrev pub IsBegun : Call T → DiaryState T C E → R → S → ℕ → Begun T → DiaryState T C E → R → S → ℕ → Type 0
     IsBegun call old recorder store begun (begins.Refused fault) new recorder' store' begun' = IsRefused fault old recorder store begun new recorder' store' begun'
     IsBegun call old recorder store begun (begins.Goes op) new recorder' store' begun' = BeginsWith call None old recorder store begun new recorder' store' begun'
     IsBegun call old recorder store begun (begins.Answered answer) new recorder' store' begun' = BeginsWith call (Some answer) old recorder store begun new recorder' store' begun'
 
     -- what became of a call
-    abbrev pub IsDone : AnyCall T → DiaryState T C E → R → S → ℕ → Done T → DiaryState T C E → R → S → ℕ → Type 0
+    abbrev pub IsDone : Call T → DiaryState T C E → R → S → ℕ → Done T → DiaryState T C E → R → S → ℕ → Type 0
     IsDone call old recorder store begun (dones.Answered answer) new recorder' store' begun' = Calls call (Some answer) old recorder store begun new recorder' store' begun'
     IsDone call old recorder store begun dones.Spent new recorder' store' begun' = Calls call None old recorder store begun new recorder' store' begun'
     IsDone call old recorder store begun (dones.Refused fault) new recorder' store' begun' = IsRefused fault old recorder store begun new recorder' store' begun'

@@ -6,9 +6,9 @@ use crate::work::{Work, settled};
 use std::alloc::{AllocError, Global};
 use std::marker::Model;
 use txn_diary::diary::Diary;
+use txn_history::event::{Answer, Call};
 use txn_types::codec::ObjectCodec;
 use txn_types::epoch::EpochField;
-use txn_view_history::event::{AnyAnswer, AnyCall};
 
 /// One client of a store, with a diary, which hands what it does to a recorder as it happens: each call that it makes hands
 /// over what the call's rows of the journal tell, looks aside, and calls the store once for each reply that they tell.
@@ -116,7 +116,7 @@ impl<
     /// [`Stop::Refused`] where the client does not permit the call, or memory is wanting for its begin: it is as it was.
     /// [`Stop::StepsSpent`] where the steps did not suffice: the operation is given up, and the client goes on. After
     /// [`Stop::Unrecorded`] and [`Stop::NoMemory`] it makes no further call, and each is [`Stop::Ended`].
-    pub fn call(&mut self, call: AnyCall<T>, steps: u64) -> Result<AnyAnswer<T>, Stop>
+    pub fn call(&mut self, call: Call<T>, steps: u64) -> Result<Answer<T>, Stop>
         requires { IsExactClone T.is_clone }
         ensures ok { IfOk result (λ answer. MakesCall R.hands S.serves call (Some answer) self.old self.new) }
         ensures err { IfErr result (Stops R.hands S.serves (refusal_of (E.epoch_of self.old.diary.epochs) self.old.diary call) call self.old self.new) }

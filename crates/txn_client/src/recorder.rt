@@ -1,7 +1,7 @@
 //! What a client tells of what it does, as it happens.
 use std::io;
+use txn_history::event::{Answer, Call};
 use txn_store::request::{Reply, Request};
-use txn_view_history::event::{AnyAnswer, AnyCall};
 
 /// Keeps what a client does, as it happens: a file that grows by whole rows, say, so that a client that is killed leaves all
 /// that it asked for. After an error a part of what it was handed may stand behind what it has.
@@ -13,7 +13,7 @@ pub trait Recorder<T> {
     ghost hands: { Self → Noted T → Self → Type 0 };
 
     /// A call begins as the operation of this number, before anything is asked.
-    fn begun(&mut self, op: u64, call: &AnyCall<T>) -> io::Result<()>
+    fn begun(&mut self, op: u64, call: &Call<T>) -> io::Result<()>
         ensures { OnOk result (hands self.old (Begun op call.now) self.new) };
 
     /// The operation asks the store for this, which is called once this is kept.
@@ -33,6 +33,6 @@ pub trait Recorder<T> {
         ensures { OnOk result (hands self.old (GaveUp op) self.new) };
 
     /// The operation is answered.
-    fn answered(&mut self, op: u64, answer: &AnyAnswer<T>) -> io::Result<()>
+    fn answered(&mut self, op: u64, answer: &Answer<T>) -> io::Result<()>
         ensures { OnOk result (hands self.old (Answered op answer.now) self.new) };
 }

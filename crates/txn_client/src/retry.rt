@@ -8,10 +8,9 @@ use crate::recorder::Recorder;
 use crate::serve::Serve;
 use crate::stop::Stop;
 use std::alloc::AllocError;
-use txn_history::event::{Answer, EventFault};
+use txn_history::event::{Answer, Call, EventFault, PlainAnswer, ViewCall};
 use txn_types::codec::ObjectCodec;
 use txn_types::epoch::EpochField;
-use txn_view_history::event::{AnyAnswer, AnyCall, ViewCall};
 
 /// A view of a client as it stands: its number, and the version that it is at.
 #[derive(Debug, Drop)]
@@ -29,7 +28,7 @@ pub enum Applied<T> {
     /// The mutator asked for nothing, of the version that the view is at.
     Unchanged,
     /// A call was answered so, and gave no view: an update, and that was no conflict, or a refresh after a conflict.
-    Answered(AnyAnswer<T>),
+    Answered(Answer<T>),
     /// Each attempt ended in a conflict.
     AttemptsSpent,
 }
@@ -38,7 +37,7 @@ pub enum Applied<T> {
 enum Tried<T> {
     Viewed(Viewed<T>),
     Conflict,
-    Answered(AnyAnswer<T>),
+    Answered(Answer<T>),
 }
 
 /// What the mutator asks for, of a value.
@@ -56,34 +55,34 @@ fn candidate_of<T, F: Fn(&T) -> Result<Option<T>, AllocError>>(
 const CONFLICT: u8 = 5;
 
 /// What an answer without a view says.
-fn trial_of_plain<T>(answer: Answer<T>) -> Tried<T>
+fn trial_of_plain<T>(answer: PlainAnswer<T>) -> Tried<T>
     ensures { result ≡ tried_plain answer }
 {
     match answer {
-        Answer::Refused(number) => {
+        PlainAnswer::Refused(number) => {
             if number == CONFLICT {
                 Tried::Conflict
             } else {
-                Tried::Answered(AnyAnswer::Plain(Answer::Refused(number)))
+                Tried::Answered(Answer::Plain(PlainAnswer::Refused(number)))
             }
         }
-        Answer::Wrote(id) => Tried::Answered(AnyAnswer::Plain(Answer::Wrote(id))),
-        Answer::Read(found) => Tried::Answered(AnyAnswer::Plain(Answer::Read(found))),
-        Answer::Value(value) => Tried::Answered(AnyAnswer::Plain(Answer::Value(value))),
-        Answer::Ids(ids) => Tried::Answered(AnyAnswer::Plain(Answer::Ids(ids))),
-        Answer::Done => Tried::Answered(AnyAnswer::Plain(Answer::Done)),
+        PlainAnswer::Wrote(id) => Tried::Answered(Answer::Plain(PlainAnswer::Wrote(id))),
+        PlainAnswer::Read(found) => Tried::Answered(Answer::Plain(PlainAnswer::Read(found))),
+        PlainAnswer::Value(value) => Tried::Answered(Answer::Plain(PlainAnswer::Value(value))),
+        PlainAnswer::Ids(ids) => Tried::Answered(Answer::Plain(PlainAnswer::Ids(ids))),
+        PlainAnswer::Done => Tried::Answered(Answer::Plain(PlainAnswer::Done)),
     }
 }
 
 /// What an answer says.
-fn trial_of<T>(answer: AnyAnswer<T>) -> Tried<T>
+fn trial_of<T>(answer: Answer<T>) -> Tried<T>
     ensures { result ≡ trial_of answer }
 {
     match answer {
-        AnyAnswer::View(view, id, value) => Tried::Viewed(Viewed { view, id, value }),
-        AnyAnswer::Plain(answer) => trial_of_plain(answer),
-        AnyAnswer::Held(view, id, value, epoch) => {
-            Tried::Answered(AnyAnswer::Held(view, id, value, epoch))
+        Answer::View(view, id, value) => Tried::Viewed(Viewed { view, id, value }),
+        Answer::Plain(answer) => trial_of_plain(answer),
+        Answer::Held(view, id, value, epoch) => {
+            Tried::Answered(Answer::Held(view, id, value, epoch))
         }
     }
 }
@@ -127,17 +126,17 @@ impl<
                 Ok(None) => return Ok(Applied::Unchanged),
                 Err(_) => return Err(Stop::Refused(EventFault::NoMemory)),
             };
-            let updated = self.call(AnyCall::View(ViewCall::Update(view, candidate)), steps)?;
+            let updated = self.call(Call::View(ViewCall::Update(view, candidate)), steps)?;
             match trial_of(updated) {
                 Tried::Viewed(viewed) => return Ok(Applied::Written(viewed)),
                 Tried::Conflict => {}
                 Tried::Answered(answer) => return Ok(Applied::Answered(answer)),
             }
-            let refreshed = self.call(AnyCall::View(ViewCall::Refresh(view)), steps)?;
+            let refreshed = self.call(Call::View(ViewCall::Refresh(view)), steps)?;
             match trial_of(refreshed) {
                 Tried::Viewed(newer) => viewed = newer,
                 Tried::Conflict => {
-                    return Ok(Applied::Answered(AnyAnswer::Plain(Answer::Refused(5))));
+                    return Ok(Applied::Answered(Answer::Plain(PlainAnswer::Refused(5))));
                 }
                 Tried::Answered(answer) => return Ok(Applied::Answered(answer)),
             }

@@ -11,14 +11,13 @@ use crate::stop::Stop;
 use std::alloc::Global;
 use txn_clients::operations::request_of;
 use txn_diary::diary::Diary;
-use txn_history::event::EventFault;
+use txn_history::event::{Answer, Call, EventFault, Told};
 use txn_journals::rows::{JournalRow, Receipt, Step};
 use txn_journals::same::same_error;
 use txn_store::request::{Reply, Request};
 use txn_store::store::StoreError;
 use txn_types::codec::ObjectCodec;
 use txn_types::epoch::EpochField;
-use txn_view_history::event::{AnyAnswer, AnyCall, AnyTold};
 
 /// A client's diary, its store and its recorder.
 #[derive(Drop)]
@@ -36,7 +35,7 @@ pub(crate) enum Heard<T> {
     /// The operation goes on.
     Goes,
     /// It was answered.
-    Answered(AnyAnswer<T>),
+    Answered(Answer<T>),
 }
 
 /// What became of a begin.
@@ -46,13 +45,13 @@ pub(crate) enum Begun<T> {
     /// The call goes on as the operation of this number.
     Goes(u64),
     /// It was answered at once.
-    Answered(AnyAnswer<T>),
+    Answered(Answer<T>),
 }
 
 /// What became of a call.
 pub(crate) enum Done<T> {
     /// It was answered.
-    Answered(AnyAnswer<T>),
+    Answered(Answer<T>),
     /// It did not begin.
     Refused(EventFault),
     /// Its steps were spent, and it was given up.
@@ -60,7 +59,7 @@ pub(crate) enum Done<T> {
 }
 
 /// The call that a step begins, where it begins one.
-fn call_of<T>(step: &Step<T>) -> Option<&AnyCall<T>>
+fn call_of<T>(step: &Step<T>) -> Option<&Call<T>>
     ensures { option_copied result ≡ call_of step.now }
 {
     match step {
@@ -71,27 +70,25 @@ fn call_of<T>(step: &Step<T>) -> Option<&AnyCall<T>>
 }
 
 /// The call that the last of these rows begins, where it begins one.
-fn last_begun<T>(rows: &[JournalRow<T>]) -> Option<&AnyCall<T>>
+fn last_begun<T>(rows: &[JournalRow<T>]) -> Option<&Call<T>>
     ensures { option_copied result ≡ last_begun rows.now }
 {
     call_of(&rows.last()?.step)
 }
 
 /// The operation that was told of.
-fn op_told<T>(told: &AnyTold<T>) -> u64
+fn op_told<T>(told: &Told<T>) -> u64
     ensures { result ≡ op_told told.now }
 {
     match told {
-        AnyTold::Began(op) | AnyTold::Went(op) | AnyTold::Answered(op, _) | AnyTold::GaveUp(op) => {
-            *op
-        }
-        AnyTold::Landed(request, _) => *request,
-        AnyTold::Crashed(client) => *client,
+        Told::Began(op) | Told::Went(op) | Told::Answered(op, _) | Told::GaveUp(op) => { *op }
+        Told::Landed(request, _) => *request,
+        Told::Crashed(client) => *client,
     }
 }
 
 /// The answer of a call, or why it has none.
-pub(crate) fn settled<T: Drop>(done: Done<T>) -> Result<AnyAnswer<T>, Stop>
+pub(crate) fn settled<T: Drop>(done: Done<T>) -> Result<Answer<T>, Stop>
     ensures { result ≡ settled done }
 {
     match done {
@@ -138,7 +135,7 @@ impl<T: Clone, C: ObjectCodec<T> + Drop, E: EpochField<T>, S: Serve, R: Recorder
     ghost use Rattle.txn_client.specs.Working.{heard_of, told_happens, IsEnding, IsFurther, TakesStep, TakesAsked, IsBegun, IsDone};
 
     /// Hands an operation's answer to the recorder, where one was told.
-    fn hear(&mut self, op: u64, told: AnyTold<T>) -> Result<Heard<T>, Stop>
+    fn hear(&mut self, op: u64, told: Told<T>) -> Result<Heard<T>, Stop>
         ensures diary { self.new.diary ≡ self.old.diary }
         ensures begun { self.new.begun ≡ self.old.begun }
         ensures heard { IfOk result (λ heard. heard ≡ heard_of told) }
@@ -146,7 +143,7 @@ impl<T: Clone, C: ObjectCodec<T> + Drop, E: EpochField<T>, S: Serve, R: Recorder
         ensures err { IfErr result IsEnding }
     {
         match told {
-            AnyTold::Answered(_, answer) => {
+            Told::Answered(_, answer) => {
                 self.recorder.answered(op, &answer)?;
                 Ok(Heard::Answered(answer))
             }
@@ -254,7 +251,7 @@ impl<T: Clone, C: ObjectCodec<T> + Drop, E: EpochField<T>, S: Serve, R: Recorder
     }
 
     /// Begins a call, and tells the recorder.
-    fn begin(&mut self, call: AnyCall<T>) -> Result<Begun<T>, Stop>
+    fn begin(&mut self, call: Call<T>) -> Result<Begun<T>, Stop>
         requires { IsExactClone T.is_clone }
         ensures ok { IfOk result (λ begun. IsBegun R.hands S.serves (refusal_of (E.epoch_of self.old.diary.epochs) self.old.diary call) call self.old.diary self.old.recorder self.old.store self.old.begun begun self.new.diary self.new.recorder self.new.store self.new.begun) }
         ensures err { IfErr result (λ stop. IsEnding stop × IsFurther self.old.diary self.new.diary) }
@@ -280,7 +277,7 @@ impl<T: Clone, C: ObjectCodec<T> + Drop, E: EpochField<T>, S: Serve, R: Recorder
     }
 
     /// Makes a call, of at most so many steps.
-    pub fn call(&mut self, call: AnyCall<T>, steps: u64) -> Result<Done<T>, Stop>
+    pub fn call(&mut self, call: Call<T>, steps: u64) -> Result<Done<T>, Stop>
         requires { IsExactClone T.is_clone }
         ensures ok { IfOk result (λ done. IsDone R.hands S.serves (refusal_of (E.epoch_of self.old.diary.epochs) self.old.diary call) call self.old.diary self.old.recorder self.old.store self.old.begun done self.new.diary self.new.recorder self.new.store self.new.begun) }
         ensures err { IfErr result (λ stop. IsEnding stop × IsFurther self.old.diary self.new.diary) }

@@ -4,11 +4,11 @@ use Rattle.std.proofs.lemmas.Option.{get_or_from_slice_get, slice_get_past, slic
 use Rattle.txn_store.specs.declared.request.Reply.{Reply}
 use Rattle.txn_caches.specs.declared.caches.Caches.{Caches}
 use Rattle.txn_history.specs.Lists.{numbered}
-use Rattle.txn_any_machine.specs.declared.doing.AnyDoing.{AnyDoing}
-use Rattle.txn_any_machine.specs.declared.doing.AnyOperation.{AnyOperation}
-use Rattle.txn_any_machine.specs.Doing.{Next, IsReply, InRange, Turns, caches_left, ended}
-use Rattle.txn_any_machine.specs.Machine.{with_doing}
-use Rattle.txn_machine.proofs.Lists.{within}
+use Rattle.txn_machine.specs.declared.doing.Doing.{Doing}
+use Rattle.txn_machine.specs.declared.doing.Operation.{Operation}
+use Rattle.txn_machine.specs.Doing.{Next, IsReply, InRange, Turns, caches_left, ended}
+use Rattle.txn_machine.specs.Machine.{with_doing}
+use Rattle.txn_machine_inner.proofs.Lists.{within}
 use Rattle.txn_clients.specs.Operations.{TakesReply, Ends, TakesTurn}
 
 -- what a place holds
@@ -48,19 +48,19 @@ within_there {A = A} xs n there = by (numbered xs n) refl there
 module _ {T : Type 0} where
   -- what is known of an operation, of what stands in its place
 
-  pub kind_of : (operations : List (AnyOperation T)) (op : ℕ) (reply : Option Reply) (o : AnyOperation T) → TakesReply operations op reply → o ≡ get_or operations (op - 1) o → IsReply o.doing reply
-  kind_of operations op reply o takes is = subst (λ (x : AnyOperation T). IsReply x.doing reply) (sym (found_same operations op takes.operation o takes.found is)) takes.kind
+  pub kind_of : (operations : List (Operation T)) (op : ℕ) (reply : Option Reply) (o : Operation T) → TakesReply operations op reply → o ≡ get_or operations (op - 1) o → IsReply o.doing reply
+  kind_of operations op reply o takes is = subst (λ (x : Operation T). IsReply x.doing reply) (sym (found_same operations op takes.operation o takes.found is)) takes.kind
 
-  pub range_of : (operations : List (AnyOperation T)) (op : ℕ) (reply : Option Reply) (o : AnyOperation T) → TakesReply operations op reply → o ≡ get_or operations (op - 1) o → InRange o.doing
-  range_of operations op reply o takes is = subst (λ (x : AnyOperation T). InRange x.doing) (sym (found_same operations op takes.operation o takes.found is)) takes.range
+  pub range_of : (operations : List (Operation T)) (op : ℕ) (reply : Option Reply) (o : Operation T) → TakesReply operations op reply → o ≡ get_or operations (op - 1) o → InRange o.doing
+  range_of operations op reply o takes is = subst (λ (x : Operation T). InRange x.doing) (sym (found_same operations op takes.operation o takes.found is)) takes.range
 
-  found_of : (operations : List (AnyOperation T)) (op : ℕ) (reply : Option Reply) (o : AnyOperation T) → TakesReply operations op reply → o ≡ get_or operations (op - 1) o → numbered operations op ≡ Some o
+  found_of : (operations : List (Operation T)) (op : ℕ) (reply : Option Reply) (o : Operation T) → TakesReply operations op reply → o ≡ get_or operations (op - 1) o → numbered operations op ≡ Some o
   found_of operations op reply o takes is = takes.found ∙ ap Some (sym (found_same operations op takes.operation o takes.found is))
 
-  pub ends_so : (operations : List (AnyOperation T)) (op : ℕ) (o : AnyOperation T) (doing : AnyDoing T) → is_some (numbered operations op) ≡ true → o ≡ get_or operations (op - 1) o → doing ≡ ended → Ends operations op (with_doing operations op o doing)
+  pub ends_so : (operations : List (Operation T)) (op : ℕ) (o : Operation T) (doing : Doing T) → is_some (numbered operations op) ≡ true → o ≡ get_or operations (op - 1) o → doing ≡ ended → Ends operations op (with_doing operations op o doing)
   ends_so operations op o doing there at is = record { operation = o; found = found_here operations op o there at; operations = ap (with_doing operations op o) is }
 
 module _ {T : Type 0} (page : ℕ) (encode : T → List ℕ) (decode : List ℕ → Option T) (get_epoch : T → ℕ) (set_epoch : T → ℕ → T) where
-  pub turned_so : (operations : List (AnyOperation T)) (caches left : Caches) (op : ℕ) (reply : Option Reply) (o : AnyOperation T) (next : Next T) → TakesReply operations op reply → o ≡ get_or operations (op - 1) o → Turns page encode decode get_epoch set_epoch o.doing caches reply next → left ≡ caches_left o.doing caches next.1 →
+  pub turned_so : (operations : List (Operation T)) (caches left : Caches) (op : ℕ) (reply : Option Reply) (o : Operation T) (next : Next T) → TakesReply operations op reply → o ≡ get_or operations (op - 1) o → Turns page encode decode get_epoch set_epoch o.doing caches reply next → left ≡ caches_left o.doing caches next.1 →
       TakesTurn page encode decode get_epoch set_epoch operations caches op reply (with_doing operations op o next.0) left next.1
   turned_so operations caches left op reply o next takes at turns is = record { operation = o; found = found_of operations op reply o takes at; next = next; turns = turns; ends = refl; operations = refl; leaves = is }

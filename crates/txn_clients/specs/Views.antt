@@ -1,9 +1,9 @@
 -- The views of clients, as their tests and changes see them.
 use Rattle.std.specs.Prelude.{◌≤◌, ℕ, List, [], ◌∷◌, Bool, false, Option, Some, None, is_some}
 use Rattle.std.specs.Option.{ForSome}
-use Rattle.txn_view_history.specs.Seen.{AllSeen}
-use Rattle.txn_view_machine.specs.Layer.{Used}
-use Rattle.txn_any_machine.specs.Machine.{seen_views}
+use Rattle.txn_history.specs.Seen.{AllSeen}
+use Rattle.txn_machine_views.specs.Layer.{Used}
+use Rattle.txn_machine.specs.Machine.{seen_views}
 
 -- a number, where there is one, is counted from 1
 abbrev pub IsFromOne : Option ℕ → Type 0

@@ -1,16 +1,15 @@
 //! What becomes of one view.
 ghost use Rattle.std.specs.Prelude.{◌≡◌, ◌+◌, ℕ, Bool, None, Some};
 ghost use Rattle.std.specs.Option.{option_map, ForSome};
-ghost use Rattle.txn_view_machine.specs.Layer.{with_busy, changed, new_view, Keeps, Puts, Makes};
-ghost use Rattle.txn_any_machine.specs.Machine.{let_go, change_of, made_by, answer_of};
+ghost use Rattle.txn_machine_views.specs.Layer.{with_busy, changed, new_view, Keeps, Puts, Makes};
+ghost use Rattle.txn_machine.specs.Machine.{let_go, change_of, made_by, answer_of};
 ghost use Rattle.txn_clients.specs.Views.{as_made};
 
 use crate::views::Answers;
-use txn_any_machine::doing::Ending;
-use txn_history::event::Answer;
-use txn_view_history::event::AnyAnswer;
-use txn_view_history::view::View;
-use txn_view_machine::used::Used;
+use txn_history::event::{Answer, PlainAnswer};
+use txn_history::view::View;
+use txn_machine::doing::Ending;
+use txn_machine_views::used::Used;
 use txn_view_steps::outcome::Outcome;
 
 /// A view that this operation uses, and for the rest as it was.
@@ -73,34 +72,34 @@ fn held<T: Drop>(used: Option<Used<T>>, id: u64, object: T, epoch: u64) -> Optio
 
 /// A refusal, twice.
 fn refusals<T>(number: u8) -> Answers<T>
-    ensures noted { result.0 ≡ AnyAnswer.Plain (Answer.Refused number) }
-    ensures told { result.1 ≡ AnyAnswer.Plain (Answer.Refused number) }
+    ensures noted { result.0 ≡ Answer.Plain (PlainAnswer.Refused number) }
+    ensures told { result.1 ≡ Answer.Plain (PlainAnswer.Refused number) }
 {
     (
-        AnyAnswer::Plain(Answer::Refused(number)),
-        AnyAnswer::Plain(Answer::Refused(number)),
+        Answer::Plain(PlainAnswer::Refused(number)),
+        Answer::Plain(PlainAnswer::Refused(number)),
     )
 }
 
 /// The view of this number at this version, twice.
 fn views<T>(number: u64, id: u64, noted: T, told: T) -> Answers<T>
-    ensures noted { result.0 ≡ AnyAnswer.View number id noted }
-    ensures told { result.1 ≡ AnyAnswer.View number id told }
+    ensures noted { result.0 ≡ Answer.View number id noted }
+    ensures told { result.1 ≡ Answer.View number id told }
 {
     (
-        AnyAnswer::View(number, id, noted),
-        AnyAnswer::View(number, id, told),
+        Answer::View(number, id, noted),
+        Answer::View(number, id, told),
     )
 }
 
 /// The holder of this number at this version, twice.
 fn holders<T>(number: u64, id: u64, noted: T, told: T, epoch: u64) -> Answers<T>
-    ensures noted { result.0 ≡ AnyAnswer.Held number id noted epoch }
-    ensures told { result.1 ≡ AnyAnswer.Held number id told epoch }
+    ensures noted { result.0 ≡ Answer.Held number id noted epoch }
+    ensures told { result.1 ≡ Answer.Held number id told epoch }
 {
     (
-        AnyAnswer::Held(number, id, noted, epoch),
-        AnyAnswer::Held(number, id, told, epoch),
+        Answer::Held(number, id, noted, epoch),
+        Answer::Held(number, id, told, epoch),
     )
 }
 
@@ -145,7 +144,7 @@ pub(crate) fn comes_to<T: Drop>(
     match ending {
         Ending::Answers(twice) => {
             let (noted, told) = twice.into_answers();
-            let answers = (AnyAnswer::Plain(noted), AnyAnswer::Plain(told));
+            let answers = (Answer::Plain(noted), Answer::Plain(told));
             (left(used, claims), answers)
         }
         Ending::Comes(outcome) => comes_of(used, number, outcome),
@@ -203,7 +202,7 @@ pub(crate) fn makes<T: Drop>(
     match ending {
         Ending::Answers(twice) => {
             let (noted, told) = twice.into_answers();
-            (None, (AnyAnswer::Plain(noted), AnyAnswer::Plain(told)))
+            (None, (Answer::Plain(noted), Answer::Plain(told)))
         }
         Ending::Comes(outcome) => made_of(client, number, outcome),
     }

@@ -4,16 +4,16 @@ ghost use Rattle.std.specs.Option.{option_copied, option_map};
 ghost use Rattle.txn_types.specs.Clones.{IsExactClone};
 ghost use Rattle.txn_history.specs.Names.{world_names, world_boundary};
 ghost use Rattle.txn_history.specs.Lists.{numbered};
-ghost use Rattle.txn_machine.specs.Doing.{asks_as};
-ghost use Rattle.txn_any_machine.specs.Doing as any;
+ghost use Rattle.txn_machine_inner.specs.Doing.{asks_as};
+ghost use Rattle.txn_machine.specs.Doing as any;
 ghost use Rattle.txn_clients.specs.Operations.{asked_by, request_of, loose_of, usage_of, TakesReply, Ends, TakesTurn};
 
 use std::alloc::{AllocError, Global};
 use std::mem;
-use txn_any_machine::doing::{AnyDoing, AnyOperation, Ending};
 use txn_caches::ask::Ask;
 use txn_caches::caches::Caches;
-use txn_machine::doing::Doing;
+use txn_machine::doing::{Doing, Ending, Operation};
+use txn_machine_inner::doing::PlainDoing;
 use txn_store::request::{Reply, Request};
 use txn_types::codec::ObjectCodec;
 use txn_types::epoch::EpochField;
@@ -29,7 +29,7 @@ pub struct Usage {
 }
 
 /// What an operation asks for: nothing where it is not there, or has ended.
-pub fn asked<T: Drop>(operations: &[AnyOperation<T>], op: u64) -> Option<Ask<'_>>
+pub fn asked<T: Drop>(operations: &[Operation<T>], op: u64) -> Option<Ask<'_>>
     ensures { asks_as result ≡ asked_by operations.now op }
 {
     if op == 0 {
@@ -69,14 +69,14 @@ pub fn loose_copy(ask: Option<Ask<'_>>) -> Result<Option<Request>, AllocError>
 }
 
 /// Whether an operation has not ended.
-pub fn runs<T>(doing: &AnyDoing<T>) -> bool
+pub fn runs<T>(doing: &Doing<T>) -> bool
     ensures { result ≡ is_some (any.asked doing.now) }
 {
-    !matches!(doing, AnyDoing::Plain(Doing::Ended))
+    !matches!(doing, Doing::Plain(PlainDoing::Ended))
 }
 
 /// Whose an operation is that is there, and the view that it uses.
-pub fn usage_at<T>(operations: &[AnyOperation<T>], op: u64) -> Usage
+pub fn usage_at<T>(operations: &[Operation<T>], op: u64) -> Usage
     requires { IsSome (numbered operations.now op) }
     ensures { option_map usage_of (numbered operations.now op) ≡ Some result }
 {
@@ -93,7 +93,7 @@ pub fn turn<T: Clone, C: ObjectCodec<T>, E: EpochField<T>>(
     alloc: Global,
     layout: &Layout<C>,
     epochs: &E,
-    operations: &mut Vec<AnyOperation<T>>,
+    operations: &mut Vec<Operation<T>>,
     caches: &mut Caches,
     op: u64,
     reply: Option<Reply>,
@@ -109,10 +109,10 @@ pub fn turn<T: Clone, C: ObjectCodec<T>, E: EpochField<T>>(
 }
 
 /// Ends an operation that is there, without an answer.
-pub fn end<T: Drop>(operations: &mut Vec<AnyOperation<T>>, op: u64)
+pub fn end<T: Drop>(operations: &mut Vec<Operation<T>>, op: u64)
     requires { IsSome (numbered operations.old.items op) }
     ensures { Ends operations.old.items op operations.new.items }
 {
     let operation = &mut operations[(op - 1) as usize];
-    drop(mem::replace(&mut operation.doing, AnyDoing::Plain(Doing::Ended)));
+    drop(mem::replace(&mut operation.doing, Doing::Plain(PlainDoing::Ended)));
 }

@@ -1,16 +1,14 @@
 //! Why what a client does is refused, as far as its operations and views tell.
 ghost use Rattle.std.specs.Prelude.{◌≡◌, None, Some, is_some, if◌then◌else◌};
-ghost use Rattle.txn_history.specs.Allowed.{ask_fault};
+ghost use Rattle.txn_history.specs.Allowed.{ask_fault, may_use, base_seen};
 ghost use Rattle.txn_history.specs.declared.event.EventFault.TheVariants.{UnknownNumber};
-ghost use Rattle.txn_machine.specs.Doing.{asks_as};
-ghost use Rattle.txn_view_history.specs.Allowed.{may_use, base_seen};
+ghost use Rattle.txn_machine_inner.specs.Doing.{asks_as};
 ghost use Rattle.txn_clients.specs.Views.{seen_with};
 
 use crate::views::get;
 use txn_caches::ask::Ask;
-use txn_history::event::{Call, EventFault};
-use txn_view_history::event::{AnyCall, ViewCall};
-use txn_view_machine::used::Used;
+use txn_history::event::{Call, EventFault, PlainCall, ViewCall};
+use txn_machine_views::used::Used;
 
 /// Why an operation that asks for this is refused a look, or a store call: it has ended, or asks for the other.
 #[inline(always)]
@@ -52,14 +50,14 @@ pub fn may_use<T>(views: &[Option<Used<T>>], client: u64, holders: bool, view: O
 }
 
 /// The base that a call writes on: an update's is where its view stands.
-pub fn base<T>(views: &[Option<Used<T>>], call: &AnyCall<T>) -> Option<u64>
+pub fn base<T>(views: &[Option<Used<T>>], call: &Call<T>) -> Option<u64>
     ensures { result ≡ base_seen (seen_with views.now) call.now }
 {
     match call {
-        AnyCall::Plain(Call::Write(base, _)) => *base,
-        AnyCall::Plain(Call::WriteUnchecked(base, _)) => *base,
-        AnyCall::View(ViewCall::Update(view, _)) => Some(get(views, *view)?.id),
-        AnyCall::View(ViewCall::HolderUpdate(view, _)) => Some(get(views, *view)?.id),
+        Call::Plain(PlainCall::Write(base, _)) => *base,
+        Call::Plain(PlainCall::WriteUnchecked(base, _)) => *base,
+        Call::View(ViewCall::Update(view, _)) => Some(get(views, *view)?.id),
+        Call::View(ViewCall::HolderUpdate(view, _)) => Some(get(views, *view)?.id),
         _ => None,
     }
 }

@@ -1,20 +1,20 @@
 //! The views of clients, as they stand in the order of their numbers, from 1 on. One that has ended is none.
 ghost use Rattle.std.specs.Prelude.{◌≡◌, ◌≤◌, ◌<◌, ◌++◌, length, None, Some, vec_len, vec_capacity};
 ghost use Rattle.std.specs.Option.{option_copied, ForSome};
-ghost use Rattle.txn_machine.specs.Doing.{first_of};
-ghost use Rattle.txn_any_machine.specs.Machine.{seen_view, used_by, with_used, let_go, change_of, made_by, answer_of, answered, views_changed, views_after, views_taken};
+ghost use Rattle.txn_machine_inner.specs.Doing.{first_of};
+ghost use Rattle.txn_machine.specs.Machine.{seen_view, used_by, with_used, let_go, change_of, made_by, answer_of, answered, views_changed, views_after, views_taken};
 ghost use Rattle.txn_clients.specs.Views.{as_made, is_used, IsFromOne};
 
 use crate::changes::{comes_to, left, makes, taken};
 use crate::operations::Usage;
-use txn_any_machine::doing::Ending;
+use txn_history::event::Answer;
+use txn_history::view::View;
+use txn_machine::doing::Ending;
+use txn_machine_views::used::Used;
 use txn_types::room::push_within;
-use txn_view_history::event::AnyAnswer;
-use txn_view_history::view::View;
-use txn_view_machine::used::Used;
 
 /// An answer twice: once to be noted, and once to be told.
-pub type Answers<T> = (AnyAnswer<T>, AnyAnswer<T>);
+pub type Answers<T> = (Answer<T>, Answer<T>);
 
 /// The view of this number, where it stands.
 pub fn get<T>(views: &[Option<Used<T>>], number: u64) -> Option<&View<T>>

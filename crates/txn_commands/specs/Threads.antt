@@ -2,8 +2,8 @@
 use Rattle.std.specs.Prelude.{◌≡◌, ℕ, ◌+◌, ◌*◌, List, [], ◌∷◌, ◌++◌, Bool, true, false, ◌&&◌, Option, None, Result, Ok, Err, is_ok, codes, count_by, decimal, find, map}
 use Rattle.std.specs.Option.{option_map}
 use Rattle.txn_lines.specs.declared.record.Record.{Record}
-use Rattle.txn_history.specs.declared.event.Call.TheVariants as calls
-use Rattle.txn_view_history.specs.declared.event.AnyCall.TheVariants as any
+use Rattle.txn_history.specs.declared.event.PlainCall.TheVariants as calls
+use Rattle.txn_history.specs.declared.event.Call.TheVariants as any
 use Rattle.txn_threads.specs.declared.jobs.Job.{Job}
 use Rattle.txn_threads.specs.declared.jobs.Job.TheVariants as jobs
 use Rattle.txn_threads.specs.declared.jobs.End.{End}
@@ -12,7 +12,7 @@ use Rattle.txn_threads.specs.declared.work.Worked.{Worked}
 use Rattle.txn_threads.specs.declared.work.Worker.{Worker}
 use Rattle.txn_threads.specs.declared.gate.FreeGate.{FreeGate}
 use Rattle.txn_threads.specs.declared.kept.Share.{Share}
-use Rattle.txn_view_history.specs.Trace.{AnyRow}
+use Rattle.txn_history.specs.Trace.{Row}
 use Rattle.txn_history.specs.declared.trace.RowOf.TheVariants.{Effect, Begun, Answered}
 use Rattle.txn_journals.specs.declared.fault.AuditFault.{AuditFault}
 use Rattle.txn_journals.specs.Verdict.{fault_number}
@@ -78,21 +78,21 @@ stopped_worker worked = option_map (λ one. one.share.worker) (find (λ one. is_
 abbrev pub share_list : List Worked → List Share
 share_list worked = map (λ one. one.share) worked
 
-abbrev pub says_begun : AnyRow Record → Bool
+abbrev pub says_begun : Row Record → Bool
 says_begun (Begun op call) = true
 says_begun (Answered op answer) = false
 says_begun (Effect op request) = false
 
-abbrev pub says_answered : AnyRow Record → Bool
+abbrev pub says_answered : Row Record → Bool
 says_answered (Begun op call) = false
 says_answered (Answered op answer) = true
 says_answered (Effect op request) = false
 
 -- how many rows say that a call began, and how many that it was answered
-abbrev pub begun_count : List (AnyRow Record) → ℕ
+abbrev pub begun_count : List (Row Record) → ℕ
 begun_count rows = count_by says_begun rows
 
-abbrev pub answered_count : List (AnyRow Record) → ℕ
+abbrev pub answered_count : List (Row Record) → ℕ
 answered_count rows = count_by says_answered rows
 
 -- each worker has its share and its jobs

@@ -3,10 +3,9 @@ ghost use Rattle.std.specs.Prelude.{◌≡◌, ◌≤◌, IfOk};
 ghost use Rattle.txn_commands.specs.Threads.{job_list};
 
 use std::alloc::{AllocError, Global};
-use txn_history::event::Call;
+use txn_history::event::{Call, PlainCall};
 use txn_lines::record::Record;
 use txn_threads::jobs::Job;
-use txn_view_history::event::AnyCall;
 
 /// The jobs of a worker: it writes the first version, and then four times on what it reads. Its values
 /// have epoch 0, and payloads from 100 times its number and 1 on.
@@ -19,7 +18,7 @@ pub(crate) fn jobs_of(alloc: Global, worker: u64) -> Result<Vec<Job<Record>>, Al
         payload: worker * 100 + k,
     };
     Ok(vec![in alloc;
-        Job::Call(AnyCall::Plain(Call::Write(None, value(1)))),
+        Job::Call(Call::Plain(PlainCall::Write(None, value(1)))),
         Job::WriteOnRead(value(2)),
         Job::WriteOnRead(value(3)),
         Job::WriteOnRead(value(4)),

@@ -15,6 +15,7 @@ use std::io::Write;
 use std::sync::{Mutex, Wait};
 use std::thread::Threads;
 use std::{fmt, io};
+use txn_history::trace::Row;
 use txn_journals::fault::AuditFault;
 use txn_lines::record::{Record, RecordCodec, RecordEpoch};
 use txn_lines::stop::Stop;
@@ -25,7 +26,6 @@ use txn_threads::jobs::End;
 use txn_threads::kept::{Kept, Share};
 use txn_threads::work::{Worked, Worker, work_all};
 use txn_types::layout::PAGE;
-use txn_view_history::trace::AnyRow;
 use txn_world::world::World;
 
 /// What a run of workers left.
@@ -146,21 +146,21 @@ fn shares_of(alloc: Global, worked: Vec<Worked>) -> Result<Vec<Share>, AllocErro
 }
 
 /// Whether a row says that a call began.
-fn says_begun(row: &AnyRow<Record>) -> bool
+fn says_begun(row: &Row<Record>) -> bool
     ensures { result ≡ says_begun row.now }
 {
-    matches!(row, AnyRow::Begun(_, _))
+    matches!(row, Row::Begun(_, _))
 }
 
 /// Whether a row says that a call was answered.
-fn says_answered(row: &AnyRow<Record>) -> bool
+fn says_answered(row: &Row<Record>) -> bool
     ensures { result ≡ says_answered row.now }
 {
-    matches!(row, AnyRow::Answered(_, _))
+    matches!(row, Row::Answered(_, _))
 }
 
 /// How many rows say that a call began.
-fn begun(rows: &[AnyRow<Record>]) -> u64
+fn begun(rows: &[Row<Record>]) -> u64
     ensures { result ≡ begun_count rows.now }
 {
     let mut count = 0;
@@ -173,7 +173,7 @@ fn begun(rows: &[AnyRow<Record>]) -> u64
 }
 
 /// How many rows say that a call was answered.
-fn answered(rows: &[AnyRow<Record>]) -> u64
+fn answered(rows: &[Row<Record>]) -> u64
     ensures { result ≡ answered_count rows.now }
 {
     let mut count = 0;

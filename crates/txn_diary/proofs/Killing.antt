@@ -4,9 +4,9 @@ use Rattle.std.proofs.lemmas.List.{append_assoc, append-nil, drop_more, drop_all
 use Rattle.txn_store.specs.declared.request.Request.{Request}
 use Rattle.txn_history.specs.Seen.{Ask}
 use Rattle.txn_history.specs.GoesOn.{as_loose, left_loose, all_left_loose}
-use Rattle.txn_any_machine.specs.declared.doing.AnyOperation.{AnyOperation}
-use Rattle.txn_any_machine.specs.Doing.{asked}
-use Rattle.txn_any_machine.specs.Machine.{seen_operations}
+use Rattle.txn_machine.specs.declared.doing.Operation.{Operation}
+use Rattle.txn_machine.specs.Doing.{asked}
+use Rattle.txn_machine.specs.Machine.{seen_operations}
 use Rattle.txn_clients.specs.Operations.{loose_of}
 use Rattle.txn_diary.specs.Kills.{left_here}
 use Rattle.std.proofs.lemmas.Option.{same_Some}
@@ -24,7 +24,7 @@ changed_next {A = A} f old now after k x is found changes =
     by (y ∷ ys) (suc k) h = ap (λ zs. f y ∷ zs) (by ys k h)
 
 module _ {T : Type 0} where
-  left_as : (client op : ℕ) (o : AnyOperation T) → as_loose op (left_here client o) ≡ cond (o.client == client) (left_loose op (asked o.doing)) []
+  left_as : (client op : ℕ) (o : Operation T) → as_loose op (left_here client o) ≡ cond (o.client == client) (left_loose op (asked o.doing)) []
   left_as client op o = by (o.client == client) (asked o.doing)
     where
       by : (b : Bool) (ask : Option Ask) → as_loose op (cond b (loose_of ask) None) ≡ cond b (left_loose op ask) []
@@ -33,7 +33,7 @@ module _ {T : Type 0} where
       by false ask = refl
 
   -- what one operation leaves, and then the rest
-  pub left_more : (client op i : ℕ) (operations : List (AnyOperation T)) (o : AnyOperation T) (left : Option Request) (before after all : List (ℕ × Request)) → i < length operations → o ≡ get_or operations i o → left ≡ left_here client o → after ≡ before ++ as_loose op left →
+  pub left_more : (client op i : ℕ) (operations : List (Operation T)) (o : Operation T) (left : Option Request) (before after all : List (ℕ × Request)) → i < length operations → o ≡ get_or operations i o → left ≡ left_here client o → after ≡ before ++ as_loose op left →
       before ++ all_left_loose client op (seen_operations (drop i operations)) ≡ all → after ++ all_left_loose client (op + 1) (seen_operations (drop (i + 1) operations)) ≡ all
   left_more client op i operations o left before after all lt is leaves adds so_far =
       let rest = all_left_loose client (op + 1) (seen_operations (drop (i + 1) operations)) in
@@ -42,5 +42,5 @@ module _ {T : Type 0} where
       ∙ (ap (λ os. before ++ all_left_loose client op (seen_operations os)) (sym here) ∙ so_far))
 
   -- nothing is left of no more operations
-  pub left_all : (client op i : ℕ) (operations : List (AnyOperation T)) (before all : List (ℕ × Request)) → length operations ≤ i → before ++ all_left_loose client op (seen_operations (drop i operations)) ≡ all → before ≡ all
+  pub left_all : (client op i : ℕ) (operations : List (Operation T)) (before all : List (ℕ × Request)) → length operations ≤ i → before ++ all_left_loose client op (seen_operations (drop i operations)) ≡ all → before ≡ all
   left_all client op i operations before all le so_far = sym (append-nil before) ∙ (ap (λ os. before ++ all_left_loose client op (seen_operations os)) (sym (drop_all i operations le)) ∙ so_far)

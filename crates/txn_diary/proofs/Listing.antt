@@ -1,7 +1,7 @@
 -- What stands in a journal, row by row.
 use Rattle.std.proofs.Common.{◌≡◌, ℕ, ◌+◌, ◌<◌, ◌≤◌, List, ◌∷◌, ◌++◌, length, drop, get_or, Option, refl, sym, ◌∙◌, ap, arith}
 use Rattle.std.proofs.lemmas.List.{append_assoc, append-nil, drop_more, drop_all}
-use Rattle.txn_view_history.specs.declared.event.AnyAnswer.{AnyAnswer}
+use Rattle.txn_history.specs.declared.event.Answer.{Answer}
 use Rattle.txn_journals.specs.declared.rows.Act.TheVariants as acts
 use Rattle.txn_journals.specs.declared.rows.Receipt.{Receipt}
 use Rattle.txn_journals.specs.declared.rows.Step.{Step}
@@ -22,7 +22,7 @@ module _ {T : Type 0} where
   begun_below begun (steps.Killed lefts) = omega arith
 
   -- the answers of one row more
-  pub answers_more : (rows : List (JournalRow T)) (i begun op next : ℕ) (row : JournalRow T) (before after all : List (ℕ × AnyAnswer T)) → i < length rows → row ≡ get_or rows i row → op ≡ op_of begun row.step → next ≡ begun_by begun row.step → after ≡ before ++ with_answer op row.answer →
+  pub answers_more : (rows : List (JournalRow T)) (i begun op next : ℕ) (row : JournalRow T) (before after all : List (ℕ × Answer T)) → i < length rows → row ≡ get_or rows i row → op ≡ op_of begun row.step → next ≡ begun_by begun row.step → after ≡ before ++ with_answer op row.answer →
       before ++ answers_from begun (drop i rows) ≡ all → after ++ answers_from next (drop (i + 1) rows) ≡ all
   answers_more rows i begun op next row before after all lt is o n adds so_far =
       let more = with_answer (op_of begun row.step) row.answer in
@@ -30,7 +30,7 @@ module _ {T : Type 0} where
       ap (λ k. after ++ answers_from k (drop (i + 1) rows)) n ∙ (ap (λ xs. xs ++ rest) (adds ∙ ap (λ k. before ++ with_answer k row.answer) o)
       ∙ (append_assoc before more rest ∙ (ap (λ rs. before ++ answers_from begun rs) (sym (here rows i row lt is)) ∙ so_far)))
 
-  pub answers_all : (rows : List (JournalRow T)) (i begun : ℕ) (before all : List (ℕ × AnyAnswer T)) → length rows ≤ i → before ++ answers_from begun (drop i rows) ≡ all → before ≡ all
+  pub answers_all : (rows : List (JournalRow T)) (i begun : ℕ) (before all : List (ℕ × Answer T)) → length rows ≤ i → before ++ answers_from begun (drop i rows) ≡ all → before ≡ all
   answers_all rows i begun before all le so_far = sym (append-nil before) ∙ (ap (λ rs. before ++ answers_from begun rs) (sym (drop_all i rows le)) ∙ so_far)
 
   received : (step : Step T) (receipts : List Receipt) → as_receipts (receipt_of step) ++ receipts ≡ received_by step receipts

@@ -6,12 +6,12 @@ use Rattle.txn_store.specs.declared.request.Reply.{Reply}
 use Rattle.txn_history.specs.Lists.{numbered}
 use Rattle.txn_history.specs.Seen.{Ask, Store, Look}
 use Rattle.txn_history.proofs.Lists.{numbered_more}
-use Rattle.txn_machine.proofs.Lists.{within, numbered_map, numbered_here, numbered_other}
-use Rattle.txn_view_history.specs.declared.event.AnyAnswer.{AnyAnswer}
-use Rattle.txn_any_machine.specs.declared.doing.AnyDoing.{AnyDoing}
-use Rattle.txn_any_machine.specs.declared.doing.AnyOperation.{AnyOperation}
-use Rattle.txn_any_machine.specs.Doing.{ended}
-use Rattle.txn_any_machine.specs.Machine.{used_by, doing_next, with_doing, ended_by, new_operation}
+use Rattle.txn_machine_inner.proofs.Lists.{within, numbered_map, numbered_here, numbered_other}
+use Rattle.txn_history.specs.declared.event.Answer.{Answer}
+use Rattle.txn_machine.specs.declared.doing.Doing.{Doing}
+use Rattle.txn_machine.specs.declared.doing.Operation.{Operation}
+use Rattle.txn_machine.specs.Doing.{ended}
+use Rattle.txn_machine.specs.Machine.{used_by, doing_next, with_doing, ended_by, new_operation}
 use Rattle.txn_takes.specs.Taking.{CanTake}
 use Rattle.txn_takes.proofs.Started.{started_can}
 use Rattle.txn_takes.proofs.Turned.{turned_can}
@@ -20,11 +20,10 @@ use Rattle.txn_journals.specs.declared.rows.Step.{Step}
 use Rattle.txn_journals.specs.declared.rows.Step.TheVariants as steps
 use Rattle.txn_journals.specs.declared.rows.JournalRow.{JournalRow}
 use Rattle.txn_types.specs.Numbers.{number_of}
-use Rattle.txn_history.specs.Allowed.{is_client}
-use Rattle.txn_history.specs.OneHistory.{is_high}
-use Rattle.txn_view_history.specs.declared.event.AnyCall.{AnyCall}
-use Rattle.txn_view_history.specs.Calls.{view_used, is_holders, value_written}
-use Rattle.txn_view_history.specs.Allowed.{may_use, base_seen}
+use Rattle.txn_history.specs.Allowed.{is_client, may_use, base_seen}
+use Rattle.txn_history.specs.Facts.{is_high}
+use Rattle.txn_history.specs.declared.event.Call.{Call}
+use Rattle.txn_history.specs.Calls.{view_used, is_holders, value_written}
 use Rattle.txn_clients.specs.Views.{IsFromOne}
 use Rattle.txn_journals.specs.Parts.{Part, seen_in, knows_base, is_low, epoch_told, is_in_use, begin_fault}
 use Rattle.txn_journals.proofs.Begun.{Passed, passed}
@@ -33,7 +32,7 @@ use Rattle.txn_diary.specs.Diaries.{IsSound, AreSound}
 
 module _ {T : Type 0} where
   -- what a begin uses that is permitted is counted from 1
-  pub used_from_one : (get_epoch : T → ℕ) (client : ℕ) (part : Part T) (call : AnyCall T) → begin_fault get_epoch client part call ≡ None → IsFromOne (view_used call)
+  pub used_from_one : (get_epoch : T → ℕ) (client : ℕ) (part : Part T) (call : Call T) → begin_fault get_epoch client part call ≡ None → IsFromOne (view_used call)
   used_from_one get_epoch client part call permits = by (view_used call) (own (is_client client client) (may_use (seen_in client part) client (is_holders call) (view_used call)) ok.one_is)
     where
       base : Option ℕ
@@ -52,32 +51,32 @@ module _ {T : Type 0} where
       by (Some (suc n)) h = λ m e. let is : suc n ≡ m = same_Some (suc n) m e in omega (arith, is)
 
 module _ {T : Type 0} (page : ℕ) (room : 1 ≤ page) (encode : T → List ℕ) (decode : List ℕ → Option T) (get_epoch : T → ℕ) (set_epoch : T → ℕ → T) where
-  set_sound : (operations : List (AnyOperation T)) (k : ℕ) (o : AnyOperation T) (doing : AnyDoing T) → numbered operations k ≡ Some o → CanTake doing → AreSound operations → AreSound (with_doing operations k o doing)
+  set_sound : (operations : List (Operation T)) (k : ℕ) (o : Operation T) (doing : Doing T) → numbered operations k ≡ Some o → CanTake doing → AreSound operations → AreSound (with_doing operations k o doing)
   set_sound operations k o doing found can all j x is =
       elim (cases_eq j k) [
         | inl same ↦ (
             let here = numbered_here operations k (doing_next o doing) o found in
             let now = same_Some (doing_next o doing) x (sym (subst (λ (n : ℕ). numbered (with_doing operations k o doing) n ≡ Some (doing_next o doing)) (sym same) here) ∙ is) in
             let sound : IsSound (doing_next o doing) = record { can = can; view = (all k o found).view } in
-            subst (λ (y : AnyOperation T). IsSound y) now sound)
+            subst (λ (y : Operation T). IsSound y) now sound)
         | inr ne ↦ all j x (sym (numbered_other operations k j (doing_next o doing) (within operations k o found).0 ne) ∙ is)
       ]
 
-  push_sound : (operations : List (AnyOperation T)) (o : AnyOperation T) → IsSound o → AreSound operations → AreSound (operations ++ o ∷ [])
-  push_sound operations o sound all j x is = elim (numbered_more operations o j x is) [ inl old ↦ all j x old | inr new ↦ subst (λ (y : AnyOperation T). IsSound y) new.1 sound ]
+  push_sound : (operations : List (Operation T)) (o : Operation T) → IsSound o → AreSound operations → AreSound (operations ++ o ∷ [])
+  push_sound operations o sound all j x is = elim (numbered_more operations o j x is) [ inl old ↦ all j x old | inr new ↦ subst (λ (y : Operation T). IsSound y) new.1 sound ]
 
-  one_ended : (client : ℕ) (o : AnyOperation T) → IsSound o → IsSound (ended_by client o)
+  one_ended : (client : ℕ) (o : Operation T) → IsSound o → IsSound (ended_by client o)
   one_ended client o sound = elim (cases_Bool (o.client == client)) [ inl h ↦ rw h (record { can = tt; view = sound.view }) | inr h ↦ rw h sound ]
 
-  ended_sound : (client : ℕ) (operations : List (AnyOperation T)) → AreSound operations → AreSound (map (ended_by client) operations)
-  ended_sound client operations all j x is = (let was = numbered_map (ended_by client) operations j x is in subst (λ (y : AnyOperation T). IsSound y) (sym was.2) (one_ended client was.0 (all j was.0 was.1)))
+  ended_sound : (client : ℕ) (operations : List (Operation T)) → AreSound operations → AreSound (map (ended_by client) operations)
+  ended_sound client operations all j x is = (let was = numbered_map (ended_by client) operations j x is in subst (λ (y : Operation T). IsSound y) (sym was.2) (one_ended client was.0 (all j was.0 was.1)))
 
-  turn_sound : (old : Part T) (op : ℕ) (ask : Ask) (reply : Option Reply) (answer : Option (AnyAnswer T)) (new : Part T) → TakesTurn page encode decode get_epoch set_epoch old op ask reply answer new → AreSound old.operations → AreSound new.operations
+  turn_sound : (old : Part T) (op : ℕ) (ask : Ask) (reply : Option Reply) (answer : Option (Answer T)) (new : Part T) → TakesTurn page encode decode get_epoch set_epoch old op ask reply answer new → AreSound old.operations → AreSound new.operations
   turn_sound old op ask reply answer new v all =
       let can = turned_can page room encode decode get_epoch set_epoch v.turns.refused v.operation.doing old.caches reply (all op v.operation v.found).can in
       subst (λ (p : Part T). AreSound p.operations) (sym v.part) (set_sound old.operations op v.operation v.next.0 v.found (subst (λ n. CanTake n.0) (sym v.turns.turns) can) all)
 
-  step_sound : (client : ℕ) (old : Part T) (step : Step T) (answer : Option (AnyAnswer T)) (new : Part T) → Follows page encode decode get_epoch set_epoch client old step answer new → AreSound old.operations → AreSound new.operations
+  step_sound : (client : ℕ) (old : Part T) (step : Step T) (answer : Option (Answer T)) (new : Part T) → Follows page encode decode get_epoch set_epoch client old step answer new → AreSound old.operations → AreSound new.operations
   step_sound client old (steps.Begin call) answer new v all =
       let can = subst (λ n. CanTake n.0) (sym v.starts) (started_can page room encode get_epoch set_epoch call _) in
       let sound : IsSound (new_operation client call v.next.0) = record { can = can; view = used_from_one get_epoch client old call v.permits } in
@@ -92,7 +91,7 @@ module _ {T : Type 0} (page : ℕ) (room : 1 ≤ page) (encode : T → List ℕ)
   pub replays_sound : (client : ℕ) (rows : List (JournalRow T)) (part : Part T) → Replays page encode decode get_epoch set_epoch client rows part → AreSound part.operations
   replays_sound client [] part h = subst (λ (p : Part T). AreSound p.operations) (sym h) (λ k o is. absurd (nothing k o is))
     where
-      nothing : (k : ℕ) (o : AnyOperation T) → numbered [] k ≡ Some o → ⊥
+      nothing : (k : ℕ) (o : Operation T) → numbered [] k ≡ Some o → ⊥
       nothing zero o e = cc
       nothing (suc k) o e = cc
   replays_sound client (row ∷ rows) part h = step_sound client h.0 row.step row.answer part h.2 (replays_sound client rows h.0 h.1)

@@ -6,10 +6,10 @@ use Rattle.txn_history.specs.Seen.{Ask, Store, Look}
 use Rattle.txn_history.specs.Allowed.{ask_fault}
 use Rattle.txn_history.specs.declared.event.EventFault.{EventFault}
 use Rattle.txn_history.specs.declared.event.EventFault.TheVariants as faults
-use Rattle.txn_machine.specs.Machine.{fault_met}
+use Rattle.txn_machine_inner.specs.Machine.{fault_met}
 use Rattle.txn_types.specs.declared.codec.ObjectCodec as coding
 use Rattle.txn_types.specs.declared.epoch.EpochField as fields
-use Rattle.txn_view_history.specs.declared.event.AnyAnswer.{AnyAnswer}
+use Rattle.txn_history.specs.declared.event.Answer.{Answer}
 use Rattle.txn_clients.specs.Operations.{asked_by}
 use Rattle.txn_journals.specs.declared.rows.Step.{Step}
 use Rattle.txn_journals.specs.declared.rows.JournalRow.{JournalRow}
@@ -93,11 +93,11 @@ module _ {T C E : Type 0} (encoded : C → T → List ℕ) (decoded : C → List
   sound_of : (d : DiaryState T C E) (alive : Bool) → IsKept d alive → AreSound d.part.operations
   sound_of d alive kept = replays_sound d.page kept.1 (encoded d.codec) (decoded d.codec) (epoch_of d.epochs) (with_epoch d.epochs) d.client (reverse d.rows) d.part kept.3
 
-  abbrev pub AddsTo : DiaryState T C E → Step T → Option (AnyAnswer T) → DiaryState T C E → Type 0
+  abbrev pub AddsTo : DiaryState T C E → Step T → Option (Answer T) → DiaryState T C E → Type 0
   AddsTo old step answer new = Adds (encoded old.codec) (decoded old.codec) (epoch_of old.epochs) (with_epoch old.epochs) old step answer new
 
   -- one row more
-  kept_more : (old new : DiaryState T C E) (alive after : Bool) (step : Step T) (answer : Option (AnyAnswer T)) → IsKept old alive → lives old.rows ≡ true → after ≡ goes_on step → AddsTo old step answer new → IsKept new after
+  kept_more : (old new : DiaryState T C E) (alive after : Bool) (step : Step T) (answer : Option (Answer T)) → IsKept old alive → lives old.rows ≡ true → after ≡ goes_on step → AddsTo old step answer new → IsKept new after
   kept_more old new alive after step answer kept live on adds =
       let same : new ≡ record old { part = new.part; rows = new.rows } = λ i. record { client = adds.client i; page = adds.page i; codec = adds.codec i; epochs = adds.epochs i; part = new.part; rows = new.rows } in
       let replays = replays_more old.page (encoded old.codec) (decoded old.codec) (epoch_of old.epochs) (with_epoch old.epochs) old.client old.rows new.rows old.part new.part step answer kept.3 live adds.rows adds.follows in
@@ -114,7 +114,7 @@ module _ {T C E : Type 0} {codec : coding.Ghosts C T} {field : fields.Ghosts E T
     pub kept : IsKept codec.encoded codec.decoded field.epoch_of field.with_epoch now alive
 
   -- What a step leaves: a diary that its type keeps, with the row of the step more.
-  pub record IsStepped (now : DiaryState T C E) (step : Step T) (answer : Option (AnyAnswer T)) (t : Tables T C E codec field) (rows : List (JournalRow T)) (alive : Bool) : Type 0 where
+  pub record IsStepped (now : DiaryState T C E) (step : Step T) (answer : Option (Answer T)) (t : Tables T C E codec field) (rows : List (JournalRow T)) (alive : Bool) : Type 0 where
     pub kept : IsKept codec.encoded codec.decoded field.epoch_of field.with_epoch (diary_of t rows) alive
     pub adds : AddsTo codec.encoded codec.decoded field.epoch_of field.with_epoch now step answer (diary_of t rows)
 
@@ -135,7 +135,7 @@ module _ {T C E : Type 0} {codec : coding.Ghosts C T} {field : fields.Ghosts E T
   ready_asks op ask asks = (let found = asks_alive now op ask asks in (ready.kept.2 ∙ found.0, ap (λ (d : DiaryState T C E). asked_by d.part.operations op) ready.is ∙ found.1))
 
   -- a step of a living client
-  pub stepped : {new : Tables T C E codec field} {after : Bool} {step : Step T} {answer : Option (AnyAnswer T)} (more : List (JournalRow T)) → alive ≡ true → after ≡ goes_on step → more ≡ rows ++ record { step = step; answer = answer } ∷ [] →
+  pub stepped : {new : Tables T C E codec field} {after : Bool} {step : Step T} {answer : Option (Answer T)} (more : List (JournalRow T)) → alive ≡ true → after ≡ goes_on step → more ≡ rows ++ record { step = step; answer = answer } ∷ [] →
       Follows t.layout.page (codec.encoded t.layout.codec) (codec.decoded t.layout.codec) (field.epoch_of t.epochs) (field.with_epoch t.epochs) t.client (shown t) step answer (shown new) → new.client ≡ t.client → new.layout ≡ t.layout → new.epochs ≡ t.epochs → IsStepped now step answer new more after
   stepped {new = new} {after = after} {step = step} {answer = answer} more live on row follows client layout epochs =
       let found : AddsTo codec.encoded codec.decoded field.epoch_of field.with_epoch (diary_of t rows) step answer (diary_of new more) = record { rows = row; follows = follows; client = client; page = ap (λ l. l.page) layout; codec = ap (λ l. l.codec) layout; epochs = epochs } in

@@ -7,10 +7,10 @@ use Rattle.txn_history.specs.declared.event.ToldOf.TheVariants as told
 use Rattle.txn_history.specs.Added.{told_of}
 use Rattle.txn_history.specs.Seen.{Ask, Store, Look}
 use Rattle.txn_history.specs.Lists.{numbered}
-use Rattle.txn_view_history.specs.declared.event.AnyCall.{AnyCall}
-use Rattle.txn_view_history.specs.declared.event.AnyAnswer.{AnyAnswer}
-use Rattle.txn_view_history.specs.Trace.{AnyTold}
-use Rattle.txn_any_machine.specs.declared.doing.AnyOperation.{AnyOperation}
+use Rattle.txn_history.specs.declared.event.Call.{Call}
+use Rattle.txn_history.specs.declared.event.Answer.{Answer}
+use Rattle.txn_history.specs.Trace.{Told}
+use Rattle.txn_machine.specs.declared.doing.Operation.{Operation}
 use Rattle.txn_clients.specs.Views.{IsFromOne}
 use Rattle.txn_clients.specs.Operations.{asked_by}
 use Rattle.txn_journals.specs.declared.rows.Act.{Act}
@@ -44,12 +44,12 @@ module _ {T : Type 0} where
   lives rows = lives_after (reverse rows)
 
   -- each operation can take what it asks for, and its view, if it uses one, is counted from 1
-  pub record IsSound (operation : AnyOperation T) : Type 0 where
+  pub record IsSound (operation : Operation T) : Type 0 where
     pub can : CanTake operation.doing
     pub view : IsFromOne operation.view
 
-  abbrev pub AreSound : List (AnyOperation T) → Type 0
-  AreSound operations = (op : ℕ) (operation : AnyOperation T) → numbered operations op ≡ Some operation → IsSound operation
+  abbrev pub AreSound : List (Operation T) → Type 0
+  AreSound operations = (op : ℕ) (operation : Operation T) → numbered operations op ≡ Some operation → IsSound operation
 
 -- why a client that lives, or was killed, is refused something: one that was killed does nothing more
 abbrev pub fault_if : Bool → Option EventFault → Option EventFault
@@ -61,7 +61,7 @@ module _ {T C E : Type 0} where
   asked_in diary op = if lives diary.rows then asked_by diary.part.operations op else None
 
   -- why a begin is refused
-  abbrev pub refusal_of : (T → ℕ) → DiaryState T C E → AnyCall T → Option EventFault
+  abbrev pub refusal_of : (T → ℕ) → DiaryState T C E → Call T → Option EventFault
   refusal_of get_epoch diary call = fault_if (lives diary.rows) (begin_fault get_epoch diary.client diary.part call)
 
 module _ {T : Type 0} where
@@ -96,7 +96,7 @@ IsTurn (acts.Fails request) = ⊥
 
 module _ {T C E : Type 0} (encode : T → List ℕ) (decode : List ℕ → Option T) (get_epoch : T → ℕ) (set_epoch : T → ℕ → T) where
   -- The client did this, with this answer: its journal has one row more, and what it keeps follows.
-  pub record Adds (old : DiaryState T C E) (step : Step T) (answer : Option (AnyAnswer T)) (new : DiaryState T C E) : Type 0 where
+  pub record Adds (old : DiaryState T C E) (step : Step T) (answer : Option (Answer T)) (new : DiaryState T C E) : Type 0 where
     pub rows : new.rows ≡ old.rows ++ record { step = step; answer = answer } ∷ []
     pub follows : Follows old.page encode decode get_epoch set_epoch old.client old.part step answer new.part
     pub client : new.client ≡ old.client
@@ -105,17 +105,17 @@ module _ {T C E : Type 0} (encode : T → List ℕ) (decode : List ℕ → Optio
     pub epochs : new.epochs ≡ old.epochs
 
   -- The client did this with an operation, and the answer, if it has one, is told, else what is told otherwise.
-  pub record Tells (old : DiaryState T C E) (step : Step T) (op : ℕ) (otherwise said : AnyTold T) (new : DiaryState T C E) : Type 0 where
-    pub answer : Option (AnyAnswer T)
+  pub record Tells (old : DiaryState T C E) (step : Step T) (op : ℕ) (otherwise said : Told T) (new : DiaryState T C E) : Type 0 where
+    pub answer : Option (Answer T)
     pub said_is : said ≡ told_of otherwise op answer
     pub adds : Adds old step answer new
 
   -- A call begins as the operation of the next number.
-  abbrev pub Begun : DiaryState T C E → AnyCall T → AnyTold T → DiaryState T C E → Type 0
+  abbrev pub Begun : DiaryState T C E → Call T → Told T → DiaryState T C E → Type 0
   Begun old call said new = let op = length old.part.operations + 1 in Tells old (steps.Begin call) op (told.Began op) said new
 
   -- An operation acts so.
-  abbrev pub Acts : DiaryState T C E → ℕ → Act → AnyTold T → DiaryState T C E → Type 0
+  abbrev pub Acts : DiaryState T C E → ℕ → Act → Told T → DiaryState T C E → Type 0
   Acts old op act said new = Tells old (steps.Act op act) op (told.Went op) said new
 
   -- The client is killed, and its last row tells what it leaves.

@@ -1,6 +1,6 @@
 -- What stands in a journal, the oldest row first.
 use Rattle.std.specs.Prelude.{ℕ, ◌+◌, List, [], ◌∷◌, ◌++◌, Option, Some, None}
-use Rattle.txn_view_history.specs.declared.event.AnyAnswer.{AnyAnswer}
+use Rattle.txn_history.specs.declared.event.Answer.{Answer}
 use Rattle.txn_journals.specs.declared.rows.Act.{Act}
 use Rattle.txn_journals.specs.declared.rows.Act.TheVariants as acts
 use Rattle.txn_journals.specs.declared.rows.Receipt.{Receipt}
@@ -41,11 +41,11 @@ module _ {T : Type 0} where
   begun_by begun (steps.Killed lefts) = begun
 
   -- an operation's answer, where it has one
-  abbrev pub with_answer : ℕ → Option (AnyAnswer T) → List (ℕ × AnyAnswer T)
+  abbrev pub with_answer : ℕ → Option (Answer T) → List (ℕ × Answer T)
   with_answer op None = []
   with_answer op (Some answer) = (op, answer) ∷ []
 
   -- the answers of a journal, each with its operation, where so many began before it
-  abbrev pub answers_from : ℕ → List (JournalRow T) → List (ℕ × AnyAnswer T)
+  abbrev pub answers_from : ℕ → List (JournalRow T) → List (ℕ × Answer T)
   answers_from begun [] = []
   answers_from begun (row ∷ rows) = with_answer (op_of begun row.step) row.answer ++ answers_from (begun_by begun row.step) rows

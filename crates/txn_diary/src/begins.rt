@@ -3,17 +3,16 @@ use crate::tables::Tables;
 use txn_clients::calls::{is_holders, value_written, view_used};
 use txn_clients::refusals::{base, may_use};
 use txn_clients::views::is_used;
-use txn_history::event::{Call, EventFault};
+use txn_history::event::{Call, EventFault, PlainCall};
 use txn_types::codec::ObjectCodec;
 use txn_types::epoch::EpochField;
-use txn_view_history::event::AnyCall;
 
 impl<T: Clone, C: ObjectCodec<T> + Drop, E: EpochField<T>> Tables<T, C, E> {
     ghost use Rattle.std.specs.Prelude.{◌≡◌};
     ghost use Rattle.txn_types.specs.Numbers.{number_of};
-    ghost use Rattle.txn_history.specs.OneHistory.{is_high};
-    ghost use Rattle.txn_view_history.specs.Calls.{value_written};
-    ghost use Rattle.txn_any_machine.specs.Machine.{used_by};
+    ghost use Rattle.txn_history.specs.Facts.{is_high};
+    ghost use Rattle.txn_history.specs.Calls.{value_written};
+    ghost use Rattle.txn_machine.specs.Machine.{used_by};
     ghost use Rattle.txn_journals.specs.Parts.{is_low, epoch_told, is_in_use, begin_fault};
     ghost use Rattle.txn_diary.specs.Shown.{shown};
 
@@ -28,17 +27,17 @@ impl<T: Clone, C: ObjectCodec<T> + Drop, E: EpochField<T>> Tables<T, C, E> {
     }
 
     /// Whether the call advances to 0, or to what is below an id that a checked call answered.
-    fn is_low(&self, call: &AnyCall<T>) -> bool
+    fn is_low(&self, call: &Call<T>) -> bool
         ensures { result ≡ is_low (shown self.now).told call.now }
     {
         match call {
-            AnyCall::Plain(Call::Advance(to)) => *to == 0 || self.notes.is_below(*to),
+            Call::Plain(PlainCall::Advance(to)) => *to == 0 || self.notes.is_below(*to),
             _ => true,
         }
     }
 
     /// Whether the value that a call writes has an epoch of at least that of its base's version.
-    fn keeps_epoch(&self, base: Option<u64>, call: &AnyCall<T>) -> bool
+    fn keeps_epoch(&self, base: Option<u64>, call: &Call<T>) -> bool
         ensures { result ≡ is_high (E.epoch_of self.now.epochs) (epoch_told (shown self.now).told (number_of base)) (value_written call.now) }
     {
         match value_written(call) {
@@ -51,7 +50,7 @@ impl<T: Clone, C: ObjectCodec<T> + Drop, E: EpochField<T>> Tables<T, C, E> {
 
     /// Why the client does not permit a begin, if it does not: its number and its view, whether that is free, its base, its
     /// boundary and its epoch are tested, in this order. It takes no memory.
-    pub fn begin_refusal(&self, call: &AnyCall<T>) -> Option<EventFault>
+    pub fn begin_refusal(&self, call: &Call<T>) -> Option<EventFault>
         ensures { result ≡ begin_fault (E.epoch_of self.now.epochs) self.now.client (shown self.now) call.now }
     {
         let view = view_used(call);

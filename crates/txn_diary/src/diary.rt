@@ -1,13 +1,13 @@
 //! A client that writes down what it did.
 ghost use Rattle.std.specs.Prelude.{◌≡◌, ◌<◌, ℕ, Option, IfOk, IfErr, OnOk, OnErr, vec_len, vec_capacity};
 ghost use Rattle.txn_types.specs.Clones.{IsExactClone};
-ghost use Rattle.txn_machine.specs.Machine.{fault_met};
+ghost use Rattle.txn_machine_inner.specs.Machine.{fault_met};
 ghost use Rattle.txn_journals.specs.Parts.{begin_fault};
 ghost use Rattle.txn_journals.specs.Journals.{Begins};
 ghost use Rattle.std.specs.Option.{ForSome};
-ghost use Rattle.txn_machine.specs.Doing.{first_of};
-ghost use Rattle.txn_any_machine.specs.Doing.{refusal_in};
-ghost use Rattle.txn_any_machine.specs.Machine.{answered};
+ghost use Rattle.txn_machine_inner.specs.Doing.{first_of};
+ghost use Rattle.txn_machine.specs.Doing.{refusal_in};
+ghost use Rattle.txn_machine.specs.Machine.{answered};
 ghost use Rattle.txn_diary.specs.Diaries.{IsReceiptFor, fault_if};
 ghost use Rattle.txn_diary.specs.Room.{HasRoom};
 ghost use Rattle.txn_diary.specs.Shown.{shown};
@@ -22,7 +22,7 @@ use txn_caches::ask::Ask;
 use txn_clients::operations::request_of;
 use txn_clients::refusals::{ask_refusal, end_refusal};
 use txn_clients::views::Answers;
-use txn_history::event::{Answer, EventFault};
+use txn_history::event::{Answer, Call, EventFault, PlainAnswer, Told};
 use txn_journals::audited::Audited;
 use txn_journals::rows::{Act, JournalRow, Receipt, Step};
 use txn_logged::logged::LoggedStore;
@@ -30,7 +30,6 @@ use txn_store::request::{Reply, Request};
 use txn_types::codec::ObjectCodec;
 use txn_types::epoch::EpochField;
 use txn_types::room::push_within;
-use txn_view_history::event::{AnyAnswer, AnyCall, AnyTold};
 
 /// One client of a store, which knows of the store nothing but the replies to its calls, and the journal of what it did.
 /// Its type keeps that the journal leads to what it keeps.
@@ -79,8 +78,8 @@ impl<T: Clone, C: ObjectCodec<T> + Drop, E: EpochField<T>> Diary<T, C, E> {
     ghost use Rattle.txn_store.specs.declared.request.Request.{Request};
     ghost use Rattle.txn_history.specs.Allowed.{ask_fault};
     ghost use Rattle.txn_history.specs.declared.event.ToldOf.TheVariants as tolds;
-    ghost use Rattle.txn_machine.specs.Doing.{asks_as};
-    ghost use Rattle.txn_machine.specs.Machine.{fault_met};
+    ghost use Rattle.txn_machine_inner.specs.Doing.{asks_as};
+    ghost use Rattle.txn_machine_inner.specs.Machine.{fault_met};
     ghost use Rattle.txn_journals.specs.declared.rows.Act.{Act};
     ghost use Rattle.txn_journals.specs.declared.rows.Act.TheVariants as acts;
     ghost use Rattle.txn_journals.specs.declared.rows.Step.TheVariants as steps;
@@ -138,7 +137,7 @@ impl<T: Clone, C: ObjectCodec<T> + Drop, E: EpochField<T>> Diary<T, C, E> {
 
     /// The answers that were told, each with the number of its operation, in their order. It goes over the journal once. The only
     /// error is want of memory.
-    pub fn answers(&self, alloc: Global) -> Result<Vec<(u64, &AnyAnswer<T>)>, AllocError>
+    pub fn answers(&self, alloc: Global) -> Result<Vec<(u64, &Answer<T>)>, AllocError>
         ensures { IfOk result (λ answers. map (λ pair. (pair.0, pair.1.now)) answers.items ≡ answers_from 0 self.now.rows) }
     {
         answers_of(alloc, self.rows.as_slice())
@@ -161,7 +160,7 @@ impl<T: Clone, C: ObjectCodec<T> + Drop, E: EpochField<T>> Diary<T, C, E> {
     /// runs; [`EventFault::UnknownBase`] for a base that no checked call of this client answered;
     /// [`EventFault::BoundaryTooHigh`] for a boundary that is neither 0 nor below such an id; [`EventFault::EpochLowered`] for
     /// a value whose epoch is below that of its base; [`EventFault::NoMemory`] where a growth was refused.
-    pub fn begin(&mut self, call: AnyCall<T>) -> Result<AnyTold<T>, EventFault>
+    pub fn begin(&mut self, call: Call<T>) -> Result<Told<T>, EventFault>
         requires { IsExactClone T.is_clone }
         ensures refused { fault_met result ≡ refusal_of (E.epoch_of self.old.epochs) self.old call }
         ensures err { OnErr result (self.new ≡ self.old) }
@@ -173,7 +172,7 @@ impl<T: Clone, C: ObjectCodec<T> + Drop, E: EpochField<T>> Diary<T, C, E> {
                 &mut self.rows,
                 Step::Begin(call),
                 op,
-                AnyTold::Began(op),
+                Told::Began(op),
                 answers,
             )),
             Err(fault) => {
@@ -190,7 +189,7 @@ impl<T: Clone, C: ObjectCodec<T> + Drop, E: EpochField<T>> Diary<T, C, E> {
     ///
     /// They leave the diary as it was: [`EventFault::UnknownNumber`] for an operation that is not there or has ended,
     /// [`EventFault::NotAsked`] for one that asks for a store call, [`EventFault::NoMemory`] where a growth was refused.
-    pub fn look(&mut self, op: u64) -> Result<AnyTold<T>, EventFault>
+    pub fn look(&mut self, op: u64) -> Result<Told<T>, EventFault>
         requires { IsExactClone T.is_clone }
         ensures refused { fault_met result ≡ ask_fault false (asked_in self.old op) }
         ensures err { OnErr result (self.new ≡ self.old) }
@@ -205,7 +204,7 @@ impl<T: Clone, C: ObjectCodec<T> + Drop, E: EpochField<T>> Diary<T, C, E> {
             &mut self.rows,
             Step::Act(op, Act::Look),
             op,
-            AnyTold::Went(op),
+            Told::Went(op),
             answers,
         ))
     }
@@ -218,7 +217,7 @@ impl<T: Clone, C: ObjectCodec<T> + Drop, E: EpochField<T>> Diary<T, C, E> {
     /// [`EventFault::NotAsked`] for one that asks for a look, for a receipt of another request, and for a reply of another kind,
     /// [`EventFault::NoMemory`] where a growth was refused. Where that happens after the store served the call, its effect
     /// stands, and [`Diary::failed`] ends the operation.
-    pub fn receive(&mut self, op: u64, receipt: Receipt) -> Result<AnyTold<T>, EventFault>
+    pub fn receive(&mut self, op: u64, receipt: Receipt) -> Result<Told<T>, EventFault>
         requires { IsExactClone T.is_clone }
         ensures refused { IsReceiptFault (asked_in self.old op) receipt (fault_met result) }
         ensures err { OnErr result (self.new ≡ self.old) }
@@ -236,7 +235,7 @@ impl<T: Clone, C: ObjectCodec<T> + Drop, E: EpochField<T>> Diary<T, C, E> {
             &mut self.rows,
             Step::Act(op, Act::Receive(receipt)),
             op,
-            AnyTold::Went(op),
+            Told::Went(op),
             answers,
         ))
     }
@@ -248,7 +247,7 @@ impl<T: Clone, C: ObjectCodec<T> + Drop, E: EpochField<T>> Diary<T, C, E> {
     ///
     /// They leave the diary as it was: [`EventFault::UnknownNumber`] for an operation that is not there or has ended,
     /// [`EventFault::NotAsked`] for one that asks for a look, [`EventFault::NoMemory`] where a growth was refused.
-    pub fn failed(&mut self, op: u64) -> Result<AnyTold<T>, EventFault>
+    pub fn failed(&mut self, op: u64) -> Result<Told<T>, EventFault>
         ensures refused { fault_met result ≡ ask_fault true (asked_in self.old op) }
         ensures err { OnErr result (self.new ≡ self.old) }
         ensures ok { IfOk result (λ told. (request : Request) × Acts (C.encoded self.old.codec) (C.decoded self.old.codec) (E.epoch_of self.old.epochs) (E.with_epoch self.old.epochs) self.old op (acts.Fails request) told self.new) }
@@ -268,7 +267,7 @@ impl<T: Clone, C: ObjectCodec<T> + Drop, E: EpochField<T>> Diary<T, C, E> {
             &mut self.rows,
             Step::Act(op, Act::Fails(request)),
             op,
-            AnyTold::Went(op),
+            Told::Went(op),
             answers,
         ))
     }
@@ -279,7 +278,7 @@ impl<T: Clone, C: ObjectCodec<T> + Drop, E: EpochField<T>> Diary<T, C, E> {
     ///
     /// They leave the diary as it was: [`EventFault::UnknownNumber`] for an operation that is not there or has ended,
     /// [`EventFault::NoMemory`] where a growth was refused.
-    pub fn give_up(&mut self, op: u64) -> Result<AnyTold<T>, EventFault>
+    pub fn give_up(&mut self, op: u64) -> Result<Told<T>, EventFault>
         ensures refused { fault_met result ≡ end_fault (asked_in self.old op) }
         ensures err { OnErr result (self.new ≡ self.old) }
         ensures ok { IfOk result (λ told. (left : Option Request) × Tells (C.encoded self.old.codec) (C.decoded self.old.codec) (E.epoch_of self.old.epochs) (E.with_epoch self.old.epochs) self.old (steps.Act op (acts.GiveUp left)) op (tolds.GaveUp op) told self.new) }
@@ -295,7 +294,7 @@ impl<T: Clone, C: ObjectCodec<T> + Drop, E: EpochField<T>> Diary<T, C, E> {
             &mut self.rows,
             Step::Act(op, Act::GiveUp(left)),
             op,
-            AnyTold::GaveUp(op),
+            Told::GaveUp(op),
             None,
         ))
     }
@@ -337,7 +336,7 @@ impl<T: Clone, C: ObjectCodec<T> + Drop, E: EpochField<T>> Diary<T, C, E> {
         rt: &R,
         store: &Mutex<LoggedStore>,
         op: u64,
-    ) -> Result<AnyTold<T>, EventFault>
+    ) -> Result<Told<T>, EventFault>
         requires exact { IsExactClone T.is_clone }
         requires asks { ask_fault true (asked_in self.old op) ≡ None }
         ensures refused { fault_met result ≡ None }
@@ -353,12 +352,12 @@ impl<T: Clone, C: ObjectCodec<T> + Drop, E: EpochField<T>> Diary<T, C, E> {
             Ok((receipt, reply)) => {
                 let answers = self.tables.turn(op, Some(reply));
                 let step = Step::Act(op, Act::Receive(receipt));
-                Ok(note(&mut self.rows, step, op, AnyTold::Went(op), answers))
+                Ok(note(&mut self.rows, step, op, Told::Went(op), answers))
             }
             Err(_) => {
                 let answers = self.tables.refuse(op, 9);
                 let step = Step::Act(op, Act::Lacks);
-                Ok(note(&mut self.rows, step, op, AnyTold::Went(op), answers))
+                Ok(note(&mut self.rows, step, op, Told::Went(op), answers))
             }
         }
     }
@@ -376,7 +375,7 @@ impl<T: Clone, C: ObjectCodec<T> + Drop, E: EpochField<T>> Diary<T, C, E> {
         rt: &R,
         store: &Mutex<LoggedStore>,
         op: u64,
-    ) -> Result<AnyTold<T>, EventFault>
+    ) -> Result<Told<T>, EventFault>
         requires { IsExactClone T.is_clone }
         ensures refused { fault_met result ≡ end_fault (asked_in self.old op) }
         ensures err { OnErr result (self.new ≡ self.old) }
@@ -422,7 +421,7 @@ fn start<T: Clone, C: ObjectCodec<T> + Drop, E: EpochField<T>>(
     tables: &mut Tables<T, C, E>,
     rows: &mut Vec<JournalRow<T>>,
     alive: bool,
-    call: &AnyCall<T>,
+    call: &Call<T>,
 ) -> Result<Option<Answers<T>>, EventFault>
     requires { IsExactClone T.is_clone }
     ensures refused { fault_met result ≡ fault_if alive (begin_fault (E.epoch_of tables.old.epochs) tables.old.client (shown tables.old) call.now) }
@@ -455,8 +454,8 @@ fn refusals<T>(refusal: Option<u8>) -> Option<Answers<T>>
 {
     let number = refusal?;
     Some((
-        AnyAnswer::Plain(Answer::Refused(number)),
-        AnyAnswer::Plain(Answer::Refused(number)),
+        Answer::Plain(PlainAnswer::Refused(number)),
+        Answer::Plain(PlainAnswer::Refused(number)),
     ))
 }
 

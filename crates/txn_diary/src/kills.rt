@@ -1,31 +1,28 @@
 //! What a client leaves that is killed.
 ghost use Rattle.std.specs.Prelude.{◌≡◌, ◌<◌, ◌++◌, IfOk, map, vec_len, vec_capacity};
 ghost use Rattle.txn_history.specs.GoesOn.{as_loose, all_left_loose};
-ghost use Rattle.txn_view_machine.specs.Steps.{view_without};
-ghost use Rattle.txn_any_machine.specs.Machine.{ended_by, seen_operations};
+ghost use Rattle.txn_machine_views.specs.Steps.{view_without};
+ghost use Rattle.txn_machine.specs.Machine.{ended_by, seen_operations};
 ghost use Rattle.txn_journals.specs.Journals.{as_pair};
 ghost use Rattle.txn_diary.specs.Kills.{EndsAt, EmptiesAt, left_here};
 
 use crate::tables::Tables;
 use std::alloc::{AllocError, Global};
 use std::mem;
-use txn_any_machine::doing::{AnyDoing, AnyOperation};
 use txn_caches::caches::Caches;
 use txn_clients::operations::loose_copy;
 use txn_journals::rows::Left;
-use txn_machine::doing::Doing;
+use txn_machine::doing::{Doing, Operation};
+use txn_machine_inner::doing::PlainDoing;
+use txn_machine_views::used::Used;
 use txn_store::request::Request;
 use txn_types::codec::ObjectCodec;
 use txn_types::epoch::EpochField;
 use txn_types::room::push_within;
-use txn_view_machine::used::Used;
 
 /// A copy of the put or the delete that this operation asks for, where one is and the operation is the client's. The only
 /// error is want of memory.
-fn left_here<T: Drop>(
-    client: u64,
-    operation: &AnyOperation<T>,
-) -> Result<Option<Request>, AllocError>
+fn left_here<T: Drop>(client: u64, operation: &Operation<T>) -> Result<Option<Request>, AllocError>
     ensures { IfOk result (λ left. left ≡ left_here client operation.now) }
 {
     if operation.client == client {
@@ -50,7 +47,7 @@ fn add_left(lefts: &mut Vec<Left>, op: u64, left: Option<Request>)
 fn left_by<T: Drop>(
     alloc: Global,
     client: u64,
-    operations: &[AnyOperation<T>],
+    operations: &[Operation<T>],
 ) -> Result<Vec<Left>, AllocError>
     ensures { IfOk result (λ lefts. map as_pair lefts.items ≡ all_left_loose client 1 (seen_operations operations.now)) }
 {
@@ -66,18 +63,18 @@ fn left_by<T: Drop>(
 }
 
 /// Ends the operation at this place, where it is the client's.
-fn end_at<T: Drop>(operations: &mut Vec<AnyOperation<T>>, client: u64, place: usize)
+fn end_at<T: Drop>(operations: &mut Vec<Operation<T>>, client: u64, place: usize)
     requires { place < vec_len operations.old }
     ensures { EndsAt client place operations.old.items operations.new.items }
 {
     let operation = &mut operations[place];
     if operation.client == client {
-        drop(mem::replace(&mut operation.doing, AnyDoing::Plain(Doing::Ended)));
+        drop(mem::replace(&mut operation.doing, Doing::Plain(PlainDoing::Ended)));
     }
 }
 
 /// Ends the client's operations.
-fn end_all<T: Drop>(operations: &mut Vec<AnyOperation<T>>, client: u64)
+fn end_all<T: Drop>(operations: &mut Vec<Operation<T>>, client: u64)
     ensures { operations.new.items ≡ map (ended_by client) operations.old.items }
 {
     for place in 0..operations.len() {

@@ -7,20 +7,19 @@ ghost use Rattle.txn_diary.specs.Notes.{note_at, as_told, first_epoch};
 
 use std::alloc::{AllocError, Global};
 use std::collections::HashMap;
-use txn_history::event::{Answer, Call};
+use txn_history::event::{Answer, Call, PlainAnswer, PlainCall};
 use txn_types::epoch::EpochField;
 use txn_types::room::push_within;
-use txn_view_history::event::{AnyAnswer, AnyCall};
 
 /// The id that an answer tells, with the epoch of its version.
 pub(crate) type Note = (u64, u64);
 
 /// The epoch of what a checked write writes.
-pub(crate) fn epoch_written<T, E: EpochField<T>>(epochs: &E, call: &AnyCall<T>) -> Option<u64>
+pub(crate) fn epoch_written<T, E: EpochField<T>>(epochs: &E, call: &Call<T>) -> Option<u64>
     ensures { result ≡ epoch_written (E.epoch_of epochs.now) call.now }
 {
     match call {
-        AnyCall::Plain(Call::Write(_, value)) => Some(epochs.get_epoch(value)),
+        Call::Plain(PlainCall::Write(_, value)) => Some(epochs.get_epoch(value)),
         _ => None,
     }
 }
@@ -42,16 +41,16 @@ pub(crate) fn written_at(writes: &[Option<u64>], op: u64) -> Option<u64>
 fn note_plain<T, E: EpochField<T>>(
     epochs: &E,
     written: Option<u64>,
-    answer: &Answer<T>,
+    answer: &PlainAnswer<T>,
 ) -> Option<Note>
     ensures { as_told result ≡ note_plain (E.epoch_of epochs.now) written answer.now }
 {
     match answer {
-        Answer::Wrote(id) => match written {
+        PlainAnswer::Wrote(id) => match written {
             Some(epoch) => Some((*id, epoch)),
             None => None,
         },
-        Answer::Read(Some((id, value))) => Some((*id, epochs.get_epoch(value))),
+        PlainAnswer::Read(Some((id, value))) => Some((*id, epochs.get_epoch(value))),
         _ => None,
     }
 }
@@ -60,14 +59,14 @@ fn note_plain<T, E: EpochField<T>>(
 pub(crate) fn note_of<T, E: EpochField<T>>(
     epochs: &E,
     written: Option<u64>,
-    answer: &AnyAnswer<T>,
+    answer: &Answer<T>,
 ) -> Option<Note>
     ensures { as_told result ≡ note_of (E.epoch_of epochs.now) written (Some answer.now) }
 {
     match answer {
-        AnyAnswer::Plain(answer) => note_plain(epochs, written, answer),
-        AnyAnswer::View(_, id, value) => Some((*id, epochs.get_epoch(value))),
-        AnyAnswer::Held(_, id, value, _) => Some((*id, epochs.get_epoch(value))),
+        Answer::Plain(answer) => note_plain(epochs, written, answer),
+        Answer::View(_, id, value) => Some((*id, epochs.get_epoch(value))),
+        Answer::Held(_, id, value, _) => Some((*id, epochs.get_epoch(value))),
     }
 }
 

@@ -5,9 +5,9 @@ ghost use Rattle.txn_journals.specs.Verdict.{receipts_in};
 ghost use Rattle.txn_diary.specs.Reading.{op_of, begun_by, with_answer, answers_from, receipt_of, as_receipts};
 
 use std::alloc::{AllocError, Global};
+use txn_history::event::Answer;
 use txn_journals::rows::{Act, JournalRow, Receipt, Step};
 use txn_types::room::push_within;
-use txn_view_history::event::AnyAnswer;
 
 /// The operation that a step is of, where so many began before it: 0 for a kill.
 fn op_of<T>(begun: u64, step: &Step<T>) -> u64
@@ -34,9 +34,9 @@ fn begun_by<T>(begun: u64, step: &Step<T>) -> u64
 
 /// Adds an answer, where there is one, where there is room.
 fn add_answer<'a, T>(
-    answers: &mut Vec<(u64, &'a AnyAnswer<T>)>,
+    answers: &mut Vec<(u64, &'a Answer<T>)>,
     op: u64,
-    answer: Option<&'a AnyAnswer<T>>,
+    answer: Option<&'a Answer<T>>,
 )
     requires { vec_len answers.old < vec_capacity answers.old }
     ensures { map (λ pair. (pair.0, pair.1.now)) answers.new.items ≡ map (λ pair. (pair.0, pair.1.now)) answers.old.items ++ with_answer op (option_copied answer.entry) }
@@ -50,7 +50,7 @@ fn add_answer<'a, T>(
 pub(crate) fn answers_of<T>(
     alloc: Global,
     rows: &[JournalRow<T>],
-) -> Result<Vec<(u64, &AnyAnswer<T>)>, AllocError>
+) -> Result<Vec<(u64, &Answer<T>)>, AllocError>
     ensures { IfOk result (λ answers. map (λ pair. (pair.0, pair.1.now)) answers.items ≡ answers_from 0 rows.now) }
 {
     let mut answers = Vec::new(alloc);

@@ -2,18 +2,17 @@
 ghost use Rattle.std.specs.Prelude.{◌≡◌, ◌<◌, ◌++◌, ◌∷◌, [], Decides, vec_len, vec_capacity};
 ghost use Rattle.std.specs.Option.{ForSome};
 ghost use Rattle.txn_history.specs.Added.{told_of};
-ghost use Rattle.txn_machine.specs.Doing.{asks_as, first_of};
+ghost use Rattle.txn_machine_inner.specs.Doing.{asks_as, first_of};
 ghost use Rattle.txn_diary.specs.Diaries.{IsReceiptFault};
 ghost use Rattle.txn_logged.specs.Logged.{IsOfKind};
 
 use txn_caches::ask::Ask;
 use txn_clients::views::Answers;
-use txn_history::event::EventFault;
+use txn_history::event::{EventFault, Told};
 use txn_journals::rows::{JournalRow, Receipt, Step};
 use txn_journals::same::same_request;
 use txn_store::request::{Reply, Request};
 use txn_types::room::push_within;
-use txn_view_history::event::AnyTold;
 
 /// Whether a reply is of the request's kind.
 fn is_of_kind(request: &Request, reply: &Reply) -> bool
@@ -50,9 +49,9 @@ pub(crate) fn note<T: Drop>(
     rows: &mut Vec<JournalRow<T>>,
     step: Step<T>,
     op: u64,
-    otherwise: AnyTold<T>,
+    otherwise: Told<T>,
     answers: Option<Answers<T>>,
-) -> AnyTold<T>
+) -> Told<T>
     requires room { vec_len rows.old < vec_capacity rows.old }
     requires twice { ForSome answers (λ pair. pair.1 ≡ pair.0) }
     ensures rows { rows.new.items ≡ rows.old.items ++ record { step = step; answer = first_of answers } ∷ [] }
@@ -71,7 +70,7 @@ pub(crate) fn note<T: Drop>(
                     answer: Some(answer),
                 },
             );
-            AnyTold::Answered(op, copy)
+            Told::Answered(op, copy)
         }
     }
 }

@@ -4,20 +4,20 @@ ghost use Rattle.txn_history.specs.Names.{world_names, world_boundary};
 
 use crate::notes::{Notes, epoch_written, note_of, written_at};
 use std::alloc::{AllocError, Global};
-use txn_any_machine::doing::{AnyOperation, Ending, Twice, is_claim, start};
 use txn_caches::ask::Ask;
 use txn_caches::caches::Caches;
 use txn_clients::calls::view_used;
 use txn_clients::layout::world_layout;
 use txn_clients::operations::{Usage, asked, end, loose_copy, turn, usage_at};
 use txn_clients::views::{Answers, find, let_go, settle, take};
+use txn_history::event::Call;
+use txn_machine::doing::{Ending, Operation, Twice, is_claim, start};
+use txn_machine_views::used::Used;
 use txn_store::request::{Reply, Request};
 use txn_types::codec::ObjectCodec;
 use txn_types::epoch::EpochField;
 use txn_types::layout::Layout;
 use txn_types::room::push_within;
-use txn_view_history::event::AnyCall;
-use txn_view_machine::used::Used;
 
 /// All that a client keeps but its journal.
 #[derive(Drop)]
@@ -29,7 +29,7 @@ pub(crate) struct Tables<T: Drop, C: ObjectCodec<T> + Drop, E: EpochField<T>> {
     pub epochs: E,
     pub caches: Caches,
     /// Its operations, numbered from 1.
-    pub operations: Vec<AnyOperation<T>>,
+    pub operations: Vec<Operation<T>>,
     /// Its views, numbered from 1. One that has ended is none.
     pub views: Vec<Option<Used<T>>>,
     /// Of each operation that is a checked write, the epoch of its value.
@@ -46,11 +46,11 @@ impl<T: Clone, C: ObjectCodec<T> + Drop, E: EpochField<T>> Tables<T, C, E> {
     ghost use Rattle.txn_types.specs.Clones.{IsExactClone};
     ghost use Rattle.txn_history.specs.Seen as seen;
     ghost use Rattle.txn_history.specs.Lists.{numbered};
-    ghost use Rattle.txn_machine.specs.Doing.{asks_as, first_of};
-    ghost use Rattle.txn_view_history.specs.Calls.{view_used};
-    ghost use Rattle.txn_any_machine.specs.Doing.{refused, refusal_in};
-    ghost use Rattle.txn_any_machine.specs.Machine.{answered, views_after};
-    ghost use Rattle.txn_any_machine.specs.declared.doing.AnyOperation.{AnyOperation};
+    ghost use Rattle.txn_machine_inner.specs.Doing.{asks_as, first_of};
+    ghost use Rattle.txn_history.specs.Calls.{view_used};
+    ghost use Rattle.txn_machine.specs.Doing.{refused, refusal_in};
+    ghost use Rattle.txn_machine.specs.Machine.{answered, views_after};
+    ghost use Rattle.txn_machine.specs.declared.doing.Operation.{Operation};
     ghost use Rattle.txn_clients.specs.Operations.{asked_by, TakesReply};
     ghost use Rattle.txn_clients.specs.Views.{IsFromOne};
     ghost use Rattle.txn_journals.specs.Parts.{no_part, begin_fault, answer_in, note_of, written_in, turned_with};
@@ -111,7 +111,7 @@ impl<T: Clone, C: ObjectCodec<T> + Drop, E: EpochField<T>> Tables<T, C, E> {
 
     /// Begins a call that is permitted, where there is room. It answers the number of its refusal, where it is refused at
     /// once. The only error is want of memory, and then nothing changes.
-    pub fn begin(&mut self, call: &AnyCall<T>) -> Result<Option<u8>, AllocError>
+    pub fn begin(&mut self, call: &Call<T>) -> Result<Option<u8>, AllocError>
         requires exact { IsExactClone T.is_clone }
         requires permits { begin_fault (E.epoch_of self.old.epochs) self.old.client (shown self.old) call.now ≡ None }
         requires view { IsFromOne (view_used call.now) }
@@ -133,7 +133,7 @@ impl<T: Clone, C: ObjectCodec<T> + Drop, E: EpochField<T>> Tables<T, C, E> {
         let op = self.operations.len() as u64 + 1;
         push_within(
             &mut self.operations,
-            AnyOperation {
+            Operation {
                 client: of.client,
                 view: of.view,
                 claims: of.claims,
@@ -208,8 +208,8 @@ impl<T: Clone, C: ObjectCodec<T> + Drop, E: EpochField<T>> Tables<T, C, E> {
         ensures client { self.new.client ≡ self.old.client }
         ensures layout { self.new.layout ≡ self.old.layout }
         ensures epochs { self.new.epochs ≡ self.old.epochs }
-        ensures answer { (o : AnyOperation T) → numbered (shown self.old).operations op ≡ Some o → first_of result ≡ answer_in (shown self.old) o (refused number) }
-        ensures shown { (o : AnyOperation T) → numbered (shown self.old).operations op ≡ Some o → shown self.new ≡ turned_with (E.epoch_of self.old.epochs) (shown self.old) op o (refused number) (shown self.old).caches }
+        ensures answer { (o : Operation T) → numbered (shown self.old).operations op ≡ Some o → first_of result ≡ answer_in (shown self.old) o (refused number) }
+        ensures shown { (o : Operation T) → numbered (shown self.old).operations op ≡ Some o → shown self.new ≡ turned_with (E.epoch_of self.old.epochs) (shown self.old) op o (refused number) (shown self.old).caches }
         ensures twice { ForSome result (λ pair. pair.1 ≡ pair.0) }
     {
         let of = usage_at(&self.operations, op);

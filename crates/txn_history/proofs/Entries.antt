@@ -8,16 +8,14 @@ use Rattle.txn_store.specs.declared.request.Request.{Request}
 use Rattle.txn_store.specs.declared.request.Request.TheVariants as requests
 use Rattle.txn_types.specs.BoundaryText.{boundary_read}
 use Rattle.txn_history.specs.declared.trace.RowOf.{RowOf}
-use Rattle.txn_history.specs.Trace.{Row}
 use Rattle.txn_history.specs.declared.trace.RowOf.TheVariants.{Effect, Begun, Answered}
 use Rattle.txn_history.specs.Lists.{numbered}
 use Rattle.txn_history.specs.History.{Version, is_boundary, created, created_by, has_id, with_version, versions_of, IsEntry, epoch_in}
-use Rattle.txn_history.specs.OneHistory.{Entered, WasNewest, IsOneHistory}
+use Rattle.txn_history.specs.Facts.{Entered, WasNewest}
 use Rattle.txn_history.proofs.Lists.{get_more, numbered_kept, numbered_more, numbered_last}
 use Rattle.txn_history.proofs.Rows.{front_more, versions_of-more, versions_grow}
 use Rattle.txn_history.proofs.Apart.{raise_creates, is_boundary_path}
 use Rattle.txn_history.proofs.Moves.{GoesUp, IsPut, IsMove, AreMoves}
-use Rattle.txn_history.proofs.Legal.{are_moves}
 use Rattle.txn_history.proofs.Fronts.{later_at, of_front, front_of}
 
 abbrev pub AreCounted : List Version → Type 0
@@ -206,8 +204,3 @@ module _ {C A T : Type 0} (decode : List ℕ → Option T) (get_epoch : T → �
       take_short rows zero = omega arith
       take_short [] (suc k) = omega arith
       take_short (row ∷ rows) (suc k) = let rest = take_short rows k in omega (arith, rest)
-
-module _ {T : Type 0} (decode : List ℕ → Option T) (get_epoch : T → ℕ) (failed : List ℕ) where
-  -- what stands at each front of one history
-  pub fronts : (rows : List (Row T)) → IsOneHistory decode get_epoch failed rows → (k : ℕ) → Front decode get_epoch (versions_of (take k rows))
-  fronts rows good k = fronts_of decode get_epoch rows (are_moves decode get_epoch failed rows good) k

@@ -1,11 +1,11 @@
 -- The effects of one history are moves.
 use Rattle.std.proofs.Common.{ℕ, List, Option, Some, None, inl, inr}
 use Rattle.txn_store.specs.declared.request.Request.{Request}
-use Rattle.txn_history.specs.Trace.{Row}
 use Rattle.txn_history.specs.declared.trace.RowOf.TheVariants.{Effect}
 use Rattle.txn_history.specs.History.{Version, created, raised, removed}
-use Rattle.txn_history.specs.OneHistory.{VersionPut, BoundaryPut, VersionRemoved, IsLegal, IsOneHistory}
 use Rattle.txn_history.proofs.Moves.{GoesUp, IsReached, IsPut, IsMove, AreMoves}
+use Rattle.txn_history.specs.Trace.{Row}
+use Rattle.txn_history.specs.OneHistory.{VersionPut, BoundaryPut, VersionRemoved, IsLegal, IsOneHistory}
 
 module _ {T : Type 0} where
   boundary_up : (before : List (Row T)) (op : ℕ) (found : Option ℕ) → BoundaryPut before op found → GoesUp before found
@@ -16,16 +16,16 @@ module _ {T : Type 0} where
   removed_below before op None h = h
   removed_below before op (Some id) h = h.below
 
-module _ {T : Type 0} (decode : List ℕ → Option T) (get_epoch : T → ℕ) where
-  version_put : (before : List (Row T)) (op : ℕ) (found : Option Version) → VersionPut decode get_epoch before op found → IsPut decode get_epoch before found
+module _ {T : Type 0} (decode : List ℕ → Option T) (get_epoch : T → ℕ) (set_epoch : T → ℕ → T) where
+  version_put : (before : List (Row T)) (op : ℕ) (found : Option Version) → VersionPut decode get_epoch set_epoch before op found → IsPut decode get_epoch before found
   version_put before op None h = h
   version_put before op (Some version) (inl a) = inl (record { value = a.value; reads = a.reads; next = a.next; rises = a.rises })
   version_put before op (Some version) (inr r) = inr r.again
 
-  move_of : (before : List (Row T)) (op : ℕ) (request : Request) → IsLegal decode get_epoch before op request → IsMove decode get_epoch before request
+  move_of : (before : List (Row T)) (op : ℕ) (request : Request) → IsLegal decode get_epoch set_epoch before op request → IsMove decode get_epoch before request
   move_of before op request (inl h) = inl (version_put before op (created request) h)
   move_of before op request (inr (inl h)) = inr (inl (boundary_up before op (raised request) h))
   move_of before op request (inr (inr h)) = inr (inr (removed_below before op (removed request) h))
 
-  pub are_moves : (failed : List ℕ) (rows : List (Row T)) → IsOneHistory decode get_epoch failed rows → AreMoves decode get_epoch rows
+  pub are_moves : (failed : List ℕ) (rows : List (Row T)) → IsOneHistory decode get_epoch set_epoch failed rows → AreMoves decode get_epoch rows
   are_moves failed rows good k op request e = move_of _ op request (good k (Effect op request) e)

@@ -9,3 +9,6 @@ pub mod Entries
 pub mod Writers
 pub mod Owners
 pub mod Begins
+pub mod Numbered
+pub mod Claimers
+pub mod Holders

@@ -9,7 +9,7 @@ use Rattle.txn_history.specs.declared.trace.RowOf.TheVariants.{Effect, Begun, An
 use Rattle.txn_history.specs.Lists.{numbered}
 use Rattle.txn_history.specs.History.{Version, has_id, versions_of, newest, put_count, epoch_in, epoch_at}
 use Rattle.txn_history.specs.Calls.{begins, ends, was_begun, IsCall, AtRow, begun_count}
-use Rattle.txn_history.specs.OneHistory.{Created, Entered}
+use Rattle.txn_history.specs.Facts.{Created, Entered}
 use Rattle.txn_history.proofs.Lists.{get_kept, numbered_kept}
 use Rattle.txn_history.proofs.Rows.{row_op, versions_grow}
 

@@ -8,7 +8,7 @@ use Rattle.txn_history.specs.declared.trace.RowOf.{RowOf}
 use Rattle.txn_history.specs.declared.trace.RowOf.TheVariants.{Effect, Answered}
 use Rattle.txn_history.specs.History.{Version, created, has_id, with_version, versions_of}
 use Rattle.txn_history.specs.Calls.{ends, was_answered}
-use Rattle.txn_history.specs.OneHistory.{Entered}
+use Rattle.txn_history.specs.Facts.{Entered}
 use Rattle.txn_history.proofs.Lists.{any_true, any_last}
 use Rattle.txn_history.proofs.Rows.{row_op, front_more, versions_of-more, versions_grow}
 use Rattle.txn_history.proofs.Fronts.{later_at, of_front, front_of}

@@ -1,13 +1,17 @@
--- The calls of a trace: when each began and ended, what it writes, and which ids were answered.
-use Rattle.std.specs.Prelude.{◌≡◌, ℕ, List, [], ◌∷◌, ◌+◌, ◌≤◌, ◌==◌, nat_eq, nat_lt, Bool, true, false, Option, Some, None, length, take, slice_get}
+-- The calls of a trace: when each began and ended, which views it uses, what it writes, and which ids were answered.
+use Rattle.std.specs.Prelude.{◌≡◌, ℕ, List, [], ◌∷◌, ◌+◌, ◌≤◌, ◌==◌, nat_eq, nat_lt, Bool, true, false, Option, Some, None, length, take, slice_get, if◌then◌else◌}
 use Rattle.std.specs.List.{list_any}
+use Rattle.txn_history.specs.declared.event.PlainCall.TheVariants as calls
+use Rattle.txn_history.specs.declared.event.PlainAnswer.{PlainAnswer}
+use Rattle.txn_history.specs.declared.event.PlainAnswer.TheVariants as plain_answers
+use Rattle.txn_history.specs.declared.trace.RowOf.{RowOf}
+use Rattle.txn_history.specs.declared.trace.RowOf.TheVariants.{Effect, Begun, Answered}
+use Rattle.txn_history.specs.declared.event.ViewCall.TheVariants as view_calls
 use Rattle.txn_history.specs.declared.event.Call.{Call}
-use Rattle.txn_history.specs.declared.event.Call.TheVariants as calls
+use Rattle.txn_history.specs.declared.event.Call.TheVariants as any
 use Rattle.txn_history.specs.declared.event.Answer.{Answer}
 use Rattle.txn_history.specs.declared.event.Answer.TheVariants as answers
-use Rattle.txn_history.specs.declared.trace.RowOf.{RowOf}
 use Rattle.txn_history.specs.Trace.{Row}
-use Rattle.txn_history.specs.declared.trace.RowOf.TheVariants.{Effect, Begun, Answered}
 
 module _ {C A : Type 0} where
   -- a row is the begin of the operation
@@ -55,21 +59,51 @@ module _ {C A : Type 0} where
   answers_so test (Begun op call) = false
 
 module _ {T : Type 0} where
-  -- the value that a call asks to write on its base
+  -- an answer of a plain call tells an id that passes the test
+  abbrev pub plain_tells_id : (ℕ → Bool) → PlainAnswer T → Bool
+  plain_tells_id test (plain_answers.Wrote id) = test id
+  plain_tells_id test (plain_answers.Read None) = false
+  plain_tells_id test (plain_answers.Read (Some found)) = test found.0
+  plain_tells_id test (plain_answers.Ids ids) = list_any test ids
+  plain_tells_id test (plain_answers.Value value) = false
+  plain_tells_id test plain_answers.Done = false
+  plain_tells_id test (plain_answers.Refused number) = false
+
+module _ {C A : Type 0} where
+  -- the rows before the begin of the operation
+  abbrev pub before_begin : ℕ → List (RowOf C A) → List (RowOf C A)
+  before_begin op [] = []
+  before_begin op (row ∷ rows) = if begins op row then [] else row ∷ before_begin op rows
+
+module _ {T : Type 0} where
+  -- the view that a call uses
+  abbrev pub view_used : Call T → Option ℕ
+  view_used (any.View (view_calls.Refresh view)) = Some view
+  view_used (any.View (view_calls.Update view value)) = Some view
+  view_used (any.View (view_calls.Claim view)) = Some view
+  view_used (any.View (view_calls.ClaimAt view epoch)) = Some view
+  view_used (any.View (view_calls.HolderRefresh view)) = Some view
+  view_used (any.View (view_calls.HolderUpdate view value)) = Some view
+  view_used _ = None
+
+  -- the call is one of a holder
+  abbrev pub is_holders : Call T → Bool
+  is_holders (any.View (view_calls.HolderRefresh view)) = true
+  is_holders (any.View (view_calls.HolderUpdate view value)) = true
+  is_holders _ = false
+
+  -- the value that a call asks to write on its base, but for a holder, whose value has to have its epoch
   abbrev pub value_written : Call T → Option T
-  value_written (calls.Write base value) = Some value
-  value_written (calls.WriteUnchecked base value) = Some value
+  value_written (any.Plain (calls.Write base value)) = Some value
+  value_written (any.Plain (calls.WriteUnchecked base value)) = Some value
+  value_written (any.View (view_calls.Update view value)) = Some value
   value_written _ = None
 
-  -- an answer tells an id that passes the test
+  -- an answer tells an id that passes the test: the version of a view, and of a call without a view what `plain_tells_id` of it says
   abbrev pub tells_id : (ℕ → Bool) → Answer T → Bool
-  tells_id test (answers.Wrote id) = test id
-  tells_id test (answers.Read None) = false
-  tells_id test (answers.Read (Some found)) = test found.0
-  tells_id test (answers.Ids ids) = list_any test ids
-  tells_id test (answers.Value value) = false
-  tells_id test answers.Done = false
-  tells_id test (answers.Refused number) = false
+  tells_id test (answers.Plain answer) = plain_tells_id test answer
+  tells_id test (answers.View view id value) = test id
+  tells_id test (answers.Held view id value epoch) = test id
 
   -- a row is an answer that tells such an id
   abbrev pub tells : (ℕ → Bool) → Row T → Bool

@@ -1,14 +1,19 @@
 -- What follows of one history.
 use Rattle.std.specs.Prelude.{◌≡◌, ◌≤◌, ℕ, List, Option, true, take, slice_get, Some, None}
+use Rattle.txn_history.specs.declared.trace.RowOf.{RowOf}
+use Rattle.txn_history.specs.History.{boundary, erases}
+use Rattle.txn_history.specs.declared.event.PlainCall.TheVariants as calls
+use Rattle.txn_history.specs.declared.event.PlainAnswer.TheVariants as plain_answers
+use Rattle.txn_history.specs.declared.trace.RowOf.TheVariants.{Answered}
+use Rattle.txn_history.specs.Lists.{numbered}
+use Rattle.txn_history.specs.Calls.{IsCall}
+use Rattle.txn_history.specs.declared.event.ViewCall.TheVariants as view_calls
 use Rattle.txn_history.specs.declared.event.Call.{Call}
-use Rattle.txn_history.specs.declared.event.Call.TheVariants as calls
+use Rattle.txn_history.specs.declared.event.Call.TheVariants as any
 use Rattle.txn_history.specs.declared.event.Answer.{Answer}
 use Rattle.txn_history.specs.declared.event.Answer.TheVariants as answers
-use Rattle.txn_history.specs.declared.trace.RowOf.{RowOf}
 use Rattle.txn_history.specs.Trace.{Row}
-use Rattle.txn_history.specs.declared.trace.RowOf.TheVariants.{Answered}
-use Rattle.txn_history.specs.History.{boundary, erases}
-use Rattle.txn_history.specs.Calls.{IsCall}
+use Rattle.txn_history.specs.Views.{View, epoch_held}
 
 module _ {C A : Type 0} where
   -- the boundary never falls: it is no lower after more rows
@@ -22,7 +27,12 @@ module _ {C A : Type 0} where
 module _ {T : Type 0} where
   -- the id that a checked write answers as its own
   abbrev pub id_entered : Call T → Answer T → Option ℕ
-  id_entered (calls.Write base value) (answers.Wrote id) = Some id
+  id_entered (any.Plain (calls.Write base value)) (answers.Plain (plain_answers.Wrote id)) = Some id
+  id_entered (any.View (view_calls.Init value)) (answers.View view id found) = Some id
+  id_entered (any.View (view_calls.Update view value)) (answers.View shown id found) = Some id
+  id_entered (any.View (view_calls.HolderUpdate view value)) (answers.View shown id found) = Some id
+  id_entered (any.View (view_calls.Claim view)) (answers.Held shown id found held) = Some id
+  id_entered (any.View (view_calls.ClaimAt view epoch)) (answers.Held shown id found held) = Some id
   id_entered call answer = None
 
   -- row k is an answer of the operation, which is its own version of this id
@@ -36,3 +46,20 @@ module _ {T : Type 0} where
   -- two successful checked writes never have the same id: rows that answer it are one row
   abbrev pub HasOneWriter : List (Row T) → Type 0
   HasOneWriter rows = (j k op other id : ℕ) → AnswersOwn rows j op id → AnswersOwn rows k other id → j ≡ k
+
+  -- two successful claims never have the same epoch: rows that answer it are one row
+  abbrev pub HasOneClaimer : List (Row T) → Type 0
+  HasOneClaimer rows =
+      (j k op other view another n m epoch : ℕ) (value found : T) →
+      slice_get rows j ≡ Some (Answered op (answers.Held view n value epoch)) → slice_get rows k ≡ Some (Answered other (answers.Held another m found epoch)) → j ≡ k
+
+module _ {T : Type 0} (get_epoch : T → ℕ) where
+  -- a holder's view never has an epoch below its own: not in an answer that shows it
+  abbrev pub HoldersRise : List (Row T) → Type 0
+  HoldersRise rows =
+      (k op view n epoch : ℕ) (value : T) →
+      slice_get rows k ≡ Some (Answered op (answers.View view n value)) → epoch_held (take k rows) view ≡ Some epoch → epoch ≤ get_epoch value
+
+  -- and not as it stands
+  abbrev pub HoldersStand : List (Option (View T)) → Type 0
+  HoldersStand views = (number epoch : ℕ) (view : View T) → numbered views number ≡ Some (Some view) → view.epoch ≡ Some epoch → epoch ≤ get_epoch view.object

@@ -3,6 +3,8 @@ pub mod Names
 pub mod Lists
 pub mod History
 pub mod Calls
+pub mod Facts
+pub mod Views
 pub mod OneHistory
 pub mod Laws
 pub mod Seen

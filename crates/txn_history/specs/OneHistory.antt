@@ -1,25 +1,24 @@
 -- One history: when a row fits the rows before it.
-use Rattle.std.specs.Prelude.{◌≡◌, ℕ, zero, suc, List, ◌+◌, ◌<◌, ◌≤◌, ◌⊎◌, ◌==◌, nat_le, nat_eq, ◌||◌, Bool, true, false, Option, Some, None, take, slice_get}
-use Rattle.std.specs.List.{list_any}
-use Rattle.std.specs.List.Sorted.{IsStrictlySortedBy}
-use Rattle.std.specs.Ordering.{nat_cmp}
-use Rattle.std.specs.declared.ops.Bound.{Bound}
+use Rattle.std.specs.Prelude.{◌≡◌, ◌≢◌, ℕ, List, ◌+◌, ◌<◌, ◌≤◌, ◌⊎◌, ◌==◌, ◌&&◌, ◌||◌, not, Bool, true, false, if◌then◌else◌, Option, Some, None, is_some, take, slice_get}
+use Rattle.txn_store.specs.declared.request.Request.{Request}
+use Rattle.txn_types.specs.Numbers.{number_of}
+use Rattle.txn_history.specs.declared.event.PlainCall.TheVariants as calls
+use Rattle.txn_history.specs.declared.event.PlainAnswer.TheVariants as plain_answers
+use Rattle.txn_history.specs.declared.trace.RowOf.TheVariants.{Effect, Begun, Answered}
+use Rattle.txn_history.specs.History.{Version, created, raised, removed, has_id, versions_of, newest, boundary, was_erased, IsEntry, epoch_at}
+use Rattle.txn_history.specs.Calls.{was_answered, IsCall, begun_count, before_begin, view_used, is_holders, value_written, was_told, is_below_told}
+use Rattle.txn_history.specs.Facts.{base_on, is_high, greatest, Entered, WasNewest, WasEmpty, NoTokens, WriteRefused, Fails, PlainSucceeds, PlainRefuses}
+use Rattle.txn_history.specs.declared.event.ViewCall.TheVariants as view_calls
 use Rattle.txn_history.specs.declared.event.Call.{Call}
-use Rattle.txn_history.specs.declared.event.Call.TheVariants as calls
+use Rattle.txn_history.specs.declared.event.Call.TheVariants as any
 use Rattle.txn_history.specs.declared.event.Answer.{Answer}
 use Rattle.txn_history.specs.declared.event.Answer.TheVariants as answers
-use Rattle.txn_store.specs.declared.request.Request.{Request}
-use Rattle.txn_history.specs.declared.trace.RowOf.{RowOf}
 use Rattle.txn_history.specs.Trace.{Row}
-use Rattle.txn_history.specs.declared.trace.RowOf.TheVariants.{Effect, Begun, Answered}
-use Rattle.txn_types.specs.Numbers.{number_of, is_within}
-use Rattle.txn_history.specs.History.{Version, created, raised, removed, has_id, versions_of, newest, boundary, was_erased, is_stored, put_count, IsEntry, epoch_at}
-use Rattle.txn_history.specs.Calls.{was_begun, was_answered, IsCall, begun_count, value_written, was_told, is_below_told, AtRow}
+use Rattle.txn_history.specs.Views.{view_at, epoch_held, view_count}
 
--- the base of a write directly on entry n: none on 0
-abbrev pub base_on : ℕ → Option ℕ
-base_on zero = None
-base_on (suc n) = Some (suc n)
+-- both or neither
+abbrev pub agree : Bool → Bool → Bool
+agree one other = if one then other else not other
 
 -- a base is none, or an id that some call answered
 abbrev pub is_known_base : {T : Type 0} → List (Row T) → Option ℕ → Bool
@@ -27,39 +26,54 @@ is_known_base rows None = true
 is_known_base rows (Some n) = was_told rows n
 
 module _ {T : Type 0} where
-  -- the base that a call writes on
-  abbrev pub base_of : Call T → Option ℕ
-  base_of (calls.Write base value) = base
-  base_of (calls.WriteUnchecked base value) = base
-  base_of _ = None
+  -- the base that a call writes on, by where its view stands: the view's id for an update
+  abbrev pub base_of : Option ℕ → Call T → Option ℕ
+  base_of at (any.Plain (calls.Write base value)) = base
+  base_of at (any.Plain (calls.WriteUnchecked base value)) = base
+  base_of at (any.View (view_calls.Update view value)) = at
+  base_of at (any.View (view_calls.HolderUpdate view value)) = at
+  base_of at _ = None
+
+  -- where the view of a call stands, none of a call without a view
+  abbrev pub stands_at : List (Row T) → Option ℕ → Option ℕ
+  stands_at rows None = None
+  stands_at rows (Some view) = view_at rows view
+
+  -- the base of a call after these rows: an update's is where its view stands
+  abbrev pub base_now : List (Row T) → Call T → Option ℕ
+  base_now rows call = base_of (stands_at rows (view_used call)) call
+
+  -- the base of an operation: an update's is where its view stood when the call began
+  abbrev pub base_by : List (Row T) → ℕ → Call T → Option ℕ
+  base_by before op call = base_now (before_begin op before) call
 
   -- a boundary to advance to is 0, or below an id that some call answered
   abbrev pub has_low_boundary : List (Row T) → Call T → Bool
-  has_low_boundary rows (calls.Advance to) = to == 0 || is_below_told rows to
+  has_low_boundary rows (any.Plain (calls.Advance to)) = to == 0 || is_below_told rows to
   has_low_boundary rows _ = true
 
-module _ {T : Type 0} (get_epoch : T → ℕ) where
-  -- a value that is written has an epoch of at least this
-  abbrev pub is_high : ℕ → Option T → Bool
-  is_high epoch None = true
-  is_high epoch (Some value) = nat_le epoch (get_epoch value)
+  -- the view that a call uses was shown, and is a holder exactly where the call is a holder's
+  abbrev pub has_shown_view : List (Row T) → Option ℕ → Bool → Bool
+  has_shown_view rows None holders = true
+  has_shown_view rows (Some view) holders = is_some (view_at rows view) && agree holders (is_some (epoch_held rows view))
 
 module _ {T : Type 0} (decode : List ℕ → Option T) (get_epoch : T → ℕ) where
   -- the value that a call writes has an epoch of at least that of its base's entry
-  abbrev pub keeps_epoch : List (Row T) → Call T → Bool
-  keeps_epoch rows call = is_high get_epoch (epoch_at decode get_epoch rows (number_of (base_of call))) (value_written call)
+  abbrev pub keeps_epoch : List (Row T) → Option ℕ → Call T → Bool
+  keeps_epoch rows base call = is_high get_epoch (epoch_at decode get_epoch rows (number_of base)) (value_written call)
 
-  -- An operation has the next number, a base that is known, a boundary that is low enough, and a value that keeps the epoch.
+  -- An operation has the next number, a view that was shown, a base that is known, a boundary that is low enough, and a value that keeps the epoch.
   pub record Opens (before : List (Row T)) (op : ℕ) (call : Call T) : Type 0 where
     pub next : op ≡ begun_count before + 1
-    pub known : is_known_base before (base_of call) ≡ true
+    pub shown : has_shown_view before (view_used call) (is_holders call) ≡ true
+    pub known : is_known_base before (base_now before call) ≡ true
     pub low : has_low_boundary before call ≡ true
-    pub keeps : keeps_epoch before call ≡ true
+    pub keeps : keeps_epoch before (base_now before call) call ≡ true
 
 module _ {T : Type 0} where
   -- A raise: the boundary goes up to what its operation advances to, and stays below the newest entry.
   pub record Raises (before : List (Row T)) (op to : ℕ) : Type 0 where
-    pub called : IsCall before op (calls.Advance to)
+    pub called : IsCall before op (any.Plain (calls.Advance to))
     pub up : boundary before < to
     pub under : to < newest before
 
@@ -70,7 +84,7 @@ module _ {T : Type 0} where
 
   -- An erasure: the name that its operation deletes goes, and the boundary has reached its id.
   pub record Erases (before : List (Row T)) (op id : ℕ) : Type 0 where
-    pub called : IsCall before op (calls.Delete id)
+    pub called : IsCall before op (any.Plain (calls.Delete id))
     pub below : id ≤ boundary before
 
   -- the version that is removed, if one is, is an erasure
@@ -78,12 +92,42 @@ module _ {T : Type 0} where
   VersionRemoved before op None = ⊥
   VersionRemoved before op (Some id) = Erases before op id
 
-module _ {T : Type 0} (decode : List ℕ → Option T) (get_epoch : T → ℕ) where
+module _ {T : Type 0} (decode : List ℕ → Option T) (get_epoch : T → ℕ) (set_epoch : T → ℕ → T) where
+  -- a claim enters entry n again with its epoch one higher
+  pub record ClaimsOn (before : List (Row T)) (n : ℕ) (entry : T) : Type 0 where
+    pub old : T
+    pub found : IsEntry decode before n old
+    pub raised : entry ≡ set_epoch old (get_epoch old + 1)
+
+  -- a claim at an epoch enters entry n again with this epoch, which is higher
+  pub record ClaimsAtOn (before : List (Row T)) (n epoch : ℕ) (entry : T) : Type 0 where
+    pub old : T
+    pub found : IsEntry decode before n old
+    pub higher : get_epoch old < epoch
+    pub raised : entry ≡ set_epoch old epoch
+
   -- the call writes this entry directly on entry n
   abbrev pub WritesOn : List (Row T) → ℕ → Call T → ℕ → T → Type 0
-  WritesOn before op (calls.Write base value) n entry = (base ≡ base_on n) × (entry ≡ value)
-  WritesOn before op (calls.WriteUnchecked base value) n entry = (base ≡ base_on n) × (entry ≡ value)
+  WritesOn before op (any.Plain (calls.Write base value)) n entry = (base ≡ base_on n) × (entry ≡ value)
+  WritesOn before op (any.Plain (calls.WriteUnchecked base value)) n entry = (base ≡ base_on n) × (entry ≡ value)
+  WritesOn before op (any.View (view_calls.Init value)) n entry = (n ≡ 0) × (entry ≡ value)
+  WritesOn before op (any.View (view_calls.Update view value)) n entry = (base_by before op (any.View (view_calls.Update view value)) ≡ base_on n) × (entry ≡ value)
+  WritesOn before op (any.View (view_calls.HolderUpdate view value)) n entry = (base_by before op (any.View (view_calls.HolderUpdate view value)) ≡ base_on n) × (entry ≡ value)
+  WritesOn before op (any.View (view_calls.Claim view)) n entry = ClaimsOn before n entry
+  WritesOn before op (any.View (view_calls.ClaimAt view epoch)) n entry = ClaimsAtOn before n epoch entry
   WritesOn before op _ n entry = ⊥
+
+  -- the value has the epoch of a holder, and no entry has an epoch above it
+  pub record IsUnfenced (before : List (Row T)) (view : ℕ) (value : T) : Type 0 where
+    pub epoch : ℕ
+    pub holder : epoch_held before view ≡ Some epoch
+    pub keeps : get_epoch value ≡ epoch
+    pub none_above : (id : ℕ) → epoch_at decode get_epoch before id ≤ epoch
+
+  -- a holder's update appends a value of its own epoch, and nothing once an entry has an epoch above it
+  abbrev pub MayAppend : List (Row T) → Call T → Type 0
+  MayAppend before (any.View (view_calls.HolderUpdate view value)) = IsUnfenced before view value
+  MayAppend before _ = Unit {0}
 
   -- An append: the name is the next, the value is its operation's, written directly on the newest entry, whose epoch is no greater.
   pub record Appends (before : List (Row T)) (op id : ℕ) (bytes : List ℕ) : Type 0 where
@@ -94,6 +138,7 @@ module _ {T : Type 0} (decode : List ℕ → Option T) (get_epoch : T → ℕ) w
     pub next : id ≡ newest before + 1
     pub written : WritesOn before op call (newest before) value
     pub rises : epoch_at decode get_epoch before (newest before) ≤ get_epoch value
+    pub unfenced : MayAppend before call
 
   -- A re-creation: the name was created before, was erased, and the boundary has reached its id. It is no move, since the history keeps the first create.
   pub record Recreates (before : List (Row T)) (op id : ℕ) (bytes : List ℕ) : Type 0 where
@@ -117,113 +162,89 @@ module _ {T : Type 0} (decode : List ℕ → Option T) (get_epoch : T → ℕ) w
   abbrev pub IsLegal : List (Row T) → ℕ → Request → Type 0
   IsLegal before op request = VersionPut before op (created request) ⊎ BoundaryPut before op (raised request) ⊎ VersionRemoved before op (removed request)
 
--- The answers. Each refusal has its number: 2, a failed store call, or no token left; 5, a conflict; 7, not to be deleted; 9, want of memory; 10, no id left.
+-- The answers. Each refusal has its number: 2, a failed store call, or no token left; 4, no version; 5, a conflict;
+-- 6, fenced by a greater epoch; 7, not to be deleted, or a value of another epoch than its holder's; 9, want of memory; 10, no id or no epoch left.
 
--- the greatest id
-abbrev pub greatest : ℕ
-greatest = 18446744073709551615
+module _ {T : Type 0} where
+  -- An answer shows this view, at an id no lower than where it stood.
+  pub record Shows (before : List (Row T)) (view shown id : ℕ) : Type 0 where
+    pub same : shown ≡ view
+    pub rises : number_of (view_at before view) ≤ id
 
-module _ {C A : Type 0} where
-  -- A name of id n was created by the operation, at a row of its call, with these bytes.
-  pub record Created (before : List (RowOf C A)) (op n : ℕ) : Type 0 where
-    pub place : ℕ
-    pub request : Request
-    pub bytes : List ℕ
-    pub effect : slice_get before place ≡ Some (Effect op request)
-    pub creates : created request ≡ Some (n, bytes)
-    pub begun : was_begun (take place before) op ≡ true
+module _ {T : Type 0} (decode : List ℕ → Option T) (get_epoch : T → ℕ) where
+  -- some entry has an epoch of at least this
+  pub record HasReached (rows : List (Row T)) (epoch : ℕ) : Type 0 where
+    pub id : ℕ
+    pub value : T
+    pub entry : IsEntry decode rows id value
+    pub high : epoch ≤ get_epoch value
 
-  -- a put finds no token left in the store
-  abbrev pub NoTokens : List (RowOf C A) → Type 0
-  NoTokens before = put_count before ≡ 18446744073709551615
+  -- An entry has an epoch above that of the holder.
+  pub record HolderFenced (before : List (Row T)) (view : ℕ) : Type 0 where
+    pub epoch : ℕ
+    pub holder : epoch_held before view ≡ Some epoch
+    pub above : HasReached before (epoch + 1)
 
-  -- Ids that a listing answers at a row: ids of entries within the bounds, with all of them that are above the boundary.
-  pub record Lists (rows : List (RowOf C A)) (from to : Bound ℕ) (ids : List ℕ) : Type 0 where
-    pub ascending : IsStrictlySortedBy nat_cmp ids
-    pub there : (n : ℕ) → list_any (nat_eq n) ids ≡ true → ((0 < n) × (n ≤ newest rows)) × (is_within from to n ≡ true)
-    pub whole : (n : ℕ) → boundary rows < n → n ≤ newest rows → is_within from to n ≡ true → list_any (nat_eq n) ids ≡ true
-
-module _ {C A T : Type 0} (decode : List ℕ → Option T) where
-  -- Version n was first created by the operation, at a row of its call, with this value.
-  pub record Entered (before : List (RowOf C A)) (op n : ℕ) (value : T) : Type 0 where
-    pub place : ℕ
-    pub request : Request
-    pub bytes : List ℕ
-    pub effect : slice_get before place ≡ Some (Effect op request)
-    pub creates : created request ≡ Some (n, bytes)
-    pub begun : was_begun (take place before) op ≡ true
-    pub first : has_id (versions_of (take place before)) n ≡ false
-    pub reads : decode bytes ≡ Some value
-
-  -- A base was overtaken: there is a newer entry now. What the operation entered itself, the boundary has reached.
-  pub record Overtaken (before : List (RowOf C A)) (op : ℕ) (base : Option ℕ) : Type 0 where
-    pub longer : number_of base < newest before
-    pub fenced : (n : ℕ) (value : T) → Entered before op n value → n ≤ boundary before
-
-  -- at a row of the call the newest entry was entry n, with this value
-  abbrev pub WasNewest : List (RowOf C A) → ℕ → ℕ → T → Type 0
-  WasNewest before op n value = AtRow before op (λ rows. (newest rows ≡ n) × IsEntry decode rows n value)
-
-  -- what an unchecked read finds is that entry, or there was none of this id at a row of the call
-  abbrev pub IsFound : List (RowOf C A) → ℕ → ℕ → Option T → Type 0
-  IsFound before op id None = AtRow before op (λ rows. newest rows < id)
-  IsFound before op id (Some value) = IsEntry decode before id value
-
-  -- at a row of the call there was no entry
-  abbrev pub WasEmpty : List (RowOf C A) → ℕ → Type 0
-  WasEmpty before op = AtRow before op (λ rows. newest rows ≡ 0)
+  -- A claim is held: its entry is its own and has the holder's epoch, and the entry before has a smaller one.
+  pub record Holds (before : List (Row T)) (op n : ℕ) (value : T) (epoch : ℕ) : Type 0 where
+    pub entered : Entered decode before op n value
+    pub has : get_epoch value ≡ epoch
+    pub base : ℕ
+    pub next : n ≡ base + 1
+    pub old : T
+    pub entry : IsEntry decode before base old
+    pub smaller : get_epoch old < epoch
 
 -- Rows do not show that a store call failed: the operations that were told so are a list beside them.
 module _ {T : Type 0} (decode : List ℕ → Option T) (get_epoch : T → ℕ) (failed : List ℕ) where
-  -- every call is refused where its store call failed, or for want of memory
-  abbrev pub Fails : ℕ → ℕ → Type 0
-  Fails op number = ((number ≡ 2) × (list_any (nat_eq op) failed ≡ true)) ⊎ (number ≡ 9)
-
-module _ {C A T : Type 0} (decode : List ℕ → Option T) (get_epoch : T → ℕ) (failed : List ℕ) where
-  -- An answer that is no refusal fits the call. A checked write answers its own version, with its value; a read what was newest.
-  abbrev pub Succeeds : List (RowOf C A) → ℕ → Call T → Answer T → Type 0
-  Succeeds before op (calls.Write base value) (answers.Wrote n) = Entered decode before op n value
-  Succeeds before op (calls.WriteUnchecked base value) (answers.Wrote n) = Created before op n × (n ≡ number_of base + 1) × (n ≤ newest before)
-  Succeeds before op calls.Read (answers.Read None) = WasEmpty decode before op
-  Succeeds before op calls.Read (answers.Read (Some found)) = WasNewest decode before op found.0 found.1
-  Succeeds before op (calls.ReadUnchecked id) (answers.Value found) = (id ≤ boundary before) ⊎ IsFound decode before op id found
-  Succeeds before op (calls.ReadSeen id) (answers.Value found) = (id ≤ boundary before) ⊎ IsFound decode before op id found
-  Succeeds before op (calls.ListIds from to) (answers.Ids ids) = AtRow before op (λ rows. Lists rows from to ids)
-  Succeeds before op (calls.Delete id) answers.Done = AtRow before op (λ rows. (id ≤ boundary rows) × (is_stored rows id ≡ false))
-  Succeeds before op (calls.Check id) answers.Done = AtRow before op (λ rows. boundary rows < id)
-  Succeeds before op (calls.Advance to) answers.Done = to ≤ boundary before
+  -- An answer that is no refusal fits the call. A write on a view answers its own version, with its value; a load or a refresh what was newest.
+  abbrev pub Succeeds : List (Row T) → ℕ → Call T → Answer T → Type 0
+  Succeeds before op (any.Plain call) (answers.Plain answer) = PlainSucceeds decode get_epoch failed before op call answer
+  Succeeds before op (any.View (view_calls.Init value)) (answers.View shown n entry) = Shows before (view_count before + 1) shown n × Entered decode before op n entry
+  Succeeds before op (any.View view_calls.Load) (answers.View shown n entry) = Shows before (view_count before + 1) shown n × WasNewest decode before op n entry
+  Succeeds before op (any.View (view_calls.Refresh view)) (answers.View shown n entry) = Shows before view shown n × WasNewest decode before op n entry
+  Succeeds before op (any.View (view_calls.Update view value)) (answers.View shown n entry) = Shows before view shown n × Entered decode before op n entry
+  Succeeds before op (any.View (view_calls.Claim view)) (answers.Held shown n entry epoch) = Shows before view shown n × Holds decode get_epoch before op n entry epoch
+  Succeeds before op (any.View (view_calls.ClaimAt view at)) (answers.Held shown n entry epoch) = Shows before view shown n × Holds decode get_epoch before op n entry epoch × (epoch ≡ at)
+  Succeeds before op (any.View (view_calls.HolderRefresh view)) (answers.View shown n entry) = Shows before view shown n × WasNewest decode before op n entry × (epoch_held before view ≡ Some (get_epoch entry))
+  Succeeds before op (any.View (view_calls.HolderUpdate view value)) (answers.View shown n entry) = Shows before view shown n × Entered decode before op n entry
   Succeeds before op call answer = ⊥
 
-  -- a write is refused because its base was overtaken, because the store has no token left, or because no id is left
-  abbrev pub WriteRefused : List (RowOf C A) → ℕ → Option ℕ → ℕ → Type 0
-  WriteRefused before op base number = ((number ≡ 5) × Overtaken decode before op base) ⊎ ((number ≡ 2) × NoTokens before) ⊎ ((number ≡ 10) × (base ≡ Some greatest))
+  -- a claim is refused because the store has no token left, or because no id is left
+  abbrev pub ClaimRefused : List (Row T) → ℕ → Type 0
+  ClaimRefused before number = ((number ≡ 2) × NoTokens before) ⊎ ((number ≡ 10) × (greatest ≤ newest before))
 
   -- a refusal fits the call, by its number
-  abbrev pub Refuses : List (RowOf C A) → ℕ → Call T → ℕ → Type 0
-  Refuses before op (calls.Write base value) number = WriteRefused before op base number
-  Refuses before op (calls.WriteUnchecked base value) number = WriteRefused before op base number
-  Refuses before op (calls.Delete id) number = (number ≡ 7) × AtRow before op (λ rows. boundary rows < id)
-  Refuses before op (calls.Check id) number = (number ≡ 5) × (id ≤ boundary before)
-  Refuses before op (calls.Advance to) number = (number ≡ 2) × NoTokens before
+  abbrev pub Refuses : List (Row T) → ℕ → Call T → ℕ → Type 0
+  Refuses before op (any.Plain call) number = PlainRefuses decode get_epoch failed before op call number
+  Refuses before op (any.View (view_calls.Init value)) number = WriteRefused decode get_epoch failed before op None number
+  Refuses before op (any.View view_calls.Load) number = (number ≡ 4) × WasEmpty decode before op
+  Refuses before op (any.View (view_calls.Update view value)) number = WriteRefused decode get_epoch failed before op (base_by before op (any.View (view_calls.Update view value))) number
+  Refuses before op (any.View (view_calls.Claim view)) number = ((number ≡ 10) × HasReached decode get_epoch before greatest) ⊎ ClaimRefused before number
+  Refuses before op (any.View (view_calls.ClaimAt view at)) number = ((number ≡ 6) × HasReached decode get_epoch before at) ⊎ ClaimRefused before number
+  Refuses before op (any.View (view_calls.HolderRefresh view)) number = (number ≡ 6) × HolderFenced decode get_epoch before view
+  Refuses before op (any.View (view_calls.HolderUpdate view value)) number =
+      ((number ≡ 6) × HolderFenced decode get_epoch before view)
+      ⊎ ((number ≡ 7) × (epoch_held before view ≢ Some (get_epoch value)))
+      ⊎ WriteRefused decode get_epoch failed before op (base_by before op (any.View (view_calls.HolderUpdate view value))) number
   Refuses before op call number = ⊥
 
-  -- the answer fits the call
-  abbrev pub AnswerFits : List (RowOf C A) → ℕ → Call T → Answer T → Type 0
-  AnswerFits before op call (answers.Refused number) = Refuses before op call number ⊎ Fails decode get_epoch failed op number
+  -- the answer fits the call: every call is also refused where its store call failed, or for want of memory
+  abbrev pub AnswerFits : List (Row T) → ℕ → Call T → Answer T → Type 0
+  AnswerFits before op call (answers.Plain (plain_answers.Refused number)) = Refuses before op call number ⊎ Fails decode get_epoch failed op number
   AnswerFits before op call answer = Succeeds before op call answer
 
-module _ {T : Type 0} (decode : List ℕ → Option T) (get_epoch : T → ℕ) (failed : List ℕ) where
   -- The one answer of a call that began, and it fits.
   pub record Answers (before : List (Row T)) (op : ℕ) (answer : Answer T) : Type 0 where
     pub call : Call T
     pub called : IsCall before op call
     pub once : was_answered before op ≡ false
-    pub fits : AnswerFits decode get_epoch failed before op call answer
+    pub fits : AnswerFits before op call answer
 
-module _ {T : Type 0} (decode : List ℕ → Option T) (get_epoch : T → ℕ) (failed : List ℕ) where
+module _ {T : Type 0} (decode : List ℕ → Option T) (get_epoch : T → ℕ) (set_epoch : T → ℕ → T) (failed : List ℕ) where
   -- a row fits the rows before it
   abbrev pub Fits : List (Row T) → Row T → Type 0
-  Fits before (Effect op request) = IsLegal decode get_epoch before op request
+  Fits before (Effect op request) = IsLegal decode get_epoch set_epoch before op request
   Fits before (Begun op call) = Opens decode get_epoch before op call
   Fits before (Answered op answer) = Answers decode get_epoch failed before op answer
 

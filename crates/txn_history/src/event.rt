@@ -1,4 +1,9 @@
 //! What comes into the world, and what it says of it.
+//!
+//! A view is a client's copy of a version: the version's id and its value. A claim makes it a holder, which has an epoch
+//! of its own. Clients, operations and views are numbered from 1. A call that uses a view is refused its begin
+//! where the view is not there, has ended, is another client's, or is of the other kind
+//! (`EventFault::UnknownNumber`), and where an operation uses it already (`EventFault::ViewBusy`).
 ghost use Rattle.std.specs.Prelude.{◌≡◌, IfOk};
 ghost use Rattle.txn_types.specs.Clones.{IsExactClone};
 
@@ -6,29 +11,128 @@ use crate::ids::Ids;
 use std::alloc::AllocError;
 use std::ops::Bound;
 
-/// What a client asks for.
+/// What a client asks for without a view.
 #[derive(Debug, Drop, PartialEq, Eq)]
-pub enum Call<T> {
+pub enum PlainCall<T> {
     /// Writes the value directly on the version of this id, or as the first version where there is
-    /// no id. Answered [`Answer::Wrote`].
+    /// no id. Answered [`PlainAnswer::Wrote`].
     Write(Option<u64>, T),
     /// The same, without the check that the new version is above the boundary.
     WriteUnchecked(Option<u64>, T),
-    /// Reads the newest version. Answered [`Answer::Read`].
+    /// Reads the newest version. Answered [`PlainAnswer::Read`].
     Read,
-    /// Reads the version of this id. Answered [`Answer::Value`].
+    /// Reads the version of this id. Answered [`PlainAnswer::Value`].
     ReadUnchecked(u64),
     /// The same, from the client's cache where it is there; else what is found is cached.
     ReadSeen(u64),
-    /// Lists the ids within the bounds. Answered [`Answer::Ids`].
+    /// Lists the ids within the bounds. Answered [`PlainAnswer::Ids`].
     ListIds(Bound<u64>, Bound<u64>),
-    /// Removes the version of this id, which is at or below the boundary. Answered [`Answer::Done`].
+    /// Removes the version of this id, which is at or below the boundary. Answered [`PlainAnswer::Done`].
     Delete(u64),
-    /// Checks that the id is above the boundary. Answered [`Answer::Done`].
+    /// Checks that the id is above the boundary. Answered [`PlainAnswer::Done`].
     Check(u64),
     /// Raises the boundary to this id, which is 0 or below an id that some call answered. Answered
-    /// [`Answer::Done`].
+    /// [`PlainAnswer::Done`].
     Advance(u64),
+}
+
+impl<T: Clone> PlainCall<T> {
+    /// A copy. The only error is want of memory.
+    pub fn try_clone(&self) -> Result<PlainCall<T>, AllocError>
+        requires { IsExactClone T.is_clone }
+        ensures { IfOk result (λ copy. copy ≡ self.now) }
+    {
+        Ok(match self {
+            PlainCall::Write(base, value) => PlainCall::Write(*base, value.clone()?),
+            PlainCall::WriteUnchecked(base, value) => PlainCall::WriteUnchecked(
+                *base,
+                value.clone()?,
+            ),
+            PlainCall::Read => PlainCall::Read,
+            PlainCall::ReadUnchecked(id) => PlainCall::ReadUnchecked(*id),
+            PlainCall::ReadSeen(id) => PlainCall::ReadSeen(*id),
+            PlainCall::ListIds(from, to) => PlainCall::ListIds(*from, *to),
+            PlainCall::Delete(id) => PlainCall::Delete(*id),
+            PlainCall::Check(id) => PlainCall::Check(*id),
+            PlainCall::Advance(id) => PlainCall::Advance(*id),
+        })
+    }
+}
+
+/// What a client asks for on a view. Each call is refused with 2, where its store call failed, and with 9, for want of
+/// memory; one that writes also with 2, where the store has no token left.
+#[derive(Debug, Drop, PartialEq, Eq)]
+pub enum ViewCall<T> {
+    /// Writes the value as the first version. Answered [`Answer::View`] of a new view; refused with 5, where there is a
+    /// version already.
+    Init(T),
+    /// Reads the newest version. Answered [`Answer::View`] of a new view; refused with 4, where there is none.
+    Load,
+    /// Reads the newest version into the view of this number. Answered [`Answer::View`].
+    Refresh(u64),
+    /// Writes the value directly on the version of the view of this number. Its epoch is at least that of the view's
+    /// version, else the begin is refused. Answered [`Answer::View`]; refused with 5, where there is a newer version,
+    /// and with 10, where no id is left.
+    Update(u64, T),
+    /// Writes the newest version's value once more, with its epoch one higher, and makes the view of this number a holder
+    /// of that epoch. Answered [`Answer::Held`]; refused with 10, where no epoch or no id is left. A claim that is
+    /// not held ends its view.
+    Claim(u64),
+    /// The same with this epoch, its second number. Refused with 6, where a version has an epoch of at least this, and
+    /// with 10, where no id is left.
+    ClaimAt(u64, u64),
+    /// Reads the newest version, which has the holder's epoch, into the holder's view of this number. Answered
+    /// [`Answer::View`]; refused with 6, where a version has a greater epoch.
+    HolderRefresh(u64),
+    /// Writes the value, which has the holder's epoch, directly on the version of the holder's view of this number. Answered
+    /// [`Answer::View`]; refused with 5, where there is a newer version, with 6, where a version has a greater epoch,
+    /// with 7, where the value has another epoch than the holder, and with 10, where no id is left.
+    HolderUpdate(u64, T),
+}
+
+impl<T: Clone> ViewCall<T> {
+    /// A copy. The only error is want of memory.
+    pub fn try_clone(&self) -> Result<ViewCall<T>, AllocError>
+        requires { IsExactClone T.is_clone }
+        ensures { IfOk result (λ copy. copy ≡ self.now) }
+    {
+        Ok(match self {
+            ViewCall::Init(value) => ViewCall::Init(value.clone()?),
+            ViewCall::Load => ViewCall::Load,
+            ViewCall::Refresh(view) => ViewCall::Refresh(*view),
+            ViewCall::Update(view, value) => ViewCall::Update(*view, value.clone()?),
+            ViewCall::Claim(view) => ViewCall::Claim(*view),
+            ViewCall::ClaimAt(view, epoch) => ViewCall::ClaimAt(*view, *epoch),
+            ViewCall::HolderRefresh(view) => ViewCall::HolderRefresh(*view),
+            ViewCall::HolderUpdate(view, value) => ViewCall::HolderUpdate(*view, value.clone()?),
+        })
+    }
+}
+
+/// How a plain call ends, and how any call is refused.
+#[derive(Debug, Drop)]
+pub enum PlainAnswer<T> {
+    /// The value is the version of this id.
+    Wrote(u64),
+    /// The id and the value of the newest version, or that there is none.
+    Read(Option<(u64, T)>),
+    /// The value of a version, or that there is none.
+    Value(Option<T>),
+    /// Ids, ascending.
+    Ids(Ids),
+    /// The check, the advance or the delete is done.
+    Done,
+    /// Refused, for the reason of this number.
+    Refused(u8),
+}
+
+/// What a client asks for.
+#[derive(Debug, Drop, PartialEq, Eq)]
+pub enum Call<T> {
+    /// A call without a view.
+    Plain(PlainCall<T>),
+    /// A call that makes a view, or uses one.
+    View(ViewCall<T>),
 }
 
 impl<T: Clone> Call<T> {
@@ -38,17 +142,21 @@ impl<T: Clone> Call<T> {
         ensures { IfOk result (λ copy. copy ≡ self.now) }
     {
         Ok(match self {
-            Call::Write(base, value) => Call::Write(*base, value.clone()?),
-            Call::WriteUnchecked(base, value) => Call::WriteUnchecked(*base, value.clone()?),
-            Call::Read => Call::Read,
-            Call::ReadUnchecked(id) => Call::ReadUnchecked(*id),
-            Call::ReadSeen(id) => Call::ReadSeen(*id),
-            Call::ListIds(from, to) => Call::ListIds(*from, *to),
-            Call::Delete(id) => Call::Delete(*id),
-            Call::Check(id) => Call::Check(*id),
-            Call::Advance(id) => Call::Advance(*id),
+            Call::Plain(call) => Call::Plain(call.try_clone()?),
+            Call::View(call) => Call::View(call.try_clone()?),
         })
     }
+}
+
+/// How a call ends.
+#[derive(Debug, Drop)]
+pub enum Answer<T> {
+    /// What a call without a view answers, and the refusal of any call.
+    Plain(PlainAnswer<T>),
+    /// The view of this number is at the version of this id, with this value.
+    View(u64, u64, T),
+    /// The view of this number is at the version of this id, with this value, as the holder of this epoch.
+    Held(u64, u64, T, u64),
 }
 
 /// How a store call fails.
@@ -101,23 +209,6 @@ impl<T: Clone> EventOf<Call<T>> {
             Event::Crash(client) => Event::Crash(*client),
         })
     }
-}
-
-/// How a call ends.
-#[derive(Debug, Drop)]
-pub enum Answer<T> {
-    /// The value is the version of this id.
-    Wrote(u64),
-    /// The id and the value of the newest version, or that there is none.
-    Read(Option<(u64, T)>),
-    /// The value of a version, or that there is none.
-    Value(Option<T>),
-    /// Ids, ascending.
-    Ids(Ids),
-    /// The check, the advance or the delete is done.
-    Done,
-    /// Refused, for the reason of this number.
-    Refused(u8),
 }
 
 /// What a taken event tells, where answers are of this type.

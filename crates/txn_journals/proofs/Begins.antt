@@ -4,14 +4,14 @@ use Rattle.std.proofs.lemmas.List.{length-append}
 use Rattle.txn_history.specs.declared.trace.RowOf.TheVariants.{Begun}
 use Rattle.txn_history.specs.Added.{answer_rows}
 use Rattle.txn_history.proofs.Lists.{numbered_more}
-use Rattle.txn_machine.proofs.Lists.{within}
-use Rattle.txn_view_history.specs.declared.event.AnyCall.{AnyCall}
-use Rattle.txn_view_history.specs.declared.event.AnyAnswer.{AnyAnswer}
-use Rattle.txn_view_history.specs.Calls.{view_used}
-use Rattle.txn_view_machine.specs.Layer.{Used}
-use Rattle.txn_any_machine.specs.declared.doing.AnyOperation.{AnyOperation}
-use Rattle.txn_any_machine.specs.Doing.{Next, is_claim_call}
-use Rattle.txn_any_machine.specs.Machine.{State, views_after, views_taken, answered, new_operation, next_op, begun_as}
+use Rattle.txn_machine_inner.proofs.Lists.{within}
+use Rattle.txn_history.specs.declared.event.Call.{Call}
+use Rattle.txn_history.specs.declared.event.Answer.{Answer}
+use Rattle.txn_history.specs.Calls.{view_used}
+use Rattle.txn_machine_views.specs.Layer.{Used}
+use Rattle.txn_machine.specs.declared.doing.Operation.{Operation}
+use Rattle.txn_machine.specs.Doing.{Next, is_claim_call}
+use Rattle.txn_machine.specs.Machine.{State, views_after, views_taken, answered, new_operation, next_op, begun_as}
 use Rattle.txn_journals.specs.Parts as diary
 use Rattle.txn_journals.specs.Parts.{Part, epoch_written}
 use Rattle.txn_journals.specs.Numbers.{count, number, number_or_next}
@@ -25,11 +25,11 @@ use Rattle.txn_journals.proofs.Calls.{uses_named, claims_named}
 use Rattle.txn_journals.proofs.Ties.{TiedTo, begun_writes}
 
 module _ {T : Type 0} (decode : List ℕ → Option T) (get_epoch : T → ℕ) (s : State T) (client : ℕ) (part : Part T) (begins views : List ℕ) (all_begun : length s.operations ≡ length begins) (long : length s.views ≡ length views) (t : TiedTo decode get_epoch s client part begins views)
-    (call : AnyCall T) (has : (w : ℕ) → view_used call ≡ Some w → IsWithin w (count client views)) (next : Next T) where
+    (call : Call T) (has : (w : ℕ) → view_used call ≡ Some w → IsWithin w (count client views)) (next : Next T) where
   abbrev names : ℕ → ℕ
   names = number views client
 
-  abbrev call' : AnyCall T
+  abbrev call' : Call T
   call' = named_call names call
 
   abbrev begins' : List ℕ
@@ -42,7 +42,7 @@ module _ {T : Type 0} (decode : List ℕ → Option T) (get_epoch : T → ℕ) (
   abbrev n : ℕ
   n = next_op s
 
-  abbrev answer : Option (AnyAnswer T)
+  abbrev answer : Option (Answer T)
   answer = answered (length part.views) (view_used call) next.1
 
   abbrev views' : List ℕ
@@ -95,7 +95,7 @@ module _ {T : Type 0} (decode : List ℕ → Option T) (get_epoch : T → ℕ) (
       (subst (λ (size : ℕ). ViewsTied (After (option_map names (view_used call)) (is_claim_call call)) part'.views client begins' (with_view client (answered size (view_used call) next.1) views)) own_long
       (after_own (all_taken (option_map names (view_used call))) own_taken client begins' views (view_used call) (is_claim_call call) next.1 taken_long has taken))
 
-  abbrev record_of : Option ℕ → Bool → AnyOperation T
+  abbrev record_of : Option ℕ → Bool → Operation T
   record_of view claims = record { client = client; view = view; claims = claims; doing = next.0 }
 
   new_named : named_op names (new_operation client call next.0) ≡ new_operation client call' next.0
@@ -106,7 +106,7 @@ module _ {T : Type 0} (decode : List ℕ → Option T) (get_epoch : T → ℕ) (
       record {
         caches = t.caches;
         ops = ops_after s'.operations part'.operations client client begins' views answer
-            (subst (λ (x : AnyOperation T). OpsTied (s.operations ++ x ∷ []) part'.operations client begins' views) new_named (ops_begun s.operations part.operations client begins views (new_operation client call next.0) all_begun refl has t.ops));
+            (subst (λ (x : Operation T). OpsTied (s.operations ++ x ∷ []) part'.operations client begins' views) new_named (ops_begun s.operations part.operations client begins views (new_operation client call next.0) all_begun refl has t.ops));
         seen = after;
         writes_size = (let one = count_own client begins in let len = length-append part.writes (epoch_written get_epoch call ∷ []) in omega (arith, one, len, t.writes_size));
         writes = λ j written is. elim (numbered_more part.writes (epoch_written get_epoch call) j written is) [

@@ -3,25 +3,24 @@ use Rattle.std.proofs.Common.{◌≡◌, ℕ, zero, suc, ◌≤◌, List, [], �
 use Rattle.std.proofs.lemmas.Bool.{lt-ltb, le-leb}
 use Rattle.std.proofs.lemmas.Option.{same_Some, slice_get-map}
 use Rattle.txn_types.specs.Numbers.{number_of}
-use Rattle.txn_history.specs.declared.event.Call.TheVariants as calls
+use Rattle.txn_history.specs.declared.event.PlainCall.TheVariants as calls
 use Rattle.txn_history.specs.declared.event.EventOf.TheVariants as events
 use Rattle.txn_history.specs.declared.event.EventFault.{EventFault}
 use Rattle.txn_history.specs.declared.event.EventFault.TheVariants as faults
 use Rattle.txn_history.specs.Lists.{numbered}
 use Rattle.txn_history.specs.History.{epoch_at}
-use Rattle.txn_history.specs.OneHistory.{is_high}
-use Rattle.txn_history.specs.Allowed.{is_client, first_fault}
-use Rattle.txn_machine.proofs.Lists.{within}
-use Rattle.txn_view_history.specs.declared.event.AnyCall.{AnyCall}
-use Rattle.txn_view_history.specs.declared.event.AnyCall.TheVariants as any
-use Rattle.txn_view_history.specs.Views.{View}
-use Rattle.txn_view_history.specs.Calls.{view_used, is_holders, value_written}
-use Rattle.txn_view_history.specs.Seen.{view_in, view_of}
-use Rattle.txn_view_history.specs.OneHistory.{base_of, is_known_base, has_low_boundary, keeps_epoch}
-use Rattle.txn_view_history.specs.Allowed.{is_own, may_use, is_busy, id_seen, base_seen}
-use Rattle.txn_view_machine.specs.Layer.{Used}
-use Rattle.txn_any_machine.specs.Machine.{State, seen_view, seen_views, seen_of, used_in, used_by, view_now, refusal_of, IsReached}
-use Rattle.txn_any_machine.proofs.Busy.{reached_busy}
+use Rattle.txn_history.specs.Facts.{is_high}
+use Rattle.txn_history.specs.Allowed.{is_client, first_fault, is_own, may_use, is_busy, id_seen, base_seen}
+use Rattle.txn_machine_inner.proofs.Lists.{within}
+use Rattle.txn_history.specs.declared.event.Call.{Call}
+use Rattle.txn_history.specs.declared.event.Call.TheVariants as any
+use Rattle.txn_history.specs.Views.{View}
+use Rattle.txn_history.specs.Calls.{view_used, is_holders, value_written}
+use Rattle.txn_history.specs.Seen.{view_in, view_of}
+use Rattle.txn_history.specs.OneHistory.{base_of, is_known_base, has_low_boundary, keeps_epoch}
+use Rattle.txn_machine_views.specs.Layer.{Used}
+use Rattle.txn_machine.specs.Machine.{State, seen_view, seen_views, seen_of, used_in, used_by, view_now, refusal_of, IsReached}
+use Rattle.txn_machine.proofs.Busy.{reached_busy}
 use Rattle.txn_journals.specs.Parts as diary
 use Rattle.txn_journals.specs.Parts.{Part, seen_in, knows_base, is_below_known, epoch_told, is_low, is_in_use, epoch_written}
 use Rattle.txn_journals.specs.Numbers.{count, number}
@@ -107,11 +106,11 @@ module _ {T : Type 0} where
       record { above = omega (arith, i.0, same); below = omega (arith, i.1, same, is) }
 
 module _ {T : Type 0} (encode : T → List ℕ) (decode : List ℕ → Option T) (get_epoch : T → ℕ) (set_epoch : T → ℕ → T) (s : State T) (reached : IsReached encode decode get_epoch set_epoch s) (client : ℕ) (part : Part T) (begins views : List ℕ) (t : TiedTo decode get_epoch s client part begins views)
-    (call : AnyCall T) (permits : diary.begin_fault get_epoch client part call ≡ None) where
+    (call : Call T) (permits : diary.begin_fault get_epoch client part call ≡ None) where
   abbrev names : ℕ → ℕ
   names = number views client
 
-  abbrev call' : AnyCall T
+  abbrev call' : Call T
   call' = named_call names call
 
   abbrev base : Option ℕ
@@ -184,8 +183,8 @@ module _ {T : Type 0} (encode : T → List ℕ) (decode : List ℕ → Option T)
       either true b c f h = refl
       either false b c f h = f h
 
-      by : (c : AnyCall T) → is_low part.told c ≡ true → has_low_boundary s.trace c ≡ true
-      by (any.Plain (calls.Advance to)) h = either (to == 0) (is_below_known part.told to) (Rattle.txn_view_history.specs.Calls.is_below_told s.trace to) (below_known decode get_epoch s.trace part.told to t.told) h
+      by : (c : Call T) → is_low part.told c ≡ true → has_low_boundary s.trace c ≡ true
+      by (any.Plain (calls.Advance to)) h = either (to == 0) (is_below_known part.told to) (Rattle.txn_history.specs.Calls.is_below_told s.trace to) (below_known decode get_epoch s.trace part.told to t.told) h
       by (any.Plain (calls.Write b v)) h = refl
       by (any.Plain (calls.WriteUnchecked b v)) h = refl
       by (any.Plain calls.Read) h = refl

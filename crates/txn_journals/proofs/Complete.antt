@@ -2,7 +2,7 @@
 use Rattle.std.proofs.Common.{◌≡◌, ℕ, ◌+◌, ◌≤◌, List, [], ◌∷◌, reverse, ◌==◌, not, Bool, false, if◌then◌else◌, Option, None, inl, inr, refl, sym, ◌∙◌, ap, subst, arith}
 use Rattle.std.proofs.lemmas.Bool.{cases_Bool, cases_eq, eq-eqb, ne_eqb, lt-ltb}
 use Rattle.std.proofs.lemmas.List.{append-nil}
-use Rattle.txn_view_history.specs.declared.event.AnyAnswer.{AnyAnswer}
+use Rattle.txn_history.specs.declared.event.Answer.{Answer}
 use Rattle.txn_journals.specs.declared.rows.LogRow.{LogRow}
 use Rattle.txn_journals.specs.declared.rows.Receipt.{Receipt}
 use Rattle.txn_journals.specs.declared.rows.Act.TheVariants as acts
@@ -36,7 +36,7 @@ module _ {T : Type 0} where
 
   -- one row more before
 
-  row_of : Step T → Option (AnyAnswer T) → JournalRow T
+  row_of : Step T → Option (Answer T) → JournalRow T
   row_of step answer = record { step = step; answer = answer }
 
   passes : (d c p op : ℕ) (row : JournalRow T) (before m : Merged T) → (d ≡ c → stops_at p row.step ≡ false) → left_at p op (left_of op (part_of c before)) (part_of c (Did d row ∷ m)) ≡ left_at p op (left_of op (part_of c (Did d row ∷ before))) (part_of c m)
@@ -59,7 +59,7 @@ module _ {T : Type 0} where
         subst (λ (log : List LogRow). WereLeft place log ds) (sym same)
         (rest place (λ c. sym (no_more d c row m none) ∙ (rows c ∙ ap (rows_of c place) same)) (λ c p op le. follow c p op le ∙ passes d c p op row before m (λ e. no_stop p row.step none)))
 
-  module _ (ds : List (Diary T)) (place d k : ℕ) (receipt : Receipt) (answer : Option (AnyAnswer T)) (before m : Merged T) where
+  module _ (ds : List (Diary T)) (place d k : ℕ) (receipt : Receipt) (answer : Option (Answer T)) (before m : Merged T) where
     abbrev row : JournalRow T
     row = record { step = steps.Act k (acts.Receive receipt); answer = answer }
 
@@ -88,7 +88,7 @@ module _ {T : Type 0} where
         follow_after : FollowFrom ds (place + 1) (Did d row ∷ before) m
         follow_after c p op le = follow c p op (omega (arith, le)) ∙ passes d c p op row before m (λ e. ap not (lt-ltb receipt.place p (omega (arith, at, le))))
 
-  did : (ds : List (Diary T)) (place d : ℕ) (step : Step T) (answer : Option (AnyAnswer T)) (before m : Merged T) → ((place' : ℕ) → RowsFrom place' m → FollowFrom ds place' (Did d (record { step = step; answer = answer }) ∷ before) m → WereLeft place' (log_of m) ds) → RowsFrom place (Did d (record { step = step; answer = answer }) ∷ m) →
+  did : (ds : List (Diary T)) (place d : ℕ) (step : Step T) (answer : Option (Answer T)) (before m : Merged T) → ((place' : ℕ) → RowsFrom place' m → FollowFrom ds place' (Did d (record { step = step; answer = answer }) ∷ before) m → WereLeft place' (log_of m) ds) → RowsFrom place (Did d (record { step = step; answer = answer }) ∷ m) →
       FollowFrom ds place before (Did d (record { step = step; answer = answer }) ∷ m) → WereLeft place (with_receipt d step (log_of m)) ds
   did ds place d (steps.Begin call) answer before m rest rows follow = quiet ds place d (record { step = steps.Begin call; answer = answer }) before m rest rows follow refl
   did ds place d (steps.Act k acts.Look) answer before m rest rows follow = quiet ds place d (record { step = steps.Act k acts.Look; answer = answer }) before m rest rows follow refl

@@ -6,20 +6,20 @@ use Rattle.txn_store.specs.declared.request.Request.{Request}
 use Rattle.txn_store.specs.declared.request.Request.TheVariants as requests
 use Rattle.txn_store.specs.declared.request.Reply.{Reply}
 use Rattle.txn_store.specs.declared.request.Reply.TheVariants as replies
-use Rattle.txn_history.specs.declared.event.Call.TheVariants as calls
+use Rattle.txn_history.specs.declared.event.PlainCall.TheVariants as calls
 use Rattle.txn_history.specs.Lists.{numbered}
 use Rattle.txn_history.specs.Names.{world_names, world_boundary}
 use Rattle.txn_store.specs.VersionName.{version_path}
 use Rattle.txn_store.specs.declared.store.Got.{Got}
 use Rattle.txn_store.specs.declared.store.StoreError.TheVariants as errors
 use Rattle.txn_history.specs.Seen.{Ask}
-use Rattle.txn_machine.specs.Machine.{empty_store}
-use Rattle.txn_view_history.specs.declared.event.AnyCall.{AnyCall}
-use Rattle.txn_view_history.specs.declared.event.AnyCall.TheVariants as any
-use Rattle.txn_any_machine.specs.declared.doing.AnyOperation.{AnyOperation}
-use Rattle.txn_any_machine.specs.Doing.{ended, refused, asked, started, turned}
-use Rattle.txn_any_machine.specs.Machine.{seen_view, used_by}
-use Rattle.txn_view_history.specs.Calls.{view_used}
+use Rattle.txn_machine_inner.specs.Machine.{empty_store}
+use Rattle.txn_history.specs.declared.event.Call.{Call}
+use Rattle.txn_history.specs.declared.event.Call.TheVariants as any
+use Rattle.txn_machine.specs.declared.doing.Operation.{Operation}
+use Rattle.txn_machine.specs.Doing.{ended, refused, asked, started, turned}
+use Rattle.txn_machine.specs.Machine.{seen_view, used_by}
+use Rattle.txn_history.specs.Calls.{view_used}
 use Rattle.std.proofs.Common.{reverse, ◌≢◌}
 use Rattle.txn_journals.specs.declared.fault.AuditFault.TheVariants as faults
 use Rattle.txn_journals.specs.Verdict.{Diary, HasClient, IsDue}
@@ -34,10 +34,10 @@ use Rattle.txn_store.specs.Paths.{path_cmp}
 use Rattle.txn_store.proofs.FileLemmas.{get-insert_same, get-insert_other}
 use Rattle.txn_store.proofs.VersionOfLemmas.{one_path}
 use Rattle.txn_history.proofs.Apart.{apart}
-use Rattle.txn_history.specs.declared.event.Answer.TheVariants as plain_answers
-use Rattle.txn_view_history.specs.declared.event.AnyAnswer.{AnyAnswer}
-use Rattle.txn_view_history.specs.declared.event.AnyAnswer.TheVariants as answers
-use Rattle.txn_view_history.specs.Trace.{AnyRow}
+use Rattle.txn_history.specs.declared.event.PlainAnswer.TheVariants as plain_answers
+use Rattle.txn_history.specs.declared.event.Answer.{Answer}
+use Rattle.txn_history.specs.declared.event.Answer.TheVariants as answers
+use Rattle.txn_history.specs.Trace.{Row}
 use Rattle.txn_history.specs.declared.trace.RowOf.TheVariants.{Effect, Begun, Answered}
 use Rattle.std.proofs.Common.{◌==◌, if◌then◌else◌, ap, subst, sym, ◌∙◌}
 use Rattle.std.proofs.lemmas.Bool.{cases_eq, eq-eqb, ne_eqb}
@@ -73,14 +73,14 @@ get_epoch v = 0
 abbrev set_epoch : ℕ → ℕ → ℕ
 set_epoch v e = v
 
-abbrev operation_or : Option (AnyOperation ℕ) → AnyOperation ℕ
+abbrev operation_or : Option (Operation ℕ) → Operation ℕ
 operation_or None = record { client = 0; view = None; claims = false; doing = ended }
 operation_or (Some o) = o
 
-abbrev operation : Part ℕ → ℕ → AnyOperation ℕ
+abbrev operation : Part ℕ → ℕ → Operation ℕ
 operation part op = operation_or (numbered part.operations op)
 
-abbrev begin : ℕ → Part ℕ → AnyCall ℕ → Part ℕ
+abbrev begin : ℕ → Part ℕ → Call ℕ → Part ℕ
 begin client part call = diary.begun get_epoch client part call (started 1000 encode get_epoch set_epoch call (seen_view (used_by part.views (view_used call))))
 
 abbrev go : Part ℕ → ℕ → Option Reply → Part ℕ
@@ -149,10 +149,10 @@ Holds m parts store = IsMerged 1000 encode decode get_epoch set_epoch m parts st
 abbrev with_part : (ℕ → Part ℕ) → ℕ → Part ℕ → ℕ → Part ℕ
 with_part parts client part d = if client == d then part else parts d
 
-abbrev row : Step ℕ → Option (AnyAnswer ℕ) → JournalRow ℕ
+abbrev row : Step ℕ → Option (Answer ℕ) → JournalRow ℕ
 row step answer = record { step = step; answer = answer }
 
-grown : (m : Merged ℕ) (parts : ℕ → Part ℕ) (store after : StoreState) (client : ℕ) (step : Step ℕ) (answer : Option (AnyAnswer ℕ)) (new : Part ℕ) → Holds m parts store → Follows 1000 encode decode get_epoch set_epoch client (parts client) step answer new → IsLog (with_receipt client step (log_of m)) after → Lives (part_of client m) →
+grown : (m : Merged ℕ) (parts : ℕ → Part ℕ) (store after : StoreState) (client : ℕ) (step : Step ℕ) (answer : Option (Answer ℕ)) (new : Part ℕ) → Holds m parts store → Follows 1000 encode decode get_epoch set_epoch client (parts client) step answer new → IsLog (with_receipt client step (log_of m)) after → Lives (part_of client m) →
     Holds (Did client (row step answer) ∷ m) (with_part parts client new) after
 grown m parts store after client step answer new h follows log lives =
     record {
@@ -348,13 +348,13 @@ h14 = grown m13 parts13 (stored 4) (stored 5) 1 (steps.Act 2 (acts.Receive (reco
 
 -- the answers
 
-abbrev answers_in : List (AnyRow ℕ) → List (AnyRow ℕ)
+abbrev answers_in : List (Row ℕ) → List (Row ℕ)
 answers_in [] = []
 answers_in (Answered op answer ∷ rows) = Answered op answer ∷ answers_in rows
 answers_in (Begun op call ∷ rows) = answers_in rows
 answers_in (Effect op request ∷ rows) = answers_in rows
 
-abbrev plain : ℕ → Rattle.txn_history.specs.declared.event.Answer.Answer ℕ → AnyRow ℕ
+abbrev plain : ℕ → Rattle.txn_history.specs.declared.event.PlainAnswer.Answer ℕ → Row ℕ
 plain op answer = Answered op (answers.Plain answer)
 
 pub found : answers_in (trace_of m14) ≡ plain 1 (plain_answers.Value (Some 7)) ∷ plain 2 (plain_answers.Wrote 1) ∷ plain 3 (plain_answers.Read (Some (1, 7))) ∷ []

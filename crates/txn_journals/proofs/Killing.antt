@@ -7,13 +7,13 @@ use Rattle.txn_store.specs.declared.request.Request.{Request}
 use Rattle.txn_history.specs.Lists.{numbered}
 use Rattle.txn_history.specs.Seen.{Ask}
 use Rattle.txn_history.specs.GoesOn.{may_be_loose, as_loose, left_loose, all_left_loose}
-use Rattle.txn_machine.specs.Machine.{no_caches}
-use Rattle.txn_machine.proofs.Lists.{within, numbered_map, numbered_of_map, numbered_there}
-use Rattle.txn_view_machine.specs.Layer.{Used}
-use Rattle.txn_view_machine.specs.Steps.{view_without}
-use Rattle.txn_any_machine.specs.declared.doing.AnyOperation.{AnyOperation}
-use Rattle.txn_any_machine.specs.Doing.{asked}
-use Rattle.txn_any_machine.specs.Machine.{State, seen_operations, ended_by, crashed}
+use Rattle.txn_machine_inner.specs.Machine.{no_caches}
+use Rattle.txn_machine_inner.proofs.Lists.{within, numbered_map, numbered_of_map, numbered_there}
+use Rattle.txn_machine_views.specs.Layer.{Used}
+use Rattle.txn_machine_views.specs.Steps.{view_without}
+use Rattle.txn_machine.specs.declared.doing.Operation.{Operation}
+use Rattle.txn_machine.specs.Doing.{asked}
+use Rattle.txn_machine.specs.Machine.{State, seen_operations, ended_by, crashed}
 use Rattle.txn_journals.specs.declared.rows.Left.{Left}
 use Rattle.txn_journals.specs.Parts as diary
 use Rattle.txn_journals.specs.Parts.{Part}
@@ -45,19 +45,19 @@ owned n (owner ∷ owners) some le =
 
 module _ {T : Type 0} where
   -- an operation of the client that leaves this
-  pub record Leaver (client i : ℕ) (operations : List (AnyOperation T)) (left : ℕ × Request) : Type 0 where
+  pub record Leaver (client i : ℕ) (operations : List (Operation T)) (left : ℕ × Request) : Type 0 where
     pub place : ℕ
-    pub o : AnyOperation T
+    pub o : Operation T
     pub at : slice_get operations place ≡ Some o
     pub op_is : left.0 ≡ place + i
     pub own : o.client ≡ client
     pub ask : Ask
     pub asks : asked o.doing ≡ Some ask
 
-  later : (client i : ℕ) (o : AnyOperation T) (os : List (AnyOperation T)) (left : ℕ × Request) → Leaver client (i + 1) os left → Leaver client i (o ∷ os) left
+  later : (client i : ℕ) (o : Operation T) (os : List (Operation T)) (left : ℕ × Request) → Leaver client (i + 1) os left → Leaver client i (o ∷ os) left
   later client i o os left l = record { place = suc l.place; o = l.o; at = l.at; op_is = l.op_is ∙ omega arith; own = l.own; ask = l.ask; asks = l.asks }
 
-  pub leaver : (client i : ℕ) (operations : List (AnyOperation T)) (j : ℕ) (left : ℕ × Request) → slice_get (all_left_loose client i (seen_operations operations)) j ≡ Some left → Leaver client i operations left
+  pub leaver : (client i : ℕ) (operations : List (Operation T)) (j : ℕ) (left : ℕ × Request) → slice_get (all_left_loose client i (seen_operations operations)) j ≡ Some left → Leaver client i operations left
   leaver client i [] j left e = absurd (cc)
   leaver client i (o ∷ os) j left e =
       elim (cases_eq o.client client) [
@@ -75,21 +75,21 @@ module _ {T : Type 0} where
       mine (Some ask) asks j e is rest = one ask (may_be_loose ask) asks j e is rest
 
   -- of what a kill leaves
-  pub killed_leaver : (client : ℕ) (operations : List (AnyOperation T)) (lefts : List Left) → map as_pair lefts ≡ all_left_loose client 1 (seen_operations operations) → (j : ℕ) (left : Left) → slice_get lefts j ≡ Some left → Leaver client 1 operations (as_pair left)
+  pub killed_leaver : (client : ℕ) (operations : List (Operation T)) (lefts : List Left) → map as_pair lefts ≡ all_left_loose client 1 (seen_operations operations) → (j : ℕ) (left : Left) → slice_get lefts j ≡ Some left → Leaver client 1 operations (as_pair left)
   killed_leaver client operations lefts leaves j left e = leaver client 1 operations j (as_pair left) (ap (λ (xs : List (ℕ × Request)). slice_get xs j) (sym leaves) ∙ slice_get-map as_pair lefts j ∙ ap (option_map as_pair) e)
 
   -- operations
 
-  ended_named : (names : ℕ → ℕ) (client : ℕ) (o : AnyOperation T) → ended_by client (named_op names o) ≡ named_op names (ended_by client o)
+  ended_named : (names : ℕ → ℕ) (client : ℕ) (o : Operation T) → ended_by client (named_op names o) ≡ named_op names (ended_by client o)
   ended_named names client o = elim (cases_Bool (o.client == client)) [ inl h ↦ rw h refl | inr h ↦ rw h refl ]
 
-  ended_owner : (client : ℕ) (o : AnyOperation T) → (ended_by client o).client ≡ o.client
+  ended_owner : (client : ℕ) (o : Operation T) → (ended_by client o).client ≡ o.client
   ended_owner client o = elim (cases_Bool (o.client == client)) [ inl h ↦ rw h refl | inr h ↦ rw h refl ]
 
-  ended_view : (client : ℕ) (o : AnyOperation T) → (ended_by client o).view ≡ o.view
+  ended_view : (client : ℕ) (o : Operation T) → (ended_by client o).view ≡ o.view
   ended_view client o = elim (cases_Bool (o.client == client)) [ inl h ↦ rw h refl | inr h ↦ rw h refl ]
 
-  killed_ops_own : (all own : List (AnyOperation T)) (client : ℕ) (begins views : List ℕ) → OpsTied all own client begins views → OpsTied (map (ended_by client) all) (map (ended_by client) own) client begins views
+  killed_ops_own : (all own : List (Operation T)) (client : ℕ) (begins views : List ℕ) → OpsTied all own client begins views → OpsTied (map (ended_by client) all) (map (ended_by client) own) client begins views
   killed_ops_own all own client begins views t =
       record {
         size = length-map own (ended_by client) ∙ t.size;
@@ -97,11 +97,11 @@ module _ {T : Type 0} where
             let was = numbered_map (ended_by client) own k o is in
             numbered_of_map (ended_by client) all (number begins client k) (named_op (number views client) was.0) (t.each k was.0 was.1)
             ∙ ap Some (ended_named (number views client) client was.0 ∙ ap (named_op (number views client)) (sym was.2)));
-        owner = λ k o is. (let was = numbered_map (ended_by client) own k o is in ap (λ (x : AnyOperation T). x.client) was.2 ∙ (ended_owner client was.0 ∙ t.owner k was.0 was.1));
-        has = λ k o w is view. (let was = numbered_map (ended_by client) own k o is in t.has k was.0 w was.1 (sym (ended_view client was.0) ∙ (ap (λ (x : AnyOperation T). x.view) (sym was.2) ∙ view)));
+        owner = λ k o is. (let was = numbered_map (ended_by client) own k o is in ap (λ (x : Operation T). x.client) was.2 ∙ (ended_owner client was.0 ∙ t.owner k was.0 was.1));
+        has = λ k o w is view. (let was = numbered_map (ended_by client) own k o is in t.has k was.0 w was.1 (sym (ended_view client was.0) ∙ (ap (λ (x : Operation T). x.view) (sym was.2) ∙ view)));
       }
 
-  killed_ops_other : (all own : List (AnyOperation T)) (client d : ℕ) (begins views : List ℕ) → client ≢ d → OpsTied all own d begins views → OpsTied (map (ended_by client) all) own d begins views
+  killed_ops_other : (all own : List (Operation T)) (client d : ℕ) (begins views : List ℕ) → client ≢ d → OpsTied all own d begins views → OpsTied (map (ended_by client) all) own d begins views
   killed_ops_other all own client d begins views ne t =
       record {
         size = t.size;
@@ -182,14 +182,14 @@ module _ {T : Type 0} (decode : List ℕ → Option T) (get_epoch : T → ℕ) (
       twice [] = refl
       twice (left ∷ lefts) = ap (λ (xs : List (ℕ × Request)). (number begins client left.op, left.request) ∷ xs) (twice lefts)
 
-      mine : (i : ℕ) (x : AnyOperation T) → numbered s.operations i ≡ Some x → x.client ≡ client → Mine (parts client).operations client begins views i x
+      mine : (i : ℕ) (x : Operation T) → numbered s.operations i ≡ Some x → x.client ≡ client → Mine (parts client).operations client begins views i x
       mine i x is own =
           let at = within s.operations i x is in
           let w = owned i begins (omega (arith, at.0)) (omega (arith, at.1, long)) in
           let t = ties w.client in
           let there = numbered_there (parts w.client).operations w.k (omega (arith, w.within.above)) (omega (arith, w.within.below, t.ops.size)) in
           let same : named_op (number views w.client) there.0 ≡ x = same_Some (named_op (number views w.client) there.0) x (sym (t.ops.each w.k there.0 there.1) ∙ (ap (numbered s.operations) w.is ∙ is)) in
-          let client_is : w.client ≡ client = sym (t.ops.owner w.k there.0 there.1) ∙ (ap (λ (y : AnyOperation T). y.client) same ∙ own) in
+          let client_is : w.client ≡ client = sym (t.ops.owner w.k there.0 there.1) ∙ (ap (λ (y : Operation T). y.client) same ∙ own) in
           record {
             k = w.k;
             o = there.0;

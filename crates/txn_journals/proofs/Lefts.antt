@@ -10,8 +10,8 @@ use Rattle.txn_history.specs.Lists.{numbered}
 use Rattle.txn_history.specs.Seen.{Store}
 use Rattle.txn_history.specs.GoesOn.{as_loose, may_be_loose}
 use Rattle.txn_history.proofs.Lists.{numbered_kept}
-use Rattle.txn_view_history.specs.declared.event.AnyCall.{AnyCall}
-use Rattle.txn_view_history.specs.declared.event.AnyAnswer.{AnyAnswer}
+use Rattle.txn_history.specs.declared.event.Call.{Call}
+use Rattle.txn_history.specs.declared.event.Answer.{Answer}
 use Rattle.txn_journals.specs.declared.rows.Receipt.{Receipt}
 use Rattle.txn_journals.specs.declared.rows.Act.{Act}
 use Rattle.txn_journals.specs.declared.rows.Act.TheVariants as acts
@@ -24,7 +24,7 @@ use Rattle.txn_journals.specs.Numbers.{count}
 use Rattle.txn_journals.specs.Merged.{Did, Merged, part_of, begins_of}
 use Rattle.txn_journals.specs.Traces.{loose_of, place_now, place_among, place_in, op_in}
 use Rattle.txn_journals.proofs.Numbers.{number_old, IsWithin}
-use Rattle.txn_machine.proofs.Lists.{numbered_new}
+use Rattle.txn_machine_inner.proofs.Lists.{numbered_new}
 use Rattle.txn_journals.proofs.Operations.{within_more}
 
 both_true : (a b : Bool) → (a && b) ≡ true → (a ≡ true) × (b ≡ true)
@@ -97,14 +97,14 @@ module _ {T : Type 0} where
   abbrev pub AllLeft : Merged T → Type 0
   AllLeft m = (client op : ℕ) (request : Request) → left_of op (part_of client m) ≡ Some request → IsLeft m client op request
 
-  abbrev row_of : Step T → Option (AnyAnswer T) → JournalRow T
+  abbrev row_of : Step T → Option (Answer T) → JournalRow T
   row_of step answer = record { step = step; answer = answer }
 
   -- a row that leaves nothing
   skipped : (c d op : ℕ) (row : JournalRow T) (m : Merged T) → ((rest : Option Request) → left_in op row.step rest ≡ rest) → left_of op (part_of d (Did c row ∷ m)) ≡ left_of op (part_of d m)
   skipped c d op row m none = elim (cases_Bool (c == d)) [ inl h ↦ rw h (none (left_of op (part_of d m))) | inr h ↦ rw h refl ]
 
-  pub lefts_begin : (c : ℕ) (call : AnyCall T) (answer : Option (AnyAnswer T)) (m : Merged T) → AllLeft m → AllLeft (Did c (row_of (steps.Begin call) answer) ∷ m)
+  pub lefts_begin : (c : ℕ) (call : Call T) (answer : Option (Answer T)) (m : Merged T) → AllLeft m → AllLeft (Did c (row_of (steps.Begin call) answer) ∷ m)
   lefts_begin c call answer m g d op request e =
       let old = g d op request (sym (skipped c d op (row_of (steps.Begin call) answer) m (λ rest. refl)) ∙ e) in
       record {
@@ -112,17 +112,17 @@ module _ {T : Type 0} where
         at = old.at ∙ ap (λ (n : ℕ). Some (n, request)) (sym (number_old c d op (begins_of m) old.within.below));
       }
 
-  pub lefts_look : (c k : ℕ) (answer : Option (AnyAnswer T)) (m : Merged T) → AllLeft m → AllLeft (Did c (row_of (steps.Act k acts.Look) answer) ∷ m)
+  pub lefts_look : (c k : ℕ) (answer : Option (Answer T)) (m : Merged T) → AllLeft m → AllLeft (Did c (row_of (steps.Act k acts.Look) answer) ∷ m)
   lefts_look c k answer m g d op request e = (let old = g d op request (sym (skipped c d op (row_of (steps.Act k acts.Look) answer) m (λ rest. refl)) ∙ e) in record { within = old.within; at = old.at })
 
-  pub lefts_lacks : (c k : ℕ) (answer : Option (AnyAnswer T)) (m : Merged T) → AllLeft m → AllLeft (Did c (row_of (steps.Act k acts.Lacks) answer) ∷ m)
+  pub lefts_lacks : (c k : ℕ) (answer : Option (Answer T)) (m : Merged T) → AllLeft m → AllLeft (Did c (row_of (steps.Act k acts.Lacks) answer) ∷ m)
   lefts_lacks c k answer m g d op request e = (let old = g d op request (sym (skipped c d op (row_of (steps.Act k acts.Lacks) answer) m (λ rest. refl)) ∙ e) in record { within = old.within; at = old.at })
 
-  pub lefts_got : (c k : ℕ) (receipt : Receipt) (answer : Option (AnyAnswer T)) (m : Merged T) → AllLeft m → AllLeft (Did c (row_of (steps.Act k (acts.Receive receipt)) answer) ∷ m)
+  pub lefts_got : (c k : ℕ) (receipt : Receipt) (answer : Option (Answer T)) (m : Merged T) → AllLeft m → AllLeft (Did c (row_of (steps.Act k (acts.Receive receipt)) answer) ∷ m)
   lefts_got c k receipt answer m g d op request e = (let old = g d op request (sym (skipped c d op (row_of (steps.Act k (acts.Receive receipt)) answer) m (λ rest. refl)) ∙ e) in record { within = old.within; at = old.at })
 
   -- a kill
-  pub lefts_killed : (c : ℕ) (lefts : Vec Left Global) (answer : Option (AnyAnswer T)) (m : Merged T) → ((j : ℕ) (left : Left) → slice_get lefts.items j ≡ Some left → IsWithin left.op (count c (begins_of m))) → AllLeft m → AllLeft (Did c (row_of (steps.Killed lefts) answer) ∷ m)
+  pub lefts_killed : (c : ℕ) (lefts : Vec Left Global) (answer : Option (Answer T)) (m : Merged T) → ((j : ℕ) (left : Left) → slice_get lefts.items j ≡ Some left → IsWithin left.op (count c (begins_of m))) → AllLeft m → AllLeft (Did c (row_of (steps.Killed lefts) answer) ∷ m)
   lefts_killed c lefts answer m each g d op request e =
       elim (cases_eq c d) [
         | inr ne ↦ (
@@ -145,7 +145,7 @@ module _ {T : Type 0} where
           }
 
   -- a row that leaves something, or nothing
-  left_more : (c d k op : ℕ) (act : Act) (answer : Option (AnyAnswer T)) (m : Merged T) → left_of op (part_of d (Did c (row_of (steps.Act k act) answer) ∷ m)) ≡ left_now ((c == d) && (k == op)) (left_by act) (left_of op (part_of d m))
+  left_more : (c d k op : ℕ) (act : Act) (answer : Option (Answer T)) (m : Merged T) → left_of op (part_of d (Did c (row_of (steps.Act k act) answer) ∷ m)) ≡ left_now ((c == d) && (k == op)) (left_by act) (left_of op (part_of d m))
   left_more c d k op act answer m = elim (cases_Bool (c == d)) [ inl h ↦ rw h refl | inr h ↦ rw h (sym (left_false (left_by act) (left_of op (part_of d m)))) ]
 
   record Leaves (c k : ℕ) (left : Option Request) (m : Merged T) (d op : ℕ) (request : Request) : Type 0 where
@@ -167,10 +167,10 @@ module _ {T : Type 0} where
       own_number : ((c == d) && (k == op)) ≡ true → op_in m c k ≡ op_in m d op
       own_number h = (let two = both_true (c == d) (k == op) h in ap (λ (i : ℕ). op_in m i k) (eqb-true c d two.0) ∙ ap (λ (i : ℕ). op_in m d i) (eqb-true k op two.1))
 
-  pub lefts_given : (c k : ℕ) (left : Option Request) (answer : Option (AnyAnswer T)) (m : Merged T) → IsWithin k (count c (begins_of m)) → AllLeft m → AllLeft (Did c (row_of (steps.Act k (acts.GiveUp left)) answer) ∷ m)
+  pub lefts_given : (c k : ℕ) (left : Option Request) (answer : Option (Answer T)) (m : Merged T) → IsWithin k (count c (begins_of m)) → AllLeft m → AllLeft (Did c (row_of (steps.Act k (acts.GiveUp left)) answer) ∷ m)
   lefts_given c k left answer m there g d op request e =
       let l = leaves c k left m there g d op request (sym (left_more c d k op (acts.GiveUp left) answer m) ∙ e) in record { within = l.within; at = l.at }
 
-  pub lefts_failed : (c k : ℕ) (asked : Request) (answer : Option (AnyAnswer T)) (m : Merged T) → IsWithin k (count c (begins_of m)) → AllLeft m → AllLeft (Did c (row_of (steps.Act k (acts.Fails asked)) answer) ∷ m)
+  pub lefts_failed : (c k : ℕ) (asked : Request) (answer : Option (Answer T)) (m : Merged T) → IsWithin k (count c (begins_of m)) → AllLeft m → AllLeft (Did c (row_of (steps.Act k (acts.Fails asked)) answer) ∷ m)
   lefts_failed c k asked answer m there g d op request e =
       let l = leaves c k (may_be_loose (Store asked)) m there g d op request (sym (left_more c d k op (acts.Fails asked) answer m) ∙ e) in record { within = l.within; at = l.at }

@@ -8,12 +8,12 @@ use Rattle.txn_history.specs.Lists.{numbered}
 use Rattle.txn_history.specs.Seen.{Ask}
 use Rattle.txn_history.specs.GoesOn.{all_left_loose}
 use Rattle.txn_history.proofs.Lists.{numbered_more}
-use Rattle.txn_machine.proofs.Lists.{within, numbered_map, numbered_here, numbered_other}
-use Rattle.txn_view_history.specs.declared.event.AnyAnswer.{AnyAnswer}
-use Rattle.txn_any_machine.specs.declared.doing.AnyDoing.{AnyDoing}
-use Rattle.txn_any_machine.specs.declared.doing.AnyOperation.{AnyOperation}
-use Rattle.txn_any_machine.specs.Doing.{asked, ended}
-use Rattle.txn_any_machine.specs.Machine.{seen_operations, doing_next, with_doing, new_operation, ended_by}
+use Rattle.txn_machine_inner.proofs.Lists.{within, numbered_map, numbered_here, numbered_other}
+use Rattle.txn_history.specs.declared.event.Answer.{Answer}
+use Rattle.txn_machine.specs.declared.doing.Doing.{Doing}
+use Rattle.txn_machine.specs.declared.doing.Operation.{Operation}
+use Rattle.txn_machine.specs.Doing.{asked, ended}
+use Rattle.txn_machine.specs.Machine.{seen_operations, doing_next, with_doing, new_operation, ended_by}
 use Rattle.txn_journals.specs.declared.rows.Act.TheVariants as acts
 use Rattle.txn_journals.specs.declared.rows.Left.{Left}
 use Rattle.txn_journals.specs.declared.rows.Step.{Step}
@@ -28,15 +28,15 @@ use Rattle.txn_journals.proofs.Woven.{pushed}
 
 module _ {T : Type 0} where
   -- the operation was begun and has ended
-  record IsOver (operations : List (AnyOperation T)) (op : ℕ) : Type 0 where
+  record IsOver (operations : List (Operation T)) (op : ℕ) : Type 0 where
     within : op ≤ length operations
-    ended : (o : AnyOperation T) → numbered operations op ≡ Some o → asked o.doing ≡ None
+    ended : (o : Operation T) → numbered operations op ≡ Some o → asked o.doing ≡ None
 
   -- one that asks is not
-  asks_still : (operations : List (AnyOperation T)) (op k : ℕ) (o : AnyOperation T) (ask : Ask) → IsOver operations op → numbered operations k ≡ Some o → asked o.doing ≡ Some ask → op ≢ k
+  asks_still : (operations : List (Operation T)) (op k : ℕ) (o : Operation T) (ask : Ask) → IsOver operations op → numbered operations k ≡ Some o → asked o.doing ≡ Some ask → op ≢ k
   asks_still operations op k o ask over found asks e = (let none = over.ended o (subst (λ (n : ℕ). numbered operations n ≡ Some o) (sym e) found) in let clash : None ≡ Some ask = sym none ∙ asks in cc)
 
-  over_set : (operations : List (AnyOperation T)) (op k : ℕ) (o : AnyOperation T) (ask : Ask) (doing : AnyDoing T) → IsOver operations op → numbered operations k ≡ Some o → asked o.doing ≡ Some ask → IsOver (with_doing operations k o doing) op
+  over_set : (operations : List (Operation T)) (op k : ℕ) (o : Operation T) (ask : Ask) (doing : Doing T) → IsOver operations op → numbered operations k ≡ Some o → asked o.doing ≡ Some ask → IsOver (with_doing operations k o doing) op
   over_set operations op k o ask doing over found asks =
       let ne = asks_still operations op k o ask over found asks in
       record {
@@ -44,15 +44,15 @@ module _ {T : Type 0} where
         ended = λ x is. over.ended x (sym (numbered_other operations k op (doing_next o doing) (within operations k o found).0 ne) ∙ is);
       }
 
-  over_now : (operations : List (AnyOperation T)) (op k : ℕ) (o : AnyOperation T) → numbered operations k ≡ Some o → k ≡ op → IsOver (with_doing operations k o ended) op
+  over_now : (operations : List (Operation T)) (op k : ℕ) (o : Operation T) → numbered operations k ≡ Some o → k ≡ op → IsOver (with_doing operations k o ended) op
   over_now operations op k o found e =
       subst (λ (n : ℕ). IsOver (with_doing operations k o ended) n) e
       (record {
         within = (let len = length-set operations (k - 1) (doing_next o ended) in let w = within operations k o found in omega (arith, len, w.1));
-        ended = λ x is. ap (λ (y : AnyOperation T). asked y.doing) (same_Some x (doing_next o ended) (sym is ∙ numbered_here operations k (doing_next o ended) o found));
+        ended = λ x is. ap (λ (y : Operation T). asked y.doing) (same_Some x (doing_next o ended) (sym is ∙ numbered_here operations k (doing_next o ended) o found));
       })
 
-  over_begun : (operations : List (AnyOperation T)) (op : ℕ) (new : AnyOperation T) → IsOver operations op → IsOver (operations ++ new ∷ []) op
+  over_begun : (operations : List (Operation T)) (op : ℕ) (new : Operation T) → IsOver operations op → IsOver (operations ++ new ∷ []) op
   over_begun operations op new over =
       let low = over.within in
       record {
@@ -60,21 +60,21 @@ module _ {T : Type 0} where
         ended = λ x is. elim (numbered_more operations new op x is) [ inl old ↦ over.ended x old | inr now ↦ absurd (let at = now.0 in omega (arith, at, low)) ];
       }
 
-  over_killed : (client : ℕ) (operations : List (AnyOperation T)) (op : ℕ) → IsOver operations op → IsOver (map (ended_by client) operations) op
+  over_killed : (client : ℕ) (operations : List (Operation T)) (op : ℕ) → IsOver operations op → IsOver (map (ended_by client) operations) op
   over_killed client operations op over =
       record {
         within = (let len = length-map operations (ended_by client) in let low = over.within in omega (arith, len, low));
-        ended = λ x is. (let was = numbered_map (ended_by client) operations op x is in ap (λ (y : AnyOperation T). asked y.doing) was.2 ∙ none (was.0) (over.ended was.0 was.1));
+        ended = λ x is. (let was = numbered_map (ended_by client) operations op x is in ap (λ (y : Operation T). asked y.doing) was.2 ∙ none (was.0) (over.ended was.0 was.1));
       }
     where
-      none : (o : AnyOperation T) → asked o.doing ≡ None → asked (ended_by client o).doing ≡ None
+      none : (o : Operation T) → asked o.doing ≡ None → asked (ended_by client o).doing ≡ None
       none o e = elim (cases_Bool (o.client == client)) [ inl h ↦ rw h refl | inr h ↦ rw h e ]
 
-  leaver_there : (client : ℕ) (operations : List (AnyOperation T)) (left : ℕ × Request) (l : Leaver client 1 operations left) → numbered operations left.0 ≡ Some l.o
+  leaver_there : (client : ℕ) (operations : List (Operation T)) (left : ℕ × Request) (l : Leaver client 1 operations left) → numbered operations left.0 ≡ Some l.o
   leaver_there client operations left l = (let next : l.place + 1 ≡ Rattle.std.proofs.Common.suc l.place = omega arith in ap (numbered operations) (l.op_is ∙ next) ∙ l.at)
 
   -- what a kill leaves is of operations that are over
-  over_left : (client : ℕ) (operations : List (AnyOperation T)) (lefts : List Left) → map as_pair lefts ≡ all_left_loose client 1 (seen_operations operations) → (j : ℕ) (left : Left) → slice_get lefts j ≡ Some left → IsOver (map (ended_by client) operations) left.op
+  over_left : (client : ℕ) (operations : List (Operation T)) (lefts : List Left) → map as_pair lefts ≡ all_left_loose client 1 (seen_operations operations) → (j : ℕ) (left : Left) → slice_get lefts j ≡ Some left → IsOver (map (ended_by client) operations) left.op
   over_left client operations lefts leaves j left e =
       let l = killed_leaver client operations lefts leaves j left e in
       let there = leaver_there client operations (as_pair left) l in
@@ -83,11 +83,11 @@ module _ {T : Type 0} where
         ended = λ x is. (
             let was = numbered_map (ended_by client) operations left.op x is in
             let same : was.0 ≡ l.o = same_Some was.0 l.o (sym was.1 ∙ there) in
-            ap (λ (y : AnyOperation T). asked y.doing) (was.2 ∙ ap (ended_by client) same) ∙ rw (eq-eqb l.o.client client l.own) refl);
+            ap (λ (y : Operation T). asked y.doing) (was.2 ∙ ap (ended_by client) same) ∙ rw (eq-eqb l.o.client client l.own) refl);
       }
 
 module _ {T : Type 0} (page : ℕ) (encode : T → List ℕ) (decode : List ℕ → Option T) (get_epoch : T → ℕ) (set_epoch : T → ℕ → T) where
-  over_after : (client : ℕ) (old new : Part T) (step : Step T) (answer : Option (AnyAnswer T)) (op : ℕ) → Follows page encode decode get_epoch set_epoch client old step answer new → IsOver old.operations op → IsOver new.operations op
+  over_after : (client : ℕ) (old new : Part T) (step : Step T) (answer : Option (Answer T)) (op : ℕ) → Follows page encode decode get_epoch set_epoch client old step answer new → IsOver old.operations op → IsOver new.operations op
   over_after client old new (steps.Begin call) answer op v over = subst (λ (p : Part T). IsOver p.operations op) (sym v.part) (over_begun old.operations op (new_operation client call v.next.0) over)
   over_after client old new (steps.Act k acts.Look) answer op v over = subst (λ (p : Part T). IsOver p.operations op) (sym v.part) (over_set old.operations op k v.operation _ v.next.0 over v.found v.asks)
   over_after client old new (steps.Act k (acts.Receive receipt)) answer op v over = subst (λ (p : Part T). IsOver p.operations op) (sym v.part) (over_set old.operations op k v.operation _ v.next.0 over v.found v.asks)

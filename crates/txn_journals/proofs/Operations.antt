@@ -5,10 +5,10 @@ use Rattle.std.proofs.lemmas.List.{length-append, length-set}
 use Rattle.std.proofs.lemmas.Option.{same_Some}
 use Rattle.txn_history.specs.Lists.{numbered}
 use Rattle.txn_history.proofs.Lists.{numbered_kept, numbered_more}
-use Rattle.txn_machine.proofs.Lists.{within, numbered_new, numbered_here, numbered_other}
-use Rattle.txn_any_machine.specs.declared.doing.AnyDoing.{AnyDoing}
-use Rattle.txn_any_machine.specs.declared.doing.AnyOperation.{AnyOperation}
-use Rattle.txn_any_machine.specs.Machine.{doing_next, with_doing}
+use Rattle.txn_machine_inner.proofs.Lists.{within, numbered_new, numbered_here, numbered_other}
+use Rattle.txn_machine.specs.declared.doing.Doing.{Doing}
+use Rattle.txn_machine.specs.declared.doing.Operation.{Operation}
+use Rattle.txn_machine.specs.Machine.{doing_next, with_doing}
 use Rattle.txn_journals.specs.Numbers.{count, number}
 use Rattle.txn_journals.proofs.Numbers.{count_own, count_other, number_own, number_old, IsWithin, number_apart}
 
@@ -25,30 +25,30 @@ within_more client d w owners h = elim (cases_eq client d) [
 
 module _ {T : Type 0} where
   -- an operation by the world's numbers of views
-  abbrev pub named_op : (ℕ → ℕ) → AnyOperation T → AnyOperation T
+  abbrev pub named_op : (ℕ → ℕ) → Operation T → Operation T
   named_op names o = record { client = o.client; view = option_map names o.view; claims = o.claims; doing = o.doing }
 
-  pub record OpsTied (all own : List (AnyOperation T)) (client : ℕ) (begins views : List ℕ) : Type 0 where
+  pub record OpsTied (all own : List (Operation T)) (client : ℕ) (begins views : List ℕ) : Type 0 where
     pub size : length own ≡ count client begins
-    pub each : (k : ℕ) (o : AnyOperation T) → numbered own k ≡ Some o → numbered all (number begins client k) ≡ Some (named_op (number views client) o)
-    pub owner : (k : ℕ) (o : AnyOperation T) → numbered own k ≡ Some o → o.client ≡ client
-    pub has : (k : ℕ) (o : AnyOperation T) (w : ℕ) → numbered own k ≡ Some o → o.view ≡ Some w → IsWithin w (count client views)
+    pub each : (k : ℕ) (o : Operation T) → numbered own k ≡ Some o → numbered all (number begins client k) ≡ Some (named_op (number views client) o)
+    pub owner : (k : ℕ) (o : Operation T) → numbered own k ≡ Some o → o.client ≡ client
+    pub has : (k : ℕ) (o : Operation T) (w : ℕ) → numbered own k ≡ Some o → o.view ≡ Some w → IsWithin w (count client views)
 
   -- an operation's number is one of its client's
-  pub op_within : (all own : List (AnyOperation T)) (client : ℕ) (begins views : List ℕ) → OpsTied all own client begins views → (k : ℕ) (o : AnyOperation T) → numbered own k ≡ Some o → IsWithin k (count client begins)
+  pub op_within : (all own : List (Operation T)) (client : ℕ) (begins views : List ℕ) → OpsTied all own client begins views → (k : ℕ) (o : Operation T) → numbered own k ≡ Some o → IsWithin k (count client begins)
   op_within all own client begins views t k o e = let w = within own k o e in record { above = omega (arith, w.0); below = omega (arith, w.1, t.size) }
 
   -- the operation does something else
 
   -- which operation stands in a place after a change
-  set_cases : (xs : List (AnyOperation T)) (n m : ℕ) (x was y : AnyOperation T) → numbered xs n ≡ Some was → numbered (Rattle.std.proofs.Common.set xs (n - 1) x) m ≡ Some y → ((m ≡ n) × (x ≡ y)) ⊎ ((m ≢ n) × (numbered xs m ≡ Some y))
+  set_cases : (xs : List (Operation T)) (n m : ℕ) (x was y : Operation T) → numbered xs n ≡ Some was → numbered (Rattle.std.proofs.Common.set xs (n - 1) x) m ≡ Some y → ((m ≡ n) × (x ≡ y)) ⊎ ((m ≢ n) × (numbered xs m ≡ Some y))
   set_cases xs n m x was y e is =
       elim (cases_eq m n) [
         | inl same ↦ inl (same, same_Some x y (sym (subst (λ (j : ℕ). numbered (Rattle.std.proofs.Common.set xs (n - 1) x) j ≡ Some x) (sym same) (numbered_here xs n x was e)) ∙ is))
         | inr ne ↦ inr (ne, sym (numbered_other xs n m x (within xs n was e).0 ne) ∙ is)
       ]
 
-  pub ops_own : (all own : List (AnyOperation T)) (client : ℕ) (begins views : List ℕ) (k : ℕ) (o : AnyOperation T) (doing : AnyDoing T) → numbered own k ≡ Some o → OpsTied all own client begins views →
+  pub ops_own : (all own : List (Operation T)) (client : ℕ) (begins views : List ℕ) (k : ℕ) (o : Operation T) (doing : Doing T) → numbered own k ≡ Some o → OpsTied all own client begins views →
       OpsTied (with_doing all (number begins client k) (named_op (number views client) o) doing) (with_doing own k o doing) client begins views
   ops_own all own client begins views k o doing e t =
       let n = number begins client k in
@@ -59,17 +59,17 @@ module _ {T : Type 0} where
         size = length-set own (k - 1) new ∙ t.size;
         each = λ j x is. elim (set_cases own k j new o x e is) [
           | inl h ↦ subst (λ (i : ℕ). numbered (with_doing all n (named_op (number views client) o) doing) (number begins client i) ≡ Some (named_op (number views client) x)) (sym h.0)
-              (numbered_here all n (doing_next (named_op (number views client) o) doing) (named_op (number views client) o) there ∙ ap (λ (y : AnyOperation T). Some (named_op (number views client) y)) h.1)
+              (numbered_here all n (doing_next (named_op (number views client) o) doing) (named_op (number views client) o) there ∙ ap (λ (y : Operation T). Some (named_op (number views client) y)) h.1)
           | inr h ↦ (
               let in_own = op_within all own client begins views t j x h.1 in
               numbered_other all n (number begins client j) (doing_next (named_op (number views client) o) doing) (within all n (named_op (number views client) o) there).0
               (λ same. h.0 (number_apart client j client k begins in_own.above in_own.below some.above some.below same).1) ∙ t.each j x h.1)
         ];
-        owner = λ j x is. elim (set_cases own k j new o x e is) [ inl h ↦ ap (λ (y : AnyOperation T). y.client) (sym h.1) ∙ t.owner k o e | inr h ↦ t.owner j x h.1 ];
-        has = λ j x w is. elim (set_cases own k j new o x e is) [ inl h ↦ (λ view. t.has k o w e (ap (λ (y : AnyOperation T). y.view) h.1 ∙ view)) | inr h ↦ t.has j x w h.1 ];
+        owner = λ j x is. elim (set_cases own k j new o x e is) [ inl h ↦ ap (λ (y : Operation T). y.client) (sym h.1) ∙ t.owner k o e | inr h ↦ t.owner j x h.1 ];
+        has = λ j x w is. elim (set_cases own k j new o x e is) [ inl h ↦ (λ view. t.has k o w e (ap (λ (y : Operation T). y.view) h.1 ∙ view)) | inr h ↦ t.has j x w h.1 ];
       }
 
-  pub ops_other : (all own : List (AnyOperation T)) (client d k : ℕ) (begins views : List ℕ) (was x : AnyOperation T) → numbered all (number begins client k) ≡ Some was → IsWithin k (count client begins) → client ≢ d → OpsTied all own d begins views →
+  pub ops_other : (all own : List (Operation T)) (client d k : ℕ) (begins views : List ℕ) (was x : Operation T) → numbered all (number begins client k) ≡ Some was → IsWithin k (count client begins) → client ≢ d → OpsTied all own d begins views →
       OpsTied (Rattle.std.proofs.Common.set all (number begins client k - 1) x) own d begins views
   ops_other all own client d k begins views was x there some ne t =
       let n = number begins client k in
@@ -84,7 +84,7 @@ module _ {T : Type 0} where
 
   -- an operation more
 
-  pub ops_begun : (all own : List (AnyOperation T)) (client : ℕ) (begins views : List ℕ) (o : AnyOperation T) → length all ≡ length begins → o.client ≡ client → ((w : ℕ) → o.view ≡ Some w → IsWithin w (count client views)) → OpsTied all own client begins views →
+  pub ops_begun : (all own : List (Operation T)) (client : ℕ) (begins views : List ℕ) (o : Operation T) → length all ≡ length begins → o.client ≡ client → ((w : ℕ) → o.view ≡ Some w → IsWithin w (count client views)) → OpsTied all own client begins views →
       OpsTied (all ++ named_op (number views client) o ∷ []) (own ++ o ∷ []) client (client ∷ begins) views
   ops_begun all own client begins views o long is_own has t =
       record {
@@ -98,13 +98,13 @@ module _ {T : Type 0} where
               let at : k ≡ count client begins + 1 = new.0 ∙ ap (λ n. n + 1) t.size in
               let place : number (client ∷ begins) client k ≡ length all + 1 = ap (number (client ∷ begins) client) at ∙ (number_own client begins ∙ ap (λ n. n + 1) (sym long)) in
               subst (λ (i : ℕ). numbered (all ++ named_op (number views client) o ∷ []) i ≡ Some (named_op (number views client) x)) (sym place)
-              (numbered_new all (named_op (number views client) o) ∙ ap (λ (y : AnyOperation T). Some (named_op (number views client) y)) new.1))
+              (numbered_new all (named_op (number views client) o) ∙ ap (λ (y : Operation T). Some (named_op (number views client) y)) new.1))
         ];
-        owner = λ k x is. elim (numbered_more own o k x is) [ inl old ↦ t.owner k x old | inr new ↦ ap (λ (y : AnyOperation T). y.client) (sym new.1) ∙ is_own ];
-        has = λ k x w is. elim (numbered_more own o k x is) [ inl old ↦ t.has k x w old | inr new ↦ (λ view. has w (ap (λ (y : AnyOperation T). y.view) new.1 ∙ view)) ];
+        owner = λ k x is. elim (numbered_more own o k x is) [ inl old ↦ t.owner k x old | inr new ↦ ap (λ (y : Operation T). y.client) (sym new.1) ∙ is_own ];
+        has = λ k x w is. elim (numbered_more own o k x is) [ inl old ↦ t.has k x w old | inr new ↦ (λ view. has w (ap (λ (y : Operation T). y.view) new.1 ∙ view)) ];
       }
 
-  pub ops_begun_other : (all own : List (AnyOperation T)) (client d : ℕ) (begins views : List ℕ) (x : AnyOperation T) → client ≢ d → OpsTied all own d begins views → OpsTied (all ++ x ∷ []) own d (client ∷ begins) views
+  pub ops_begun_other : (all own : List (Operation T)) (client d : ℕ) (begins views : List ℕ) (x : Operation T) → client ≢ d → OpsTied all own d begins views → OpsTied (all ++ x ∷ []) own d (client ∷ begins) views
   ops_begun_other all own client d begins views x ne t =
       record {
         size = t.size ∙ sym (count_other client d begins ne);
@@ -117,7 +117,7 @@ module _ {T : Type 0} where
 
   -- a view more
 
-  pub ops_view : (all own : List (AnyOperation T)) (client d : ℕ) (begins views : List ℕ) → OpsTied all own d begins views → OpsTied all own d begins (client ∷ views)
+  pub ops_view : (all own : List (Operation T)) (client d : ℕ) (begins views : List ℕ) → OpsTied all own d begins views → OpsTied all own d begins (client ∷ views)
   ops_view all own client d begins views t =
       record {
         size = t.size;

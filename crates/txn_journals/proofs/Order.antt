@@ -7,24 +7,24 @@ use Rattle.txn_store.specs.declared.request.Request.{Request}
 use Rattle.txn_history.specs.Lists.{numbered}
 use Rattle.txn_history.specs.Seen.{Ask}
 use Rattle.txn_history.specs.GoesOn.{may_be_loose, as_loose, left_loose, all_left_loose}
-use Rattle.txn_any_machine.specs.declared.doing.AnyOperation.{AnyOperation}
-use Rattle.txn_any_machine.specs.Doing.{asked}
-use Rattle.txn_any_machine.specs.Machine.{seen_operations}
+use Rattle.txn_machine.specs.declared.doing.Operation.{Operation}
+use Rattle.txn_machine.specs.Doing.{asked}
+use Rattle.txn_machine.specs.Machine.{seen_operations}
 use Rattle.txn_journals.specs.Numbers.{count, number}
 use Rattle.txn_journals.proofs.Numbers.{IsWithin, number_within, number_grows}
 use Rattle.txn_journals.proofs.Operations.{named_op, OpsTied, op_within}
 
 module _ {T : Type 0} where
   -- an operation of the world that is the client's
-  pub record Mine (own : List (AnyOperation T)) (client : ℕ) (begins views : List ℕ) (i : ℕ) (x : AnyOperation T) : Type 0 where
+  pub record Mine (own : List (Operation T)) (client : ℕ) (begins views : List ℕ) (i : ℕ) (x : Operation T) : Type 0 where
     pub k : ℕ
-    pub o : AnyOperation T
+    pub o : Operation T
     pub within : IsWithin k (count client begins)
     pub is : number begins client k ≡ i
     pub there : numbered own k ≡ Some o
     pub same : named_op (number views client) o ≡ x
 
-module _ {T : Type 0} (all own : List (AnyOperation T)) (client : ℕ) (begins views : List ℕ) (long : length all ≡ length begins) (t : OpsTied all own client begins views) (mine : (i : ℕ) (x : AnyOperation T) → numbered all i ≡ Some x → x.client ≡ client → Mine own client begins views i x) where
+module _ {T : Type 0} (all own : List (Operation T)) (client : ℕ) (begins views : List ℕ) (long : length all ≡ length begins) (t : OpsTied all own client begins views) (mine : (i : ℕ) (x : Operation T) → numbered all i ≡ Some x → x.client ≡ client → Mine own client begins views i x) where
   abbrev ren : ℕ × Request → ℕ × Request
   ren left = (number begins client left.0, left.1)
 
@@ -42,14 +42,14 @@ module _ {T : Type 0} (all own : List (AnyOperation T)) (client : ℕ) (begins v
     above : (j : ℕ) → k ≤ j → j ≤ count client begins → i ≤ number begins client j
 
   -- an operation of another has no number of the client's
-  not_mine : (i j : ℕ) (x : AnyOperation T) → numbered all i ≡ Some x → x.client ≢ client → 1 ≤ j → j ≤ count client begins → number begins client j ≢ i
+  not_mine : (i j : ℕ) (x : Operation T) → numbered all i ≡ Some x → x.client ≢ client → 1 ≤ j → j ≤ count client begins → number begins client j ≢ i
   not_mine i j x is ne one le e =
-      let there = Rattle.txn_machine.proofs.Lists.numbered_there own j (omega (arith, one)) (let size = t.size in omega (arith, le, size)) in
+      let there = Rattle.txn_machine_inner.proofs.Lists.numbered_there own j (omega (arith, one)) (let size = t.size in omega (arith, le, size)) in
       let same = same_Some (named_op (number views client) there.0) x (sym (t.each j there.0 there.1) ∙ (ap (numbered all) e ∙ is)) in
-      ne (ap (λ (y : AnyOperation T). y.client) (sym same) ∙ t.owner j there.0 there.1)
+      ne (ap (λ (y : Operation T). y.client) (sym same) ∙ t.owner j there.0 there.1)
 
   -- the client's operation of this place is its next
-  is_next : (i k : ℕ) (x : AnyOperation T) → 1 ≤ k → Splits i k → (m : Mine own client begins views i x) → m.k ≡ k
+  is_next : (i k : ℕ) (x : Operation T) → 1 ≤ k → Splits i k → (m : Mine own client begins views i x) → m.k ≡ k
   is_next i k x one s m =
       let is = m.is in
       elim (cases_lt m.k k) [
@@ -60,7 +60,7 @@ module _ {T : Type 0} (all own : List (AnyOperation T)) (client : ℕ) (begins v
         ]
       ]
 
-  in_order : (i k : ℕ) (xs ys : List (AnyOperation T)) → 1 ≤ i → 1 ≤ k → Splits i k → ((j : ℕ) (x : AnyOperation T) → slice_get xs j ≡ Some x → numbered all (j + i) ≡ Some x) → length xs + i ≡ length all + 1 → ((j : ℕ) → slice_get ys j ≡ numbered own (j + k)) →
+  in_order : (i k : ℕ) (xs ys : List (Operation T)) → 1 ≤ i → 1 ≤ k → Splits i k → ((j : ℕ) (x : Operation T) → slice_get xs j ≡ Some x → numbered all (j + i) ≡ Some x) → length xs + i ≡ length all + 1 → ((j : ℕ) → slice_get ys j ≡ numbered own (j + k)) →
       all_left_loose client i (seen_operations xs) ≡ map ren (all_left_loose client k (seen_operations ys))
   in_order i k [] [] some one s at size rest = refl
   in_order i k [] (y ∷ ys) some one s at size rest = absurd (
@@ -71,7 +71,7 @@ module _ {T : Type 0} (all own : List (AnyOperation T)) (client : ℕ) (begins v
       omega (arith, high, low.below, long, size))
   in_order i k (x ∷ xs) ys some one s at size rest =
       let here : numbered all i ≡ Some x = (let zero_i : 0 + i ≡ i = omega arith in ap (numbered all) (sym zero_i) ∙ at 0 x refl) in
-      let at' : (j : ℕ) (y : AnyOperation T) → slice_get xs j ≡ Some y → numbered all (j + (i + 1)) ≡ Some y = λ j y e. (let next : j + (i + 1) ≡ suc j + i = omega arith in ap (numbered all) next ∙ at (suc j) y e) in
+      let at' : (j : ℕ) (y : Operation T) → slice_get xs j ≡ Some y → numbered all (j + (i + 1)) ≡ Some y = λ j y e. (let next : j + (i + 1) ≡ suc j + i = omega arith in ap (numbered all) next ∙ at (suc j) y e) in
       elim (cases_eq x.client client) [
         | inr ne ↦ rw (ne_eqb x.client client ne) (in_order (i + 1) k xs ys (omega arith) one
             (record {
@@ -97,21 +97,21 @@ module _ {T : Type 0} (all own : List (AnyOperation T)) (client : ℕ) (begins v
             at' (omega (arith, size)) (λ j. tail_get ys j ∙ (rest (suc j) ∙ (let next : suc j + k ≡ j + (k + 1) = omega arith in ap (numbered own) next)))))
       ]
     where
-      tail_of : List (AnyOperation T) → List (AnyOperation T)
+      tail_of : List (Operation T) → List (Operation T)
       tail_of [] = []
       tail_of (y ∷ ys) = ys
 
-      tail_get : (ys : List (AnyOperation T)) (j : ℕ) → slice_get (tail_of ys) j ≡ slice_get ys (suc j)
+      tail_get : (ys : List (Operation T)) (j : ℕ) → slice_get (tail_of ys) j ≡ slice_get ys (suc j)
       tail_get [] j = refl
       tail_get (y ∷ ys) j = refl
 
-      with_own : (i k : ℕ) (x : AnyOperation T) (xs ys : List (AnyOperation T)) (m : Mine own client begins views i x) → number begins client k ≡ i → x.client ≡ client → slice_get ys 0 ≡ Some m.o → all_left_loose client (i + 1) (seen_operations xs) ≡ map ren (all_left_loose client (k + 1) (seen_operations (tail_of ys))) →
+      with_own : (i k : ℕ) (x : Operation T) (xs ys : List (Operation T)) (m : Mine own client begins views i x) → number begins client k ≡ i → x.client ≡ client → slice_get ys 0 ≡ Some m.o → all_left_loose client (i + 1) (seen_operations xs) ≡ map ren (all_left_loose client (k + 1) (seen_operations (tail_of ys))) →
           all_left_loose client i (seen_operations (x ∷ xs)) ≡ map ren (all_left_loose client k (seen_operations ys))
       with_own i k x xs [] m number_is is found e = absurd (let clash : None ≡ Some m.o = found in cc)
       with_own i k x xs (y ∷ ys) m number_is is found e =
           let y_is : y ≡ m.o = same_Some y m.o found in
-          let asks : asked y.doing ≡ asked x.doing = ap (λ (z : AnyOperation T). asked z.doing) y_is ∙ ap (λ (z : AnyOperation T). asked z.doing) m.same in
-          let own_is : y.client ≡ client = ap (λ (z : AnyOperation T). z.client) y_is ∙ (ap (λ (z : AnyOperation T). z.client) m.same ∙ is) in
+          let asks : asked y.doing ≡ asked x.doing = ap (λ (z : Operation T). asked z.doing) y_is ∙ ap (λ (z : Operation T). asked z.doing) m.same in
+          let own_is : y.client ≡ client = ap (λ (z : Operation T). z.client) y_is ∙ (ap (λ (z : Operation T). z.client) m.same ∙ is) in
           let one : left_loose i (asked x.doing) ≡ map ren (left_loose k (asked y.doing)) = sym (ren_left k (asked y.doing) ∙ (ap (λ (n : ℕ). left_loose n (asked y.doing)) number_is ∙ ap (left_loose i) asks)) in
           rw (eq-eqb x.client client is, eq-eqb y.client client own_is) (ap (λ (ls : List (ℕ × Request)). ls ++ all_left_loose client (i + 1) (seen_operations xs)) one ∙ (ap (λ (ls : List (ℕ × Request)). map ren (left_loose k (asked y.doing)) ++ ls) e ∙ sym (map-append ren (left_loose k (asked y.doing)) (all_left_loose client (k + 1) (seen_operations ys)))))
 

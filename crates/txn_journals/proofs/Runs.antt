@@ -5,14 +5,14 @@ use Rattle.txn_store.specs.Store.{State as StoreState}
 use Rattle.txn_store.specs.Requests.{Serves}
 use Rattle.txn_store.specs.declared.request.Request.{Request}
 use Rattle.txn_history.specs.Lists.{numbered}
-use Rattle.txn_view_history.specs.declared.event.AnyAnswer.{AnyAnswer}
-use Rattle.txn_view_history.specs.Trace.{AnyRow}
-use Rattle.txn_view_history.specs.OneHistory.{IsOneHistory}
-use Rattle.txn_view_history.specs.Views.{ViewsFit}
-use Rattle.txn_view_history.specs.Laws.{HasOneClaimer}
-use Rattle.txn_any_machine.specs.Machine.{State, opening, seen_views}
-use Rattle.txn_any_machine.proofs.Reached.{run_reaches_or_lacking, reached_history, reached_views, reached_claims}
-use Rattle.txn_machine.specs.Machine.{no_caches}
+use Rattle.txn_history.specs.declared.event.Answer.{Answer}
+use Rattle.txn_history.specs.Trace.{Row}
+use Rattle.txn_history.specs.OneHistory.{IsOneHistory}
+use Rattle.txn_history.specs.Views.{ViewsFit}
+use Rattle.txn_history.specs.Laws.{HasOneClaimer}
+use Rattle.txn_machine.specs.Machine.{State, opening, seen_views}
+use Rattle.txn_machine.proofs.Reached.{run_reaches_or_lacking, reached_history, reached_views, reached_claims}
+use Rattle.txn_machine_inner.specs.Machine.{no_caches}
 use Rattle.txn_journals.specs.declared.rows.LogRow.{LogRow}
 use Rattle.txn_journals.specs.declared.rows.Act.TheVariants as acts
 use Rattle.txn_journals.specs.declared.rows.Step.{Step}
@@ -112,7 +112,7 @@ module _ {T : Type 0} (page : ℕ) (encode : T → List ℕ) (decode : List ℕ 
 module _ {T : Type 0} (page : ℕ) (encode : T → List ℕ) (decode : List ℕ → Option T) (get_epoch : T → ℕ) (set_epoch : T → ℕ → T) (law : History page encode decode get_epoch set_epoch) (room : 1 ≤ page) where
   -- one more row
   next : (clients : ℕ) (m : Merged T) (was parts : ℕ → Part T) (before store : StoreState) (s : State T) → Stage page encode decode get_epoch set_epoch clients m was before s → IsLog (log_of m) before → (client : ℕ) → client ≤ clients → ((d : ℕ) → client ≢ d → was d ≡ parts d) →
-      (step : Step T) (answer : Option (AnyAnswer T)) → Follows page encode decode get_epoch set_epoch client (was client) step answer (parts client) → Gets page encode decode get_epoch set_epoch step before store →
+      (step : Step T) (answer : Option (Answer T)) → Follows page encode decode get_epoch set_epoch client (was client) step answer (parts client) → Gets page encode decode get_epoch set_epoch step before store →
       (s2 : State T) × Stage page encode decode get_epoch set_epoch clients (Did client (record { step = step; answer = answer }) ∷ m) parts store s2
   next clients m was parts before store s g log client le same (steps.Begin call) answer v gets =
       subst (λ (now : StoreState). (s2 : State T) × Stage page encode decode get_epoch set_epoch clients (Did client (record { step = steps.Begin call; answer = answer }) ∷ m) parts now s2) (sym gets) (new_more page encode decode get_epoch set_epoch law room clients m was parts before s g client le same call answer v)
@@ -199,9 +199,9 @@ module _ {T : Type 0} (page : ℕ) (encode : T → List ℕ) (decode : List ℕ 
         operations = λ client k operation is. (g.tied client).ops.each k operation is;
         all_views = g.all_views;
         views = λ client k used is. (g.tied client).seen.each k used is;
-        one_history = subst (λ (rows : List (AnyRow T)). IsOneHistory decode get_epoch set_epoch (failed_of m) rows) g.trace (subst (λ (failed : List ℕ). IsOneHistory decode get_epoch set_epoch failed s.trace) g.failed (reached_history encode decode get_epoch set_epoch s r));
-        views_fit = subst (λ (rows : List (AnyRow T)). ViewsFit decode get_epoch rows (seen_views s.views)) g.trace (reached_views encode decode get_epoch set_epoch s r);
-        one_claimer = subst (λ (rows : List (AnyRow T)). HasOneClaimer rows) g.trace (reached_claims encode decode get_epoch set_epoch s r);
+        one_history = subst (λ (rows : List (Row T)). IsOneHistory decode get_epoch set_epoch (failed_of m) rows) g.trace (subst (λ (failed : List ℕ). IsOneHistory decode get_epoch set_epoch failed s.trace) g.failed (reached_history encode decode get_epoch set_epoch s r));
+        views_fit = subst (λ (rows : List (Row T)). ViewsFit decode get_epoch rows (seen_views s.views)) g.trace (reached_views encode decode get_epoch set_epoch s r);
+        one_claimer = subst (λ (rows : List (Row T)). HasOneClaimer rows) g.trace (reached_claims encode decode get_epoch set_epoch s r);
       }
 
   -- each beginning of a merged list is one

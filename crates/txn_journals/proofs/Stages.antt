@@ -17,17 +17,17 @@ use Rattle.txn_history.specs.Seen.{Ask, Store, Look}
 use Rattle.txn_history.specs.GoesOn.{may_be_loose, as_loose, all_left_loose}
 use Rattle.txn_history.specs.Allowed.{is_client, ask_fault}
 use Rattle.txn_history.specs.Added.{told_of, answer_rows, effect_rows}
-use Rattle.txn_machine.specs.Machine.{effect_of}
-use Rattle.txn_view_history.specs.declared.event.AnyCall.{AnyCall}
-use Rattle.txn_view_history.specs.declared.event.AnyAnswer.{AnyAnswer}
-use Rattle.txn_view_history.specs.Trace.{AnyRow, AnyEvent, AnyTold}
-use Rattle.txn_view_history.specs.Calls.{view_used}
-use Rattle.txn_view_history.specs.OneHistory.{IsOneHistory}
-use Rattle.txn_any_machine.specs.declared.doing.AnyOperation.{AnyOperation}
-use Rattle.txn_any_machine.specs.Doing.{ended, refused, asked, started, caches_left, Turns}
-use Rattle.txn_any_machine.specs.Machine.{State, opening, seen_view, used_by, seen_operations, acted, effected, loosened, failing, given_up, crashed, answered, begun_as, next_op, TakesOrLacks, RunsOrLacks, IsReached}
-use Rattle.txn_any_machine.proofs.Busy.{seen_asks}
-use Rattle.txn_any_machine.proofs.Runs.{runs_more_or_lacking}
+use Rattle.txn_machine_inner.specs.Machine.{effect_of}
+use Rattle.txn_history.specs.declared.event.Call.{Call}
+use Rattle.txn_history.specs.declared.event.Answer.{Answer}
+use Rattle.txn_history.specs.Trace.{Row, Event, Told}
+use Rattle.txn_history.specs.Calls.{view_used}
+use Rattle.txn_history.specs.OneHistory.{IsOneHistory}
+use Rattle.txn_machine.specs.declared.doing.Operation.{Operation}
+use Rattle.txn_machine.specs.Doing.{ended, refused, asked, started, caches_left, Turns}
+use Rattle.txn_machine.specs.Machine.{State, opening, seen_view, used_by, seen_operations, acted, effected, loosened, failing, given_up, crashed, answered, begun_as, next_op, TakesOrLacks, RunsOrLacks, IsReached}
+use Rattle.txn_machine.proofs.Busy.{seen_asks}
+use Rattle.txn_machine.proofs.Runs.{runs_more_or_lacking}
 use Rattle.txn_journals.specs.declared.rows.Receipt.{Receipt}
 use Rattle.txn_journals.specs.declared.rows.Act.TheVariants as acts
 use Rattle.txn_journals.specs.declared.rows.Left.{Left}
@@ -53,7 +53,7 @@ use Rattle.txn_journals.proofs.Begins.{begun_answer, begun_own, begun_other, beg
 module _ {T : Type 0} (page : ℕ) (encode : T → List ℕ) (decode : List ℕ → Option T) (get_epoch : T → ℕ) (set_epoch : T → ℕ → T) where
   -- what every run has
   abbrev pub History : Type 0
-  History = (clients page : ℕ) (taken : List (AnyEvent T × AnyTold T)) (state : State T) → 1 ≤ page → RunsOrLacks encode decode get_epoch set_epoch (opening clients page) taken state → IsOneHistory decode get_epoch set_epoch state.failed state.trace
+  History = (clients page : ℕ) (taken : List (Event T × Told T)) (state : State T) → 1 ≤ page → RunsOrLacks encode decode get_epoch set_epoch (opening clients page) taken state → IsOneHistory decode get_epoch set_epoch state.failed state.trace
 
   pub record Stage (clients : ℕ) (m : Merged T) (parts : ℕ → Part T) (store : StoreState) (s : State T) : Type 0 where
     pub runs : RunsOrLacks encode decode get_epoch set_epoch (opening clients page) (taken_of m) s
@@ -69,7 +69,7 @@ module _ {T : Type 0} (page : ℕ) (encode : T → List ℕ) (decode : List ℕ 
     pub above : (client : ℕ) → 1 ≤ count client (begins_of m) → 1 ≤ client
     pub tied : (client : ℕ) → TiedTo decode get_epoch s client (parts client) (begins_of m) (views_of m)
 
-  abbrev pub row_of : Step T → Option (AnyAnswer T) → JournalRow T
+  abbrev pub row_of : Step T → Option (Answer T) → JournalRow T
   row_of step answer = record { step = step; answer = answer }
 
   -- a client's own, and others
@@ -98,11 +98,11 @@ module _ {T : Type 0} (page : ℕ) (encode : T → List ℕ) (decode : List ℕ 
 
   -- an operation of the client
 
-  module _ (k : ℕ) (o : AnyOperation T) (found : numbered part.operations k ≡ Some o) (ask : Ask) (asks : asked o.doing ≡ Some ask) where
+  module _ (k : ℕ) (o : Operation T) (found : numbered part.operations k ≡ Some o) (ask : Ask) (asks : asked o.doing ≡ Some ask) where
     abbrev n : ℕ
     n = number begins client k
 
-    abbrev op' : AnyOperation T
+    abbrev op' : Operation T
     op' = named_op (number views client) o
 
     there : numbered s.operations n ≡ Some op'
@@ -120,19 +120,19 @@ module _ {T : Type 0} (page : ℕ) (encode : T → List ℕ) (decode : List ℕ 
     kept_by : numbered s.caches o.client ≡ Some part.caches
     kept_by = subst (λ (c : ℕ). numbered s.caches c ≡ Some part.caches) (sym owner) kept
 
-    asks_there : Rattle.txn_history.specs.Seen.asks_of (Rattle.txn_any_machine.specs.Machine.seen_calls s) n ≡ Some ask
+    asks_there : Rattle.txn_history.specs.Seen.asks_of (Rattle.txn_machine.specs.Machine.seen_calls s) n ≡ Some ask
     asks_there = seen_asks s.operations n op' there ∙ asks
 
   -- a look
 
-  module _ (k : ℕ) (answer : Option (AnyAnswer T)) (v : TakesTurn page encode decode get_epoch set_epoch part k Look None answer (parts client)) where
+  module _ (k : ℕ) (answer : Option (Answer T)) (v : TakesTurn page encode decode get_epoch set_epoch part k Look None answer (parts client)) where
     abbrev look_now : State T
     look_now = acted s (n k v.operation v.found Look v.asks) (op' k v.operation v.found Look v.asks) v.next (caches_left v.operation.doing part.caches v.next.1)
 
     abbrev look_n : ℕ
     look_n = number begins client k
 
-    abbrev look_answer : Option (AnyAnswer T)
+    abbrev look_answer : Option (Answer T)
     look_answer = answer_in part v.operation v.next
 
     look_says : answered (length s.views) (option_map (number views client) v.operation.view) v.next.1 ≡ told_in m client look_answer
@@ -163,12 +163,12 @@ module _ {T : Type 0} (page : ℕ) (encode : T → List ℕ) (decode : List ℕ 
           runs = look_runs;
           clients_is = g.clients_is;
           page_is = g.page_is;
-          trace = ap (λ (a : Option (AnyAnswer T)). s.trace ++ answer_rows look_n a) look_says ∙ ap (λ (rows : List (AnyRow T)). rows ++ answer_rows look_n (told_in m client look_answer)) g.trace;
+          trace = ap (λ (a : Option (Answer T)). s.trace ++ answer_rows look_n a) look_says ∙ ap (λ (rows : List (Row T)). rows ++ answer_rows look_n (told_in m client look_answer)) g.trace;
           failed = g.failed;
           loose = g.loose;
           lefts = lefts_look client k look_answer m g.lefts;
           store_is = g.store_is;
-          all_operations = Rattle.std.proofs.lemmas.List.length-set s.operations (look_n - 1) (Rattle.txn_any_machine.specs.Machine.doing_next (op' k v.operation v.found Look v.asks) v.next.0) ∙ g.all_operations;
+          all_operations = Rattle.std.proofs.lemmas.List.length-set s.operations (look_n - 1) (Rattle.txn_machine.specs.Machine.doing_next (op' k v.operation v.found Look v.asks) v.next.0) ∙ g.all_operations;
           all_views = turn_size decode get_epoch set_epoch s.failed s client part begins views g.all_views t k v.operation v.found v.next (caches_left v.operation.doing part.caches v.next.1) one;
           above = g.above;
           tied = both page encode decode get_epoch set_epoch (λ d. TiedTo decode get_epoch look_now d (parts d) begins (with_view client look_answer views)) client
@@ -177,11 +177,11 @@ module _ {T : Type 0} (page : ℕ) (encode : T → List ℕ) (decode : List ℕ 
         }
 
     pub look_more : (s2 : State T) × Stage page encode decode get_epoch set_epoch clients (Did client (row_of page encode decode get_epoch set_epoch (steps.Act k acts.Look) answer) ∷ m) parts store s2
-    look_more = (look_now, subst (λ (a : Option (AnyAnswer T)). Stage page encode decode get_epoch set_epoch clients (Did client (row_of page encode decode get_epoch set_epoch (steps.Act k acts.Look) a) ∷ m) parts store look_now) (sym v.tells) look_stage)
+    look_more = (look_now, subst (λ (a : Option (Answer T)). Stage page encode decode get_epoch set_epoch clients (Did client (row_of page encode decode get_epoch set_epoch (steps.Act k acts.Look) a) ∷ m) parts store look_now) (sym v.tells) look_stage)
 
   -- a receipt
 
-  module _ (k : ℕ) (receipt : Receipt) (answer : Option (AnyAnswer T)) (v : TakesTurn page encode decode get_epoch set_epoch part k (Store receipt.request) (Some receipt.reply) answer (parts client)) (after : StoreState) (log : IsLog (log_of m) store) (serves : Serves receipt.request store receipt.reply after)
+  module _ (k : ℕ) (receipt : Receipt) (answer : Option (Answer T)) (v : TakesTurn page encode decode get_epoch set_epoch part k (Store receipt.request) (Some receipt.reply) answer (parts client)) (after : StoreState) (log : IsLog (log_of m) store) (serves : Serves receipt.request store receipt.reply after)
       (honest : after.failures ≡ 0) where
     abbrev ask : Ask
     ask = Store receipt.request
@@ -189,7 +189,7 @@ module _ {T : Type 0} (page : ℕ) (encode : T → List ℕ) (decode : List ℕ 
     abbrev got_n : ℕ
     got_n = number begins client k
 
-    abbrev got_op : AnyOperation T
+    abbrev got_op : Operation T
     got_op = op' k v.operation v.found ask v.asks
 
     abbrev served : State T
@@ -198,7 +198,7 @@ module _ {T : Type 0} (page : ℕ) (encode : T → List ℕ) (decode : List ℕ 
     abbrev got_now : State T
     got_now = acted served got_n got_op v.next (caches_left v.operation.doing part.caches v.next.1)
 
-    abbrev got_answer : Option (AnyAnswer T)
+    abbrev got_answer : Option (Answer T)
     got_answer = answer_in part v.operation v.next
 
     t1 : (d : ℕ) → TiedTo decode get_epoch served d (was d) begins views
@@ -237,7 +237,7 @@ module _ {T : Type 0} (page : ℕ) (encode : T → List ℕ) (decode : List ℕ 
     files_are : s.store.files ≡ files_of (log_of m)
     files_are = ap (λ (x : StoreState). x.files) g.store_is ∙ log_files (log_of m) store log
 
-    abbrev got_rows : List (AnyRow T) → Files → List (AnyRow T)
+    abbrev got_rows : List (Row T) → Files → List (Row T)
     got_rows rows files = rows ++ effect_rows got_n (effect_of files receipt.request receipt.reply)
 
     got_stage : Stage page encode decode get_epoch set_epoch clients (Did client (row_of page encode decode get_epoch set_epoch got_step got_answer) ∷ m) parts after got_now
@@ -247,13 +247,13 @@ module _ {T : Type 0} (page : ℕ) (encode : T → List ℕ) (decode : List ℕ 
           runs = got_runs;
           clients_is = g.clients_is;
           page_is = g.page_is;
-          trace = ap (λ (a : Option (AnyAnswer T)). got_rows s.trace s.store.files ++ answer_rows got_n a) got_says
-              ∙ (ap (λ (rows : List (AnyRow T)). got_rows rows s.store.files ++ answer_rows got_n (told_in m client got_answer)) g.trace ∙ ap (λ (files : Files). got_rows (trace_of m) files ++ answer_rows got_n (told_in m client got_answer)) files_are);
+          trace = ap (λ (a : Option (Answer T)). got_rows s.trace s.store.files ++ answer_rows got_n a) got_says
+              ∙ (ap (λ (rows : List (Row T)). got_rows rows s.store.files ++ answer_rows got_n (told_in m client got_answer)) g.trace ∙ ap (λ (files : Files). got_rows (trace_of m) files ++ answer_rows got_n (told_in m client got_answer)) files_are);
           failed = g.failed;
           loose = g.loose;
           lefts = lefts_got client k receipt got_answer m g.lefts;
           store_is = refl;
-          all_operations = Rattle.std.proofs.lemmas.List.length-set s.operations (got_n - 1) (Rattle.txn_any_machine.specs.Machine.doing_next got_op v.next.0) ∙ g.all_operations;
+          all_operations = Rattle.std.proofs.lemmas.List.length-set s.operations (got_n - 1) (Rattle.txn_machine.specs.Machine.doing_next got_op v.next.0) ∙ g.all_operations;
           all_views = turn_size decode get_epoch set_epoch s.failed served client part begins views g.all_views (t1 client) k v.operation v.found v.next (caches_left v.operation.doing part.caches v.next.1) got_one;
           above = g.above;
           tied = both page encode decode get_epoch set_epoch (λ d. TiedTo decode get_epoch got_now d (parts d) begins (with_view client got_answer views)) client
@@ -262,15 +262,15 @@ module _ {T : Type 0} (page : ℕ) (encode : T → List ℕ) (decode : List ℕ 
         }
 
     pub got_more : (s2 : State T) × Stage page encode decode get_epoch set_epoch clients (Did client (row_of page encode decode get_epoch set_epoch got_step answer) ∷ m) parts after s2
-    got_more = (got_now, subst (λ (a : Option (AnyAnswer T)). Stage page encode decode get_epoch set_epoch clients (Did client (row_of page encode decode get_epoch set_epoch got_step a) ∷ m) parts after got_now) (sym v.tells) got_stage)
+    got_more = (got_now, subst (λ (a : Option (Answer T)). Stage page encode decode get_epoch set_epoch clients (Did client (row_of page encode decode get_epoch set_epoch got_step a) ∷ m) parts after got_now) (sym v.tells) got_stage)
 
   -- a give-up
 
-  module _ (k : ℕ) (left : Option Request) (answer : Option (AnyAnswer T)) (v : GivesUp part k left answer (parts client)) where
+  module _ (k : ℕ) (left : Option Request) (answer : Option (Answer T)) (v : GivesUp part k left answer (parts client)) where
     abbrev left_n : ℕ
     left_n = number begins client k
 
-    abbrev left_op : AnyOperation T
+    abbrev left_op : Operation T
     left_op = op' k v.operation v.found v.ask v.asks
 
     abbrev left_now : State T
@@ -296,7 +296,7 @@ module _ {T : Type 0} (page : ℕ) (encode : T → List ℕ) (decode : List ℕ 
           loose = ap (λ (rows : List (ℕ × Request)). rows ++ as_loose left_n (may_be_loose v.ask)) g.loose ∙ ap (λ (r : Option Request). loose_of m ++ as_loose left_n r) (sym v.leaves);
           lefts = lefts_given client k left None m (op_within s.operations part.operations client begins views t.ops k v.operation v.found) g.lefts;
           store_is = g.store_is;
-          all_operations = Rattle.std.proofs.lemmas.List.length-set s.operations (left_n - 1) (Rattle.txn_any_machine.specs.Machine.doing_next left_op ended) ∙ g.all_operations;
+          all_operations = Rattle.std.proofs.lemmas.List.length-set s.operations (left_n - 1) (Rattle.txn_machine.specs.Machine.doing_next left_op ended) ∙ g.all_operations;
           all_views = left_size decode get_epoch s client part begins views t k v.operation v.found v.ask ∙ g.all_views;
           above = g.above;
           tied = both page encode decode get_epoch set_epoch (λ d. TiedTo decode get_epoch left_now d (parts d) begins views) client
@@ -305,15 +305,15 @@ module _ {T : Type 0} (page : ℕ) (encode : T → List ℕ) (decode : List ℕ 
         }
 
     pub left_more : (s2 : State T) × Stage page encode decode get_epoch set_epoch clients (Did client (row_of page encode decode get_epoch set_epoch left_step answer) ∷ m) parts store s2
-    left_more = (left_now, subst (λ (a : Option (AnyAnswer T)). Stage page encode decode get_epoch set_epoch clients (Did client (row_of page encode decode get_epoch set_epoch left_step a) ∷ m) parts store left_now) (sym v.tells) left_stage)
+    left_more = (left_now, subst (λ (a : Option (Answer T)). Stage page encode decode get_epoch set_epoch clients (Did client (row_of page encode decode get_epoch set_epoch left_step a) ∷ m) parts store left_now) (sym v.tells) left_stage)
 
   -- a failure
 
-  module _ (k : ℕ) (request : Request) (answer : Option (AnyAnswer T)) (v : FailsAt get_epoch part k request answer (parts client)) where
+  module _ (k : ℕ) (request : Request) (answer : Option (Answer T)) (v : FailsAt get_epoch part k request answer (parts client)) where
     abbrev fail_n : ℕ
     fail_n = number begins client k
 
-    abbrev fail_op : AnyOperation T
+    abbrev fail_op : Operation T
     fail_op = op' k v.operation v.found (Store request) v.asks
 
     abbrev fail_first : State T
@@ -322,7 +322,7 @@ module _ {T : Type 0} (page : ℕ) (encode : T → List ℕ) (decode : List ℕ 
     abbrev fail_now : State T
     fail_now = acted fail_first fail_n fail_op (refused 2) part.caches
 
-    abbrev fail_answer : Option (AnyAnswer T)
+    abbrev fail_answer : Option (Answer T)
     fail_answer = answer_in part v.operation (refused 2)
 
     t2 : (d : ℕ) → TiedTo decode get_epoch fail_first d (was d) begins views
@@ -334,7 +334,7 @@ module _ {T : Type 0} (page : ℕ) (encode : T → List ℕ) (decode : List ℕ 
     abbrev fail_step : Step T
     fail_step = steps.Act k (acts.Fails request)
 
-    abbrev fail_told : AnyTold T
+    abbrev fail_told : Told T
     fail_told = told_of (told.Went fail_n) fail_n (told_in m client fail_answer)
 
     fail_takes : TakesOrLacks encode decode get_epoch set_epoch s (events.Fail fail_n failures.Loose) fail_told fail_now
@@ -360,12 +360,12 @@ module _ {T : Type 0} (page : ℕ) (encode : T → List ℕ) (decode : List ℕ 
           runs = fail_runs;
           clients_is = g.clients_is;
           page_is = g.page_is;
-          trace = ap (λ (rows : List (AnyRow T)). rows ++ answer_rows fail_n (told_in m client fail_answer)) g.trace;
+          trace = ap (λ (rows : List (Row T)). rows ++ answer_rows fail_n (told_in m client fail_answer)) g.trace;
           failed = ap (λ (ops : List ℕ). ops ++ fail_n ∷ []) g.failed;
           loose = ap (λ (rows : List (ℕ × Request)). rows ++ as_loose fail_n (may_be_loose (Store request))) g.loose;
           lefts = lefts_failed client k request fail_answer m (op_within s.operations part.operations client begins views t.ops k v.operation v.found) g.lefts;
           store_is = g.store_is;
-          all_operations = Rattle.std.proofs.lemmas.List.length-set s.operations (fail_n - 1) (Rattle.txn_any_machine.specs.Machine.doing_next fail_op ended) ∙ g.all_operations;
+          all_operations = Rattle.std.proofs.lemmas.List.length-set s.operations (fail_n - 1) (Rattle.txn_machine.specs.Machine.doing_next fail_op ended) ∙ g.all_operations;
           all_views = turn_size decode get_epoch set_epoch fail_now.failed fail_first client part begins views g.all_views (t2 client) k v.operation v.found (refused 2) part.caches fail_one;
           above = g.above;
           tied = both page encode decode get_epoch set_epoch (λ d. TiedTo decode get_epoch fail_now d (parts d) begins (with_view client fail_answer views)) client
@@ -374,21 +374,21 @@ module _ {T : Type 0} (page : ℕ) (encode : T → List ℕ) (decode : List ℕ 
         }
 
     pub fail_more : (s2 : State T) × Stage page encode decode get_epoch set_epoch clients (Did client (row_of page encode decode get_epoch set_epoch fail_step answer) ∷ m) parts store s2
-    fail_more = (fail_now, subst (λ (a : Option (AnyAnswer T)). Stage page encode decode get_epoch set_epoch clients (Did client (row_of page encode decode get_epoch set_epoch fail_step a) ∷ m) parts store fail_now) (sym v.tells) fail_stage)
+    fail_more = (fail_now, subst (λ (a : Option (Answer T)). Stage page encode decode get_epoch set_epoch clients (Did client (row_of page encode decode get_epoch set_epoch fail_step a) ∷ m) parts store fail_now) (sym v.tells) fail_stage)
 
   -- a refusal for memory
 
-  module _ (k : ℕ) (answer : Option (AnyAnswer T)) (v : LacksAt get_epoch part k answer (parts client)) where
+  module _ (k : ℕ) (answer : Option (Answer T)) (v : LacksAt get_epoch part k answer (parts client)) where
     abbrev lack_n : ℕ
     lack_n = number begins client k
 
-    abbrev lack_op : AnyOperation T
+    abbrev lack_op : Operation T
     lack_op = op' k v.operation v.found (Store v.request) v.asks
 
     abbrev lack_now : State T
     lack_now = acted s lack_n lack_op (refused 9) part.caches
 
-    abbrev lack_answer : Option (AnyAnswer T)
+    abbrev lack_answer : Option (Answer T)
     lack_answer = answer_in part v.operation (refused 9)
 
     lack_one : 1 ≤ client
@@ -397,7 +397,7 @@ module _ {T : Type 0} (page : ℕ) (encode : T → List ℕ) (decode : List ℕ 
     abbrev lack_step : Step T
     lack_step = steps.Act k acts.Lacks
 
-    abbrev lack_told : AnyTold T
+    abbrev lack_told : Told T
     lack_told = told_of (told.Went lack_n) lack_n (told_in m client lack_answer)
 
     lack_takes : TakesOrLacks encode decode get_epoch set_epoch s (events.Serve lack_n) lack_told lack_now
@@ -423,12 +423,12 @@ module _ {T : Type 0} (page : ℕ) (encode : T → List ℕ) (decode : List ℕ 
           runs = lack_runs;
           clients_is = g.clients_is;
           page_is = g.page_is;
-          trace = ap (λ (rows : List (AnyRow T)). rows ++ answer_rows lack_n (told_in m client lack_answer)) g.trace;
+          trace = ap (λ (rows : List (Row T)). rows ++ answer_rows lack_n (told_in m client lack_answer)) g.trace;
           failed = g.failed;
           loose = g.loose;
           lefts = lefts_lacks client k lack_answer m g.lefts;
           store_is = g.store_is;
-          all_operations = Rattle.std.proofs.lemmas.List.length-set s.operations (lack_n - 1) (Rattle.txn_any_machine.specs.Machine.doing_next lack_op ended) ∙ g.all_operations;
+          all_operations = Rattle.std.proofs.lemmas.List.length-set s.operations (lack_n - 1) (Rattle.txn_machine.specs.Machine.doing_next lack_op ended) ∙ g.all_operations;
           all_views = turn_size decode get_epoch set_epoch s.failed s client part begins views g.all_views t k v.operation v.found (refused 9) part.caches lack_one;
           above = g.above;
           tied = both page encode decode get_epoch set_epoch (λ d. TiedTo decode get_epoch lack_now d (parts d) begins (with_view client lack_answer views)) client
@@ -437,11 +437,11 @@ module _ {T : Type 0} (page : ℕ) (encode : T → List ℕ) (decode : List ℕ 
         }
 
     pub lack_more : (s2 : State T) × Stage page encode decode get_epoch set_epoch clients (Did client (row_of page encode decode get_epoch set_epoch lack_step answer) ∷ m) parts store s2
-    lack_more = (lack_now, subst (λ (a : Option (AnyAnswer T)). Stage page encode decode get_epoch set_epoch clients (Did client (row_of page encode decode get_epoch set_epoch lack_step a) ∷ m) parts store lack_now) (sym v.tells) lack_stage)
+    lack_more = (lack_now, subst (λ (a : Option (Answer T)). Stage page encode decode get_epoch set_epoch clients (Did client (row_of page encode decode get_epoch set_epoch lack_step a) ∷ m) parts store lack_now) (sym v.tells) lack_stage)
 
   -- a kill
 
-  module _ (lefts : Vec Left Global) (answer : Option (AnyAnswer T)) (v : IsKilled client part lefts.items answer (parts client)) where
+  module _ (lefts : Vec Left Global) (answer : Option (Answer T)) (v : IsKilled client part lefts.items answer (parts client)) where
     abbrev kill_now : State T
     kill_now = crashed s client
 
@@ -469,8 +469,8 @@ module _ {T : Type 0} (page : ℕ) (encode : T → List ℕ) (decode : List ℕ 
           loose = ap (λ (rows : List (ℕ × Request)). s.loose ++ rows) left_so ∙ ap (λ (rows : List (ℕ × Request)). rows ++ map (λ left. (op_in m client left.op, left.request)) lefts.items) g.loose;
           lefts = lefts_killed client lefts None m (killed_within decode get_epoch s client begins views part t lefts.items v.leaves) g.lefts;
           store_is = g.store_is;
-          all_operations = length-map s.operations (Rattle.txn_any_machine.specs.Machine.ended_by client) ∙ g.all_operations;
-          all_views = length-map s.views (Rattle.txn_view_machine.specs.Steps.view_without client) ∙ g.all_views;
+          all_operations = length-map s.operations (Rattle.txn_machine.specs.Machine.ended_by client) ∙ g.all_operations;
+          all_views = length-map s.views (Rattle.txn_machine_views.specs.Steps.view_without client) ∙ g.all_views;
           above = g.above;
           tied = both page encode decode get_epoch set_epoch (λ d. TiedTo decode get_epoch kill_now d (parts d) begins views) client
               (subst (λ (p : Part T). TiedTo decode get_epoch kill_now client p begins views) (sym v.part) (killed_own decode get_epoch s client begins views part t))
@@ -478,18 +478,18 @@ module _ {T : Type 0} (page : ℕ) (encode : T → List ℕ) (decode : List ℕ 
         }
 
     pub kill_more : (s2 : State T) × Stage page encode decode get_epoch set_epoch clients (Did client (row_of page encode decode get_epoch set_epoch (steps.Killed lefts) answer) ∷ m) parts store s2
-    kill_more = (kill_now, subst (λ (a : Option (AnyAnswer T)). Stage page encode decode get_epoch set_epoch clients (Did client (row_of page encode decode get_epoch set_epoch (steps.Killed lefts) a) ∷ m) parts store kill_now) (sym v.tells) kill_stage)
+    kill_more = (kill_now, subst (λ (a : Option (Answer T)). Stage page encode decode get_epoch set_epoch clients (Did client (row_of page encode decode get_epoch set_epoch (steps.Killed lefts) a) ∷ m) parts store kill_now) (sym v.tells) kill_stage)
 
   -- a begin
 
-  module _ (call : AnyCall T) (answer : Option (AnyAnswer T)) (v : Begins page encode decode get_epoch set_epoch client part call answer (parts client)) where
-    abbrev new_call : AnyCall T
+  module _ (call : Call T) (answer : Option (Answer T)) (v : Begins page encode decode get_epoch set_epoch client part call answer (parts client)) where
+    abbrev new_call : Call T
     new_call = named_call (number views client) call
 
     abbrev new_now : State T
     new_now = begun_as s client new_call v.next
 
-    abbrev new_answer : Option (AnyAnswer T)
+    abbrev new_answer : Option (Answer T)
     new_answer = answered (length part.views) (view_used call) v.next.1
 
     has : (w : ℕ) → view_used call ≡ Some w → IsWithin w (count client views)
@@ -513,7 +513,7 @@ module _ {T : Type 0} (page : ℕ) (encode : T → List ℕ) (decode : List ℕ 
         next = v.next;
         starts = v.starts ∙ (starts_named page encode decode get_epoch set_epoch (number views client) call (seen_view (used_by part.views (view_used call)))
             ∙ (ap (started page encode get_epoch set_epoch new_call) (sym (now_same encode decode get_epoch set_epoch s reached client part begins views t call v.permits))
-            ∙ ap (λ (p : ℕ). started p encode get_epoch set_epoch new_call (Rattle.txn_any_machine.specs.Machine.view_now s new_call)) (sym g.page_is)));
+            ∙ ap (λ (p : ℕ). started p encode get_epoch set_epoch new_call (Rattle.txn_machine.specs.Machine.view_now s new_call)) (sym g.page_is)));
         made = v.made;
         tells = ap (λ n. told_of (told.Began n) n (told_in m client new_answer)) (sym next_is) ∙ ap (told_of (told.Began (next_op s)) (next_op s)) (sym new_says);
         state = refl;
@@ -532,8 +532,8 @@ module _ {T : Type 0} (page : ℕ) (encode : T → List ℕ) (decode : List ℕ 
           runs = runs_more_or_lacking encode decode get_epoch set_epoch (opening clients page) (taken_of m) s (events.Begin client new_call) (told_of (told.Began (next_in m)) (next_in m) (told_in m client new_answer)) new_now g.runs new_takes;
           clients_is = g.clients_is;
           page_is = g.page_is;
-          trace = ap (λ (a : Option (AnyAnswer T)). (s.trace ++ Begun (next_op s) new_call ∷ []) ++ answer_rows (next_op s) a) new_says
-              ∙ (ap (λ n. (s.trace ++ Begun n new_call ∷ []) ++ answer_rows n (told_in m client new_answer)) next_is ∙ ap (λ (rows : List (AnyRow T)). (rows ++ Begun (next_in m) new_call ∷ []) ++ answer_rows (next_in m) (told_in m client new_answer)) g.trace);
+          trace = ap (λ (a : Option (Answer T)). (s.trace ++ Begun (next_op s) new_call ∷ []) ++ answer_rows (next_op s) a) new_says
+              ∙ (ap (λ n. (s.trace ++ Begun n new_call ∷ []) ++ answer_rows n (told_in m client new_answer)) next_is ∙ ap (λ (rows : List (Row T)). (rows ++ Begun (next_in m) new_call ∷ []) ++ answer_rows (next_in m) (told_in m client new_answer)) g.trace);
           failed = g.failed;
           loose = g.loose;
           lefts = lefts_begin client call new_answer m g.lefts;
@@ -550,7 +550,7 @@ module _ {T : Type 0} (page : ℕ) (encode : T → List ℕ) (decode : List ℕ 
         }
 
     pub new_more : (s2 : State T) × Stage page encode decode get_epoch set_epoch clients (Did client (row_of page encode decode get_epoch set_epoch (steps.Begin call) answer) ∷ m) parts store s2
-    new_more = (new_now, subst (λ (a : Option (AnyAnswer T)). Stage page encode decode get_epoch set_epoch clients (Did client (row_of page encode decode get_epoch set_epoch (steps.Begin call) a) ∷ m) parts store new_now) (sym v.tells) new_stage)
+    new_more = (new_now, subst (λ (a : Option (Answer T)). Stage page encode decode get_epoch set_epoch clients (Did client (row_of page encode decode get_epoch set_epoch (steps.Begin call) a) ∷ m) parts store new_now) (sym v.tells) new_stage)
 
 -- A landing.
 module _ {T : Type 0} (page : ℕ) (encode : T → List ℕ) (decode : List ℕ → Option T) (get_epoch : T → ℕ) (set_epoch : T → ℕ → T) (clients : ℕ) (m : Merged T) (parts : ℕ → Part T) (store : StoreState) (s : State T) (g : Stage page encode decode get_epoch set_epoch clients m parts store s)
@@ -570,7 +570,7 @@ module _ {T : Type 0} (page : ℕ) (encode : T → List ℕ) (decode : List ℕ 
   land_there : numbered s.loose land_k ≡ Some (land_n, landing.request)
   land_there = ap (λ (rows : List (ℕ × Request)). numbered rows land_k) g.loose ∙ (g.lefts landing.client landing.op landing.request lands.0).at
 
-  abbrev land_told : Files → AnyTold T
+  abbrev land_told : Files → Told T
   land_told files = told.Landed land_k (is_some (effect_of files landing.request landing.reply))
 
   land_takes : TakesOrLacks encode decode get_epoch set_epoch s (events.Land land_k) (land_told (files_of (log_of m))) land_now
@@ -589,7 +589,7 @@ module _ {T : Type 0} (page : ℕ) (encode : T → List ℕ) (decode : List ℕ 
     };
   }
 
-  abbrev land_rows : List (AnyRow T) → Files → List (AnyRow T)
+  abbrev land_rows : List (Row T) → Files → List (Row T)
   land_rows rows files = rows ++ effect_rows land_n (effect_of files landing.request landing.reply)
 
   land_stage : Stage page encode decode get_epoch set_epoch clients (Lands landing ∷ m) parts after land_now
@@ -598,7 +598,7 @@ module _ {T : Type 0} (page : ℕ) (encode : T → List ℕ) (decode : List ℕ 
         runs = runs_more_or_lacking encode decode get_epoch set_epoch (opening clients page) (taken_of m) s (events.Land land_k) (land_told (files_of (log_of m))) land_now g.runs land_takes;
         clients_is = g.clients_is;
         page_is = g.page_is;
-        trace = ap (λ (rows : List (AnyRow T)). land_rows rows s.store.files) g.trace ∙ ap (λ (files : Files). land_rows (trace_of m) files) land_files;
+        trace = ap (λ (rows : List (Row T)). land_rows rows s.store.files) g.trace ∙ ap (λ (files : Files). land_rows (trace_of m) files) land_files;
         failed = g.failed;
         loose = g.loose;
         lefts = λ client op request e. (let old = g.lefts client op request e in record { within = old.within; at = old.at });

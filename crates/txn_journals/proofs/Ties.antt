@@ -4,22 +4,22 @@ use Rattle.txn_store.specs.Store.{State as StoreState}
 use Rattle.txn_store.specs.declared.request.Request.{Request}
 use Rattle.txn_store.specs.declared.request.Reply.{Reply}
 use Rattle.txn_caches.specs.declared.caches.Caches.{Caches}
-use Rattle.txn_history.specs.declared.event.Call.TheVariants as calls
+use Rattle.txn_history.specs.declared.event.PlainCall.TheVariants as calls
 use Rattle.txn_history.specs.declared.trace.RowOf.TheVariants.{Begun, Answered}
 use Rattle.txn_history.specs.Lists.{numbered}
 use Rattle.txn_history.specs.Seen.{Ask}
 use Rattle.txn_history.specs.Added.{answer_rows, effect_rows}
 use Rattle.txn_history.proofs.Lists.{get_kept, get_last}
-use Rattle.txn_machine.specs.Machine.{effect_of}
-use Rattle.txn_machine.proofs.Lists.{numbered_here, numbered_other}
-use Rattle.txn_view_history.specs.declared.event.AnyCall.{AnyCall}
-use Rattle.txn_view_history.specs.declared.event.AnyCall.TheVariants as any
-use Rattle.txn_view_history.specs.declared.event.AnyAnswer.{AnyAnswer}
-use Rattle.txn_view_history.specs.Trace.{AnyRow}
-use Rattle.txn_view_history.specs.OneHistory.{IsOneHistory}
-use Rattle.txn_any_machine.specs.declared.doing.AnyOperation.{AnyOperation}
-use Rattle.txn_any_machine.specs.Doing.{Next, ended}
-use Rattle.txn_any_machine.specs.Machine.{State, let_go, views_after, views_taken, answered, acted, effected, loosened, failing, given_up, new_operation, next_op, begun_as}
+use Rattle.txn_machine_inner.specs.Machine.{effect_of}
+use Rattle.txn_machine_inner.proofs.Lists.{numbered_here, numbered_other}
+use Rattle.txn_history.specs.declared.event.Call.{Call}
+use Rattle.txn_history.specs.declared.event.Call.TheVariants as any
+use Rattle.txn_history.specs.declared.event.Answer.{Answer}
+use Rattle.txn_history.specs.Trace.{Row}
+use Rattle.txn_history.specs.OneHistory.{IsOneHistory}
+use Rattle.txn_machine.specs.declared.doing.Operation.{Operation}
+use Rattle.txn_machine.specs.Doing.{Next, ended}
+use Rattle.txn_machine.specs.Machine.{State, let_go, views_after, views_taken, answered, acted, effected, loosened, failing, given_up, new_operation, next_op, begun_as}
 use Rattle.txn_journals.specs.Parts as diary
 use Rattle.txn_journals.specs.Parts.{Part, note_of, written_in, epoch_written, answer_in}
 use Rattle.txn_journals.specs.Numbers.{count, number, number_or_next}
@@ -43,7 +43,7 @@ module _ {T : Type 0} (decode : List ℕ → Option T) (get_epoch : T → ℕ) w
 
   pub effected_tied : (s : State T) (op : ℕ) (request : Request) (reply : Reply) (store : StoreState) (client : ℕ) (part : Part T) (begins views : List ℕ) → TiedTo s client part begins views → TiedTo (effected s op request reply store) client part begins views
   effected_tied s op request reply store client part begins views t =
-      let more : List (AnyRow T) = effect_rows op (effect_of s.store.files request reply) in
+      let more : List (Row T) = effect_rows op (effect_of s.store.files request reply) in
       record {
         caches = t.caches;
         ops = t.ops;
@@ -75,9 +75,9 @@ module _ {T : Type 0} (decode : List ℕ → Option T) (get_epoch : T → ℕ) w
       by (Some written) is = t.writes k written is
 
   -- the begin of a checked write
-  pub begun_writes : (rows more : List (AnyRow T)) (n : ℕ) (names : ℕ → ℕ) (call : AnyCall T) → IfWrites decode get_epoch ((rows ++ Begun n (named_call names call) ∷ []) ++ more) n (epoch_written get_epoch call)
+  pub begun_writes : (rows more : List (Row T)) (n : ℕ) (names : ℕ → ℕ) (call : Call T) → IfWrites decode get_epoch ((rows ++ Begun n (named_call names call) ∷ []) ++ more) n (epoch_written get_epoch call)
   begun_writes rows more n names (any.Plain (calls.Write base value)) =
-      let row : AnyRow T = Begun n (any.Plain (calls.Write base value)) in
+      let row : Row T = Begun n (any.Plain (calls.Write base value)) in
       record { base = base; value = value; call = (length rows, get_kept (rows ++ row ∷ []) more (length rows) row (get_last rows row)); has = refl }
   begun_writes rows more n names (any.Plain (calls.WriteUnchecked base value)) = tt
   begun_writes rows more n names (any.Plain calls.Read) = tt
@@ -91,7 +91,7 @@ module _ {T : Type 0} (decode : List ℕ → Option T) (get_epoch : T → ℕ) w
 
 module _ {T : Type 0} (decode : List ℕ → Option T) (get_epoch : T → ℕ) (set_epoch : T → ℕ → T) (failed : List ℕ) where
   -- what an answer tells, if there is one
-  told_own : (rows : List (AnyRow T)) (n : ℕ) (names : ℕ → ℕ) (written : Option ℕ) (answer : Option (AnyAnswer T)) (told : List (ℕ × ℕ)) → IsOneHistory decode get_epoch set_epoch failed (rows ++ answer_rows n (option_map (named_answer names) answer)) → IfWrites decode get_epoch rows n written →
+  told_own : (rows : List (Row T)) (n : ℕ) (names : ℕ → ℕ) (written : Option ℕ) (answer : Option (Answer T)) (told : List (ℕ × ℕ)) → IsOneHistory decode get_epoch set_epoch failed (rows ++ answer_rows n (option_map (named_answer names) answer)) → IfWrites decode get_epoch rows n written →
       AreKnown decode get_epoch rows told → AreKnown decode get_epoch (rows ++ answer_rows n (option_map (named_answer names) answer)) (note_of get_epoch written answer ++ told)
   told_own rows n names written None told good w h = known_more decode get_epoch rows [] told h
   told_own rows n names written (Some answer) told good w h =
@@ -100,14 +100,14 @@ module _ {T : Type 0} (decode : List ℕ → Option T) (get_epoch : T → ℕ) (
 
 -- A turn of an operation.
 module _ {T : Type 0} (decode : List ℕ → Option T) (get_epoch : T → ℕ) (set_epoch : T → ℕ → T) (failed : List ℕ) (s : State T) (client : ℕ) (part : Part T) (begins views : List ℕ) (long : length s.views ≡ length views) (t : TiedTo decode get_epoch s client part begins views)
-    (k : ℕ) (o : AnyOperation T) (found : numbered part.operations k ≡ Some o) (next : Next T) (caches' : Caches) (is_client : 1 ≤ client) where
+    (k : ℕ) (o : Operation T) (found : numbered part.operations k ≡ Some o) (next : Next T) (caches' : Caches) (is_client : 1 ≤ client) where
   abbrev n : ℕ
   n = number begins client k
 
-  abbrev op' : AnyOperation T
+  abbrev op' : Operation T
   op' = named_op (number views client) o
 
-  abbrev answer : Option (AnyAnswer T)
+  abbrev answer : Option (Answer T)
   answer = answer_in part o next
 
   abbrev views' : List ℕ
@@ -127,7 +127,7 @@ module _ {T : Type 0} (decode : List ℕ → Option T) (get_epoch : T → ℕ) (
   turn_answer = answer_same s.views part.views client views o.view next.1 long t.seen.size has
 
   turn_rows : s'.trace ≡ s.trace ++ answer_rows n (option_map (named_answer (number_or_next views client)) answer)
-  turn_rows = ap (λ (a : Option (AnyAnswer T)). s.trace ++ answer_rows n a) turn_answer
+  turn_rows = ap (λ (a : Option (Answer T)). s.trace ++ answer_rows n a) turn_answer
 
   -- views and caches of the client that acts, who is the operation's
   turn_views : (c : ℕ) → c ≡ client → ViewsTied (views_after s.views c (option_map (number views client) o.view) o.claims next.1) (views_after part.views c o.view o.claims next.1) client begins views'
@@ -142,15 +142,15 @@ module _ {T : Type 0} (decode : List ℕ → Option T) (get_epoch : T → ℕ) (
         seen = turn_views o.client own;
         writes_size = t.writes_size;
         writes = λ j written is. writes_more decode get_epoch s.trace (answer_rows n (answered (length s.views) op'.view next.1)) (number begins client j) written (t.writes j written is);
-        told = subst (λ (rows : List (AnyRow T)). AreKnown decode get_epoch rows (note_of get_epoch (written_in (numbered part.writes k)) answer ++ part.told)) (sym turn_rows)
-            (told_own decode get_epoch set_epoch failed s.trace n (number_or_next views client) (written_in (numbered part.writes k)) answer part.told (subst (λ (rows : List (AnyRow T)). IsOneHistory decode get_epoch set_epoch failed rows) turn_rows good) (written_at decode get_epoch s client part begins views k t) t.told);
+        told = subst (λ (rows : List (Row T)). AreKnown decode get_epoch rows (note_of get_epoch (written_in (numbered part.writes k)) answer ++ part.told)) (sym turn_rows)
+            (told_own decode get_epoch set_epoch failed s.trace n (number_or_next views client) (written_in (numbered part.writes k)) answer part.told (subst (λ (rows : List (Row T)). IsOneHistory decode get_epoch set_epoch failed rows) turn_rows good) (written_at decode get_epoch s client part begins views k t) t.told);
       }
 
   pub turn_other : (d : ℕ) (other : Part T) → client ≢ d → TiedTo decode get_epoch s d other begins views → TiedTo decode get_epoch s' d other begins views'
   turn_other d other ne g =
       record {
         caches = λ some le. subst (λ (c : ℕ). numbered (set s.caches (c - 1) caches') d ≡ Some other.caches) (sym own) (caches_other decode get_epoch s.caches client d s.clients other.caches caches' is_client ne g.caches some le);
-        ops = ops_after s'.operations other.operations client d begins views answer (ops_other s.operations other.operations client d k begins views op' (Rattle.txn_any_machine.specs.Machine.doing_next op' next.0) (t.ops.each k o found) (op_within s.operations part.operations client begins views t.ops k o found) ne g.ops);
+        ops = ops_after s'.operations other.operations client d begins views answer (ops_other s.operations other.operations client d k begins views op' (Rattle.txn_machine.specs.Machine.doing_next op' next.0) (t.ops.each k o found) (op_within s.operations part.operations client begins views t.ops k o found) ne g.ops);
         seen = subst (λ (c : ℕ). ViewsTied (views_after s.views c (option_map (number views client) o.view) o.claims next.1) other.views d begins views') (sym own) (after_other s.views other.views part.views client d begins views o.view o.claims next.1 has ne t.seen g.seen);
         writes_size = g.writes_size;
         writes = λ j written is. writes_more decode get_epoch s.trace (answer_rows n (answered (length s.views) op'.view next.1)) (number begins d j) written (g.writes j written is);
@@ -161,8 +161,8 @@ module _ {T : Type 0} (decode : List ℕ → Option T) (get_epoch : T → ℕ) (
   turn_size = ap (λ (c : ℕ). length (views_after s.views c (option_map (number views client) o.view) o.claims next.1)) own ∙ after_size s.views part.views client views o.view o.claims next.1 long t.seen.size has
 
 -- A give-up.
-module _ {T : Type 0} (decode : List ℕ → Option T) (get_epoch : T → ℕ) (s : State T) (client : ℕ) (part : Part T) (begins views : List ℕ) (t : TiedTo decode get_epoch s client part begins views) (k : ℕ) (o : AnyOperation T) (found : numbered part.operations k ≡ Some o) (ask : Ask) where
-  abbrev left_op : AnyOperation T
+module _ {T : Type 0} (decode : List ℕ → Option T) (get_epoch : T → ℕ) (s : State T) (client : ℕ) (part : Part T) (begins views : List ℕ) (t : TiedTo decode get_epoch s client part begins views) (k : ℕ) (o : Operation T) (found : numbered part.operations k ≡ Some o) (ask : Ask) where
+  abbrev left_op : Operation T
   left_op = named_op (number views client) o
 
   abbrev left : State T
@@ -186,7 +186,7 @@ module _ {T : Type 0} (decode : List ℕ → Option T) (get_epoch : T → ℕ) (
   left_other d other ne g =
       record {
         caches = g.caches;
-        ops = ops_other s.operations other.operations client d k begins views left_op (Rattle.txn_any_machine.specs.Machine.doing_next left_op ended) (t.ops.each k o found) (op_within s.operations part.operations client begins views t.ops k o found) ne g.ops;
+        ops = ops_other s.operations other.operations client d k begins views left_op (Rattle.txn_machine.specs.Machine.doing_next left_op ended) (t.ops.each k o found) (op_within s.operations part.operations client begins views t.ops k o found) ne g.ops;
         seen = change_other s.views other.views part.views client d begins views o.view (let_go o.claims) has_left ne t.seen g.seen;
         writes_size = g.writes_size;
         writes = g.writes;

@@ -5,15 +5,15 @@ use Rattle.std.proofs.lemmas.List.{length-append, length-set, append-nil}
 use Rattle.std.proofs.lemmas.Option.{same_Some}
 use Rattle.txn_history.specs.Lists.{numbered}
 use Rattle.txn_history.proofs.Lists.{numbered_kept, numbered_more}
-use Rattle.txn_machine.proofs.Lists.{within, numbered_new, numbered_here, numbered_other, numbered_there}
+use Rattle.txn_machine_inner.proofs.Lists.{within, numbered_new, numbered_here, numbered_other, numbered_there}
 use Rattle.txn_view_steps.specs.declared.outcome.Outcome.TheVariants as outcomes
-use Rattle.txn_view_history.specs.declared.event.AnyAnswer.{AnyAnswer}
-use Rattle.txn_view_history.specs.declared.event.AnyAnswer.TheVariants as answers
-use Rattle.txn_view_machine.specs.Layer.{Used, Change, Keeps, Puts, Makes, Closes, with_busy, changed, new_view}
-use Rattle.txn_any_machine.specs.declared.doing.AnyOperation.{AnyOperation}
-use Rattle.txn_any_machine.specs.declared.doing.Ending.{Ending}
-use Rattle.txn_any_machine.specs.declared.doing.Ending.TheVariants as endings
-use Rattle.txn_any_machine.specs.Machine.{used_in, used_by, views_changed, change_of, made_by, views_after, views_taken, answered}
+use Rattle.txn_history.specs.declared.event.Answer.{Answer}
+use Rattle.txn_history.specs.declared.event.Answer.TheVariants as answers
+use Rattle.txn_machine_views.specs.Layer.{Used, Change, Keeps, Puts, Makes, Closes, with_busy, changed, new_view}
+use Rattle.txn_machine.specs.declared.doing.Operation.{Operation}
+use Rattle.txn_machine.specs.declared.doing.Ending.{Ending}
+use Rattle.txn_machine.specs.declared.doing.Ending.TheVariants as endings
+use Rattle.txn_machine.specs.Machine.{used_in, used_by, views_changed, change_of, made_by, views_after, views_taken, answered}
 use Rattle.txn_journals.specs.Numbers.{count, number, number_or_next}
 use Rattle.txn_journals.specs.Merged.{with_view}
 use Rattle.txn_journals.specs.Traces.{named_answer}
@@ -214,7 +214,7 @@ module _ {T : Type 0} where
   answer_same all own client views view (Some (endings.Comes (outcomes.Shut id value error))) long size has = refl
 
   -- what an answer makes of the owners of views
-  pub record AnswersSo (client : ℕ) (views : List ℕ) (answer : Option (AnyAnswer T)) (more : List (Option (Used T))) : Type 0 where
+  pub record AnswersSo (client : ℕ) (views : List ℕ) (answer : Option (Answer T)) (more : List (Option (Used T))) : Type 0 where
     pub owners : (more ≡ []) × (with_view client answer views ≡ views) ⊎ ((new : Used T) × (more ≡ Some new ∷ []) × (new.busy ≡ None) × (new.view.client ≡ client) × (with_view client answer views ≡ client ∷ views))
 
   -- where no view is used
@@ -284,7 +284,7 @@ module _ {T : Type 0} where
   after_size all mine client views (Some w) claims (Some ending) long size has = change_size all (Some (number views client w)) (change_of claims ending) ∙ (long ∙ sym (ap length (uses mine client w views ending (has w refl).below)))
 
   -- the operations, where views are made
-  pub ops_after : (ops own : List (AnyOperation T)) (client d : ℕ) (begins views : List ℕ) (answer : Option (AnyAnswer T)) → OpsTied ops own d begins views → OpsTied ops own d begins (with_view client answer views)
+  pub ops_after : (ops own : List (Operation T)) (client d : ℕ) (begins views : List ℕ) (answer : Option (Answer T)) → OpsTied ops own d begins views → OpsTied ops own d begins (with_view client answer views)
   ops_after ops own client d begins views None t = t
   ops_after ops own client d begins views (Some (answers.Plain answer)) t = t
   ops_after ops own client d begins views (Some (answers.View view id value)) t = elim (cases_Bool (nat_lt (count client views) view)) [

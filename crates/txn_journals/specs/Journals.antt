@@ -5,12 +5,12 @@ use Rattle.txn_store.specs.declared.request.Reply.{Reply}
 use Rattle.txn_history.specs.Lists.{numbered}
 use Rattle.txn_history.specs.Seen.{Ask, Store, Look}
 use Rattle.txn_history.specs.GoesOn.{may_be_loose, all_left_loose}
-use Rattle.txn_view_history.specs.declared.event.AnyCall.{AnyCall}
-use Rattle.txn_view_history.specs.declared.event.AnyAnswer.{AnyAnswer}
-use Rattle.txn_view_history.specs.Calls.{view_used}
-use Rattle.txn_any_machine.specs.declared.doing.AnyOperation.{AnyOperation}
-use Rattle.txn_any_machine.specs.Doing.{Next, refused, asked, started, ReadsBack, FitsWord, IsMadeSo, Turns}
-use Rattle.txn_any_machine.specs.Machine.{seen_operations, seen_view, used_by, answered}
+use Rattle.txn_history.specs.declared.event.Call.{Call}
+use Rattle.txn_history.specs.declared.event.Answer.{Answer}
+use Rattle.txn_history.specs.Calls.{view_used}
+use Rattle.txn_machine.specs.declared.doing.Operation.{Operation}
+use Rattle.txn_machine.specs.Doing.{Next, refused, asked, started, ReadsBack, FitsWord, IsMadeSo, Turns}
+use Rattle.txn_machine.specs.Machine.{seen_operations, seen_view, used_by, answered}
 use Rattle.txn_journals.specs.declared.rows.Act.{Act}
 use Rattle.txn_journals.specs.declared.rows.Act.TheVariants as acts
 use Rattle.txn_journals.specs.declared.rows.Left.{Left}
@@ -25,8 +25,8 @@ as_pair left = (left.op, left.request)
 
 module _ {T : Type 0} where
   -- An operation is given up, and leaves what it asked for, if this is a put or a delete.
-  pub record GivesUp (old : Part T) (op : ℕ) (left : Option Request) (answer : Option (AnyAnswer T)) (new : Part T) : Type 0 where
-    pub operation : AnyOperation T
+  pub record GivesUp (old : Part T) (op : ℕ) (left : Option Request) (answer : Option (Answer T)) (new : Part T) : Type 0 where
+    pub operation : Operation T
     pub ask : Ask
     pub found : numbered old.operations op ≡ Some operation
     pub asks : asked operation.doing ≡ Some ask
@@ -35,7 +35,7 @@ module _ {T : Type 0} where
     pub part : new ≡ given_up old op operation
 
   -- A client is killed, and leaves the puts and deletes that its operations asked for.
-  pub record IsKilled (client : ℕ) (old : Part T) (lefts : List Left) (answer : Option (AnyAnswer T)) (new : Part T) : Type 0 where
+  pub record IsKilled (client : ℕ) (old : Part T) (lefts : List Left) (answer : Option (Answer T)) (new : Part T) : Type 0 where
     pub some : 1 ≤ client
     pub leaves : map as_pair lefts ≡ all_left_loose client 1 (seen_operations old.operations)
     pub tells : answer ≡ None
@@ -43,16 +43,16 @@ module _ {T : Type 0} where
 
 module _ {T : Type 0} (get_epoch : T → ℕ) where
   -- The store call of an operation failed, with no word whether it took effect: the operation ends refused, and the caches stay.
-  pub record FailsAt (old : Part T) (op : ℕ) (request : Request) (answer : Option (AnyAnswer T)) (new : Part T) : Type 0 where
-    pub operation : AnyOperation T
+  pub record FailsAt (old : Part T) (op : ℕ) (request : Request) (answer : Option (Answer T)) (new : Part T) : Type 0 where
+    pub operation : Operation T
     pub found : numbered old.operations op ≡ Some operation
     pub asks : asked operation.doing ≡ Some (Store request)
     pub tells : answer ≡ answer_in old operation (refused 2)
     pub part : new ≡ turned_with get_epoch old op operation (refused 2) old.caches
 
   -- The store call of an operation was refused for memory before it reached the store: the operation ends refused, and the caches stay.
-  pub record LacksAt (old : Part T) (op : ℕ) (answer : Option (AnyAnswer T)) (new : Part T) : Type 0 where
-    pub operation : AnyOperation T
+  pub record LacksAt (old : Part T) (op : ℕ) (answer : Option (Answer T)) (new : Part T) : Type 0 where
+    pub operation : Operation T
     pub request : Request
     pub found : numbered old.operations op ≡ Some operation
     pub asks : asked operation.doing ≡ Some (Store request)
@@ -61,7 +61,7 @@ module _ {T : Type 0} (get_epoch : T → ℕ) where
 
 module _ {T : Type 0} (page : ℕ) (encode : T → List ℕ) (decode : List ℕ → Option T) (get_epoch : T → ℕ) (set_epoch : T → ℕ → T) where
   -- A call begins, which the client permits.
-  pub record Begins (client : ℕ) (old : Part T) (call : AnyCall T) (answer : Option (AnyAnswer T)) (new : Part T) : Type 0 where
+  pub record Begins (client : ℕ) (old : Part T) (call : Call T) (answer : Option (Answer T)) (new : Part T) : Type 0 where
     pub permits : begin_fault get_epoch client old call ≡ None
     pub reads_back : ReadsBack encode decode call
     pub word : FitsWord call
@@ -72,8 +72,8 @@ module _ {T : Type 0} (page : ℕ) (encode : T → List ℕ) (decode : List ℕ 
     pub part : new ≡ begun get_epoch client old call next
 
   -- An operation that asks for this takes its turn: a look, or the store's reply.
-  pub record TakesTurn (old : Part T) (op : ℕ) (ask : Ask) (reply : Option Reply) (answer : Option (AnyAnswer T)) (new : Part T) : Type 0 where
-    pub operation : AnyOperation T
+  pub record TakesTurn (old : Part T) (op : ℕ) (ask : Ask) (reply : Option Reply) (answer : Option (Answer T)) (new : Part T) : Type 0 where
+    pub operation : Operation T
     pub found : numbered old.operations op ≡ Some operation
     pub asks : asked operation.doing ≡ Some ask
     pub next : Next T
@@ -82,7 +82,7 @@ module _ {T : Type 0} (page : ℕ) (encode : T → List ℕ) (decode : List ℕ 
     pub part : new ≡ turned get_epoch old op operation next
 
   -- a step, with the answer that it tells, leads from one part to another
-  abbrev pub Follows : ℕ → Part T → Step T → Option (AnyAnswer T) → Part T → Type 0
+  abbrev pub Follows : ℕ → Part T → Step T → Option (Answer T) → Part T → Type 0
   Follows client old (steps.Begin call) answer new = Begins client old call answer new
   Follows client old (steps.Act op acts.Look) answer new = TakesTurn old op Look None answer new
   Follows client old (steps.Act op (acts.Receive receipt)) answer new = TakesTurn old op (Store receipt.request) (Some receipt.reply) answer new

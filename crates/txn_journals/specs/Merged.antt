@@ -4,8 +4,8 @@ use Rattle.txn_store.specs.Store.{State as StoreState}
 use Rattle.txn_store.specs.MemoryServes.{lacks_memory}
 use Rattle.txn_store.specs.declared.request.Request.{Request}
 use Rattle.txn_store.specs.declared.request.Reply.{Reply}
-use Rattle.txn_view_history.specs.declared.event.AnyAnswer.{AnyAnswer}
-use Rattle.txn_view_history.specs.declared.event.AnyAnswer.TheVariants as answers
+use Rattle.txn_history.specs.declared.event.Answer.{Answer}
+use Rattle.txn_history.specs.declared.event.Answer.TheVariants as answers
 use Rattle.txn_journals.specs.declared.rows.LogRow.{LogRow}
 use Rattle.txn_journals.specs.declared.rows.Act.TheVariants as acts
 use Rattle.txn_journals.specs.declared.rows.Step.{Step}
@@ -72,7 +72,7 @@ module _ {T : Type 0} where
   begins_of (Lands landing ∷ m) = begins_of m
 
   -- the owners of views, with that of an answer that makes one: it shows a number that its client has not given yet
-  abbrev pub with_view : ℕ → Option (AnyAnswer T) → List ℕ → List ℕ
+  abbrev pub with_view : ℕ → Option (Answer T) → List ℕ → List ℕ
   with_view client (Some (answers.View view id value)) owners = if nat_lt (count client owners) view then client ∷ owners else owners
   with_view client _ owners = owners
 

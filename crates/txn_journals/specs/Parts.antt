@@ -3,32 +3,31 @@ use Rattle.std.specs.Prelude.{ℕ, List, [], ◌∷◌, ◌++◌, ◌+◌, ◌==
 use Rattle.std.specs.List.{list_any}
 use Rattle.txn_types.specs.Numbers.{number_of}
 use Rattle.txn_caches.specs.declared.caches.Caches.{Caches}
-use Rattle.txn_history.specs.declared.event.Call.TheVariants as calls
-use Rattle.txn_history.specs.declared.event.Answer.{Answer}
-use Rattle.txn_history.specs.declared.event.Answer.TheVariants as plain_answers
+use Rattle.txn_history.specs.declared.event.PlainCall.TheVariants as calls
+use Rattle.txn_history.specs.declared.event.PlainAnswer.{PlainAnswer}
+use Rattle.txn_history.specs.declared.event.PlainAnswer.TheVariants as plain_answers
 use Rattle.txn_history.specs.declared.event.EventFault.{EventFault}
 use Rattle.txn_history.specs.declared.event.EventFault.TheVariants as faults
 use Rattle.txn_history.specs.Lists.{numbered}
-use Rattle.txn_history.specs.OneHistory.{is_high}
-use Rattle.txn_history.specs.Allowed.{is_client, first_fault}
-use Rattle.txn_machine.specs.Machine.{no_caches}
-use Rattle.txn_view_history.specs.declared.event.AnyCall.{AnyCall}
-use Rattle.txn_view_history.specs.declared.event.AnyCall.TheVariants as any
-use Rattle.txn_view_history.specs.declared.event.AnyAnswer.{AnyAnswer}
-use Rattle.txn_view_history.specs.declared.event.AnyAnswer.TheVariants as answers
-use Rattle.txn_view_history.specs.Calls.{view_used, is_holders, value_written}
-use Rattle.txn_view_history.specs.Seen.{AllSeen}
-use Rattle.txn_view_history.specs.Allowed.{may_use, base_seen}
-use Rattle.txn_view_machine.specs.Layer.{Used}
-use Rattle.txn_view_machine.specs.Steps.{view_without}
-use Rattle.txn_any_machine.specs.declared.doing.AnyOperation.{AnyOperation}
-use Rattle.txn_any_machine.specs.Doing.{Next, ended, caches_left, is_claim_call}
-use Rattle.txn_any_machine.specs.Machine.{seen_operations, seen_views, used_by, let_go, views_changed, views_after, views_taken, with_doing, new_operation, answered, ended_by}
+use Rattle.txn_history.specs.Facts.{is_high}
+use Rattle.txn_history.specs.Allowed.{is_client, first_fault, may_use, base_seen}
+use Rattle.txn_machine_inner.specs.Machine.{no_caches}
+use Rattle.txn_history.specs.declared.event.Call.{Call}
+use Rattle.txn_history.specs.declared.event.Call.TheVariants as any
+use Rattle.txn_history.specs.declared.event.Answer.{Answer}
+use Rattle.txn_history.specs.declared.event.Answer.TheVariants as answers
+use Rattle.txn_history.specs.Calls.{view_used, is_holders, value_written}
+use Rattle.txn_history.specs.Seen.{AllSeen}
+use Rattle.txn_machine_views.specs.Layer.{Used}
+use Rattle.txn_machine_views.specs.Steps.{view_without}
+use Rattle.txn_machine.specs.declared.doing.Operation.{Operation}
+use Rattle.txn_machine.specs.Doing.{Next, ended, caches_left, is_claim_call}
+use Rattle.txn_machine.specs.Machine.{seen_operations, seen_views, used_by, let_go, views_changed, views_after, views_taken, with_doing, new_operation, answered, ended_by}
 
 -- What a client keeps. Its operations and its views stand in the order of its own numbers, from 1 on. An ended view is none.
 pub record Part (T : Type 0) : Type 0 where
   pub caches : Caches
-  pub operations : List (AnyOperation T)
+  pub operations : List (Operation T)
   pub views : List (Option (Used T))
   -- of each operation that is a checked write, the epoch of its value
   pub writes : List (Option ℕ)
@@ -72,7 +71,7 @@ written_in (Some written) = written
 
 module _ {T : Type 0} where
   -- a boundary to advance to is 0, or below an id that a checked call answered
-  abbrev pub is_low : List (ℕ × ℕ) → AnyCall T → Bool
+  abbrev pub is_low : List (ℕ × ℕ) → Call T → Bool
   is_low told (any.Plain (calls.Advance to)) = to == 0 || is_below_known told to
   is_low told _ = true
 
@@ -82,30 +81,30 @@ module _ {T : Type 0} where
   is_in_use (Some used) = is_some used.busy
 
   -- the answer of an operation that does this next, where it has one
-  abbrev pub answer_in : Part T → AnyOperation T → Next T → Option (AnyAnswer T)
+  abbrev pub answer_in : Part T → Operation T → Next T → Option (Answer T)
   answer_in part operation next = answered (length part.views) operation.view next.1
 
 module _ {T : Type 0} (get_epoch : T → ℕ) where
   -- the epoch of what a checked write writes
-  abbrev pub epoch_written : AnyCall T → Option ℕ
+  abbrev pub epoch_written : Call T → Option ℕ
   epoch_written (any.Plain (calls.Write base value)) = Some (get_epoch value)
   epoch_written _ = None
 
   -- the id that the answer of a checked call without a view tells, with the epoch of its version
-  abbrev pub note_plain : Option ℕ → Answer T → List (ℕ × ℕ)
+  abbrev pub note_plain : Option ℕ → PlainAnswer T → List (ℕ × ℕ)
   note_plain written (plain_answers.Wrote id) = note_wrote written id
   note_plain written (plain_answers.Read (Some found)) = (found.0, get_epoch found.1) ∷ []
   note_plain written _ = []
 
   -- the id that the answer of a checked call tells, with the epoch of its version; neither an unchecked write nor a listing tells one
-  abbrev pub note_of : Option ℕ → Option (AnyAnswer T) → List (ℕ × ℕ)
+  abbrev pub note_of : Option ℕ → Option (Answer T) → List (ℕ × ℕ)
   note_of written None = []
   note_of written (Some (answers.Plain answer)) = note_plain written answer
   note_of written (Some (answers.View view id value)) = (id, get_epoch value) ∷ []
   note_of written (Some (answers.Held view id value epoch)) = (id, get_epoch value) ∷ []
 
   -- Why a client does not permit a begin, where it does not, tested in this order: its number and the view, a busy view, the base, the boundary, the epoch of the value.
-  abbrev pub begin_fault : ℕ → Part T → AnyCall T → Option EventFault
+  abbrev pub begin_fault : ℕ → Part T → Call T → Option EventFault
   begin_fault client part call = first_fault (
       (is_client client client && may_use (seen_in client part) client (is_holders call) (view_used call), faults.UnknownNumber)
       ∷ (not (is_in_use (used_by part.views (view_used call))), faults.ViewBusy)
@@ -117,7 +116,7 @@ module _ {T : Type 0} (get_epoch : T → ℕ) where
   -- What is done to a part: all but the notes changes by the functions of a world's step.
 
   -- a call begins, and does this first
-  abbrev pub begun : ℕ → Part T → AnyCall T → Next T → Part T
+  abbrev pub begun : ℕ → Part T → Call T → Next T → Part T
   begun client part call start = record {
     caches = part.caches;
     operations = part.operations ++ new_operation client call start.0 ∷ [];
@@ -127,7 +126,7 @@ module _ {T : Type 0} (get_epoch : T → ℕ) where
   }
 
   -- an operation does this next, and its client's caches are these
-  abbrev pub turned_with : Part T → ℕ → AnyOperation T → Next T → Caches → Part T
+  abbrev pub turned_with : Part T → ℕ → Operation T → Next T → Caches → Part T
   turned_with part op operation next caches = record {
     caches = caches;
     operations = with_doing part.operations op operation next.0;
@@ -137,12 +136,12 @@ module _ {T : Type 0} (get_epoch : T → ℕ) where
   }
 
   -- an operation does this next, and leaves of its client's caches what it leaves of them
-  abbrev pub turned : Part T → ℕ → AnyOperation T → Next T → Part T
+  abbrev pub turned : Part T → ℕ → Operation T → Next T → Part T
   turned part op operation next = turned_with part op operation next (caches_left operation.doing part.caches next.1)
 
 module _ {T : Type 0} where
   -- an operation ends with no answer, and lets its view go
-  abbrev pub given_up : Part T → ℕ → AnyOperation T → Part T
+  abbrev pub given_up : Part T → ℕ → Operation T → Part T
   given_up part op operation = record {
     caches = part.caches;
     operations = with_doing part.operations op operation ended;

@@ -3,12 +3,12 @@ use Rattle.std.specs.Prelude.{◌≡◌, ◌≤◌, ℕ, List, Option, Some, len
 use Rattle.std.specs.Option.{option_map}
 use Rattle.txn_store.specs.Store.{State as StoreState}
 use Rattle.txn_history.specs.Lists.{numbered}
-use Rattle.txn_view_history.specs.OneHistory.{IsOneHistory}
-use Rattle.txn_view_history.specs.Views.{ViewsFit}
-use Rattle.txn_view_history.specs.Laws.{HasOneClaimer}
-use Rattle.txn_view_machine.specs.Layer.{Used}
-use Rattle.txn_any_machine.specs.declared.doing.AnyOperation.{AnyOperation}
-use Rattle.txn_any_machine.specs.Machine.{State, opening, seen_views, RunsOrLacks}
+use Rattle.txn_history.specs.OneHistory.{IsOneHistory}
+use Rattle.txn_history.specs.Views.{ViewsFit}
+use Rattle.txn_history.specs.Laws.{HasOneClaimer}
+use Rattle.txn_machine_views.specs.Layer.{Used}
+use Rattle.txn_machine.specs.declared.doing.Operation.{Operation}
+use Rattle.txn_machine.specs.Machine.{State, opening, seen_views, RunsOrLacks}
 use Rattle.txn_journals.specs.Parts.{Part}
 use Rattle.txn_journals.specs.Numbers.{number}
 use Rattle.txn_journals.specs.Merged.{Merged, begins_of, views_of}
@@ -16,7 +16,7 @@ use Rattle.txn_journals.specs.Traces.{trace_of, loose_of, failed_of, taken_of}
 
 module _ {T : Type 0} where
   -- an operation of a client, by the numbers of all
-  abbrev pub operation_in : Merged T → ℕ → AnyOperation T → AnyOperation T
+  abbrev pub operation_in : Merged T → ℕ → Operation T → Operation T
   operation_in m client operation = record { client = operation.client; view = option_map (number (views_of m) client) operation.view; claims = operation.claims; doing = operation.doing }
 
   -- a view of a client, by the numbers of all
@@ -34,7 +34,7 @@ module _ {T : Type 0} (page : ℕ) (encode : T → List ℕ) (decode : List ℕ 
     pub store_is : state.store ≡ store
     pub caches : (client : ℕ) → 1 ≤ client → client ≤ clients → numbered state.caches client ≡ Some (parts client).caches
     pub all_operations : length state.operations ≡ length (begins_of m)
-    pub operations : (client k : ℕ) (operation : AnyOperation T) → numbered (parts client).operations k ≡ Some operation → numbered state.operations (number (begins_of m) client k) ≡ Some (operation_in m client operation)
+    pub operations : (client k : ℕ) (operation : Operation T) → numbered (parts client).operations k ≡ Some operation → numbered state.operations (number (begins_of m) client k) ≡ Some (operation_in m client operation)
     pub all_views : length state.views ≡ length (views_of m)
     pub views : (client k : ℕ) (used : Option (Used T)) → numbered (parts client).views k ≡ Some used → numbered state.views (number (views_of m) client k) ≡ Some (option_map (used_in m client) used)
     pub one_history : IsOneHistory decode get_epoch set_epoch (failed_of m) (trace_of m)

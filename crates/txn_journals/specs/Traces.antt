@@ -9,13 +9,13 @@ use Rattle.txn_history.specs.declared.trace.RowOf.TheVariants.{Begun}
 use Rattle.txn_history.specs.Seen.{Store}
 use Rattle.txn_history.specs.GoesOn.{as_loose, left_loose}
 use Rattle.txn_history.specs.Added.{told_of, answer_rows, effect_rows}
-use Rattle.txn_machine.specs.Machine.{effect_of}
-use Rattle.txn_view_history.specs.declared.event.ViewCall.TheVariants as view_calls
-use Rattle.txn_view_history.specs.declared.event.AnyCall.{AnyCall}
-use Rattle.txn_view_history.specs.declared.event.AnyCall.TheVariants as any
-use Rattle.txn_view_history.specs.declared.event.AnyAnswer.{AnyAnswer}
-use Rattle.txn_view_history.specs.declared.event.AnyAnswer.TheVariants as answers
-use Rattle.txn_view_history.specs.Trace.{AnyRow, AnyEvent, AnyTold}
+use Rattle.txn_machine_inner.specs.Machine.{effect_of}
+use Rattle.txn_history.specs.declared.event.ViewCall.TheVariants as view_calls
+use Rattle.txn_history.specs.declared.event.Call.{Call}
+use Rattle.txn_history.specs.declared.event.Call.TheVariants as any
+use Rattle.txn_history.specs.declared.event.Answer.{Answer}
+use Rattle.txn_history.specs.declared.event.Answer.TheVariants as answers
+use Rattle.txn_history.specs.Trace.{Row, Event, Told}
 use Rattle.txn_journals.specs.declared.rows.Act.TheVariants as acts
 use Rattle.txn_journals.specs.declared.rows.Left.{Left}
 use Rattle.txn_journals.specs.declared.rows.Step.{Step}
@@ -39,7 +39,7 @@ module _ {T : Type 0} where
   -- Names by the numbers of all.
 
   -- a call, with another name of its view
-  abbrev pub named_call : (ℕ → ℕ) → AnyCall T → AnyCall T
+  abbrev pub named_call : (ℕ → ℕ) → Call T → Call T
   named_call names (any.Plain call) = any.Plain call
   named_call names (any.View (view_calls.Init value)) = any.View (view_calls.Init value)
   named_call names (any.View view_calls.Load) = any.View view_calls.Load
@@ -51,17 +51,17 @@ module _ {T : Type 0} where
   named_call names (any.View (view_calls.HolderUpdate view value)) = any.View (view_calls.HolderUpdate (names view) value)
 
   -- an answer, with another name of its view
-  abbrev pub named_answer : (ℕ → ℕ) → AnyAnswer T → AnyAnswer T
+  abbrev pub named_answer : (ℕ → ℕ) → Answer T → Answer T
   named_answer names (answers.Plain answer) = answers.Plain answer
   named_answer names (answers.View view id value) = answers.View (names view) id value
   named_answer names (answers.Held view id value epoch) = answers.Held (names view) id value epoch
 
   -- a client's call after these rows
-  abbrev pub call_in : Merged T → ℕ → AnyCall T → AnyCall T
+  abbrev pub call_in : Merged T → ℕ → Call T → Call T
   call_in m client call = named_call (number (views_of m) client) call
 
   -- the answer of a client's next row; a view that it makes has the next number
-  abbrev pub told_in : Merged T → ℕ → Option (AnyAnswer T) → Option (AnyAnswer T)
+  abbrev pub told_in : Merged T → ℕ → Option (Answer T) → Option (Answer T)
   told_in m client answer = option_map (named_answer (number_or_next (views_of m) client)) answer
 
   -- the number of the next operation
@@ -75,7 +75,7 @@ module _ {T : Type 0} where
   -- The trace: begins, the effects of receipts and of landings, and answers.
 
   -- the trace, with the rows of a step and of the answer that it tells
-  abbrev pub with_rows : Merged T → ℕ → Step T → Option (AnyAnswer T) → List (AnyRow T) → List (AnyRow T)
+  abbrev pub with_rows : Merged T → ℕ → Step T → Option (Answer T) → List (Row T) → List (Row T)
   with_rows m client (steps.Begin call) answer rows = (rows ++ Begun (next_in m) (call_in m client call) ∷ []) ++ answer_rows (next_in m) (told_in m client answer)
   with_rows m client (steps.Act op (acts.Receive receipt)) answer rows =
       (rows ++ effect_rows (op_in m client op) (effect_of (files_of (log_of m)) receipt.request receipt.reply)) ++ answer_rows (op_in m client op) (told_in m client answer)
@@ -86,7 +86,7 @@ module _ {T : Type 0} where
   with_rows m client (steps.Killed lefts) answer rows = rows
 
   -- the trace of a merged list
-  abbrev pub trace_of : Merged T → List (AnyRow T)
+  abbrev pub trace_of : Merged T → List (Row T)
   trace_of [] = []
   trace_of (Did client row ∷ m) = with_rows m client row.step row.answer (trace_of m)
   trace_of (Lands landing ∷ m) = trace_of m ++ effect_rows (op_in m landing.client landing.op) (effect_of (files_of (log_of m)) landing.request landing.reply)
@@ -132,7 +132,7 @@ module _ {T : Type 0} where
   -- The events, the oldest first.
 
   -- the event that a step is: a receipt is a serve, and so is a call that was refused for memory; a call that failed is a failure that leaves its request loose, and a kill is a crash
-  abbrev pub event_in : Merged T → ℕ → Step T → AnyEvent T
+  abbrev pub event_in : Merged T → ℕ → Step T → Event T
   event_in m client (steps.Begin call) = events.Begin client (call_in m client call)
   event_in m client (steps.Act op acts.Look) = events.Look (op_in m client op)
   event_in m client (steps.Act op (acts.Receive receipt)) = events.Serve (op_in m client op)
@@ -142,7 +142,7 @@ module _ {T : Type 0} where
   event_in m client (steps.Killed lefts) = events.Crash client
 
   -- what that event tells, by the answer of the step
-  abbrev pub tells_in : Merged T → ℕ → Step T → Option (AnyAnswer T) → AnyTold T
+  abbrev pub tells_in : Merged T → ℕ → Step T → Option (Answer T) → Told T
   tells_in m client (steps.Begin call) answer = told_of (told.Began (next_in m)) (next_in m) (told_in m client answer)
   tells_in m client (steps.Act op (acts.GiveUp left)) answer = told.GaveUp (op_in m client op)
   tells_in m client (steps.Act op acts.Look) answer = told_of (told.Went (op_in m client op)) (op_in m client op) (told_in m client answer)
@@ -152,12 +152,12 @@ module _ {T : Type 0} where
   tells_in m client (steps.Killed lefts) answer = told.Crashed client
 
   -- a landing as an event, and what it tells: whether it changed the files
-  abbrev pub landed_in : Merged T → Landing → AnyEvent T × AnyTold T
+  abbrev pub landed_in : Merged T → Landing → Event T × Told T
   landed_in m landing =
       (events.Land (place_in m landing.client landing.op), told.Landed (place_in m landing.client landing.op) (is_some (effect_of (files_of (log_of m)) landing.request landing.reply)))
 
   -- the events of a merged list, each with what it tells
-  abbrev pub taken_of : Merged T → List (AnyEvent T × AnyTold T)
+  abbrev pub taken_of : Merged T → List (Event T × Told T)
   taken_of [] = []
   taken_of (Did client row ∷ m) = taken_of m ++ (event_in m client row.step, tells_in m client row.step row.answer) ∷ []
   taken_of (Lands landing ∷ m) = taken_of m ++ landed_in m landing ∷ []

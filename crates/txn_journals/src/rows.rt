@@ -1,7 +1,7 @@
 //! What a client's diary and the store's log note.
 
+use txn_history::event::{Answer, Call};
 use txn_store::request::{Reply, Request};
-use txn_view_history::event::{AnyAnswer, AnyCall};
 
 /// A row of the store's log: a store call, its client and its reply. Of a landing, whose reply nobody took, it tells which of
 /// the client's operations had asked.
@@ -48,7 +48,7 @@ pub struct Left {
 #[derive(Drop)]
 pub enum Step<T> {
     /// It begins a call, which becomes its operation of the next number.
-    Begin(AnyCall<T>),
+    Begin(Call<T>),
     /// It acts on its operation of this number.
     Act(u64, Act),
     /// It was killed, and does nothing more: what ran ends, and nothing is kept. The puts and deletes that its operations
@@ -60,5 +60,5 @@ pub enum Step<T> {
 #[derive(Drop)]
 pub struct JournalRow<T> {
     pub step: Step<T>,
-    pub answer: Option<AnyAnswer<T>>,
+    pub answer: Option<Answer<T>>,
 }

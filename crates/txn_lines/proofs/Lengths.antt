@@ -5,16 +5,16 @@ use Rattle.std.specs.Option.{SomeIff}
 use Rattle.std.proofs.lemmas.Fmt.{length-decimal-le}
 use Rattle.std.specs.declared.ops.Bound.{Bound}
 use Rattle.std.specs.declared.ops.Bound.TheVariants as bounds
-use Rattle.txn_history.specs.declared.event.Call.{Call}
-use Rattle.txn_history.specs.declared.event.Call.TheVariants as calls
+use Rattle.txn_history.specs.declared.event.PlainCall.{PlainCall}
+use Rattle.txn_history.specs.declared.event.PlainCall.TheVariants as calls
 use Rattle.txn_history.specs.declared.event.EventOf.{EventOf}
 use Rattle.txn_history.specs.declared.event.EventOf.TheVariants as events
 use Rattle.txn_history.specs.declared.event.Failure.{Failure}
 use Rattle.txn_history.specs.declared.event.Failure.TheVariants as failures
-use Rattle.txn_view_history.specs.declared.event.ViewCall.{ViewCall}
-use Rattle.txn_view_history.specs.declared.event.ViewCall.TheVariants as view_calls
-use Rattle.txn_view_history.specs.declared.event.AnyCall.{AnyCall}
-use Rattle.txn_view_history.specs.declared.event.AnyCall.TheVariants as any
+use Rattle.txn_history.specs.declared.event.ViewCall.{ViewCall}
+use Rattle.txn_history.specs.declared.event.ViewCall.TheVariants as view_calls
+use Rattle.txn_history.specs.declared.event.Call.{Call}
+use Rattle.txn_history.specs.declared.event.Call.TheVariants as any
 use Rattle.txn_lines.specs.declared.record.Record.{Record}
 use Rattle.txn_lines.specs.Record.{record_text, IsNumbers}
 use Rattle.txn_lines.specs.declared.line.Line.{Line}
@@ -65,7 +65,7 @@ module _ {T : Type 0} (text : T → List ℕ) (fits : T → Type 0) (most : ℕ)
   write_short : (base : Option ℕ) (value : T) → WriteFits fits base value → length (write_text text base value) ≤ most + 21
   write_short base value ok = omega (arith, length-with (base_text base) (text value) 32, base_short base ok.0, short value ok.1)
 
-  plain_short : (call : Call T) → PlainFits fits call → length (plain_text text call) ≤ most + 50
+  plain_short : (call : PlainCall T) → PlainFits fits call → length (plain_text text call) ≤ most + 50
   plain_short (calls.Write base value) ok = omega (arith, length-with (codes "write") (write_text text base value) 32, write_short base value ok)
   plain_short (calls.WriteUnchecked base value) ok = omega (arith, length-with (codes "write_unchecked") (write_text text base value) 32, write_short base value ok)
   plain_short calls.Read ok = omega arith
@@ -89,7 +89,7 @@ module _ {T : Type 0} (text : T → List ℕ) (fits : T → Type 0) (most : ℕ)
   view_call_short (view_calls.HolderRefresh view) ok = omega (arith, numbered_short (codes "holder_refresh") view ok)
   view_call_short (view_calls.HolderUpdate view value) ok = omega (arith, length-with (codes "holder_update") (update_text text view value) 32, update_short view value ok)
 
-  pub call_short : (call : AnyCall T) → CallFits fits call → length (call_text text call) ≤ most + 50
+  pub call_short : (call : Call T) → CallFits fits call → length (call_text text call) ≤ most + 50
   call_short (any.Plain call) ok = plain_short call ok
   call_short (any.View call) ok = view_call_short call ok
 

@@ -2,16 +2,16 @@
 use Rattle.std.specs.Prelude.{◌≡◌, ℕ, ◌<◌, ◌^◌, List, ◌∷◌, ◌++◌, Option, Some, None, codes, decimal}
 use Rattle.std.specs.declared.ops.Bound.{Bound}
 use Rattle.std.specs.declared.ops.Bound.TheVariants as bounds
-use Rattle.txn_history.specs.declared.event.Call.{Call}
-use Rattle.txn_history.specs.declared.event.Call.TheVariants as calls
+use Rattle.txn_history.specs.declared.event.PlainCall.{PlainCall}
+use Rattle.txn_history.specs.declared.event.PlainCall.TheVariants as calls
 use Rattle.txn_history.specs.declared.event.EventOf.{EventOf}
 use Rattle.txn_history.specs.declared.event.EventOf.TheVariants as events
 use Rattle.txn_history.specs.declared.event.Failure.{Failure}
 use Rattle.txn_history.specs.declared.event.Failure.TheVariants as failures
-use Rattle.txn_view_history.specs.declared.event.ViewCall.{ViewCall}
-use Rattle.txn_view_history.specs.declared.event.ViewCall.TheVariants as view_calls
-use Rattle.txn_view_history.specs.declared.event.AnyCall.{AnyCall}
-use Rattle.txn_view_history.specs.declared.event.AnyCall.TheVariants as any
+use Rattle.txn_history.specs.declared.event.ViewCall.{ViewCall}
+use Rattle.txn_history.specs.declared.event.ViewCall.TheVariants as view_calls
+use Rattle.txn_history.specs.declared.event.Call.{Call}
+use Rattle.txn_history.specs.declared.event.Call.TheVariants as any
 use Rattle.txn_lines.specs.Numerals.{pair_text, PairFits}
 use Rattle.txn_lines.specs.declared.line.Line.{Line}
 use Rattle.txn_lines.specs.declared.line.Line.TheVariants as lines
@@ -45,7 +45,7 @@ module _ {T : Type 0} (text : T → List ℕ) where
   write_text base value = base_text base ++ (32 ∷ text value)
 
   -- a call without a view
-  abbrev pub plain_text : Call T → List ℕ
+  abbrev pub plain_text : PlainCall T → List ℕ
   plain_text (calls.Write base value) = codes "write" ++ (32 ∷ write_text base value)
   plain_text (calls.WriteUnchecked base value) = codes "write_unchecked" ++ (32 ∷ write_text base value)
   plain_text calls.Read = codes "read"
@@ -71,7 +71,7 @@ module _ {T : Type 0} (text : T → List ℕ) where
   view_call_text (view_calls.HolderRefresh view) = codes "holder_refresh" ++ (32 ∷ decimal view)
   view_call_text (view_calls.HolderUpdate view value) = codes "holder_update" ++ (32 ∷ update_text view value)
 
-  abbrev pub call_text : AnyCall T → List ℕ
+  abbrev pub call_text : Call T → List ℕ
   call_text (any.Plain call) = plain_text call
   call_text (any.View call) = view_call_text call
 
@@ -113,7 +113,7 @@ module _ {T : Type 0} (fits : T → Type 0) where
   abbrev pub WriteFits : Option ℕ → T → Type 0
   WriteFits base value = BaseFits base × fits value
 
-  abbrev pub PlainFits : Call T → Type 0
+  abbrev pub PlainFits : PlainCall T → Type 0
   PlainFits (calls.Write base value) = WriteFits base value
   PlainFits (calls.WriteUnchecked base value) = WriteFits base value
   PlainFits calls.Read = Unit {0}
@@ -137,7 +137,7 @@ module _ {T : Type 0} (fits : T → Type 0) where
   ViewCallFits (view_calls.HolderRefresh view) = view < 2 ^ 64
   ViewCallFits (view_calls.HolderUpdate view value) = UpdateFits view value
 
-  abbrev pub CallFits : AnyCall T → Type 0
+  abbrev pub CallFits : Call T → Type 0
   CallFits (any.Plain call) = PlainFits call
   CallFits (any.View call) = ViewCallFits call
 

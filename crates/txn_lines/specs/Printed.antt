@@ -1,10 +1,10 @@
 -- The text of each printed line.
 use Rattle.std.specs.Prelude.{ℕ, List, [], ◌∷◌, ◌++◌, ◌==◌, if◌then◌else◌, Option, Some, None, codes, decimal}
+use Rattle.txn_history.specs.declared.event.PlainAnswer.{PlainAnswer}
+use Rattle.txn_history.specs.declared.event.PlainAnswer.TheVariants as answers
 use Rattle.txn_history.specs.declared.event.Answer.{Answer}
-use Rattle.txn_history.specs.declared.event.Answer.TheVariants as answers
-use Rattle.txn_view_history.specs.declared.event.AnyAnswer.{AnyAnswer}
-use Rattle.txn_view_history.specs.declared.event.AnyAnswer.TheVariants as any
-use Rattle.txn_view_history.specs.Views.{View}
+use Rattle.txn_history.specs.declared.event.Answer.TheVariants as any
+use Rattle.txn_history.specs.Views.{View}
 use Rattle.txn_history.specs.declared.event.EventFault.{EventFault}
 use Rattle.txn_history.specs.declared.event.EventFault.TheVariants as faults
 use Rattle.txn_history.specs.Allowed.{fault_number}
@@ -48,7 +48,7 @@ module _ {T : Type 0} (text : T → List ℕ) where
   value_text (Some value) = codes "value " ++ text value
 
   -- the answer of a call without a view, or a refusal
-  abbrev pub plain_answer_text : Answer T → List ℕ
+  abbrev pub plain_answer_text : PlainAnswer T → List ℕ
   plain_answer_text (answers.Wrote id) = codes "wrote " ++ decimal id
   plain_answer_text (answers.Read found) = read_text found
   plain_answer_text (answers.Value found) = value_text found
@@ -64,13 +64,13 @@ module _ {T : Type 0} (text : T → List ℕ) where
   abbrev pub holder_text : ℕ → ℕ → T → ℕ → List ℕ
   holder_text view id value epoch = codes "holder " ++ (decimal view ++ (codes " at " ++ (decimal id ++ (codes " " ++ (text value ++ (codes " epoch " ++ decimal epoch))))))
 
-  abbrev pub answered_text : AnyAnswer T → List ℕ
+  abbrev pub answered_text : Answer T → List ℕ
   answered_text (any.Plain answer) = plain_answer_text answer
   answered_text (any.View view id value) = view_text view id value
   answered_text (any.Held view id value epoch) = holder_text view id value epoch
 
   -- the line of an answer
-  abbrev pub answer_text : ℕ → AnyAnswer T → List ℕ
+  abbrev pub answer_text : ℕ → Answer T → List ℕ
   answer_text op answer = codes "op " ++ (decimal op ++ (codes ": " ++ answered_text answer))
 
   -- the line of an entry of the history

@@ -1,11 +1,11 @@
 -- How the lines are read, for the functions that read them.
 use Rattle.std.specs.Prelude.{◌≡◌, ℕ, ◌+◌, ◌≤◌, ◌<◌, ◌==◌, nat_lt, List, [], ◌∷◌, ◌++◌, Bool, true, false, Option, Some, None, IfSome, length, ◌⊎◌}
 use Rattle.std.specs.Io.BufRead.{take_through, drop_through, first_piece}
-use Rattle.txn_history.specs.declared.event.Call.TheVariants as calls
+use Rattle.txn_history.specs.declared.event.PlainCall.TheVariants as calls
 use Rattle.txn_history.specs.declared.event.EventOf.TheVariants as events
-use Rattle.txn_view_history.specs.declared.event.ViewCall.TheVariants as view_calls
-use Rattle.txn_view_history.specs.declared.event.AnyCall.{AnyCall}
-use Rattle.txn_view_history.specs.declared.event.AnyCall.TheVariants as any
+use Rattle.txn_history.specs.declared.event.ViewCall.TheVariants as view_calls
+use Rattle.txn_history.specs.declared.event.Call.{Call}
+use Rattle.txn_history.specs.declared.event.Call.TheVariants as any
 use Rattle.txn_lines.specs.declared.line.Line.{Line}
 use Rattle.txn_lines.specs.declared.line.Line.TheVariants as lines
 use Rattle.txn_lines.specs.declared.lines.Lines.{Lines}
@@ -99,7 +99,7 @@ IsNoBegin (lines.Event (events.Begin client call)) = ⊥
 IsNoBegin line = Unit {0}
 
 -- the call has no value
-abbrev pub HasNoValue : {T : Type 0} → AnyCall T → Type 0
+abbrev pub HasNoValue : {T : Type 0} → Call T → Type 0
 HasNoValue (any.Plain (calls.Write base value)) = ⊥
 HasNoValue (any.Plain (calls.WriteUnchecked base value)) = ⊥
 HasNoValue (any.View (view_calls.Init value)) = ⊥

@@ -8,16 +8,16 @@ use Rattle.std.proofs.lemmas.Fmt.{IsAscii-decimal}
 use Rattle.std.proofs.lemmas.Str.{IsUtf8-append, IsUtf8-from_ascii}
 use Rattle.std.specs.declared.ops.Bound.{Bound}
 use Rattle.std.specs.declared.ops.Bound.TheVariants as bounds
-use Rattle.txn_history.specs.declared.event.Call.{Call}
-use Rattle.txn_history.specs.declared.event.Call.TheVariants as calls
+use Rattle.txn_history.specs.declared.event.PlainCall.{PlainCall}
+use Rattle.txn_history.specs.declared.event.PlainCall.TheVariants as calls
 use Rattle.txn_history.specs.declared.event.EventOf.{EventOf}
 use Rattle.txn_history.specs.declared.event.EventOf.TheVariants as events
 use Rattle.txn_history.specs.declared.event.Failure.{Failure}
 use Rattle.txn_history.specs.declared.event.Failure.TheVariants as failures
-use Rattle.txn_view_history.specs.declared.event.ViewCall.{ViewCall}
-use Rattle.txn_view_history.specs.declared.event.ViewCall.TheVariants as view_calls
-use Rattle.txn_view_history.specs.declared.event.AnyCall.{AnyCall}
-use Rattle.txn_view_history.specs.declared.event.AnyCall.TheVariants as any
+use Rattle.txn_history.specs.declared.event.ViewCall.{ViewCall}
+use Rattle.txn_history.specs.declared.event.ViewCall.TheVariants as view_calls
+use Rattle.txn_history.specs.declared.event.Call.{Call}
+use Rattle.txn_history.specs.declared.event.Call.TheVariants as any
 use Rattle.txn_lines.specs.declared.line.Line.{Line}
 use Rattle.txn_lines.specs.declared.line.Line.TheVariants as lines
 use Rattle.txn_lines.specs.Numerals.{pair_text, PairFits}
@@ -81,7 +81,7 @@ module _ {T : Type 0} (text : T → List ℕ) (fits : T → Type 0) (is_utf8 : (
   write_utf8 : (base : Option ℕ) (value : T) → WriteFits fits base value → IsUtf8 (write_text text base value)
   write_utf8 base value ok = between_utf8 (base_text base) (text value) 32 refl (base_utf8 base ok.0) (is_utf8 value ok.1)
 
-  plain_utf8 : (call : Call T) → PlainFits fits call → IsUtf8 (plain_text text call)
+  plain_utf8 : (call : PlainCall T) → PlainFits fits call → IsUtf8 (plain_text text call)
   plain_utf8 (calls.Write base value) ok = after_word (codes "write") (write_text text base value) refl (write_utf8 base value ok)
   plain_utf8 (calls.WriteUnchecked base value) ok = after_word (codes "write_unchecked") (write_text text base value) refl (write_utf8 base value ok)
   plain_utf8 calls.Read ok = word_utf8 (codes "read") refl
@@ -105,7 +105,7 @@ module _ {T : Type 0} (text : T → List ℕ) (fits : T → Type 0) (is_utf8 : (
   view_call_utf8 (view_calls.HolderRefresh view) ok = numbered_utf8 (codes "holder_refresh") view refl ok
   view_call_utf8 (view_calls.HolderUpdate view value) ok = after_word (codes "holder_update") (update_text text view value) refl (update_utf8 view value ok)
 
-  pub call_utf8 : (call : AnyCall T) → CallFits fits call → IsUtf8 (call_text text call)
+  pub call_utf8 : (call : Call T) → CallFits fits call → IsUtf8 (call_text text call)
   call_utf8 (any.Plain call) ok = plain_utf8 call ok
   call_utf8 (any.View call) ok = view_call_utf8 call ok
 

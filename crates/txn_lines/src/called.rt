@@ -6,8 +6,7 @@ ghost use Rattle.txn_lines.specs.Grammar.{base_text, bound_text, plain_text, vie
 use crate::text_form::LineValue;
 use std::fmt;
 use std::ops::Bound;
-use txn_history::event::Call;
-use txn_view_history::event::{AnyCall, ViewCall};
+use txn_history::event::{Call, PlainCall, ViewCall};
 
 /// The base of a write, or `-` for none.
 #[derive(Clone, Copy, Debug)]
@@ -42,32 +41,32 @@ impl fmt::Display for UpTo {
 
 /// A call without a view, as it is written.
 #[derive(Clone, Copy, Debug)]
-struct PlainCalled<'a, T>(&'a Call<T>);
+struct PlainCalled<'a, T>(&'a PlainCall<T>);
 
 impl<T: LineValue> fmt::Display for PlainCalled<'_, T> {
     ghost output = { λ called. Some (plain_text T.text called.0.now) };
 
     fn fmt<W: fmt::Write>(&self, f: &mut fmt::Formatter<W>) -> fmt::Result {
         match self.0 {
-            Call::Write(base, value) => {
+            PlainCall::Write(base, value) => {
                 let base = OnBase(*base);
                 write!(f, "write {base} {value}")
             }
-            Call::WriteUnchecked(base, value) => {
+            PlainCall::WriteUnchecked(base, value) => {
                 let base = OnBase(*base);
                 write!(f, "write_unchecked {base} {value}")
             }
-            Call::Read => write!(f, "read"),
-            Call::ReadUnchecked(id) => write!(f, "read_unchecked {id}"),
-            Call::ReadSeen(id) => write!(f, "read_seen {id}"),
-            Call::ListIds(from, to) => {
+            PlainCall::Read => write!(f, "read"),
+            PlainCall::ReadUnchecked(id) => write!(f, "read_unchecked {id}"),
+            PlainCall::ReadSeen(id) => write!(f, "read_seen {id}"),
+            PlainCall::ListIds(from, to) => {
                 let from = UpTo(*from);
                 let to = UpTo(*to);
                 write!(f, "list {from} {to}")
             }
-            Call::Delete(id) => write!(f, "delete {id}"),
-            Call::Check(id) => write!(f, "check {id}"),
-            Call::Advance(to) => write!(f, "advance {to}"),
+            PlainCall::Delete(id) => write!(f, "delete {id}"),
+            PlainCall::Check(id) => write!(f, "check {id}"),
+            PlainCall::Advance(to) => write!(f, "advance {to}"),
         }
     }
 }
@@ -95,18 +94,18 @@ impl<T: LineValue> fmt::Display for ViewCalled<'_, T> {
 
 /// A call as it is written: the text of which it is read.
 #[derive(Clone, Copy, Debug)]
-pub struct Called<'a, T>(pub &'a AnyCall<T>);
+pub struct Called<'a, T>(pub &'a Call<T>);
 
 impl<T: LineValue> fmt::Display for Called<'_, T> {
     ghost output = { λ called. Some (call_text T.text called.0.now) };
 
     fn fmt<W: fmt::Write>(&self, f: &mut fmt::Formatter<W>) -> fmt::Result {
         match self.0 {
-            AnyCall::Plain(call) => {
+            Call::Plain(call) => {
                 let called = PlainCalled(call);
                 write!(f, "{called}")
             }
-            AnyCall::View(call) => {
+            Call::View(call) => {
                 let called = ViewCalled(call);
                 write!(f, "{called}")
             }

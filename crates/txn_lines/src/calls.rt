@@ -2,7 +2,7 @@
 
 ghost use Rattle.std.specs.Prelude.{◌≡◌, ℕ, IfOk, IfSome, Some, Option};
 ghost use Rattle.std.specs.declared.ops.Bound.{Bound};
-ghost use Rattle.txn_view_history.specs.declared.event.AnyCall.{AnyCall};
+ghost use Rattle.txn_history.specs.declared.event.Call.{Call};
 ghost use Rattle.txn_lines.specs.Grammar.{base_text, write_text, bound_text, list_text, update_text, call_text, BaseFits, WriteFits, BoundFits, ListFits, UpdateFits, CallFits};
 ghost use Rattle.txn_lines.specs.Reading.{HasNoValue};
 
@@ -10,8 +10,7 @@ use crate::numerals::{read_decimal, read_pair};
 use crate::text_form::TextForm;
 use std::alloc::{AllocError, Global};
 use std::ops::Bound;
-use txn_history::event::Call;
-use txn_view_history::event::{AnyCall, ViewCall};
+use txn_history::event::{Call, PlainCall, ViewCall};
 
 /// The most bytes of a call that are not of its value: a word, two numbers of twenty digits, and spaces.
 const MOST_WORDS: usize = 50;
@@ -101,41 +100,41 @@ fn read_update<T: TextForm>(alloc: Global, words: &str) -> Result<Option<(u64, T
 }
 
 /// The call without a value that these words say.
-fn read_valueless<T: TextForm>(text: &str) -> Option<AnyCall<T>>
+fn read_valueless<T: TextForm>(text: &str) -> Option<Call<T>>
     ensures fits { IfSome result (CallFits T.fits) }
     ensures reads { IfSome result (λ call. text.now ≡ call_text T.text call) }
-    ensures all { (call : AnyCall T) → HasNoValue call → CallFits T.fits call
+    ensures all { (call : Call T) → HasNoValue call → CallFits T.fits call
         → text.now ≡ call_text T.text call → result ≡ Some call }
 {
     match text {
-        "read" => return Some(AnyCall::Plain(Call::Read)),
-        "load" => return Some(AnyCall::View(ViewCall::Load)),
+        "read" => return Some(Call::Plain(PlainCall::Read)),
+        "load" => return Some(Call::View(ViewCall::Load)),
         _ => {}
     }
     let (word, rest) = text.split_once(' ')?;
     match word {
-        "read_unchecked" => Some(AnyCall::Plain(Call::ReadUnchecked(read_decimal(rest)?))),
-        "read_seen" => Some(AnyCall::Plain(Call::ReadSeen(read_decimal(rest)?))),
+        "read_unchecked" => Some(Call::Plain(PlainCall::ReadUnchecked(read_decimal(rest)?))),
+        "read_seen" => Some(Call::Plain(PlainCall::ReadSeen(read_decimal(rest)?))),
         "list" => {
             let (from, to) = read_list(rest)?;
-            Some(AnyCall::Plain(Call::ListIds(from, to)))
+            Some(Call::Plain(PlainCall::ListIds(from, to)))
         }
-        "delete" => Some(AnyCall::Plain(Call::Delete(read_decimal(rest)?))),
-        "check" => Some(AnyCall::Plain(Call::Check(read_decimal(rest)?))),
-        "advance" => Some(AnyCall::Plain(Call::Advance(read_decimal(rest)?))),
-        "refresh" => Some(AnyCall::View(ViewCall::Refresh(read_decimal(rest)?))),
-        "claim" => Some(AnyCall::View(ViewCall::Claim(read_decimal(rest)?))),
+        "delete" => Some(Call::Plain(PlainCall::Delete(read_decimal(rest)?))),
+        "check" => Some(Call::Plain(PlainCall::Check(read_decimal(rest)?))),
+        "advance" => Some(Call::Plain(PlainCall::Advance(read_decimal(rest)?))),
+        "refresh" => Some(Call::View(ViewCall::Refresh(read_decimal(rest)?))),
+        "claim" => Some(Call::View(ViewCall::Claim(read_decimal(rest)?))),
         "claim_at" => {
             let (view, epoch) = read_pair(rest)?;
-            Some(AnyCall::View(ViewCall::ClaimAt(view, epoch)))
+            Some(Call::View(ViewCall::ClaimAt(view, epoch)))
         }
-        "holder_refresh" => Some(AnyCall::View(ViewCall::HolderRefresh(read_decimal(rest)?))),
+        "holder_refresh" => Some(Call::View(ViewCall::HolderRefresh(read_decimal(rest)?))),
         _ => None,
     }
 }
 
 /// A call, where its values have a text.
-impl<T: TextForm> TextForm for AnyCall<T> {
+impl<T: TextForm> TextForm for Call<T> {
     ghost use Rattle.txn_lines.specs.Grammar.{call_text, CallFits};
     ghost use Rattle.txn_lines.specs.TextLaws.{call_utf8};
 
@@ -145,31 +144,31 @@ impl<T: TextForm> TextForm for AnyCall<T> {
 
     ghost is_utf8 = { call_utf8 T.text T.fits T.is_utf8 };
 
-    fn read_text(alloc: Global, words: &str) -> Result<Option<AnyCall<T>>, AllocError> {
+    fn read_text(alloc: Global, words: &str) -> Result<Option<Call<T>>, AllocError> {
         let Some((word, rest)) = words.split_once(' ') else {
             return Ok(read_valueless(words));
         };
         match word {
             "write" => match read_write(alloc, rest)? {
-                Some((base, value)) => Ok(Some(AnyCall::Plain(Call::Write(base, value)))),
+                Some((base, value)) => Ok(Some(Call::Plain(PlainCall::Write(base, value)))),
                 None => Ok(None),
             },
             "write_unchecked" => match read_write(alloc, rest)? {
-                Some((base, value)) => Ok(Some(AnyCall::Plain(Call::WriteUnchecked(base, value)))),
+                Some((base, value)) => Ok(Some(Call::Plain(PlainCall::WriteUnchecked(
+                    base, value,
+                )))),
                 None => Ok(None),
             },
             "init" => match T::read_text(alloc, rest)? {
-                Some(value) => Ok(Some(AnyCall::View(ViewCall::Init(value)))),
+                Some(value) => Ok(Some(Call::View(ViewCall::Init(value)))),
                 None => Ok(None),
             },
             "update" => match read_update(alloc, rest)? {
-                Some((view, value)) => Ok(Some(AnyCall::View(ViewCall::Update(view, value)))),
+                Some((view, value)) => Ok(Some(Call::View(ViewCall::Update(view, value)))),
                 None => Ok(None),
             },
             "holder_update" => match read_update(alloc, rest)? {
-                Some((view, value)) => {
-                    Ok(Some(AnyCall::View(ViewCall::HolderUpdate(view, value))))
-                }
+                Some((view, value)) => { Ok(Some(Call::View(ViewCall::HolderUpdate(view, value)))) }
                 None => Ok(None),
             },
             _ => Ok(read_valueless(words)),

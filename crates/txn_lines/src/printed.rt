@@ -5,9 +5,8 @@ ghost use Rattle.txn_lines.specs.Printed.{refusal_name, plain_answer_text, answe
 
 use crate::text_form::LineValue;
 use std::fmt;
-use txn_history::event::{Answer, EventFault};
-use txn_view_history::event::AnyAnswer;
-use txn_view_history::view::View;
+use txn_history::event::{Answer, EventFault, PlainAnswer};
+use txn_history::view::View;
 
 /// The name of a refusal.
 fn refusal_name(number: u8) -> &'static str
@@ -48,24 +47,24 @@ impl fmt::Display for Listed<'_> {
 
 /// The answer of a call without a view, or a refusal, as it is printed.
 #[derive(Clone, Copy, Debug)]
-struct PlainAnswered<'a, T>(&'a Answer<T>);
+struct PlainAnswered<'a, T>(&'a PlainAnswer<T>);
 
 impl<T: LineValue> fmt::Display for PlainAnswered<'_, T> {
     ghost output = { λ answered. Some (plain_answer_text T.text answered.0.now) };
 
     fn fmt<W: fmt::Write>(&self, f: &mut fmt::Formatter<W>) -> fmt::Result {
         match self.0 {
-            Answer::Wrote(id) => write!(f, "wrote {id}"),
-            Answer::Read(None) => write!(f, "read none"),
-            Answer::Read(Some((id, value))) => write!(f, "read {id} {value}"),
-            Answer::Value(None) => write!(f, "value none"),
-            Answer::Value(Some(value)) => write!(f, "value {value}"),
-            Answer::Ids(ids) => {
+            PlainAnswer::Wrote(id) => write!(f, "wrote {id}"),
+            PlainAnswer::Read(None) => write!(f, "read none"),
+            PlainAnswer::Read(Some((id, value))) => write!(f, "read {id} {value}"),
+            PlainAnswer::Value(None) => write!(f, "value none"),
+            PlainAnswer::Value(Some(value)) => write!(f, "value {value}"),
+            PlainAnswer::Ids(ids) => {
                 let listed = Listed(ids.as_slice());
                 write!(f, "ids{listed}")
             }
-            Answer::Done => write!(f, "done"),
-            Answer::Refused(number) => {
+            PlainAnswer::Done => write!(f, "done"),
+            PlainAnswer::Refused(number) => {
                 let name = refusal_name(*number);
                 write!(f, "refused {number} {name}")
             }
@@ -75,19 +74,19 @@ impl<T: LineValue> fmt::Display for PlainAnswered<'_, T> {
 
 /// An answer as it is printed.
 #[derive(Clone, Copy, Debug)]
-pub struct Answered<'a, T>(pub &'a AnyAnswer<T>);
+pub struct Answered<'a, T>(pub &'a Answer<T>);
 
 impl<T: LineValue> fmt::Display for Answered<'_, T> {
     ghost output = { λ answered. Some (answered_text T.text answered.0.now) };
 
     fn fmt<W: fmt::Write>(&self, f: &mut fmt::Formatter<W>) -> fmt::Result {
         match self.0 {
-            AnyAnswer::Plain(answer) => {
+            Answer::Plain(answer) => {
                 let answered = PlainAnswered(answer);
                 write!(f, "{answered}")
             }
-            AnyAnswer::View(view, id, value) => write!(f, "view {view} at {id} {value}"),
-            AnyAnswer::Held(view, id, value, epoch) => {
+            Answer::View(view, id, value) => write!(f, "view {view} at {id} {value}"),
+            Answer::Held(view, id, value, epoch) => {
                 write!(f, "holder {view} at {id} {value} epoch {epoch}")
             }
         }

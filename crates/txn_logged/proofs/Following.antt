@@ -19,7 +19,7 @@ use Rattle.txn_store.specs.declared.request.Request.{Request}
 use Rattle.txn_store.specs.declared.request.Request.TheVariants as requests
 use Rattle.txn_store.specs.declared.request.Reply.{Reply}
 use Rattle.txn_store.specs.declared.request.Reply.TheVariants as replies
-use Rattle.txn_machine.proofs.Faults.{ruled_out}
+use Rattle.txn_machine_inner.proofs.Faults.{ruled_out}
 use Rattle.txn_logged.specs.declared.fault.LogFault.{LogFault}
 use Rattle.txn_logged.specs.declared.fault.LogFault.TheVariants as faults
 use Rattle.txn_logged.specs.declared.replayed.Replayed.{Replayed}

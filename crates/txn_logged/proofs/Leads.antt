@@ -13,8 +13,8 @@ use Rattle.txn_store.specs.declared.request.Request.{Request}
 use Rattle.txn_store.specs.declared.request.Request.TheVariants as requests
 use Rattle.txn_store.specs.declared.request.Reply.{Reply}
 use Rattle.txn_store.specs.declared.request.Reply.TheVariants as replies
-use Rattle.txn_machine.specs.Machine.{empty_store}
-use Rattle.txn_machine.proofs.Faults.{get_kept, listed_kept, ruled_out}
+use Rattle.txn_machine_inner.specs.Machine.{empty_store}
+use Rattle.txn_machine_inner.proofs.Faults.{get_kept, listed_kept, ruled_out}
 use Rattle.txn_journals.specs.declared.rows.LogRow.{LogRow}
 use Rattle.txn_journals.specs.Logs.{IsLog}
 use Rattle.txn_logged.specs.Logged.{IsLogged, LeavesFiles}

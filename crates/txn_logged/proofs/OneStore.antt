@@ -14,7 +14,7 @@ use Rattle.txn_store.specs.declared.request.Request.{Request}
 use Rattle.txn_store.specs.declared.request.Request.TheVariants as requests
 use Rattle.txn_store.specs.declared.request.Reply.{Reply}
 use Rattle.txn_store.specs.declared.request.Reply.TheVariants as replies
-use Rattle.txn_machine.proofs.Faults.{ruled_out, put_kept, get_kept, listed_kept, delete_kept}
+use Rattle.txn_machine_inner.proofs.Faults.{ruled_out, put_kept, get_kept, listed_kept, delete_kept}
 use Rattle.txn_journals.specs.declared.rows.LogRow.{LogRow}
 use Rattle.txn_journals.specs.Logs.{IsLog}
 use Rattle.txn_logged.specs.declared.fault.LogFault.{LogFault}

@@ -1,223 +1,93 @@
--- What stands beside the rows goes on as each event that is taken says.
-use Rattle.std.proofs.Common.{◌≡◌, ◌≢◌, ℕ, zero, suc, ◌+◌, List, [], ◌∷◌, ◌++◌, length, map, set, slice_get, Bool, true, false, not, ◌==◌, is_some, cond, Option, Some, None, refl, sym, ◌∙◌, ap, subst, arith}
-use Rattle.std.proofs.lemmas.Bool.{eq-eqb, ne_eqb}
-use Rattle.std.proofs.lemmas.List.{length-map, map-append, map-set}
-use Rattle.std.proofs.lemmas.Option.{same_Some}
-use Rattle.txn_store.specs.declared.request.Reply.{Reply}
-use Rattle.txn_types.specs.Numbers.{number_of}
-use Rattle.txn_caches.specs.declared.caches.Caches.{Caches}
-use Rattle.txn_caches.specs.Checks.{check_turned}
-use Rattle.txn_caches.specs.Advances.{advance_turned}
-use Rattle.txn_steps.specs.Writes.{unchecked_started, unchecked_turned, write_started, write_turned}
-use Rattle.txn_steps.specs.Reads.{read_turned}
-use Rattle.txn_steps.specs.SeenSteps.{unchecked_turned as value_turned, seen_turned}
-use Rattle.txn_steps.specs.Listings.{listing_turned}
-use Rattle.txn_steps.specs.Deletes.{delete_turned}
+-- A fine operation begins for an operation of the world.
+use Rattle.std.proofs.Common.{◌≡◌, ℕ, List, [], ◌∷◌, ◌++◌, length, nat_eq, true, false, Option, Some, None, refl, sym, ◌∙◌, subst, arith}
+use Rattle.std.specs.List.{list_any}
+use Rattle.std.proofs.lemmas.List.{append-nil, take-append-le, take_all}
+use Rattle.std.proofs.lemmas.Option.{slice_get_within}
+use Rattle.txn_history.specs.declared.event.PlainCall.{PlainCall}
+use Rattle.txn_history.specs.declared.event.PlainAnswer.{PlainAnswer}
+use Rattle.txn_history.specs.declared.event.PlainAnswer.TheVariants as answers
+use Rattle.txn_history.specs.declared.trace.RowOf.TheVariants.{Answered}
+use Rattle.txn_machine_inner.specs.PlainTrace.{PlainRow}
+use Rattle.txn_machine_inner.specs.PlainCalls as plain_calls
+use Rattle.txn_history.specs.Calls.{IsCall}
+use Rattle.txn_machine_inner.specs.PlainHistory as plain_history
+use Rattle.txn_machine_inner.specs.PlainHistory.{Answers}
+use Rattle.txn_history.specs.Added.{answer_rows}
+use Rattle.txn_history.proofs.Lists.{get_last, get_kept, any_last}
 use Rattle.txn_history.specs.declared.event.Call.{Call}
-use Rattle.txn_history.specs.declared.event.Call.TheVariants as calls
-use Rattle.txn_history.specs.declared.event.Answer.{Answer}
-use Rattle.txn_history.specs.declared.event.Answer.TheVariants as answers
-use Rattle.txn_history.specs.declared.event.Failure.{Failure}
-use Rattle.txn_history.specs.declared.event.Failure.TheVariants as failures
-use Rattle.txn_history.specs.Trace.{Told}
-use Rattle.txn_history.specs.declared.event.ToldOf.TheVariants as told
-use Rattle.txn_history.specs.Trace.{Event}
-use Rattle.txn_history.specs.declared.event.EventOf.TheVariants as events
-use Rattle.txn_history.specs.Lists.{numbered}
-use Rattle.txn_history.specs.Names.{world_names, world_boundary}
-use Rattle.txn_history.specs.Seen.{Ask, Store, Look, asks_in, asks_of}
-use Rattle.txn_history.specs.GoesOn.{left_loose, state_of, states_after, GoesOn}
-use Rattle.txn_history.specs.Added.{told_of}
-use Rattle.txn_machine.specs.declared.doing.Doing.{Doing}
-use Rattle.txn_machine.specs.declared.doing.Doing.TheVariants.{Write, WriteUnchecked, Read, ReadUnchecked, ReadSeen, ListIds, Delete, Check, Advance, Ended}
-use Rattle.txn_machine.specs.declared.doing.Operation.{Operation}
-use Rattle.txn_machine.specs.Doing.{Next, started, turned, caches_left, asked, next_of, or_no_memory, write_answer, read_answer, value_answer, ids_answer, done_answer}
-use Rattle.txn_machine.specs.Machine.{State, seen_operation, seen_operations, seen_of, with_doing, effect_of, effected, acted, loosened, failing, given_up, told_failure, ended_by, crashed, next_op, begun_as, Acts, Fails, GivesUp, Lands, Crashes, Looks, Served, Begins, Takes}
-use Rattle.txn_machine.proofs.Ends.{EndsOne, answer_ends, give_up_ends, told_ends, states_stay, states_set, states_begun, states_crashed}
+use Rattle.txn_history.specs.declared.event.Call.TheVariants as any
+use Rattle.txn_history.specs.declared.event.Answer.TheVariants as any_answers
+use Rattle.txn_history.specs.OneHistory as history
+use Rattle.txn_history.specs.Trace.{Row}
+use Rattle.txn_machine_views.specs.Layer.{Used, Inner, Starts, Writes, Reads, Acts, Layer, noted}
+use Rattle.txn_machine_views.proofs.Inside.{write_fits, read_fits}
+use Rattle.txn_machine_views.proofs.Inner.{PastFenced}
+use Rattle.txn_machine_views.proofs.Carried.{plain_fits}
+use Rattle.txn_machine_views.proofs.Tied.{Tied}
+use Rattle.txn_machine.proofs.Matched.{fine_call}
+use Rattle.txn_machine.proofs.Joined.{AnswerTold, DoesFirst, Does, PastAt, Core, Owes, OwesFor}
+use Rattle.txn_machine.proofs.Rows.{core_fine, past_fine}
+use Rattle.txn_machine.proofs.Laid.{one_fine}
+
+module _ {T : Type 0} (decode : List ℕ → Option T) (get_epoch : T → ℕ) where
+  -- rows that begin one history are one history
+  pub history_front : (failed : List ℕ) (rows more : List (PlainRow T)) → plain_history.IsOneHistory decode get_epoch failed (rows ++ more) → plain_history.IsOneHistory decode get_epoch failed rows
+  history_front failed rows more good k row e =
+      subst (λ (f : List (PlainRow T)). plain_history.Fits decode get_epoch failed f row) (take-append-le k rows more (omega (arith, slice_get_within rows k row e))) (good k row (get_kept rows more k row e))
+
+  -- the last answer of one history fits
+  pub last_answer : (failed : List ℕ) (rows : List (PlainRow T)) (n : ℕ) (answer : PlainAnswer T) → plain_history.IsOneHistory decode get_epoch failed (rows ++ Answered n answer ∷ []) → Answers decode get_epoch failed rows n answer
+  last_answer failed rows n answer good =
+      subst (λ (f : List (PlainRow T)). Answers decode get_epoch failed f n answer) (take-append-le (length rows) rows (Answered n answer ∷ []) (omega arith) ∙ take_all (length rows) rows (omega arith))
+      (good (length rows) (Answered n answer) (get_last rows (Answered n answer)))
+
+  plain_owes : (rows : List (Row T)) (failed : List ℕ) (op : ℕ) (call : PlainCall T) (answer : PlainAnswer T) → plain_history.AnswerFits decode get_epoch failed rows op call answer → history.AnswerFits decode get_epoch failed rows op (any.Plain call) (any_answers.Plain answer)
+  plain_owes rows failed op call (answers.Refused number) fits = fits
+  plain_owes rows failed op call (answers.Wrote id) fits = fits
+  plain_owes rows failed op call (answers.Read found) fits = fits
+  plain_owes rows failed op call (answers.Value found) fits = fits
+  plain_owes rows failed op call (answers.Ids ids) fits = fits
+  plain_owes rows failed op call answers.Done fits = fits
+
+  -- What an answer of a fine operation owes its owner. The rows are those before the answer.
+  pub owes_of : (failed : List ℕ) (fine : List (PlainRow T)) (l : Layer T) (owner : ℕ → ℕ) (tied : Tied owner fine l.rows) (n op : ℕ) → owner n ≡ op → (list_any (nat_eq n) failed ≡ true → list_any (nat_eq op) l.failed ≡ true) → (call : Call T) (inner : Inner T) → Does get_epoch fine l.rows l.asked n op call inner → PastAt decode owner fine op n →
+      plain_history.IsOneHistory decode get_epoch failed fine → (answer : PlainAnswer T) → Answers decode get_epoch failed fine n answer → Owes decode get_epoch l.rows l.failed op call inner answer
+  owes_of failed fine l owner tied n op own noted call inner d past good answer a =
+      subst (λ (o : ℕ). Owes decode get_epoch l.rows l.failed o call inner answer) own (by call inner d.first d.called (subst (λ (c : PlainCall T). plain_history.AnswerFits decode get_epoch failed fine n c answer) (one_fine decode get_epoch failed fine good n a.call (fine_call call inner) a.called d.called) a.fits))
+    where
+      past' : PastFenced decode owner fine l.rows tied n
+      past' m k value same ne e = past m k value (same ∙ own) ne e
+
+      noted' : list_any (nat_eq n) failed ≡ true → list_any (nat_eq (owner n)) l.failed ≡ true
+      noted' e = subst (λ (o : ℕ). list_any (nat_eq o) l.failed ≡ true) (sym own) (noted e)
+
+      by : (call : Call T) (inner : Inner T) → DoesFirst get_epoch call inner → IsCall fine n (fine_call call inner) → plain_history.AnswerFits decode get_epoch failed fine n (fine_call call inner) answer → Owes decode get_epoch l.rows l.failed (owner n) call inner answer
+      by (any.Plain call) inner first called fits = plain_owes l.rows l.failed (owner n) call answer (plain_fits decode get_epoch owner failed l.failed fine l.rows tied n noted' past' call answer fits)
+      by (any.View call) (Writes base value epoch) first called fits = write_fits decode get_epoch owner failed l.failed fine l.rows tied n noted' past' base epoch value answer good called fits
+      by (any.View call) Reads first called fits = read_fits decode get_epoch owner failed l.failed fine l.rows tied n noted' past' answer fits
+      by (any.View call) Starts first called fits = absurd first
+      by (any.View call) Acts first called fits = absurd first
 
 module _ {T : Type 0} where
-  -- what is seen of an operation
+  -- with the row of an answer, where there is one, what was true stays true
 
-  got_at : (os : List (Operation T)) (k : ℕ) (o : Operation T) → slice_get os k ≡ Some o → slice_get (seen_operations os) k ≡ Some (seen_operation o)
-  got_at [] k o e = cc
-  got_at (x ∷ os) zero o e = ap Some (ap seen_operation (same_Some x o e))
-  got_at (x ∷ os) (suc k) o e = got_at os k o e
+  pub answer_told : (rows : List (PlainRow T)) (n : ℕ) (answer : PlainAnswer T) → AnswerTold (rows ++ Answered n answer ∷ []) answer
+  answer_told rows n answer test e = any_last (plain_calls.tells test) rows (Answered n answer) e
 
-  asks_at : (os : List (Operation T)) (op : ℕ) (o : Operation T) → numbered os op ≡ Some o → asks_in (numbered (seen_operations os) op) ≡ asked o.doing
-  asks_at os zero o e = cc
-  asks_at os (suc k) o e = ap asks_in (got_at os k o e)
+  module _ (decode : List ℕ → Option T) (get_epoch : T → ℕ) (fine : List (PlainRow T)) (n : ℕ) where
+    pub core_answer : (fine_failed : List ℕ) (rows : List (Row T)) (views : ℕ → Option (Used T)) (failed : List ℕ) (owner : ℕ → ℕ) (answer : Option (PlainAnswer T)) → Core fine fine_failed rows views failed owner → Core (fine ++ answer_rows n answer) fine_failed rows views failed owner
+    core_answer fine_failed rows views failed owner None h = subst (λ (f : List (PlainRow T)). Core f fine_failed rows views failed owner) (sym (append-nil fine)) h
+    core_answer fine_failed rows views failed owner (Some answer) h = core_fine fine fine_failed rows views failed owner h (Answered n answer) refl (λ i e. let clash : false ≡ true = e in cc)
 
-  -- an operation that is there asks for what it is seen to ask for
-  pub seen_at : (s : State T) (op : ℕ) (o : Operation T) → numbered s.operations op ≡ Some o → asks_of (seen_of s) op ≡ asked o.doing
-  seen_at s op o e = asks_at s.operations op o e
+    pub past_answer : (owner : ℕ → ℕ) (op i : ℕ) (answer : Option (PlainAnswer T)) → PastAt decode owner fine op i → PastAt decode owner (fine ++ answer_rows n answer) op i
+    past_answer owner op i None h = subst (λ (f : List (PlainRow T)). PastAt decode owner f op i) (sym (append-nil fine)) h
+    past_answer owner op i (Some answer) h = past_fine decode owner fine (Answered n answer) op i refl h
 
-  -- what an operation does next asks for something just where it has no answer
-  abbrev Fits : Next T → Type 0
-  Fits next = is_some (asked next.0) ≡ not (is_some next.1)
-
-  next_fits : (doing : Doing T) (answer : Option (Answer T)) → is_some (asked doing) ≡ true → Fits (next_of doing answer)
-  next_fits doing None runs = runs
-  next_fits doing (Some answer) runs = refl
-
-  lacking_fits : (refused : Bool) (next : Next T) → Fits next → Fits (or_no_memory refused next)
-  lacking_fits true next fits = refl
-  lacking_fits false next fits = fits
-
-  turned_fits : (page : ℕ) (decode : List ℕ → Option T) (refused : Bool) (doing : Doing T) (caches : Caches) (reply : Option Reply) (ask : Ask) → asked doing ≡ Some ask → Fits (turned page decode refused doing caches reply)
-  turned_fits page decode refused (Write op) caches reply ask e = let t = write_turned op caches reply in next_fits (Write t.0) (write_answer t.1) refl
-  turned_fits page decode refused (WriteUnchecked op) caches reply ask e = let t = unchecked_turned op reply in next_fits (WriteUnchecked t.0) (write_answer t.1) refl
-  turned_fits page decode refused (Read op) caches reply ask e =
-      let t = read_turned world_names world_boundary page decode op caches reply in
-      lacking_fits refused (next_of (Read t.0) (read_answer t.1)) (next_fits (Read t.0) (read_answer t.1) refl)
-  turned_fits page decode refused (ReadUnchecked op) caches reply ask e =
-      let t = value_turned decode reply in
-      lacking_fits refused (next_of (ReadUnchecked op) (value_answer t)) (next_fits (ReadUnchecked op) (value_answer t) refl)
-  turned_fits page decode refused (ReadSeen op) caches reply ask e =
-      let t = seen_turned world_names decode op caches.latest reply in
-      lacking_fits refused (next_of (ReadSeen t.0) (value_answer t.1)) (next_fits (ReadSeen t.0) (value_answer t.1) refl)
-  turned_fits page decode refused (ListIds op) caches reply ask e =
-      let t = listing_turned world_names page op reply in
-      lacking_fits refused (next_of (ListIds t.0) (ids_answer t.1)) (next_fits (ListIds t.0) (ids_answer t.1) refl)
-  turned_fits page decode refused (Delete op) caches reply ask e = let t = delete_turned op caches reply in next_fits (Delete t.0) (done_answer t.1) refl
-  turned_fits page decode refused (Check op) caches reply ask e = let t = check_turned op caches reply in next_fits (Check t.0) (done_answer t.1) refl
-  turned_fits page decode refused (Advance op) caches reply ask e =
-      let t = advance_turned world_boundary op caches reply in
-      lacking_fits refused (next_of (Advance t.0) (done_answer t.1)) (next_fits (Advance t.0) (done_answer t.1) refl)
-  turned_fits page decode refused Ended caches reply ask e = cc
-
-  write_fits : (last : Bool) (doing : Doing T) → is_some (asked doing) ≡ true → Fits (cond last (Ended, Some (answers.Refused 10)) (doing, None))
-  write_fits true doing runs = refl
-  write_fits false doing runs = runs
-
-  started_fits : (page : ℕ) (encode : T → List ℕ) (call : Call T) → Fits (started page encode call)
-  started_fits page encode (calls.Write base value) = write_fits (number_of base == 18446744073709551615) (Write (write_started world_names world_boundary base (encode value))) refl
-  started_fits page encode (calls.WriteUnchecked base value) = write_fits (number_of base == 18446744073709551615) (WriteUnchecked (unchecked_started world_names base (encode value))) refl
-  started_fits page encode calls.Read = refl
-  started_fits page encode (calls.ReadUnchecked id) = refl
-  started_fits page encode (calls.ReadSeen id) = refl
-  started_fits page encode (calls.ListIds from to) = refl
-  started_fits page encode (calls.Delete id) = refl
-  started_fits page encode (calls.Check id) = refl
-  started_fits page encode (calls.Advance to) = refl
-
-  -- one of the operations does something else
-  acted_states : (t : Told T) (op : ℕ) (ends : Bool) (os : List (Operation T)) (o : Operation T) (ask : Ask) (doing : Doing T) → numbered os op ≡ Some o → EndsOne t op ends → asked o.doing ≡ Some ask → is_some (asked doing) ≡ not ends →
-      map state_of (seen_operations (with_doing os op o doing)) ≡ states_after t 1 (seen_operations os) None
-  acted_states t zero ends os o ask doing e one asks fits = cc
-  acted_states t (suc k) ends os o ask doing e one asks fits =
-      let next : Operation T = record { client = o.client; doing = doing } in
-      ap (λ n. map state_of (seen_operations (set os n next))) (omega arith) ∙ ap (map state_of) (map-set seen_operation os k next)
-      ∙ states_set t 1 k (suc k) ends (seen_operations os) (seen_operation o) (seen_operation next) (got_at os k o e) (omega arith) one refl (ap is_some asks) fits
-
-  -- a new operation, which goes on or has ended
-  new_states : (t : Told T) (client : ℕ) (ends : Bool) (os : List (Operation T)) (doing : Doing T) → EndsOne t (length os + 1) ends → is_some (asked doing) ≡ not ends →
-      map state_of (seen_operations (os ++ record { client = client; doing = doing } ∷ [])) ≡ states_after t 1 (seen_operations os) (Some client)
-  new_states t client ends os doing one fits =
-      let new : Operation T = record { client = client; doing = doing } in
-      ap (map state_of) (map-append seen_operation os (new ∷ []))
-      ∙ states_begun t 1 (length os + 1) ends (seen_operations os) (seen_operation new) (omega (arith, length-map os seen_operation)) one fits
-
-  -- the operations of a client end
-  ended_state : (client : ℕ) (o : Operation T) → o.client ≡ client → state_of (seen_operation (ended_by client o)) ≡ (o.client, false)
-  ended_state client o e = rw (eq-eqb o.client client e) refl
-
-  stays_so : (client : ℕ) (o : Operation T) → o.client ≢ client → ended_by client o ≡ o
-  stays_so client o ne = rw (ne_eqb o.client client ne) refl
-
-  -- each event
-
-  -- by what is told, and the state that is left
-  told_so : (old : State T) (event : Event T) (said t : Told T) (new s : State T) → said ≡ t → new ≡ s → GoesOn (seen_of old) event t (seen_of s) → GoesOn (seen_of old) event said (seen_of new)
-  told_so old event said t new s tells is g = subst (λ (u : Told T). GoesOn (seen_of old) event u (seen_of new)) (sym tells) (subst (λ (x : State T). GoesOn (seen_of old) event t (seen_of x)) (sym is) g)
-
-  begin_goes : (encode : T → List ℕ) (decode : List ℕ → Option T) (old : State T) (client : ℕ) (call : Call T) (said : Told T) (new : State T) → Begins encode decode old client call said new → GoesOn (seen_of old) (events.Begin client call) said (seen_of new)
-  begin_goes encode decode old client call said new v =
-      let n = next_op old in
-      let t = told_of (told.Began n) n v.next.1 in
-      let fits = subst Fits (sym v.starts) (started_fits old.page encode call) in
-      told_so old (events.Begin client call) said t new (begun_as old client call v.next) v.tells v.state
-      (record {
-        clients = refl;
-        operations = new_states t client (is_some v.next.1) old.operations v.next.0 (told_ends (told.Began n) n v.next.1 (λ c m. refl)) fits;
-        loose = refl;
-        failed = refl;
-      })
-
-  look_goes : (decode : List ℕ → Option T) (old : State T) (op : ℕ) (said : Told T) (new : State T) → Looks decode old op said new → GoesOn {C = Call T} (seen_of old) (events.Look op) said (seen_of new)
-  look_goes decode old op said new v =
-      let a = v.acts in
-      let t = told_of (told.Went op) op v.next.1 in
-      let fits = subst Fits (sym v.turns) (turned_fits old.page decode v.refused v.operation.doing v.caches None Look a.asks) in
-      told_so old (events.Look op) said t new (acted old op v.operation v.next (caches_left v.operation.doing v.caches v.next.1)) v.tells v.state
-      (record {
-        clients = refl;
-        operations = acted_states t op (is_some v.next.1) old.operations v.operation Look v.next.0 a.found (told_ends (told.Went op) op v.next.1 (λ c m. refl)) a.asks fits;
-        loose = refl;
-        failed = refl;
-      })
-
-  serve_goes : (decode : List ℕ → Option T) (old : State T) (op : ℕ) (said : Told T) (new : State T) → Served decode old op said new → GoesOn {C = Call T} (seen_of old) (events.Serve op) said (seen_of new)
-  serve_goes decode old op said new v =
-      let a = v.acts in
-      let t = told_of (told.Went op) op v.next.1 in
-      let fits = subst Fits (sym v.turns) (turned_fits old.page decode v.refused v.operation.doing v.caches (Some v.reply) (Store v.request) a.asks) in
-      told_so old (events.Serve op) said t new (acted (effected old op v.request v.reply v.store) op v.operation v.next (caches_left v.operation.doing v.caches v.next.1)) v.tells v.state
-      (record {
-        clients = refl;
-        operations = acted_states t op (is_some v.next.1) old.operations v.operation (Store v.request) v.next.0 a.found (told_ends (told.Went op) op v.next.1 (λ c m. refl)) a.asks fits;
-        loose = refl;
-        failed = refl;
-      })
-
-  -- what an operation leaves loose, by what it is seen to ask for
-  leaves : (old : State T) (op : ℕ) (o : Operation T) (ask : Ask) (caches : Caches) → Acts old op o ask caches → old.loose ++ left_loose op (Some ask) ≡ old.loose ++ left_loose op (asks_of (seen_of old) op)
-  leaves old op o ask caches a = ap (λ found. old.loose ++ left_loose op found) (sym (seen_at old op o a.found ∙ a.asks))
-
-  -- the operations, where one is told that its store call failed
-  failed_states : (old : State T) (op : ℕ) (o : Operation T) (ask : Ask) (caches : Caches) → Acts old op o ask caches →
-      map state_of (seen_operations (with_doing old.operations op o Ended)) ≡ states_after {A = Answer T} (told.Answered op (answers.Refused 2)) 1 (seen_operations old.operations) None
-  failed_states old op o ask caches a = acted_states (told.Answered op (answers.Refused 2)) op true old.operations o ask Ended a.found (answer_ends op (answers.Refused 2)) a.asks refl
-
-  fail_goes : (failure : Failure) (old : State T) (op : ℕ) (said : Told T) (new : State T) → Fails old op failure said new → GoesOn {C = Call T} (seen_of old) (events.Fail op failure) said (seen_of new)
-  fail_goes failures.Before old op said new v =
-      told_so old (events.Fail op failures.Before) said (told.Answered op (answers.Refused 2)) new (acted (failing old op) op v.operation told_failure v.caches) v.tells v.state
-      (record { clients = refl; operations = failed_states old op v.operation (Store v.request) v.caches v.acts; loose = refl; failed = refl })
-  fail_goes failures.After old op said new v =
-      told_so old (events.Fail op failures.After) said (told.Answered op (answers.Refused 2)) new (acted (failing (effected old op v.request v.reply v.store) op) op v.operation told_failure v.caches) v.tells v.state
-      (record { clients = refl; operations = failed_states old op v.operation (Store v.request) v.caches v.acts; loose = refl; failed = refl })
-  fail_goes failures.Loose old op said new v =
-      told_so old (events.Fail op failures.Loose) said (told.Answered op (answers.Refused 2)) new (acted (failing (loosened old op (Store v.request)) op) op v.operation told_failure v.caches) v.tells v.state
-      (record { clients = refl; operations = failed_states old op v.operation (Store v.request) v.caches v.acts; loose = leaves old op v.operation (Store v.request) v.caches v.acts; failed = refl })
-
-  give_up_goes : (old : State T) (op : ℕ) (said : Told T) (new : State T) → GivesUp old op said new → GoesOn {C = Call T} (seen_of old) (events.GiveUp op) said (seen_of new)
-  give_up_goes old op said new v =
-      let a = v.acts in
-      told_so old (events.GiveUp op) said (told.GaveUp op) new (acted (loosened old op v.ask) op v.operation given_up v.caches) v.tells v.state
-      (record {
-        clients = refl;
-        operations = acted_states (told.GaveUp op) op true old.operations v.operation v.ask Ended a.found (give_up_ends op) a.asks refl;
-        loose = leaves old op v.operation v.ask v.caches a;
-        failed = refl;
-      })
-
-  land_goes : (old : State T) (k : ℕ) (said : Told T) (new : State T) → Lands old k said new → GoesOn {C = Call T} (seen_of old) (events.Land k) said (seen_of new)
-  land_goes old k said new v =
-      let t = told.Landed k (is_some (effect_of old.store.files v.request v.reply)) in
-      told_so old (events.Land k) said t new (effected old v.op v.request v.reply v.store) v.tells v.state
-      (record { clients = refl; operations = states_stay t 1 (seen_operations old.operations) (λ client n le. refl); loose = refl; failed = refl })
-
-  crash_goes : (old : State T) (client : ℕ) (said : Told T) (new : State T) → Crashes old client said new → GoesOn {C = Call T} (seen_of old) (events.Crash client) said (seen_of new)
-  crash_goes old client said new v =
-      told_so old (events.Crash client) said (told.Crashed client) new (crashed old client) v.tells v.state
-      (record { clients = refl; operations = states_crashed (Answer T) seen_operation (ended_by client) client (ended_state client) (stays_so client) 1 old.operations; loose = refl; failed = refl })
-
-module _ {T : Type 0} (encode : T → List ℕ) (decode : List ℕ → Option T) (get_epoch : T → ℕ) where
-  -- what stands beside the rows goes on with each event that is taken, whatever the state before it
-  pub goes_on_with : (old : State T) (event : Event T) (said : Told T) (new : State T) → Takes encode decode get_epoch old event said new → GoesOn (seen_of old) event said (seen_of new)
-  goes_on_with old (events.Begin client call) said new t = begin_goes encode decode old client call said new t.step
-  goes_on_with old (events.Look op) said new t = look_goes decode old op said new t.step
-  goes_on_with old (events.Serve op) said new t = serve_goes decode old op said new t.step
-  goes_on_with old (events.Fail op failure) said new t = fail_goes failure old op said new t.step
-  goes_on_with old (events.GiveUp op) said new t = give_up_goes old op said new t.step
-  goes_on_with old (events.Land k) said new t = land_goes old k said new t.step
-  goes_on_with old (events.Crash client) said new t = crash_goes old client said new t.step
+    -- the answer owes what it should
+    pub owes_for : (failed : List ℕ) (l : Layer T) (owner : ℕ → ℕ) (op : ℕ) → Core fine failed l.rows l.views l.failed owner → owner n ≡ op → (call : Call T) (inner : Inner T) → Does get_epoch fine l.rows l.asked n op call inner → PastAt decode owner fine op n →
+        (answer : Option (PlainAnswer T)) → plain_history.IsOneHistory decode get_epoch failed (fine ++ answer_rows n answer) → OwesFor decode get_epoch (fine ++ answer_rows n answer) l.rows l.failed op call inner answer
+    owes_for failed l owner op core own call inner d past None good = tt
+    owes_for failed l owner op core own call inner d past (Some answer) good = (
+      owes_of decode get_epoch failed fine l owner core.tied n op own (λ e. subst (λ (o : ℕ). list_any (nat_eq o) l.failed ≡ true) own (core.noted n e).1) call inner d past (history_front decode get_epoch failed fine (Answered n answer ∷ []) good) answer (last_answer decode get_epoch failed fine n answer good),
+      answer_told fine n answer,
+    )

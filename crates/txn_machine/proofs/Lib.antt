@@ -1,43 +1,50 @@
-pub mod Turning
-pub mod Lists
-pub mod Stands
-pub mod Turns
-pub mod Windows
-pub mod Rising
+-- Lemmas of this crate.
+pub mod Matched
+pub mod Joined
+pub mod Renamed
 pub mod Rows
-pub mod Faults
-pub mod Effects
-pub mod Failed
-pub mod Reaches
-pub mod Frames
-pub mod Parts
-pub mod BoundServes
-pub mod Stored
-pub mod ListedIds
-pub mod Pages
-pub mod LatestServes
-pub mod ListServes
-pub mod WriteServes
-pub mod WriteTurns
-pub mod ReadTurns
-pub mod SeenTurns
-pub mod Serves
-pub mod Looks
-pub mod Operations
-pub mod States
-pub mod Begins
-pub mod Events
-pub mod Crashes
-pub mod World
-pub mod EffectRows
-pub mod Ends
+pub mod Laid
+pub mod Moved
+pub mod Telling
+pub mod Ending
 pub mod Going
+pub mod Goings
+pub mod Opening
+pub mod Turned
+pub mod Alike
+pub mod Reaching
+mod Taken
+mod PlainTurns
+mod EntryTurns
+mod Nexts
+mod ReadsLeft
+mod ReadTurns
+mod ClaimTurns
+pub mod Turning
+pub mod Starts
 pub mod Runs
-pub mod Replies
-pub mod Windowed
-pub mod Resting
-pub mod Moving
-pub mod Passes
-pub mod RestTurns
-pub mod AllTurns
-pub mod FewProbes
+pub mod Serving
+pub mod Leaving
+pub mod GivingUp
+pub mod Failing
+pub mod Lacking
+mod Places
+mod Busies
+pub mod Fits
+pub mod Busy
+pub mod Crashing
+pub mod Beginning
+pub mod CallsGoOn
+mod TokensGiven
+pub mod AddedRows
+pub mod Owned
+pub mod Joining
+pub mod Reached
+mod Claims
+mod Claimed
+pub mod ViewsGoOn
+mod FailedTurns
+mod Refusing
+mod Spending
+mod Windowed
+pub mod Mirroring

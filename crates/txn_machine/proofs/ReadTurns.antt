@@ -1,73 +1,150 @@
--- What a look or a serve leaves a read of the newest version with, once its parts are known.
-use Rattle.std.proofs.Common.{◌≡◌, nat_eq, ℕ, List, [], ◌∷◌, Bool, true, Option, Some, None, Ok, Err, Result, inl, inr, refl, sym, subst}
-use Rattle.std.specs.List.{list_any}
-use Rattle.std.proofs.lemmas.Bool.{or_cases, or_left, or_right, eq-eqb}
-use Rattle.txn_store.specs.Store.{State as StoreState}
-use Rattle.txn_caches.specs.declared.caches.CachedBoundary.{CachedBoundary}
-use Rattle.txn_caches.specs.declared.boundary_read.BoundaryRead.{BoundaryRead}
-use Rattle.txn_caches.specs.declared.boundary_read.BoundaryRead.TheVariants as reading
-use Rattle.txn_caches.specs.declared.check.CheckOp.{CheckOp}
+-- A call over a read takes a look or a reply as the read of the machine of the nine calls does.
+use Rattle.std.proofs.Common.{◌≡◌, ℕ, List, Bool, true, false, Option, Some, None, Result, Ok, Err, refl, sym, ◌∙◌, ap, subst, inl}
+use Rattle.txn_store.specs.declared.request.Reply.{Reply}
+use Rattle.txn_types.specs.declared.error.TransactionalObjectError.{TransactionalObjectError}
+use Rattle.txn_types.specs.Epochs.{epoch_tested}
+use Rattle.txn_caches.specs.declared.caches.Caches.{Caches}
 use Rattle.txn_caches.specs.declared.turned.Turned.{Turned}
-use Rattle.txn_caches.specs.declared.turned.Turned.TheVariants.{Goes, Done}
-use Rattle.txn_steps.specs.declared.latest.LatestOp.{LatestOp}
+use Rattle.txn_caches.specs.declared.turned.Turned.TheVariants as turns
+use Rattle.txn_caches.specs.Asking.{unless_lacking}
+use Rattle.txn_steps.specs.declared.read.ReadOp.{ReadOp}
 use Rattle.txn_steps.specs.declared.read.ReadOp.TheVariants as reads
-use Rattle.txn_steps.specs.declared.listing.ListOp.{ListOp}
 use Rattle.txn_steps.specs.Latest.{ReadAnswer}
-use Rattle.txn_steps.specs.Listed.{Listed}
-use Rattle.txn_steps.specs.Reads.{read_started, reads_turned, checks_turned, IsInRange}
-use Rattle.txn_history.specs.declared.event.Call.{Call}
-use Rattle.txn_history.specs.declared.event.Call.TheVariants as calls
-use Rattle.txn_history.specs.declared.event.Answer.{Answer}
-use Rattle.txn_history.specs.declared.event.Answer.TheVariants as answers
-use Rattle.txn_history.specs.Trace.{Row}
-use Rattle.txn_history.specs.Names.{world_boundary}
-use Rattle.txn_history.specs.OneHistory.{WasNewest, AnswerFits}
-use Rattle.txn_machine.specs.declared.doing.Doing.TheVariants.{Read, ListIds}
-use Rattle.txn_machine.specs.Doing.{ids_of, read_next, ids_next}
-use Rattle.txn_machine.proofs.Stands.{IsKnown, TellsKnown, Runs, TurnStands}
-use Rattle.txn_machine.proofs.Turns.{no_id, one_id, ended, goes_on, lacking, CheckTells, LatestTells, ListTells}
+use Rattle.txn_steps.specs.Reads.{read_turned, read_left}
+use Rattle.txn_history.specs.Names.{world_names, world_boundary}
+use Rattle.txn_machine_inner.specs.declared.doing.PlainDoing.{PlainDoing}
+use Rattle.txn_machine_inner.specs.declared.doing.PlainDoing.TheVariants as doings
+use Rattle.txn_machine_inner.specs.Doing as plain
+use Rattle.txn_view_steps.specs.declared.op.ViewOp.{ViewOp}
+use Rattle.txn_view_steps.specs.declared.op.ViewOp.TheVariants.{Load, Refresh, HolderRefresh}
+use Rattle.txn_view_steps.specs.declared.outcome.Outcome.{Outcome}
+use Rattle.txn_view_steps.specs.declared.outcome.Outcome.TheVariants as outcomes
+use Rattle.txn_view_steps.specs.Holders.{as_holder_refresh, holder_viewed, holder_refreshed}
+use Rattle.txn_view_steps.specs.Loads.{as_load, loaded}
+use Rattle.txn_view_steps.specs.Refreshes.{as_refresh, refreshed}
+use Rattle.txn_view_steps.specs.Readings.{seen, said}
+use Rattle.txn_view_steps.specs.ViewOps.{view_turned, view_left, held}
+use Rattle.txn_history.specs.declared.event.ViewCall.{ViewCall}
+use Rattle.txn_history.specs.declared.event.ViewCall.TheVariants as view_calls
+use Rattle.txn_history.specs.declared.event.Call.TheVariants as any
+use Rattle.txn_machine_views.specs.Layer.{Reads}
+use Rattle.txn_machine_views.specs.Parts.{missed, refusing, viewed}
+use Rattle.txn_machine_views.specs.Parts as parts
+use Rattle.txn_machine.specs.declared.doing.Doing.TheVariants as does
+use Rattle.txn_machine.specs.declared.doing.Ending.TheVariants as endings
+use Rattle.txn_machine.specs.Doing.{ended, refused, view_next, goes_by}
+use Rattle.txn_machine.specs.Doing as whole
+use Rattle.txn_machine.proofs.Matched.{ViewMatched, Answered, TurnsAs}
+use Rattle.txn_machine.proofs.ReadsLeft.{left_by_refusal, left_as_refused}
+use Rattle.txn_machine.proofs.EntryTurns.{Tells, refusal_keeps, puts_view}
 
-module _ {T : Type 0} (decode : List ℕ → Option T) (get_epoch : T → ℕ) (failed : List ℕ) (rows : List (Row T)) (store : StoreState) (cached : Option CachedBoundary) (op : ℕ) (call : Call T) (r : Runs decode get_epoch rows op call) where
-  -- a read's answer, for the call that is a read
-  reads_answer : (answer : Answer T) → call ≡ calls.Read → AnswerFits decode get_epoch failed rows op calls.Read answer → AnswerFits decode get_epoch failed rows op call answer
-  reads_answer answer is fits = subst (λ (c : Call T). AnswerFits decode get_epoch failed rows op c answer) (sym is) fits
+module _ {T : Type 0} where
+  abbrev pub at_load : ReadOp T → ViewOp T
+  at_load read = Load (as_load read)
 
-  -- after a step of the read without its check
-  pub latest_told : (told : LatestOp T × Turned (ReadAnswer T)) (boundary : BoundaryRead) → boundary ≡ reading.Looks world_boundary → call ≡ calls.Read → IsInRange (reads_turned boundary told).0 → LatestTells decode rows op told →
-      TurnStands decode get_epoch failed rows store cached op call (read_next (reads_turned boundary told))
-  latest_told (latest, Goes) boundary at is range h = goes_on decode get_epoch failed rows store cached op call (Read (reads.Reads latest boundary)) r range (is, (h, at))
-  latest_told (latest, Done (Ok None)) boundary at is range h = ended decode get_epoch failed rows store cached op call (answers.Read None) r (reads_answer (answers.Read None) is h) (no_id rows (answers.Read None) (λ test. refl))
-  latest_told (latest, Done (Ok (Some found))) boundary at is range h = goes_on decode get_epoch failed rows store cached op call (Read (reads_turned boundary (latest, Done (Ok (Some found)))).0) r range (is, (h.0, (refl, (at, h.1))))
-  latest_told (latest, Done (Err number)) boundary at is range h =
-      subst (λ (m : ℕ). TurnStands decode get_epoch failed rows store cached op call (read_next (reads_turned boundary (latest, Done (Err m))))) (sym h) (lacking decode get_epoch failed rows store cached op call r)
+  abbrev pub at_refresh : ReadOp T → ViewOp T
+  at_refresh read = Refresh (as_refresh read)
 
-  -- after a step of its check
-  pub read_checked : (told : CheckOp × Turned (Result (Unit {0}) ℕ)) (id : ℕ) (value : T) → call ≡ calls.Read → IsKnown rows id → CheckTells rows store cached id (WasNewest decode rows op id value) told →
-      TurnStands decode get_epoch failed rows store cached op call (read_next (checks_turned world_boundary id value told))
-  read_checked (check, Goes) id value is known h = goes_on decode get_epoch failed rows store cached op call (Read (reads.Checks id value check)) r tt (is, (known, h))
-  read_checked (check, Done (Ok accepted)) id value is known h =
-      let answer : Answer T = answers.Read (Some (id, value)) in
-      ended decode get_epoch failed rows store cached op call answer r (reads_answer answer is h) (one_id rows answer id known (λ test. refl))
-  read_checked (check, Done (Err number)) id value is known (inl h) =
-      subst (λ (m : ℕ). TurnStands decode get_epoch failed rows store cached op call (read_next (checks_turned world_boundary id value (check, Done (Err m))))) (sym h.0)
-      (goes_on decode get_epoch failed rows store cached op call (Read (read_started world_boundary)) r tt (is, (tt, refl)))
-  read_checked (check, Done (Err number)) id value is known (inr h) =
-      subst (λ (m : ℕ). TurnStands decode get_epoch failed rows store cached op call (read_next (checks_turned world_boundary id value (check, Done (Err m))))) (sym h) (lacking decode get_epoch failed rows store cached op call r)
+  abbrev pub at_holder_refresh : ℕ → ReadOp T → ViewOp T
+  at_holder_refresh own read = HolderRefresh (as_holder_refresh own read)
 
-  -- after a page of a listing of ids
+  -- a call over its read, as that of any call
+  held_seen : {O : Type 0} (hold : O → ViewOp T) (as_read : ReadOp T → O) (see : Option (ℕ × T) → Result (Outcome T) ℕ) (lacks : Bool) (x : ReadOp T × Turned (ReadAnswer T)) →
+      held hold (unless_lacking lacks (as_read reads.Ended) (seen as_read see x)) ≡ unless_lacking lacks (hold (as_read reads.Ended)) (seen (λ read. hold (as_read read)) see x)
+  held_seen {O} hold as_read see true x = refl
+  held_seen {O} hold as_read see false (read, turns.Goes) = refl
+  held_seen {O} hold as_read see false (read, turns.Done (Ok found)) = refl
+  held_seen {O} hold as_read see false (read, turns.Done (Err number)) = refl
 
-  lists_known : (found : List Listed) → ((n : ℕ) → list_any (nat_eq n) (ids_of found) ≡ true → IsKnown rows n) → TellsKnown rows (answers.Ids (ids_of found))
-  lists_known found known test e = let at = any_one test (ids_of found) e in (at.0, at.1, known at.0 at.2)
-    where
-      any_one : (test : ℕ → Bool) (ns : List ℕ) → list_any test ns ≡ true → (n : ℕ) × (test n ≡ true) × (list_any (nat_eq n) ns ≡ true)
-      any_one test [] h = cc
-      any_one test (n ∷ ns) h = elim (or_cases (test n) (list_any test ns) h) [
-        | inl here ↦ (n, here, or_left (nat_eq n n) (list_any (nat_eq n) ns) (eq-eqb n n refl))
-        | inr rest ↦ (let at = any_one test ns rest in (at.0, at.1, or_right (nat_eq at.0 n) (list_any (nat_eq at.0) ns) at.2))
-      ]
+  -- whatever it is answered, it has ended
+  answered_said : (op : ViewOp T) (answer : Result (Outcome T) ℕ) → goes_by (view_next (op, turns.Done answer)).1 ≡ turns.Done (Err 9)
+  answered_said op (Ok outcome) = refl
+  answered_said op (Err number) = refl
 
-  pub list_told : (told : ListOp × Turned (Result (List Listed) ℕ)) → call ≡ calls.ListIds told.0.from told.0.to → ListTells decode rows op told → TurnStands decode get_epoch failed rows store cached op call (ids_next told)
-  list_told (list, Goes) is h = goes_on decode get_epoch failed rows store cached op call (ListIds list) r tt (is, h)
-  list_told (list, Done (Ok found)) is h =
-      ended decode get_epoch failed rows store cached op call (answers.Ids (ids_of found)) r (subst (λ (c : Call T). AnswerFits decode get_epoch failed rows op c (answers.Ids (ids_of found))) (sym is) h.0) (lists_known found h.1)
-  list_told (list, Done (Err number)) is h = subst (λ (m : ℕ). TurnStands decode get_epoch failed rows store cached op call (ids_next (list, Done (Err m)))) (sym h) (lacking decode get_epoch failed rows store cached op call r)
+module _ {T : Type 0} (page : ℕ) (encode : T → List ℕ) (decode : List ℕ → Option T) (get_epoch : T → ℕ) (set_epoch : T → ℕ → T) where
+  -- A call over a read: what the layer makes of the read's answers, and what its operation does then.
+  pub record IsReadCall (call : ViewCall T) (local : Option ℕ) (as_op : ReadOp T → ViewOp T) (see : Option (ℕ × T) → Result (Outcome T) ℕ) : Type 0 where
+    pub matched : (read : ReadOp T) → ViewMatched (any.View call) local Reads (as_op read) (doings.Read read)
+    pub finds : (found : ℕ × T) → Tells page encode decode get_epoch call local (parts.found get_epoch set_epoch (any.View call) local found.0 found.1) (view_next (as_op reads.Ended, turns.Done (see (Some found))))
+    pub misses : Tells page encode decode get_epoch call local (missed (any.View call)) (view_next (as_op reads.Ended, turns.Done (see None)))
+    pub refuses : (number : ℕ) → Tells page encode decode get_epoch call local (refusing (any.View call) number) (refused number)
+    pub turns : (read : ReadOp T) (lacks : Bool) (caches : Caches) (reply : Option Reply) →
+        view_turned world_names world_boundary page encode decode get_epoch set_epoch lacks (as_op read) caches reply ≡ unless_lacking lacks (as_op reads.Ended) (seen as_op see (read_turned world_names world_boundary page decode read caches reply))
+    pub leaves : (read : ReadOp T) (caches : Caches) (told : Turned (Result (Outcome T) ℕ)) → view_left (as_op read) caches told ≡ read_left read caches (said told)
+
+  module _ (call : ViewCall T) (local : Option ℕ) (as_op : ReadOp T → ViewOp T) (see : Option (ℕ × T) → Result (Outcome T) ℕ) (facts : IsReadCall call local as_op see) where
+    read_answered : (lacks : Bool) (x : ReadOp T × Turned (ReadAnswer T)) →
+        Answered page encode decode get_epoch set_epoch (any.View call) local Reads (plain.or_no_memory lacks (plain.read_next x)).0 (plain.or_no_memory lacks (plain.read_next x)).1 (view_next (unless_lacking lacks (as_op reads.Ended) (seen as_op see x)))
+    read_answered true x = (refusing (any.View call) 9, refl, inl refl, (facts.refuses 9).0, (facts.refuses 9).1)
+    read_answered false (read, turns.Goes) = (does.View (as_op read), refl, facts.matched read)
+    read_answered false (read, turns.Done (Ok None)) = (missed (any.View call), refl, inl refl, facts.misses.0, facts.misses.1)
+    read_answered false (read, turns.Done (Ok (Some found))) = (parts.found get_epoch set_epoch (any.View call) local found.0 found.1, refl, inl refl, (facts.finds found).0, (facts.finds found).1)
+    read_answered false (read, turns.Done (Err number)) = (refusing (any.View call) number, refl, inl refl, (facts.refuses number).0, (facts.refuses number).1)
+
+    read_leaves : (read : ReadOp T) (caches : Caches) (reply : Option Reply) (lacks : Bool) (x : ReadOp T × Turned (ReadAnswer T)) → x ≡ read_turned world_names world_boundary page decode read caches reply →
+        read_left read caches (said (goes_by (view_next (unless_lacking lacks (as_op reads.Ended) (seen as_op see x))).1)) ≡ read_left read caches (plain.said_of (plain.or_no_memory lacks (plain.read_next x)).1)
+    read_leaves read caches reply true x e = refl
+    read_leaves read caches reply false (next, turns.Goes) e = refl
+    read_leaves read caches reply false (next, turns.Done (Ok found)) e =
+        ap (λ (t : Turned (Result (Outcome T) ℕ)). read_left read caches (said t)) (answered_said (as_op reads.Ended) (see found)) ∙ left_as_refused world_names world_boundary page decode read caches reply next found e
+    read_leaves read caches reply false (next, turns.Done (Err number)) e = left_by_refusal read caches 9 number
+
+    read_at : (read : ReadOp T) (caches : Caches) (reply : Option Reply) (lacks : Bool) →
+        TurnsAs page encode decode get_epoch set_epoch (any.View call) local Reads (does.View (as_op read)) (doings.Read read) caches reply (whole.turned page encode decode get_epoch set_epoch lacks (does.View (as_op read)) caches reply)
+    read_at read caches reply lacks =
+        let x = read_turned world_names world_boundary page decode read caches reply in
+        let after = plain.or_no_memory lacks (plain.read_next x) in
+        let is = facts.turns read lacks caches reply in
+        record {
+          refused = lacks;
+          after = after;
+          turns = refl;
+          answered = subst (λ (n : ViewOp T × Turned (Result (Outcome T) ℕ)). Answered page encode decode get_epoch set_epoch (any.View call) local Reads after.0 after.1 (view_next n)) (sym is) (read_answered lacks x);
+          leaves = facts.leaves read caches _ ∙ (ap (λ (n : ViewOp T × Turned (Result (Outcome T) ℕ)). read_left read caches (said (goes_by (view_next n).1))) is ∙ read_leaves read caches reply lacks x refl);
+        }
+
+    pub read_turns : (read : ReadOp T) (fine : PlainDoing T) (caches : Caches) (reply : Option Reply) (lacks : Bool) → fine ≡ doings.Read read →
+        TurnsAs page encode decode get_epoch set_epoch (any.View call) local Reads (does.View (as_op read)) fine caches reply (whole.turned page encode decode get_epoch set_epoch lacks (does.View (as_op read)) caches reply)
+    read_turns read fine caches reply lacks e =
+        subst (λ (f : PlainDoing T). TurnsAs page encode decode get_epoch set_epoch (any.View call) local Reads (does.View (as_op read)) f caches reply (whole.turned page encode decode get_epoch set_epoch lacks (does.View (as_op read)) caches reply)) (sym e) (read_at read caches reply lacks)
+
+  -- the calls over a read
+
+  pub load_call : (local : Option ℕ) → IsReadCall view_calls.Load local at_load loaded
+  load_call local = record {
+    matched = λ read. refl;
+    finds = λ found. (tt, (refl, refl));
+    misses = (tt, refusal_keeps (any.View view_calls.Load) 4 refl);
+    refuses = λ number. (tt, refusal_keeps (any.View view_calls.Load) number refl);
+    turns = λ read lacks caches reply. held_seen Load as_load loaded lacks (read_turned world_names world_boundary page decode read caches reply);
+    leaves = λ read caches told. refl;
+  }
+
+  pub refresh_call : (number : ℕ) (local : Option ℕ) → IsReadCall (view_calls.Refresh number) local at_refresh refreshed
+  refresh_call number local = record {
+    matched = λ read. refl;
+    finds = λ found. (tt, puts_view (any.View (view_calls.Refresh number)) number found.0 found.1 refl);
+    misses = (tt, refusal_keeps (any.View (view_calls.Refresh number)) 7 refl);
+    refuses = λ n. (tt, refusal_keeps (any.View (view_calls.Refresh number)) n refl);
+    turns = λ read lacks caches reply. held_seen Refresh as_refresh refreshed lacks (read_turned world_names world_boundary page decode read caches reply);
+    leaves = λ read caches told. refl;
+  }
+
+  -- a holder's view is at the version that was read, and the holder may be shut out
+  holder_finds : (number own : ℕ) (found : ℕ × T) (test : Result (Unit {0}) TransactionalObjectError) →
+      Tells page encode decode get_epoch (view_calls.HolderRefresh number) (Some own) (viewed number found.0 found.1 test) (ended, Some (endings.Comes (holder_viewed found test)))
+  holder_finds number own found (Ok same) = (tt, puts_view (any.View (view_calls.HolderRefresh number)) number found.0 found.1 refl)
+  holder_finds number own found (Err error) = (
+    tt,
+    record { ending = endings.Comes (outcomes.Shut found.0 found.1 error); ends = refl; answers = λ count. refl; changes = refl; quiet = λ none client. absurd (cc) },
+  )
+
+  pub holder_refresh_call : (number own : ℕ) → IsReadCall (view_calls.HolderRefresh number) (Some own) (at_holder_refresh own) (holder_refreshed get_epoch own)
+  holder_refresh_call number own = record {
+    matched = λ read. (refl, refl);
+    finds = λ found. holder_finds number own found (epoch_tested own (get_epoch found.1));
+    misses = (tt, refusal_keeps (any.View (view_calls.HolderRefresh number)) 7 refl);
+    refuses = λ n. (tt, refusal_keeps (any.View (view_calls.HolderRefresh number)) n refl);
+    turns = λ read lacks caches reply. held_seen HolderRefresh (as_holder_refresh own) (holder_refreshed get_epoch own) lacks (read_turned world_names world_boundary page decode read caches reply);
+    leaves = λ read caches told. refl;
+  }

@@ -1,39 +1,73 @@
--- An operation of the world takes a reply as its state does, and its answer is told.
-use Rattle.std.proofs.Common.{◌≡◌, ℕ, Bool, true, false, Option, Result, inl, inr, refl, ◌∙◌, ap}
-use Rattle.txn_caches.specs.declared.advance.AdvanceOp.{AdvanceOp}
-use Rattle.txn_caches.specs.declared.turned.Turned.{Turned}
-use Rattle.txn_caches.specs.Steps.{lacks_memory}
-use Rattle.txn_caches.specs.Asking.{unless_lacking}
-use Rattle.txn_steps.specs.declared.read.ReadOp.{ReadOp}
-use Rattle.txn_steps.specs.Latest.{ReadAnswer}
-use Rattle.txn_history.specs.declared.event.Answer.{Answer}
-use Rattle.txn_machine.specs.declared.doing.Doing.TheVariants.{Read, Advance}
-use Rattle.txn_machine.specs.Doing.{Next, read_answer, done_answer, next_of, or_no_memory, read_next, advance_next, IsTold}
+-- Every turn of an operation is the turn of the operation of the machine of the nine calls that stands for it, or the layer's.
+use Rattle.std.proofs.Common.{ℕ, List, Bool, Option, Some, None, sym, subst}
+use Rattle.txn_store.specs.declared.request.Reply.{Reply}
+use Rattle.txn_caches.specs.declared.caches.Caches.{Caches}
+use Rattle.txn_machine_inner.specs.declared.doing.PlainDoing.{PlainDoing}
+use Rattle.txn_view_steps.specs.declared.op.ViewOp.{ViewOp}
+use Rattle.txn_view_steps.specs.declared.op.ViewOp.TheVariants.{Init, Load, Refresh, Update, Claim, ClaimAt, HolderRefresh, HolderUpdate}
+use Rattle.txn_view_steps.specs.Attempts.{IsRefreshing}
+use Rattle.txn_view_steps.specs.Holders.{holder_refreshed}
+use Rattle.txn_view_steps.specs.Loads.{loaded}
+use Rattle.txn_view_steps.specs.Refreshes.{refreshed}
+use Rattle.txn_history.specs.declared.event.ViewCall.{ViewCall}
+use Rattle.txn_history.specs.declared.event.ViewCall.TheVariants as view_calls
+use Rattle.txn_history.specs.declared.event.Call.{Call}
+use Rattle.txn_history.specs.declared.event.Call.TheVariants as any
+use Rattle.txn_machine_views.specs.Layer.{Inner, Writes, Reads}
+use Rattle.txn_machine.specs.declared.doing.Doing.{Doing}
+use Rattle.txn_machine.specs.declared.doing.Doing.TheVariants as does
+use Rattle.txn_machine.specs.Doing.{Next, MayLack, IsClaimReading, IsMadeSo, Turns}
+use Rattle.txn_machine.specs.Doing as whole
+use Rattle.txn_machine.proofs.Matched.{Matched, ViewMatched, TurnsAs, EveryTurn}
+use Rattle.txn_machine.proofs.PlainTurns.{plain_turns}
+use Rattle.txn_machine.proofs.EntryTurns.{at_init, at_update, at_holder_update, init_call, update_call, holder_update_call, entry_turns}
+use Rattle.txn_machine.proofs.ReadTurns.{at_load, at_refresh, at_holder_refresh, load_call, refresh_call, holder_refresh_call, read_turns}
+use Rattle.txn_machine.proofs.ClaimTurns.{at_claim, at_claim_at, claim_call, claim_at_call, attempt_turns, reading_turns}
 
-module _ {T : Type 0} where
-  -- what it does next, perhaps with a growth refused
-  abbrev pub NextOrLacks : Next T → Next T → Type 0
-  NextOrLacks next turn = (refused : Bool) × (turn ≡ or_no_memory refused next)
+module _ {T : Type 0} (page : ℕ) (encode : T → List ℕ) (decode : List ℕ → Option T) (get_epoch : T → ℕ) (set_epoch : T → ℕ → T) (caches : Caches) (reply : Option Reply) (lacks : Bool) where
+  -- such a turn, where memory lacks as it may, and a claim that reads makes what it is to write
+  abbrev Turned : Call T → Option ℕ → Inner T → Doing T → PlainDoing T → Type 0
+  Turned call local inner old fine =
+      MayLack old caches reply lacks → (IsClaimReading old → IsMadeSo encode decode get_epoch (whole.turned page encode decode get_epoch set_epoch lacks old caches reply).0) →
+      TurnsAs page encode decode get_epoch set_epoch call local inner old fine caches reply (whole.turned page encode decode get_epoch set_epoch lacks old caches reply)
 
-  advance_lacks : (lacks : Bool) (op : AdvanceOp) (next : AdvanceOp × Turned (Result (Unit {0}) ℕ)) → NextOrLacks (advance_next next) (advance_next (unless_lacking lacks op next))
-  advance_lacks false op next = (false, refl)
-  advance_lacks true op next = (true, refl)
+  view_turn : (call : ViewCall T) (local : Option ℕ) (inner : Inner T) (op : ViewOp T) (fine : PlainDoing T) → ViewMatched (any.View call) local inner op fine → Turned (any.View call) local inner (does.View op) fine
+  view_turn (view_calls.Init v) local (Writes base value epoch) (Init op) fine m =
+      λ may made. entry_turns page encode decode get_epoch set_epoch (view_calls.Init v) local base value epoch at_init (init_call page encode decode get_epoch set_epoch v local base value epoch) op.entry fine caches reply lacks m
+  view_turn view_calls.Load local Reads (Load op) fine m =
+      λ may made. read_turns page encode decode get_epoch set_epoch view_calls.Load local at_load loaded (load_call page encode decode get_epoch set_epoch local) op.read fine caches reply lacks m
+  view_turn (view_calls.Refresh number) local Reads (Refresh op) fine m =
+      λ may made. read_turns page encode decode get_epoch set_epoch (view_calls.Refresh number) local at_refresh refreshed (refresh_call page encode decode get_epoch set_epoch number local) op.read fine caches reply lacks m
+  view_turn (view_calls.Update number v) local (Writes base value epoch) (Update op) fine m =
+      λ may made. entry_turns page encode decode get_epoch set_epoch (view_calls.Update number v) local base value epoch at_update (update_call page encode decode get_epoch set_epoch number v local base value epoch) op.entry fine caches reply lacks m
+  view_turn (view_calls.Claim number) local (Writes base value epoch) (Claim op) fine m =
+      λ may made. attempt_turns page encode decode get_epoch set_epoch (view_calls.Claim number) local None at_claim (claim_call page encode decode get_epoch set_epoch number local) base value epoch op.claiming fine caches reply lacks m may
+  view_turn (view_calls.Claim number) local Reads (Claim op) fine m =
+      λ may made. reading_turns page encode decode get_epoch set_epoch (view_calls.Claim number) local None at_claim (claim_call page encode decode get_epoch set_epoch number local) op.claiming fine caches reply lacks m
+      (λ read is. made (subst IsRefreshing (sym is) tt))
+  view_turn (view_calls.ClaimAt number sought) local (Writes base value epoch) (ClaimAt op) fine m =
+      λ may made. subst (λ (n : ℕ). TurnsAs page encode decode get_epoch set_epoch (any.View (view_calls.ClaimAt number n)) local (Writes base value epoch) (does.View (ClaimAt op)) fine caches reply (whole.turned page encode decode get_epoch set_epoch lacks (does.View (ClaimAt op)) caches reply)) m.1
+      (attempt_turns page encode decode get_epoch set_epoch (view_calls.ClaimAt number op.epoch) local (Some op.epoch) (at_claim_at op.epoch) (claim_at_call page encode decode get_epoch set_epoch number op.epoch local) base value epoch op.claiming fine caches reply lacks m.0 may)
+  view_turn (view_calls.ClaimAt number sought) local Reads (ClaimAt op) fine m =
+      λ may made. subst (λ (n : ℕ). TurnsAs page encode decode get_epoch set_epoch (any.View (view_calls.ClaimAt number n)) local Reads (does.View (ClaimAt op)) fine caches reply (whole.turned page encode decode get_epoch set_epoch lacks (does.View (ClaimAt op)) caches reply)) m.1
+      (reading_turns page encode decode get_epoch set_epoch (view_calls.ClaimAt number op.epoch) local (Some op.epoch) (at_claim_at op.epoch) (claim_at_call page encode decode get_epoch set_epoch number op.epoch local) op.claiming fine caches reply lacks m.0
+      (λ read is. made (subst IsRefreshing (sym is) tt)))
+  view_turn (view_calls.HolderRefresh number) local Reads (HolderRefresh op) fine m =
+      λ may made. subst (λ (l : Option ℕ). TurnsAs page encode decode get_epoch set_epoch (any.View (view_calls.HolderRefresh number)) l Reads (does.View (HolderRefresh op)) fine caches reply (whole.turned page encode decode get_epoch set_epoch lacks (does.View (HolderRefresh op)) caches reply)) (sym m.1)
+      (read_turns page encode decode get_epoch set_epoch (view_calls.HolderRefresh number) (Some op.local) (at_holder_refresh op.local) (holder_refreshed get_epoch op.local) (holder_refresh_call page encode decode get_epoch set_epoch number op.local) op.read fine caches reply lacks m.0)
+  view_turn (view_calls.HolderUpdate number v) local (Writes base value epoch) (HolderUpdate op) fine m =
+      λ may made. entry_turns page encode decode get_epoch set_epoch (view_calls.HolderUpdate number v) local base value epoch at_holder_update (holder_update_call page encode decode get_epoch set_epoch number v local base value epoch) op.entry fine caches reply lacks m
+  view_turn call local inner op fine m = absurd m
 
-  pub advance_turns : (op after : AdvanceOp) (said : Turned (Result (Unit {0}) ℕ)) (next : AdvanceOp × Turned (Result (Unit {0}) ℕ)) (answer : Option (Answer T)) (turn : Next T) → (after, said) ≡ unless_lacking (lacks_memory said) op next → answer ≡ done_answer said → turn ≡ next_of (Advance after) answer → NextOrLacks (advance_next next) turn
-  advance_turns op after said next answer turn e how is =
-      let lacks = advance_lacks (lacks_memory said) op next in
-      (lacks.0, is ∙ (ap (next_of (Advance after)) how ∙ (ap advance_next e ∙ lacks.1)))
+  any_turn : (call : Call T) (local : Option ℕ) (inner : Inner T) (old : Doing T) (fine : PlainDoing T) → Matched get_epoch call local inner old fine → Turned call local inner old fine
+  any_turn (any.Plain call) local inner (does.Plain doing) fine m = λ may made. plain_turns page encode decode get_epoch set_epoch call local inner doing fine caches reply lacks m.0 m.1
+  any_turn (any.Plain call) local inner (does.View op) fine m = absurd m
+  any_turn (any.View call) local inner (does.Plain doing) fine m = absurd m
+  any_turn (any.View call) local inner (does.View op) fine m = view_turn call local inner op fine m
 
-  read_lacks : (lacks : Bool) (op : ReadOp T) (next : ReadOp T × Turned (ReadAnswer T)) → NextOrLacks (read_next next) (read_next (unless_lacking lacks op next))
-  read_lacks false op next = (false, refl)
-  read_lacks true op next = (true, refl)
-
-  pub read_turns : (op after : ReadOp T) (said : Turned (ReadAnswer T)) (next : ReadOp T × Turned (ReadAnswer T)) (answer : Option (Answer T)) (turn : Next T) → (after, said) ≡ unless_lacking (lacks_memory said) op next →
-      IsTold (read_answer said) answer → turn ≡ next_of (Read after) answer → NextOrLacks (read_next next) turn
-  read_turns op after said next answer turn e how is =
-      elim how [
-        | inl same ↦
-            let lacks = read_lacks (lacks_memory said) op next in
-            (lacks.0, is ∙ (ap (next_of (Read after)) same ∙ (ap read_next e ∙ lacks.1)))
-        | inr lacks ↦ (true, is ∙ ap (next_of (Read after)) lacks.0)
-      ]
+module _ {T : Type 0} (page : ℕ) (encode : T → List ℕ) (decode : List ℕ → Option T) (get_epoch : T → ℕ) (set_epoch : T → ℕ → T) where
+  pub every_turn : EveryTurn page encode decode get_epoch set_epoch
+  every_turn call local inner old fine caches reply next m is t =
+      subst (λ (n : Next T). TurnsAs page encode decode get_epoch set_epoch call local inner old fine caches reply n) (sym t.turns)
+      (any_turn page encode decode get_epoch set_epoch caches reply t.refused call local inner old fine m t.may
+      (subst (λ (n : Next T). IsClaimReading old → IsMadeSo encode decode get_epoch n.0) t.turns t.made))

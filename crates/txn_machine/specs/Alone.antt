@@ -1,92 +1,70 @@
--- A read alone: from its begin on, nothing happens but its own looks and its own serves.
-use Rattle.std.specs.Prelude.{◌⊎◌, ℕ, zero, suc, ◌+◌, ◌≤◌, ◌&&◌, ◌||◌, if◌then◌else◌, Bool, true, false, List, [], ◌∷◌, length, Option, Some, None}
-use Rattle.std.specs.FinMap.{entries}
-use Rattle.txn_store.specs.Paths.{Segments}
-use Rattle.txn_store.specs.Store.{Files, listing, page_of}
-use Rattle.txn_store.specs.declared.page.Page.{Page}
-use Rattle.txn_caches.specs.declared.caches.Cached.{Cached}
-use Rattle.txn_caches.specs.Windows.{Ascends}
-use Rattle.txn_steps.specs.declared.latest.LatestOp.TheVariants as latest
-use Rattle.txn_steps.specs.declared.read.ReadOp.TheVariants as reads
-use Rattle.txn_steps.specs.Requests.{next_after}
-use Rattle.txn_history.specs.declared.event.Call.TheVariants as calls
-use Rattle.txn_history.specs.Trace.{Told}
+-- A read alone: from the begin of its call on, nothing happens but its own looks and its own serves.
+use Rattle.std.specs.Prelude.{◌⊎◌, ℕ, ◌+◌, if◌then◌else◌, List, [], ◌∷◌, Option, Some, None}
+use Rattle.txn_history.specs.declared.event.PlainCall.TheVariants as calls
 use Rattle.txn_history.specs.declared.event.EventOf.TheVariants as events
 use Rattle.txn_history.specs.Lists.{numbered}
-use Rattle.txn_history.specs.Names.{world_names}
+use Rattle.txn_machine_inner.specs.declared.doing.PlainDoing.{PlainDoing}
+use Rattle.txn_machine_inner.specs.declared.doing.PlainDoing.TheVariants as doings
+use Rattle.txn_machine_inner.specs.Alone.{begins_pass, is_turn}
+use Rattle.txn_view_steps.specs.declared.op.ViewOp.TheVariants.{Init, Load, Refresh, Update, Claim, ClaimAt, HolderRefresh, HolderUpdate}
+use Rattle.txn_history.specs.declared.event.ViewCall.TheVariants as view_calls
+use Rattle.txn_history.specs.declared.event.Call.{Call}
+use Rattle.txn_history.specs.declared.event.Call.TheVariants as any
+use Rattle.txn_history.specs.Trace.{Told}
 use Rattle.txn_machine.specs.declared.doing.Doing.{Doing}
-use Rattle.txn_machine.specs.declared.doing.Doing.TheVariants.{Read, Ended}
+use Rattle.txn_machine.specs.declared.doing.Doing.TheVariants as does
 use Rattle.txn_machine.specs.declared.doing.Operation.{Operation}
 use Rattle.txn_machine.specs.Machine.{State, next_op, Takes}
 
--- what a client keeps of versions: at most eight, with ascending ids
-pub record IsWindow (versions : List Cached) : Type 0 where
-  pub few : length versions ≤ 8
-  pub ascending : Ascends versions
-
--- the page of a listing of the versions that follows a path
-abbrev pub page_after : Files → ℕ → Option Segments → Page
-page_after files limit after = page_of limit (listing world_names.dir after (entries files))
-
--- At most so many pages follow, where the next begins after this path.
-abbrev pub AtMost : Files → ℕ → ℕ → Option Segments → Type 0
-AtMost files limit more None = Unit {0}
-AtMost files limit zero (Some path) = ⊥
-AtMost files limit (suc more) (Some path) = AtMost files limit more (next_after (page_after files limit (Some path)))
-
--- A listing of the versions, page by page, has at most so many pages after its first.
-abbrev pub HasPages : Files → ℕ → ℕ → Type 0
-HasPages files limit more = AtMost files limit more (next_after (page_after files limit None))
-
 module _ {T : Type 0} where
-  -- what an operation does, where it is there
-  abbrev pub doing_of : Option (Operation T) → Doing T
-  doing_of None = Ended
-  doing_of (Some operation) = operation.doing
+  -- the call is one read of the newest version: a read, a load, a refresh, or that of a holder
+  abbrev pub IsReading : Call T → Type 0
+  IsReading (any.Plain calls.Read) = Unit {0}
+  IsReading (any.View view_calls.Load) = Unit {0}
+  IsReading (any.View (view_calls.Refresh view)) = Unit {0}
+  IsReading (any.View (view_calls.HolderRefresh view)) = Unit {0}
+  IsReading call = ⊥
 
-  abbrev pub doing_in : State T → ℕ → Doing T
-  doing_in s op = doing_of (numbered s.operations op)
+  -- the read that its operation makes, as an operation of the nine calls
+  abbrev pub read_of : Doing T → PlainDoing T
+  read_of (does.Plain doing) = doing
+  read_of (does.View (Load op)) = doings.Read op.read
+  read_of (does.View (Refresh op)) = doings.Read op.read
+  read_of (does.View (HolderRefresh op)) = doings.Read op.read
+  read_of (does.View (Init op)) = doings.Ended
+  read_of (does.View (Update op)) = doings.Ended
+  read_of (does.View (Claim op)) = doings.Ended
+  read_of (does.View (ClaimAt op)) = doings.Ended
+  read_of (does.View (HolderUpdate op)) = doings.Ended
 
-  -- a read looks at what its client holds: it begins a pass
-  abbrev pub begins_pass : Doing T → Bool
-  begins_pass (Read (reads.Reads latest.Looks boundary)) = true
-  begins_pass _ = false
+  abbrev pub read_by : Option (Operation T) → PlainDoing T
+  read_by None = doings.Ended
+  read_by (Some operation) = read_of operation.doing
 
-  -- it asks for a page of a listing
-  abbrev pub asks_page : Doing T → Bool
-  asks_page (Read (reads.Reads (latest.Lists found request) boundary)) = true
-  asks_page _ = false
-
-  -- it asks for the version that it chose from a listing
-  abbrev pub asks_version : Doing T → Bool
-  asks_version (Read (reads.Reads (latest.Gets id request) boundary)) = true
-  asks_version _ = false
-
-  -- A turn: a pass begins, or a page is asked for after a page, or after a version that is missing.
-  abbrev pub is_turn : Doing T → Doing T → Bool
-  is_turn before after = begins_pass after || (asks_page after && (asks_page before || asks_version before))
+  abbrev pub read_in : State T → ℕ → PlainDoing T
+  read_in s op = read_by (numbered s.operations op)
 
   -- how many passes begin in these states
   abbrev pub passes : ℕ → List (State T) → ℕ
   passes op [] = 0
-  passes op (s ∷ states) = (if begins_pass (doing_in s op) then 1 else 0) + passes op states
+  passes op (s ∷ states) = (if begins_pass (read_in s op) then 1 else 0) + passes op states
 
   -- how many turns it takes through these states
   abbrev pub turns : ℕ → State T → List (State T) → ℕ
   turns op before [] = 0
-  turns op before (s ∷ states) = (if is_turn (doing_in before op) (doing_in s op) then 1 else 0) + turns op s states
+  turns op before (s ∷ states) = (if is_turn (read_in before op) (read_in s op) then 1 else 0) + turns op s states
 
-module _ {T : Type 0} (encode : T → List ℕ) (decode : List ℕ → Option T) (get_epoch : T → ℕ) where
+module _ {T : Type 0} (encode : T → List ℕ) (decode : List ℕ → Option T) (get_epoch : T → ℕ) (set_epoch : T → ℕ → T) where
   -- the operation looks, or its request is served
   abbrev pub Moves : ℕ → State T → State T → Type 0
-  Moves op old new = (said : Told T) × (Takes encode decode get_epoch old (events.Look op) said new ⊎ Takes encode decode get_epoch old (events.Serve op) said new)
+  Moves op old new = (said : Told T) × (Takes encode decode get_epoch set_epoch old (events.Look op) said new ⊎ Takes encode decode get_epoch set_epoch old (events.Serve op) said new)
 
   -- states that follow one another while the operation alone moves
   abbrev pub MovesAlone : ℕ → State T → List (State T) → Type 0
   MovesAlone op s [] = Unit {0}
   MovesAlone op s (next ∷ states) = Moves op s next × MovesAlone op next states
 
-  -- The states of a read of a client from its begin on, where it alone moves.
-  abbrev pub ReadsAlone : State T → ℕ → List (State T) → Type 0
-  ReadsAlone s client [] = Unit {0}
-  ReadsAlone s client (first ∷ states) = ((said : Told T) × Takes encode decode get_epoch s (events.Begin client calls.Read) said first) × MovesAlone (next_op s) first states
+  -- The states of a call of a client from its begin on, where it alone moves.
+  abbrev pub ReadsAlone : State T → ℕ → Call T → List (State T) → Type 0
+  ReadsAlone s client call [] = Unit {0}
+  ReadsAlone s client call (first ∷ states) = ((said : Told T) × Takes encode decode get_epoch set_epoch s (events.Begin client call) said first) × MovesAlone (next_op s) first states

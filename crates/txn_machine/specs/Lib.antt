@@ -1,4 +1,5 @@
 pub mod Doing
 pub mod Machine
+pub mod CallsLeft
+pub mod Refusals
 pub mod Alone
-pub mod Probing

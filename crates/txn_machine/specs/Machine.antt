@@ -1,39 +1,42 @@
--- The world's step, over the store's contract.
-use Rattle.std.specs.Prelude.{◌≡◌, ℕ, List, [], ◌∷◌, ◌++◌, ◌+◌, ◌-◌, ◌^◌, ◌≤◌, ◌==◌, Bool, true, false, if◌then◌else◌, Option, Some, None, Result, Ok, Err, length, slice_set, is_some, is_ok, map, replicate}
+-- The world's step, over the store's contract, for all calls.
+use Rattle.std.specs.Prelude.{◌≡◌, ◌≤◌, ◌⊎◌, ℕ, List, [], ◌∷◌, ◌++◌, ◌+◌, ◌-◌, ◌==◌, Bool, true, false, if◌then◌else◌, Option, Some, None, Result, Ok, Err, length, slice_set, is_some, map, replicate}
 use Rattle.std.specs.Option.{option_map}
-use Rattle.std.specs.FinMap.{empty, get}
-use Rattle.txn_store.specs.Paths.{Segments}
-use Rattle.txn_store.specs.Store.{Files, State as StoreState}
-use Rattle.txn_store.specs.Requests.{Serves}
+use Rattle.txn_store.specs.Store.{State as StoreState}
 use Rattle.txn_store.specs.declared.request.Request.{Request}
-use Rattle.txn_store.specs.declared.request.Request.TheVariants as requests
 use Rattle.txn_store.specs.declared.request.Reply.{Reply}
-use Rattle.txn_store.specs.declared.request.Reply.TheVariants as replies
+use Rattle.txn_types.specs.Errors.{error_number}
 use Rattle.txn_caches.specs.declared.caches.Caches.{Caches}
-use Rattle.txn_history.specs.declared.event.Call.{Call}
-use Rattle.txn_history.specs.declared.event.Answer.TheVariants as answers
+use Rattle.txn_history.specs.declared.event.PlainAnswer.TheVariants as plain_answers
 use Rattle.txn_history.specs.declared.event.Failure.{Failure}
 use Rattle.txn_history.specs.declared.event.Failure.TheVariants as failures
-use Rattle.txn_history.specs.Trace.{Told}
 use Rattle.txn_history.specs.declared.event.ToldOf.TheVariants as told
-use Rattle.txn_history.specs.Trace.{Event}
 use Rattle.txn_history.specs.declared.event.EventOf.TheVariants as events
 use Rattle.txn_history.specs.declared.event.EventFault.{EventFault}
-use Rattle.txn_history.specs.declared.event.EventFault.TheVariants as faults
-use Rattle.txn_history.specs.Trace.{Row}
 use Rattle.txn_history.specs.declared.trace.RowOf.TheVariants.{Begun}
 use Rattle.txn_history.specs.Lists.{numbered}
-use Rattle.txn_history.specs.History.{Contents}
-use Rattle.txn_history.specs.Seen.{Ask, Store, Look, Operation as SeenOperation, Seen}
+use Rattle.txn_history.specs.Seen.{Ask, Store, Look, Operation as SeenOperation, Seen, asks_of, AllSeen}
 use Rattle.txn_history.specs.GoesOn.{left_loose, all_left_loose}
-use Rattle.txn_history.specs.Allowed.{fault_of}
 use Rattle.txn_history.specs.Added.{told_of, answer_rows, effect_rows}
+use Rattle.txn_machine_inner.specs.Machine.{empty_store, no_caches, effect_of, fault_met, taken_count}
+use Rattle.txn_store.specs.MemoryServes.{lacks_memory}
+use Rattle.txn_store.specs.Requests.{Serves}
+use Rattle.txn_view_steps.specs.declared.outcome.Outcome.TheVariants as outcomes
+use Rattle.txn_history.specs.declared.event.Call.{Call}
+use Rattle.txn_history.specs.declared.event.Answer.{Answer}
+use Rattle.txn_history.specs.declared.event.Answer.TheVariants as answers
+use Rattle.txn_history.specs.Trace.{Row, Event, Told}
+use Rattle.txn_history.specs.Calls.{view_used}
+use Rattle.txn_history.specs.Views.{View}
+use Rattle.txn_history.specs.Allowed.{fault_of}
+use Rattle.txn_machine_views.specs.Layer.{Used, Change, Keeps, Puts, Makes, Closes, with_busy, changed, new_view}
+use Rattle.txn_machine_views.specs.Steps.{view_without}
 use Rattle.txn_machine.specs.declared.doing.Doing.{Doing}
-use Rattle.txn_machine.specs.declared.doing.Doing.TheVariants.{Ended}
+use Rattle.txn_machine.specs.declared.doing.Ending.{Ending}
+use Rattle.txn_machine.specs.declared.doing.Ending.TheVariants as endings
 use Rattle.txn_machine.specs.declared.doing.Operation.{Operation}
-use Rattle.txn_machine.specs.Doing.{Next, started, asked, turned, caches_left, ReadsBack, FitsWord}
+use Rattle.txn_machine.specs.Doing.{Next, ended, refused, asked, started, caches_left, is_claim_call, ReadsBack, FitsWord, IsMadeSo, Turns}
 
--- All of a world but its codec and its allocator. Each list is in the order of the numbers, from 1 on.
+-- All of a world but its codec and its allocator. Each list is in the order of the numbers, from 1 on. An ended view is none.
 pub record State (T : Type 0) : Type 0 where
   pub clients : ℕ
   -- how many files a page of a listing has at most
@@ -42,48 +45,23 @@ pub record State (T : Type 0) : Type 0 where
   -- what each client keeps
   pub caches : List Caches
   pub operations : List (Operation T)
+  pub views : List (Option (Used T))
   -- requests that may still reach the store, each with its operation
   pub loose : List (ℕ × Request)
   -- the operations whose store call failed
   pub failed : List ℕ
   pub trace : List (Row T)
 
--- the empty store, which gives the tokens 1, 2, 3 and so on
-abbrev pub empty_store : StoreState
-empty_store = record { files = empty; given = []; left = 2 ^ 64 - 1; calls = 0; failures = 0 }
-
--- what a client keeps at first
-abbrev pub no_caches : Caches
-no_caches = record { latest = []; boundary = None }
-
--- the reply says that a put or a removal was done
-abbrev pub took : Reply → Bool
-took (replies.Put (Ok token)) = true
-took (replies.Put (Err error)) = false
-took (replies.Get answer) = false
-took (replies.List answer) = false
-took (replies.Delete (Ok done)) = true
-took (replies.Delete (Err error)) = false
-
--- a request that changes these files where it is done: a put, or the removal of a file that is there
-abbrev pub may_change : Files → Request → Option Request
-may_change files (requests.Put path bytes mode) = Some (requests.Put path bytes mode)
-may_change files (requests.Get path known) = None
-may_change files (requests.List prefix after limit) = None
-may_change files (requests.Delete path) = if is_some (get files path) then Some (requests.Delete path) else None
-
--- the request that changed the store, by the files before it and its reply
-abbrev pub effect_of : Files → Request → Reply → Option Request
-effect_of files request reply = if took reply then may_change files request else None
-
--- files with these contents, tokens aside
-abbrev pub HasContents : Files → Contents → Type 0
-HasContents files contents = (path : Segments) → option_map (λ got. got.bytes) (get files path) ≡ get contents path
+-- a world: its codec, where its values keep their epochs, and its state
+pub record WorldState (T C E : Type 0) : Type 0 where
+  pub codec : C
+  pub epochs : E
+  pub state : State T
 
 module _ {T : Type 0} where
   -- a world in which nothing has happened
   abbrev pub opening : ℕ → ℕ → State T
-  opening clients page = record { clients = clients; page = page; store = empty_store; caches = replicate clients no_caches; operations = []; loose = []; failed = []; trace = [] }
+  opening clients page = record { clients = clients; page = page; store = empty_store; caches = replicate clients no_caches; operations = []; views = []; loose = []; failed = []; trace = [] }
 
   -- what it shows beside its rows
 
@@ -93,21 +71,106 @@ module _ {T : Type 0} where
   abbrev pub seen_operations : List (Operation T) → List SeenOperation
   seen_operations operations = map seen_operation operations
 
-  abbrev pub seen_of : State T → Seen
-  seen_of s = record { clients = s.clients; operations = seen_operations s.operations; loose = s.loose; failed = s.failed }
+  abbrev pub seen_calls : State T → Seen
+  seen_calls s = record { clients = s.clients; operations = seen_operations s.operations; loose = s.loose; failed = s.failed }
+
+  -- what an operation that asks for this is given: a look at its client's caches, and else a store call
+  abbrev pub asked_event : ℕ → Option Ask → Event T
+  asked_event op None = events.Serve op
+  asked_event op (Some (Store request)) = events.Serve op
+  asked_event op (Some Look) = events.Look op
+
+  -- The event that gives an operation what it asks for. Where it asks for nothing it is a serve, which is refused.
+  abbrev pub next_event : State T → ℕ → Event T
+  next_event s op = asked_event op (asks_of (seen_calls s) op)
+
+  abbrev pub seen_view : Option (Used T) → Option (View T)
+  seen_view used = option_map (λ u. u.view) used
+
+  abbrev pub seen_views : List (Option (Used T)) → List (Option (View T))
+  seen_views views = map seen_view views
+
+  abbrev pub seen_of : State T → AllSeen T
+  seen_of s = record { calls = seen_calls s; views = seen_views s.views }
+
+  -- views by their numbers
+
+  abbrev pub used_in : Option (Option (Used T)) → Option (Used T)
+  used_in None = None
+  used_in (Some used) = used
+
+  -- the view of this number, where there is one
+  abbrev pub used_by : List (Option (Used T)) → Option ℕ → Option (Used T)
+  used_by views None = None
+  used_by views (Some number) = used_in (numbered views number)
+
+  abbrev pub with_used : List (Option (Used T)) → Option ℕ → Option (Used T) → List (Option (Used T))
+  with_used views None new = views
+  with_used views (Some number) new = slice_set views (number - 1) new
+
+  -- the views after this change of one
+  abbrev pub views_changed : List (Option (Used T)) → Option ℕ → Change T → List (Option (Used T))
+  views_changed views number change = with_used views number (changed (used_by views number) change)
+
+  -- how an operation ends
+
+  -- a refusal, or the answer of a call without a view, frees the view, and ends that of a claim
+  abbrev pub let_go : Bool → Change T
+  let_go claims = if claims then Closes else Keeps
+
+  -- the answer of an operation on this view, where so many views were made
+  abbrev pub answer_of : ℕ → Option ℕ → Ending T → Answer T
+  answer_of count view (endings.Answers answer) = answers.Plain answer
+  answer_of count None (endings.Comes (outcomes.Viewed id value)) = answers.View (count + 1) id value
+  answer_of count (Some number) (endings.Comes (outcomes.Viewed id value)) = answers.View number id value
+  answer_of count None (endings.Comes (outcomes.Held id value epoch)) = answers.Held (count + 1) id value epoch
+  answer_of count (Some number) (endings.Comes (outcomes.Held id value epoch)) = answers.Held number id value epoch
+  answer_of count view (endings.Comes (outcomes.Shut id value error)) = answers.Plain (plain_answers.Refused (error_number error))
+
+  -- what becomes of the view that was used
+  abbrev pub change_of : Bool → Ending T → Change T
+  change_of claims (endings.Answers answer) = let_go claims
+  change_of claims (endings.Comes (outcomes.Viewed id value)) = Puts id value
+  change_of claims (endings.Comes (outcomes.Held id value epoch)) = Makes id value epoch
+  change_of claims (endings.Comes (outcomes.Shut id value error)) = Puts id value
+
+  -- the view that is made, where none was used
+  abbrev pub made_by : ℕ → Ending T → List (Option (Used T))
+  made_by client (endings.Answers answer) = []
+  made_by client (endings.Comes (outcomes.Viewed id value)) = Some (new_view client id value) ∷ []
+  made_by client (endings.Comes (outcomes.Held id value epoch)) = []
+  made_by client (endings.Comes (outcomes.Shut id value error)) = []
+
+  -- the views after an operation has ended
+  abbrev pub views_after : List (Option (Used T)) → ℕ → Option ℕ → Bool → Option (Ending T) → List (Option (Used T))
+  views_after views client view claims None = views
+  views_after views client None claims (Some ending) = views ++ made_by client ending
+  views_after views client (Some number) claims (Some ending) = views_changed views (Some number) (change_of claims ending)
+
+  abbrev pub answered : ℕ → Option ℕ → Option (Ending T) → Option (Answer T)
+  answered count view ending = option_map (answer_of count view) ending
 
   -- what a step changes
 
+  -- an operation, where it does this next
+  abbrev pub doing_next : Operation T → Doing T → Operation T
+  doing_next operation doing = record { client = operation.client; view = operation.view; claims = operation.claims; doing = doing }
+
   -- the operations, where one of them does this next
   abbrev pub with_doing : List (Operation T) → ℕ → Operation T → Doing T → List (Operation T)
-  with_doing operations op operation doing = slice_set operations (op - 1) (record { client = operation.client; doing = doing })
+  with_doing operations op operation doing = slice_set operations (op - 1) (doing_next operation doing)
 
-  -- An operation takes its turn: what it does next, its answer where it has one, and what it leaves of its client's caches. Every look, serve, failure and give-up changes the operations, the caches and the answers so.
+  -- the answer of an operation that does this next, where it has one
+  abbrev pub answer_next : State T → Operation T → Next T → Option (Answer T)
+  answer_next s operation next = answered (length s.views) operation.view next.1
+
+  -- An operation takes its turn: what it does next, what becomes of its view and its answer where it ends, and what it leaves of its client's caches. Every look, serve and failure changes the operations, the caches, the views and the answers so.
   abbrev pub acted : State T → ℕ → Operation T → Next T → Caches → State T
   acted s op operation next caches = record s {
     operations = with_doing s.operations op operation next.0;
     caches = slice_set s.caches (operation.client - 1) caches;
-    trace = s.trace ++ answer_rows op next.1;
+    views = views_after s.views operation.client operation.view operation.claims next.1;
+    trace = s.trace ++ answer_rows op (answer_next s operation next);
   }
 
   -- A request reaches the store, which becomes this: its row, where it changed the files.
@@ -122,22 +185,22 @@ module _ {T : Type 0} where
   abbrev pub failing : State T → ℕ → State T
   failing s op = record s { failed = s.failed ++ op ∷ [] }
 
-  -- an operation that ends with no answer
-  abbrev pub given_up : Next T
-  given_up = (Ended, None)
-
-  -- an operation that is told that its store call failed
-  abbrev pub told_failure : Next T
-  told_failure = (Ended, Some (answers.Refused 2))
+  -- an operation ends with no answer, and lets its view go
+  abbrev pub given_up : State T → ℕ → Operation T → State T
+  given_up s op operation = record s {
+    operations = with_doing s.operations op operation ended;
+    views = views_changed s.views operation.view (let_go operation.claims);
+  }
 
   -- the operations, where those of a client have ended
   abbrev pub ended_by : ℕ → Operation T → Operation T
-  ended_by client operation = if operation.client == client then record { client = operation.client; doing = Ended } else operation
+  ended_by client operation = if operation.client == client then doing_next operation ended else operation
 
   abbrev pub crashed : State T → ℕ → State T
   crashed s client = record s {
     operations = map (ended_by client) s.operations;
     caches = slice_set s.caches (client - 1) no_caches;
+    views = map (view_without client) s.views;
     loose = s.loose ++ all_left_loose client 1 (seen_operations s.operations);
   }
 
@@ -145,37 +208,34 @@ module _ {T : Type 0} where
   abbrev pub next_op : State T → ℕ
   next_op s = length s.operations + 1
 
+  -- a new operation, which does this
+  abbrev pub new_operation : ℕ → Call T → Doing T → Operation T
+  new_operation client call doing = record { client = client; view = view_used call; claims = is_claim_call call; doing = doing }
+
+  -- the views, where the one that a call uses is busy
+  abbrev pub views_taken : List (Option (Used T)) → Option ℕ → ℕ → List (Option (Used T))
+  views_taken views number op = with_used views number (option_map (with_busy (Some op)) (used_by views number))
+
   abbrev pub begun_as : State T → ℕ → Call T → Next T → State T
   begun_as s client call start = record s {
-    operations = s.operations ++ record { client = client; doing = start.0 } ∷ [];
-    trace = (s.trace ++ Begun (next_op s) call ∷ []) ++ answer_rows (next_op s) start.1;
+    operations = s.operations ++ new_operation client call start.0 ∷ [];
+    views = views_after (views_taken s.views (view_used call) (next_op s)) client (view_used call) (is_claim_call call) start.1;
+    trace = (s.trace ++ Begun (next_op s) call ∷ []) ++ answer_rows (next_op s) (answered (length s.views) (view_used call) start.1);
   }
 
--- the fault that an event met, want of memory aside
-abbrev pub fault_met : {A : Type 0} → Result A EventFault → Option EventFault
-fault_met (Ok told) = None
-fault_met (Err faults.UnknownNumber) = Some faults.UnknownNumber
-fault_met (Err faults.NotAsked) = Some faults.NotAsked
-fault_met (Err faults.UnknownBase) = Some faults.UnknownBase
-fault_met (Err faults.BoundaryTooHigh) = Some faults.BoundaryTooHigh
-fault_met (Err faults.EpochLowered) = Some faults.EpochLowered
-fault_met (Err faults.ViewBusy) = Some faults.ViewBusy
-fault_met (Err faults.NoMemory) = None
+  -- the view that a call uses, as it stands
+  abbrev pub view_now : State T → Call T → Option (View T)
+  view_now s call = seen_view (used_by s.views (view_used call))
 
--- of events, each with its outcome, how many were taken
-abbrev pub taken_count : {E A : Type 0} → List (E × Result A EventFault) → ℕ
-taken_count [] = 0
-taken_count (met ∷ rest) = if is_ok met.1 then 1 + taken_count rest else taken_count rest
-
-module _ {T : Type 0} where
   -- an operation that is there and asks for this, and what its client keeps
   pub record Acts (s : State T) (op : ℕ) (operation : Operation T) (ask : Ask) (caches : Caches) : Type 0 where
     pub found : numbered s.operations op ≡ Some operation
     pub asks : asked operation.doing ≡ Some ask
     pub kept : numbered s.caches operation.client ≡ Some caches
 
+module _ {T : Type 0} where
   -- a request reaches the store, which never fails
-  pub record Reaches (s : State T) (request : Request) (reply : Reply) (store : StoreState) : Type 0 where
+  pub record ReachesStore (s : State T) (request : Request) (reply : Reply) (store : StoreState) : Type 0 where
     pub serves : Serves request s.store reply store
     pub honest : store.failures ≡ 0
 
@@ -185,10 +245,19 @@ module _ {T : Type 0} where
     pub request : Request
     pub caches : Caches
     pub acts : Acts old op operation (Store request) caches
-    pub tells : said ≡ told.Answered op (answers.Refused 2)
-    pub state : new ≡ acted (failing (if looses then loosened old op (Store request) else old) op) op operation told_failure caches
+    pub tells : said ≡ told.Answered op (answers.Plain (plain_answers.Refused 2))
+    pub state : new ≡ acted (failing (if looses then loosened old op (Store request) else old) op) op operation (refused 2) caches
 
-  -- A failure after its effect: the request is served, and its reply is lost.
+  -- A call that is refused for memory before anything has reached the store: the operation ends refused, and nothing else changes.
+  pub record Lacks (old : State T) (op : ℕ) (said : Told T) (new : State T) : Type 0 where
+    pub operation : Operation T
+    pub request : Request
+    pub caches : Caches
+    pub acts : Acts old op operation (Store request) caches
+    pub tells : said ≡ told.Answered op (answers.Plain (plain_answers.Refused 9))
+    pub state : new ≡ acted old op operation (refused 9) caches
+
+  -- A failure after its effect: the request is served, and its reply is lost. Where the store finds no memory, there is no such event.
   pub record FailsAfter (old : State T) (op : ℕ) (said : Told T) (new : State T) : Type 0 where
     pub operation : Operation T
     pub request : Request
@@ -196,9 +265,10 @@ module _ {T : Type 0} where
     pub acts : Acts old op operation (Store request) caches
     pub reply : Reply
     pub store : StoreState
-    pub reaches : Reaches old request reply store
-    pub tells : said ≡ told.Answered op (answers.Refused 2)
-    pub state : new ≡ acted (failing (effected old op request reply store) op) op operation told_failure caches
+    pub reaches : ReachesStore old request reply store
+    pub answered : lacks_memory reply ≡ false
+    pub tells : said ≡ told.Answered op (answers.Plain (plain_answers.Refused 2))
+    pub state : new ≡ acted (failing (effected old op request reply store) op) op operation (refused 2) caches
 
   -- a failure by its kind
   abbrev pub Fails : State T → ℕ → Failure → Told T → State T → Type 0
@@ -210,38 +280,37 @@ module _ {T : Type 0} where
   pub record GivesUp (old : State T) (op : ℕ) (said : Told T) (new : State T) : Type 0 where
     pub operation : Operation T
     pub ask : Ask
-    pub caches : Caches
-    pub acts : Acts old op operation ask caches
+    pub found : numbered old.operations op ≡ Some operation
+    pub asks : asked operation.doing ≡ Some ask
     pub tells : said ≡ told.GaveUp op
-    pub state : new ≡ acted (loosened old op ask) op operation given_up caches
+    pub state : new ≡ given_up (loosened old op ask) op operation
 
-  -- A landing: a loose request reaches the store. It stays loose.
+  -- A landing: a loose request reaches the store. It stays loose. Where the store finds no memory, there is no such event.
   pub record Lands (old : State T) (k : ℕ) (said : Told T) (new : State T) : Type 0 where
     pub op : ℕ
     pub request : Request
     pub found : numbered old.loose k ≡ Some (op, request)
     pub reply : Reply
     pub store : StoreState
-    pub reaches : Reaches old request reply store
+    pub reaches : ReachesStore old request reply store
+    pub answered : lacks_memory reply ≡ false
     pub tells : said ≡ told.Landed k (is_some (effect_of old.store.files request reply))
     pub state : new ≡ effected old op request reply store
 
-  -- A crash: a client gives up all its operations, and keeps nothing.
+  -- A crash: a client gives up all its operations, and keeps nothing, no view either.
   pub record Crashes (old : State T) (client : ℕ) (said : Told T) (new : State T) : Type 0 where
     pub tells : said ≡ told.Crashed client
     pub state : new ≡ crashed old client
 
-module _ {T : Type 0} (decode : List ℕ → Option T) where
+module _ {T : Type 0} (encode : T → List ℕ) (decode : List ℕ → Option T) (get_epoch : T → ℕ) (set_epoch : T → ℕ → T) where
   -- A look: the operation looks at its client's caches.
   pub record Looks (old : State T) (op : ℕ) (said : Told T) (new : State T) : Type 0 where
     pub operation : Operation T
     pub caches : Caches
     pub acts : Acts old op operation Look caches
-    -- a growth of the operation was refused
-    pub refused : Bool
     pub next : Next T
-    pub turns : next ≡ turned old.page decode refused operation.doing caches None
-    pub tells : said ≡ told_of (told.Went op) op next.1
+    pub turns : Turns old.page encode decode get_epoch set_epoch operation.doing caches None next
+    pub tells : said ≡ told_of (told.Went op) op (answer_next old operation next)
     pub state : new ≡ acted old op operation next (caches_left operation.doing caches next.1)
 
   -- A serve: the operation's request is served by the store, and the operation takes the reply.
@@ -252,34 +321,31 @@ module _ {T : Type 0} (decode : List ℕ → Option T) where
     pub acts : Acts old op operation (Store request) caches
     pub reply : Reply
     pub store : StoreState
-    pub reaches : Reaches old request reply store
-    -- a growth of the operation was refused
-    pub refused : Bool
+    pub reaches : ReachesStore old request reply store
     pub next : Next T
-    pub turns : next ≡ turned old.page decode refused operation.doing caches (Some reply)
-    pub tells : said ≡ told_of (told.Went op) op next.1
+    pub turns : Turns old.page encode decode get_epoch set_epoch operation.doing caches (Some reply) next
+    pub tells : said ≡ told_of (told.Went op) op (answer_next old operation next)
     pub state : new ≡ acted (effected old op request reply store) op operation next (caches_left operation.doing caches next.1)
 
-module _ {T : Type 0} (encode : T → List ℕ) (decode : List ℕ → Option T) where
   -- A begin: its call's operation starts.
   pub record Begins (old : State T) (client : ℕ) (call : Call T) (said : Told T) (new : State T) : Type 0 where
     pub reads_back : ReadsBack encode decode call
     pub word : FitsWord call
     pub next : Next T
-    pub starts : next ≡ started old.page encode call
-    pub tells : said ≡ told_of (told.Began (next_op old)) (next_op old) next.1
+    pub starts : next ≡ started old.page encode get_epoch set_epoch call (view_now old call)
+    pub made : IsMadeSo encode decode get_epoch next.0
+    pub tells : said ≡ told_of (told.Began (next_op old)) (next_op old) (answered (length old.views) (view_used call) next.1)
     pub state : new ≡ begun_as old client call next
 
   abbrev pub Steps : State T → Event T → Told T → State T → Type 0
   Steps old (events.Begin client call) said new = Begins old client call said new
-  Steps old (events.Look op) said new = Looks decode old op said new
-  Steps old (events.Serve op) said new = Served decode old op said new
+  Steps old (events.Look op) said new = Looks old op said new
+  Steps old (events.Serve op) said new = Served old op said new
   Steps old (events.Fail op failure) said new = Fails old op failure said new
   Steps old (events.GiveUp op) said new = GivesUp old op said new
   Steps old (events.Land k) said new = Lands old k said new
   Steps old (events.Crash client) said new = Crashes old client said new
 
-module _ {T : Type 0} (encode : T → List ℕ) (decode : List ℕ → Option T) (get_epoch : T → ℕ) where
   -- why a state refuses an event, where it does
   abbrev pub refusal_of : State T → Event T → Option EventFault
   refusal_of s event = fault_of decode get_epoch (seen_of s) s.trace event
@@ -287,13 +353,45 @@ module _ {T : Type 0} (encode : T → List ℕ) (decode : List ℕ → Option T)
   -- From old the event may tell this, and lead to new.
   pub record Takes (old : State T) (event : Event T) (said : Told T) (new : State T) : Type 0 where
     pub allowed : refusal_of old event ≡ None
-    pub step : Steps encode decode old event said new
+    pub step : Steps old event said new
+
+  -- An event's outcome: it is taken, or it is refused as the trace and what stands beside it say, or for want of memory, and changes nothing.
+  abbrev pub Meets : State T → Event T → Result (Told T) EventFault → State T → Type 0
+  Meets old event (Ok said) new = Takes old event said new
+  Meets old event (Err fault) new = (fault_met {A = Told T} (Err fault) ≡ refusal_of old event) × (new ≡ old)
+
+  -- Events in order, each with its outcome.
+  abbrev pub Outcomes : State T → List (Event T × Result (Told T) EventFault) → State T → Type 0
+  Outcomes old [] new = new ≡ old
+  Outcomes old (met ∷ rest) new = (middle : State T) × Meets old met.0 met.1 middle × Outcomes middle rest new
+
+  -- These events in order, past those that are refused; so many were taken.
+  pub record RunsPast (old : State T) (events : List (Event T)) (count : ℕ) (new : State T) : Type 0 where
+    pub met : List (Event T × Result (Told T) EventFault)
+    pub all : map (λ m. m.0) met ≡ events
+    pub run : Outcomes old met new
+    pub taken : count ≡ taken_count met
 
   -- a run: events in order, each with what it told
   abbrev pub Runs : State T → List (Event T × Told T) → State T → Type 0
   Runs old [] new = new ≡ old
   Runs old (taken ∷ rest) new = (middle : State T) × Takes old taken.0 taken.1 middle × Runs middle rest new
 
+  -- Where clients share a store that is none of theirs, a serve may lack memory too.
+
+  abbrev pub StepsOrLacks : State T → Event T → Told T → State T → Type 0
+  StepsOrLacks old (events.Serve op) said new = Served old op said new ⊎ Lacks old op said new
+  StepsOrLacks old event said new = Steps old event said new
+
+  pub record TakesOrLacks (old : State T) (event : Event T) (said : Told T) (new : State T) : Type 0 where
+    pub allowed : refusal_of old event ≡ None
+    pub step : StepsOrLacks old event said new
+
+  -- a run of such clients: events in order, each with what it told
+  abbrev pub RunsOrLacks : State T → List (Event T × Told T) → State T → Type 0
+  RunsOrLacks old [] new = new ≡ old
+  RunsOrLacks old (taken ∷ rest) new = (middle : State T) × TakesOrLacks old taken.0 taken.1 middle × RunsOrLacks middle rest new
+
   -- some events lead here from a world in which nothing has happened, where a page has room for a file at least
   abbrev pub IsReached : State T → Type 0
-  IsReached s = (taken : List (Event T × Told T)) × Runs (opening s.clients s.page) taken s × (1 ≤ s.page)
+  IsReached s = (taken : List (Event T × Told T)) × RunsOrLacks (opening s.clients s.page) taken s × (1 ≤ s.page)

@@ -1,127 +1,294 @@
-//! The operations of a world's clients, as states of `txn_steps`.
-ghost use Rattle.std.specs.Prelude.{◌≡◌, false, None, Some, IfOk, IfSome};
-ghost use Rattle.txn_caches.specs.Steps.{turned_by_number};
+//! The operations of a world's clients: those of calls without a view, and those of calls on views.
+ghost use Rattle.std.specs.Prelude.{◌≡◌, false, None, Some, IfOk, IfSome, IsSome, IsTrue};
+ghost use Rattle.txn_caches.specs.Steps.{by_number};
 ghost use Rattle.txn_types.specs.Clones.{IsExactClone};
 ghost use Rattle.txn_history.specs.Names.{world_names, world_boundary};
-ghost use Rattle.txn_machine.specs.Doing.{is_write, started, write_answer, read_answer, value_answer, ids_answer, done_answer, refusal_of_number, first_of, ids_of, IsTold, ReadsBack, FitsWord};
+ghost use Rattle.txn_view_steps.specs.Lacking.{lacks};
+ghost use Rattle.txn_history.specs.Calls.{view_used, is_holders};
+ghost use Rattle.std.specs.Option.{option_copied, option_map};
+ghost use Rattle.txn_machine_inner.specs.Doing.{first_of};
+ghost use Rattle.txn_machine.specs.Doing.{started, first_next, refusal_in, is_claim_call, IsMadeSo, ReadsBack, FitsWord};
 
 use std::alloc::{AllocError, Global};
+use std::marker::Model;
 use std::mem;
-use txn_caches::advance::AdvanceOp;
 use txn_caches::ask::Ask;
 use txn_caches::caches::Caches;
-use txn_caches::check::CheckOp;
 use txn_caches::turned::Turned;
-use txn_history::event::{Answer, Call};
-use txn_history::ids::Ids;
-use txn_steps::delete::DeleteOp;
-use txn_steps::listing::ListOp;
-use txn_steps::read::ReadOp;
-use txn_steps::seen::{ReadSeenOp, ReadUncheckedOp};
-use txn_steps::versions::Versions;
-use txn_steps::write::{WriteOp, WriteUncheckedOp};
+use txn_history::event::{Call, PlainAnswer, ViewCall};
+use txn_history::view::View;
+use txn_machine_inner::doing::{PlainDoing, start as start_plain};
 use txn_store::request::Reply;
 use txn_types::codec::ObjectCodec;
+use txn_types::epoch::EpochField;
 use txn_types::error::TransactionalObjectError;
 use txn_types::id::MonotonicId;
 use txn_types::layout::Layout;
-use txn_types::room::push_within;
+use txn_view_steps::claim::ClaimOp;
+use txn_view_steps::claim_at::ClaimAtOp;
+use txn_view_steps::holder::{HolderRefreshOp, HolderUpdateOp};
+use txn_view_steps::init::InitOp;
+use txn_view_steps::load::LoadOp;
+use txn_view_steps::op::ViewOp;
+use txn_view_steps::outcome::{Outcome, ViewAnswer};
+use txn_view_steps::refresh::RefreshOp;
+use txn_view_steps::update::UpdateOp;
 
-/// What an operation does next.
+/// What an operation does next. One that was answered, or given up, is a plain one that has ended.
 #[derive(Drop)]
 pub enum Doing<T> {
-    Write(WriteOp),
-    WriteUnchecked(WriteUncheckedOp),
-    Read(ReadOp<T>),
-    ReadUnchecked(ReadUncheckedOp),
-    ReadSeen(ReadSeenOp<T>),
-    ListIds(ListOp),
-    Delete(DeleteOp),
-    Check(CheckOp),
-    Advance(AdvanceOp),
-    /// It was answered, or given up.
-    Ended,
+    /// That of a call without a view.
+    Plain(PlainDoing<T>),
+    /// That of a call on views.
+    View(ViewOp<T>),
 }
 
 /// An operation of a client.
 #[derive(Drop)]
 pub struct Operation<T> {
+    /// The client whose operation it is, counted from 1.
     pub client: u64,
+    /// The view that it uses.
+    pub view: Option<u64>,
+    /// Whether it is a claim, which ends its view unless it is held.
+    pub claims: bool,
+    /// What it does next.
     pub doing: Doing<T>,
 }
 
-/// How a call starts: what its operation does, and the number of its refusal where it has one at
-/// once. The bytes of a write are made here, before anything is asked of the store. The only error
+/// The same answer twice: once for the trace, and once to be told. A clause sees the answer.
+#[derive(Drop)]
+pub struct Twice<T> {
+    noted: PlainAnswer<T>,
+    told: PlainAnswer<T>,
+}
+
+impl<T> Model for Twice<T> {
+    ghost use Rattle.std.specs.Prelude.{◌≡◌};
+    ghost use Rattle.txn_history.specs.declared.event.PlainAnswer.{PlainAnswer};
+
+    ghost Value = { PlainAnswer T };
+
+    ghost view = { λ s. s.noted };
+
+    ghost invariant = { λ s. s.told ≡ s.noted };
+}
+
+impl<T> Twice<T> {
+    /// These two, which are the same.
+    pub fn new(noted: PlainAnswer<T>, told: PlainAnswer<T>) -> Twice<T>
+        requires { told ≡ noted }
+        ensures { result ≡ noted }
+    {
+        Twice { noted, told }
+    }
+
+    /// A refusal.
+    pub fn refused(number: u8) -> Twice<T>
+        ensures { result ≡ PlainAnswer.Refused number }
+    {
+        Twice {
+            noted: PlainAnswer::Refused(number),
+            told: PlainAnswer::Refused(number),
+        }
+    }
+
+    /// The answer, twice. It takes no memory.
+    pub fn into_answers(self) -> (PlainAnswer<T>, PlainAnswer<T>)
+        ensures { result ≡ (self, self) }
+    {
+        (self.noted, self.told)
+    }
+}
+
+/// How an operation ends.
+#[derive(Drop)]
+pub enum Ending<T> {
+    /// With the answer of a call without a view, or with a refusal.
+    Answers(Twice<T>),
+    /// With what becomes of the view that was made or used.
+    Comes(Outcome<T>),
+}
+
+/// An operation that has ended.
+fn ended<T>() -> Doing<T>
+    ensures { result ≡ Doing.Plain PlainDoing.Ended }
+{
+    Doing::Plain(PlainDoing::Ended)
+}
+
+/// Whether a call is a claim.
+pub fn is_claim<T>(call: &Call<T>) -> bool
+    ensures { result ≡ is_claim_call call.now }
+{
+    matches!(
+        call,
+        Call::View(ViewCall::Claim(_)) | Call::View(ViewCall::ClaimAt(..))
+    )
+}
+
+/// How a call on a view starts, by its state: the number of its refusal, where it is refused at once. The only error is
+/// want of memory.
+fn first<T: Drop>(
+    state: Result<ViewOp<T>, TransactionalObjectError>,
+) -> Result<(Doing<T>, Option<u8>), AllocError>
+    ensures first { IfOk result (λ start. (start.0, refusal_in start.1) ≡ first_next (λ op. op) (by_number state)) }
+    ensures lacks { IfOk result (λ _. lacks (by_number state) ≡ false) }
+{
+    match state {
+        Ok(op) => Ok((Doing::View(op), None)),
+        Err(TransactionalObjectError::NoMemory) => Err(AllocError),
+        Err(error) => Ok((ended(), Some(error.number()))),
+    }
+}
+
+/// How a call starts on the view that it uses, and the number of its refusal, where it is refused at once. The only error
 /// is want of memory.
-pub fn start<T: Drop, C: ObjectCodec<T>>(
+fn start_on<T: Clone, C: ObjectCodec<T>, E: EpochField<T>>(
     alloc: Global,
     layout: &Layout<C>,
-    call: &Call<T>,
+    epochs: &E,
+    call: &ViewCall<T>,
+    view: &View<T>,
 ) -> Result<(Doing<T>, Option<u8>), AllocError>
+    requires exact { IsExactClone T.is_clone }
     requires names { layout.now.names ≡ world_names }
     requires boundary { layout.now.boundary ≡ world_boundary }
-    ensures started { IfOk result (λ start. (start.0, refusal_of_number start.1) ≡ started layout.now.page (C.encoded layout.now.codec) call.now) }
+    requires uses { IsSome (view_used (Call.View call.now)) }
+    ensures started { IfOk result (λ start. (start.0, refusal_in start.1) ≡ started layout.now.page (C.encoded layout.now.codec) (E.epoch_of epochs.now) (E.with_epoch epochs.now) (Call.View call.now) (Some view.now)) }
+    ensures made { IfOk result (λ start. IsMadeSo (C.encoded layout.now.codec) (C.decoded layout.now.codec) (E.epoch_of epochs.now) start.0) }
+{
+    match call {
+        ViewCall::Refresh(_) => Ok((
+            Doing::View(ViewOp::Refresh(RefreshOp::start(layout)?)),
+            None,
+        )),
+        ViewCall::Update(_, value) => {
+            first(UpdateOp::start(alloc, layout, MonotonicId::new(view.id), value).map(
+                ViewOp::Update,
+            ))
+        }
+        ViewCall::Claim(_) => {
+            first(ClaimOp::start(
+                alloc,
+                layout,
+                epochs,
+                MonotonicId::new(view.id),
+                &view.object,
+            )
+            .map(ViewOp::Claim))
+        }
+        ViewCall::ClaimAt(_, epoch) => first(ClaimAtOp::start(
+            alloc,
+            layout,
+            epochs,
+            *epoch,
+            MonotonicId::new(view.id),
+            &view.object,
+        )
+        .map(ViewOp::ClaimAt)),
+        ViewCall::HolderRefresh(_) | ViewCall::HolderUpdate(..) => match view.epoch {
+            Some(local) => start_holder(alloc, layout, epochs, call, view, local),
+            None => Ok((ended(), Some(7))),
+        },
+        ViewCall::Init(_) | ViewCall::Load => unreachable!(),
+    }
+}
+
+/// How a holder's call starts on its view.
+fn start_holder<T: Clone, C: ObjectCodec<T>, E: EpochField<T>>(
+    alloc: Global,
+    layout: &Layout<C>,
+    epochs: &E,
+    call: &ViewCall<T>,
+    view: &View<T>,
+    local: u64,
+) -> Result<(Doing<T>, Option<u8>), AllocError>
+    requires exact { IsExactClone T.is_clone }
+    requires names { layout.now.names ≡ world_names }
+    requires boundary { layout.now.boundary ≡ world_boundary }
+    requires local { view.now.epoch ≡ Some local }
+    requires holders { IsTrue (is_holders (Call.View call.now)) }
+    ensures started { IfOk result (λ start. (start.0, refusal_in start.1) ≡ started layout.now.page (C.encoded layout.now.codec) (E.epoch_of epochs.now) (E.with_epoch epochs.now) (Call.View call.now) (Some view.now)) }
+    ensures made { IfOk result (λ start. IsMadeSo (C.encoded layout.now.codec) (C.decoded layout.now.codec) (E.epoch_of epochs.now) start.0) }
+{
+    match call {
+        ViewCall::HolderRefresh(_) => Ok((
+            Doing::View(ViewOp::HolderRefresh(HolderRefreshOp::start(layout, local)?)),
+            None,
+        )),
+        ViewCall::HolderUpdate(_, value) => first(HolderUpdateOp::start(
+            alloc,
+            layout,
+            epochs,
+            local,
+            MonotonicId::new(view.id),
+            &view.object,
+            value,
+        )
+        .map(ViewOp::HolderUpdate)),
+        ViewCall::Init(_)
+        | ViewCall::Load
+        | ViewCall::Refresh(_)
+        | ViewCall::Update(..)
+        | ViewCall::Claim(_)
+        | ViewCall::ClaimAt(..) => unreachable!(),
+    }
+}
+
+/// How a call starts, by the view that it uses as it stands, and the number of its refusal, where it is refused at once. The
+/// bytes of a write are made here, before anything is asked of the store. A call on a view is refused with 7 where none is
+/// given, but for a refresh, and a holder's update where the view is no holder's: a world tests both before. The only error is
+/// want of memory.
+pub fn start<T: Clone, C: ObjectCodec<T>, E: EpochField<T>>(
+    alloc: Global,
+    layout: &Layout<C>,
+    epochs: &E,
+    call: &Call<T>,
+    view: Option<&View<T>>,
+) -> Result<(Doing<T>, Option<u8>), AllocError>
+    requires exact { IsExactClone T.is_clone }
+    requires names { layout.now.names ≡ world_names }
+    requires boundary { layout.now.boundary ≡ world_boundary }
+    ensures started { IfOk result (λ start. (start.0, refusal_in start.1) ≡ started layout.now.page (C.encoded layout.now.codec) (E.epoch_of epochs.now) (E.with_epoch epochs.now) call.now (option_copied view.entry)) }
+    ensures made { IfOk result (λ start. IsMadeSo (C.encoded layout.now.codec) (C.decoded layout.now.codec) (E.epoch_of epochs.now) start.0) }
     ensures reads_back { IfOk result (λ _. ReadsBack (C.encoded layout.now.codec) (C.decoded layout.now.codec) call.now) }
     ensures word { IfOk result (λ _. FitsWord call.now) }
 {
     match call {
-        Call::Write(base, value) => {
-            match WriteOp::start(alloc, layout, base.map(MonotonicId::new), value) {
-                Ok(op) => Ok((Doing::Write(op), None)),
-                Err(TransactionalObjectError::IdExhausted) => Ok((Doing::Ended, Some(10))),
-                Err(_) => Err(AllocError),
-            }
+        Call::Plain(call) => {
+            let (doing, refusal) = start_plain(alloc, layout, call)?;
+            Ok((Doing::Plain(doing), refusal))
         }
-        Call::WriteUnchecked(base, value) => {
-            match WriteUncheckedOp::start(alloc, layout, base.map(MonotonicId::new), value) {
-                Ok(op) => Ok((Doing::WriteUnchecked(op), None)),
-                Err(TransactionalObjectError::IdExhausted) => Ok((Doing::Ended, Some(10))),
-                Err(_) => Err(AllocError),
-            }
+        Call::View(ViewCall::Init(value)) => {
+            first(InitOp::start(alloc, layout, value).map(ViewOp::Init))
         }
-        _ => Ok((start_other(alloc, layout, call)?, None)),
+        Call::View(ViewCall::Load) => Ok((Doing::View(ViewOp::Load(LoadOp::start(layout)?)), None)),
+        Call::View(ViewCall::Refresh(_)) => Ok((
+            Doing::View(ViewOp::Refresh(RefreshOp::start(layout)?)),
+            None,
+        )),
+        Call::View(call) => match view {
+            Some(view) => start_on(alloc, layout, epochs, call, view),
+            None => Ok((ended(), Some(7))),
+        },
     }
 }
 
-/// How a call that writes no value starts. The only error is want of memory.
-fn start_other<T: Drop, C: ObjectCodec<T>>(
-    alloc: Global,
-    layout: &Layout<C>,
-    call: &Call<T>,
-) -> Result<Doing<T>, AllocError>
-    requires names { layout.now.names ≡ world_names }
-    requires boundary { layout.now.boundary ≡ world_boundary }
-    requires own { is_write call.now ≡ false }
-    ensures started { IfOk result (λ doing. (doing, None) ≡ started layout.now.page (C.encoded layout.now.codec) call.now) }
-    ensures word { IfOk result (λ _. FitsWord call.now) }
+/// How a call without a view ends.
+fn plain_ending<T>(answers: Option<(PlainAnswer<T>, PlainAnswer<T>)>) -> Option<Ending<T>>
+    requires { IfSome answers (λ pair. pair.1 ≡ pair.0) }
+    ensures { result ≡ option_map Ending.Answers (first_of answers) }
 {
-    Ok(match call {
-        Call::Write(..) | Call::WriteUnchecked(..) => unreachable!(),
-        Call::Read => Doing::Read(ReadOp::start(layout)?),
-        Call::ReadUnchecked(id) => {
-            Doing::ReadUnchecked(ReadUncheckedOp::start(alloc, layout, MonotonicId::new(*id))?)
-        }
-        Call::ReadSeen(id) => Doing::ReadSeen(ReadSeenOp::start(MonotonicId::new(*id))),
-        Call::ListIds(from, to) => Doing::ListIds(ListOp::start(alloc, layout, *from, *to)?),
-        Call::Delete(id) => Doing::Delete(DeleteOp::start(alloc, layout, MonotonicId::new(*id))?),
-        Call::Check(id) => Doing::Check(CheckOp::start(layout, MonotonicId::new(*id))?),
-        Call::Advance(id) => Doing::Advance(AdvanceOp::start(MonotonicId::new(*id))),
-    })
-}
-
-/// An answer, once for the trace and once to be told.
-type Twice<T> = Option<(Answer<T>, Answer<T>)>;
-
-/// A refusal.
-fn refused<T>(number: u8) -> Twice<T>
-    ensures { result ≡ Some (Answer.Refused number, Answer.Refused number) }
-{
-    Some((Answer::Refused(number), Answer::Refused(number)))
+    let (noted, told) = answers?;
+    Some(Ending::Answers(Twice::new(noted, told)))
 }
 
 impl<T: Drop> Doing<T> {
     ghost use Rattle.std.specs.Prelude.{◌≡◌};
-    ghost use Rattle.txn_machine.specs.Doing.{asked, asks_as, first_of, next_of};
+    ghost use Rattle.txn_caches.specs.Steps.{turned_by_number};
+    ghost use Rattle.txn_machine_inner.specs.Doing.{asks_as};
+    ghost use Rattle.txn_machine.specs.Doing.{asked, next_of};
 
     /// What it asks for: a store call, or a look at its client's caches, and nothing where it has ended. It takes no
     /// memory.
@@ -129,194 +296,59 @@ impl<T: Drop> Doing<T> {
         ensures { asks_as result ≡ asked self.now }
     {
         match self {
-            Doing::Write(op) => Some(op.ask()),
-            Doing::WriteUnchecked(op) => Some(op.ask()),
-            Doing::Read(op) => Some(op.ask()),
-            Doing::ReadUnchecked(op) => Some(op.ask()),
-            Doing::ReadSeen(op) => Some(op.ask()),
-            Doing::ListIds(op) => Some(op.ask()),
-            Doing::Delete(op) => Some(op.ask()),
-            Doing::Check(op) => Some(op.ask()),
-            Doing::Advance(op) => Some(op.ask()),
-            Doing::Ended => None,
+            Doing::Plain(doing) => doing.ask(),
+            Doing::View(op) => Some(op.ask()),
         }
     }
 
-    /// An answer ends the operation.
-    #[inline(always)]
-    fn end_where(&mut self, answers: Twice<T>) -> Twice<T>
-        ensures next { (self.new, first_of result) ≡ next_of self.old (first_of answers) }
-        ensures answers { result ≡ answers }
+    /// An answer ends a call on a view.
+    fn end_where(&mut self, turned: Turned<ViewAnswer<T>>) -> Option<Ending<T>>
+        ensures { (self.new, result) ≡ next_of self.old (turned_by_number turned) }
     {
-        let pair = answers?;
-        // By a call: in place, the proof would follow each state that may be dropped here.
-        drop(mem::replace(self, Doing::Ended));
-        Some(pair)
+        match turned {
+            Turned::Goes => None,
+            Turned::Done(answer) => {
+                // By a call: in place, the proof would follow each state that may be dropped here.
+                drop(mem::replace(self, ended()));
+                Some(match answer {
+                    Ok(outcome) => Ending::Comes(outcome),
+                    Err(error) => Ending::Answers(Twice::refused(error.number())),
+                })
+            }
+        }
     }
 }
 
 impl<T: Clone> Doing<T> {
-    ghost use Rattle.std.specs.Prelude.{◌≡◌, IfSome};
+    ghost use Rattle.std.specs.Prelude.{◌≡◌};
     ghost use Rattle.txn_types.specs.Clones.{IsExactClone};
     ghost use Rattle.txn_history.specs.Names.{world_names, world_boundary};
-    ghost use Rattle.txn_machine.specs.Doing.{caches_left, first_of, InRange, IsReply, Turns};
+    ghost use Rattle.txn_machine.specs.Doing.{caches_left, InRange, IsReply, Turns};
 
     /// Takes the store's reply to what it asks, or none for a look, and leaves its client's caches as its step says. An
-    /// answer ends the operation, and comes twice: once for the trace, and once to be told. Where a growth is refused the
-    /// answer is the refusal 9.
-    pub fn take<C: ObjectCodec<T>>(
+    /// answer ends the operation. Where a growth is refused the answer is the refusal 9.
+    pub fn take<C: ObjectCodec<T>, E: EpochField<T>>(
         &mut self,
         alloc: Global,
         layout: &Layout<C>,
+        epochs: &E,
         caches: &mut Caches,
         reply: Option<Reply>,
-    ) -> Option<(Answer<T>, Answer<T>)>
+    ) -> Option<Ending<T>>
         requires exact { IsExactClone T.is_clone }
         requires names { layout.now.names ≡ world_names }
         requires boundary { layout.now.boundary ≡ world_boundary }
         requires asked { IsReply self.old reply }
         requires range { InRange self.old }
-        ensures turned { Turns layout.now.page (C.decoded layout.now.codec) self.old caches.old reply self.new (first_of result) }
-        ensures caches { caches.new ≡ caches_left self.old caches.old (first_of result) }
-        ensures twice { IfSome result (λ pair. pair.1 ≡ pair.0) }
+        ensures turned { Turns layout.now.page (C.encoded layout.now.codec) (C.decoded layout.now.codec) (E.epoch_of epochs.now) (E.with_epoch epochs.now) self.old caches.old reply (self.new, result) }
+        ensures caches { caches.new ≡ caches_left self.old caches.old result }
     {
         match self {
-            Doing::Write(op) => {
-                let answers = written(op.take(caches, reply));
-                self.end_where(answers)
+            Doing::Plain(doing) => plain_ending(doing.take(alloc, layout, caches, reply)),
+            Doing::View(op) => {
+                let turned = op.take(alloc, layout, epochs, caches, reply);
+                self.end_where(turned)
             }
-            Doing::WriteUnchecked(op) => {
-                let answers = written(op.take(&mut caches.latest, reply));
-                self.end_where(answers)
-            }
-            Doing::Read(op) => {
-                let answers = read(op.take(alloc, layout, caches, reply));
-                self.end_where(answers)
-            }
-            Doing::ReadUnchecked(op) => {
-                let answers = valued(op.take(alloc, layout, reply));
-                self.end_where(answers)
-            }
-            Doing::ReadSeen(op) => {
-                let answers = valued(op.take(alloc, layout, &mut caches.latest, reply));
-                self.end_where(answers)
-            }
-            Doing::ListIds(op) => {
-                let answers = listed(alloc, op.take(alloc, layout, reply));
-                self.end_where(answers)
-            }
-            Doing::Delete(op) => {
-                let answers = done(op.take(caches, reply));
-                self.end_where(answers)
-            }
-            Doing::Check(op) => {
-                let answers = done(op.take(caches, reply));
-                self.end_where(answers)
-            }
-            Doing::Advance(op) => {
-                let answers = done(op.take(alloc, layout, caches, reply));
-                self.end_where(answers)
-            }
-            Doing::Ended => unreachable!(),
         }
     }
-}
-
-/// The answer of a check, an advance or a delete.
-fn done<T>(turned: Turned<Result<(), TransactionalObjectError>>) -> Twice<T>
-    ensures first { first_of result ≡ done_answer (turned_by_number turned) }
-    ensures twice { IfSome result (λ pair. pair.1 ≡ pair.0) }
-{
-    match turned {
-        Turned::Goes => None,
-        Turned::Done(Ok(())) => Some((Answer::Done, Answer::Done)),
-        Turned::Done(Err(error)) => refused(error.number()),
-    }
-}
-
-/// The answer of a write.
-fn written<T>(turned: Turned<Result<MonotonicId, TransactionalObjectError>>) -> Twice<T>
-    ensures first { first_of result ≡ write_answer (turned_by_number turned) }
-    ensures twice { IfSome result (λ pair. pair.1 ≡ pair.0) }
-{
-    match turned {
-        Turned::Goes => None,
-        Turned::Done(Ok(id)) => Some((Answer::Wrote(id.id()), Answer::Wrote(id.id()))),
-        Turned::Done(Err(error)) => refused(error.number()),
-    }
-}
-
-/// The answer of a read, whose value is cloned to be told.
-fn read<T: Clone>(
-    turned: Turned<Result<Option<(MonotonicId, T)>, TransactionalObjectError>>,
-) -> Twice<T>
-    requires { IsExactClone T.is_clone }
-    ensures first { IsTold (read_answer (turned_by_number turned)) (first_of result) }
-    ensures twice { IfSome result (λ pair. pair.1 ≡ pair.0) }
-{
-    match turned {
-        Turned::Goes => None,
-        Turned::Done(Ok(None)) => Some((Answer::Read(None), Answer::Read(None))),
-        Turned::Done(Ok(Some((id, value)))) => match value.clone() {
-            Ok(copy) => Some((
-                Answer::Read(Some((id.id(), value))),
-                Answer::Read(Some((id.id(), copy))),
-            )),
-            Err(_) => refused(9),
-        },
-        Turned::Done(Err(error)) => refused(error.number()),
-    }
-}
-
-/// The answer of a read of one id, whose value is cloned to be told.
-fn valued<T: Clone>(turned: Turned<Result<Option<T>, TransactionalObjectError>>) -> Twice<T>
-    requires { IsExactClone T.is_clone }
-    ensures first { IsTold (value_answer (turned_by_number turned)) (first_of result) }
-    ensures twice { IfSome result (λ pair. pair.1 ≡ pair.0) }
-{
-    match turned {
-        Turned::Goes => None,
-        Turned::Done(Ok(None)) => Some((Answer::Value(None), Answer::Value(None))),
-        Turned::Done(Ok(Some(value))) => match value.clone() {
-            Ok(copy) => Some((Answer::Value(Some(value)), Answer::Value(Some(copy)))),
-            Err(_) => refused(9),
-        },
-        Turned::Done(Err(error)) => refused(error.number()),
-    }
-}
-
-/// The ids of listed versions. The only error is want of memory.
-fn ids_found(alloc: Global, found: &Versions) -> Result<Ids, AllocError>
-    ensures { IfOk result (λ ids. ids ≡ ids_of found.now) }
-{
-    let listed = found.as_slice();
-    let mut ids = Vec::with_capacity(alloc, listed.len())?;
-    for version in listed {
-        push_within(&mut ids, version.id.id());
-    }
-    Ok(Ids::from_vec(ids))
-}
-
-/// The answer of a listing, whose ids are copied to be told.
-fn listed<T>(alloc: Global, turned: Turned<Result<Versions, TransactionalObjectError>>) -> Twice<T>
-    ensures first { IsTold (ids_answer (turned_by_number turned)) (first_of result) }
-    ensures twice { IfSome result (λ pair. pair.1 ≡ pair.0) }
-{
-    match turned {
-        Turned::Goes => None,
-        Turned::Done(Ok(found)) => match ids_twice(alloc, &found) {
-            Ok((ids, copy)) => Some((Answer::Ids(ids), Answer::Ids(copy))),
-            Err(_) => refused(9),
-        },
-        Turned::Done(Err(error)) => refused(error.number()),
-    }
-}
-
-/// The ids of listed versions, twice. The only error is want of memory.
-fn ids_twice(alloc: Global, found: &Versions) -> Result<(Ids, Ids), AllocError>
-    ensures { IfOk result (λ pair. (pair.0 ≡ ids_of found.now) × (pair.1 ≡ pair.0)) }
-{
-    let ids = ids_found(alloc, found)?;
-    let copy = ids.try_clone()?;
-    Ok((ids, copy))
 }

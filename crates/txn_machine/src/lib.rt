@@ -1,8 +1,9 @@
-//! What clients over one store do, as a machine that events move: each operation as a state over its client's caches, and
-//! the proof that whatever events come, the rows are one history.
+//! What events do in a world of clients that make all calls: each call without a view as an operation of `txn_machine_inner`,
+//! each call on a view as one of `txn_view_steps`; and the theorem on it.
 #![tactic(auto)]
 
 pub mod alone;
+pub mod counts;
 pub mod doing;
 pub mod laws;
-pub mod probes;
+pub mod refusals;

@@ -7,34 +7,33 @@ ghost use Rattle.txn_manifest.specs.Manifest.{with_pins};
 use crate::manifest::Manifest;
 use crate::pins::Pins;
 use std::alloc::{AllocError, Global};
-use txn_history::event::Call;
-use txn_view_history::event::{AnyCall, AnyEvent, ViewCall};
-use txn_view_history::view::View;
+use txn_history::event::{Call, Event, PlainCall, ViewCall};
+use txn_history::view::View;
 
 /// Whether the begin of a call is of manifests.
-pub(crate) fn is_manifest_call(call: &AnyCall<Manifest>) -> bool
+pub(crate) fn is_manifest_call(call: &Call<Manifest>) -> bool
     ensures { result ≡ is_manifest_call call.now }
 {
     match call {
-        AnyCall::Plain(Call::Write(..)) => false,
-        AnyCall::Plain(Call::WriteUnchecked(..)) => false,
-        AnyCall::Plain(Call::Delete(_)) => false,
-        AnyCall::Plain(Call::Advance(_)) => false,
-        AnyCall::View(ViewCall::Init(value)) => value.pins.is_empty(),
-        AnyCall::View(ViewCall::Update(..)) => false,
-        AnyCall::View(ViewCall::HolderUpdate(..)) => false,
+        Call::Plain(PlainCall::Write(..)) => false,
+        Call::Plain(PlainCall::WriteUnchecked(..)) => false,
+        Call::Plain(PlainCall::Delete(_)) => false,
+        Call::Plain(PlainCall::Advance(_)) => false,
+        Call::View(ViewCall::Init(value)) => value.pins.is_empty(),
+        Call::View(ViewCall::Update(..)) => false,
+        Call::View(ViewCall::HolderUpdate(..)) => false,
         _ => true,
     }
 }
 
 /// An update of a view by a value, or of a holder, whichever it is.
-fn update(view: &View<Manifest>, number: u64, value: Manifest) -> AnyCall<Manifest>
+fn update(view: &View<Manifest>, number: u64, value: Manifest) -> Call<Manifest>
     ensures { result ≡ update_call view.now number value }
 {
     if view.epoch.is_some() {
-        AnyCall::View(ViewCall::HolderUpdate(number, value))
+        Call::View(ViewCall::HolderUpdate(number, value))
     } else {
-        AnyCall::View(ViewCall::Update(number, value))
+        Call::View(ViewCall::Update(number, value))
     }
 }
 
@@ -55,12 +54,12 @@ pub(crate) fn checkpoint(
     view: &View<Manifest>,
     client: u64,
     number: u64,
-) -> Result<AnyEvent<Manifest>, AllocError>
+) -> Result<Event<Manifest>, AllocError>
     ensures { IfOk result (λ event. event_by (Some view.now) (Checkpoint client number) ≡ Some event) }
 {
     let pins = view.object.pins.with(alloc, view.id)?;
     let value = with_pins(view, pins);
-    Ok(AnyEvent::Begin(client, update(view, number, value)))
+    Ok(Event::Begin(client, update(view, number, value)))
 }
 
 /// The begin of a release of this view.
@@ -70,12 +69,12 @@ pub(crate) fn release(
     client: u64,
     number: u64,
     id: u64,
-) -> Result<AnyEvent<Manifest>, AllocError>
+) -> Result<Event<Manifest>, AllocError>
     ensures { IfOk result (λ event. event_by (Some view.now) (Release client number id) ≡ Some event) }
 {
     let pins = view.object.pins.without(alloc, id)?;
     let value = with_pins(view, pins);
-    Ok(AnyEvent::Begin(client, update(view, number, value)))
+    Ok(Event::Begin(client, update(view, number, value)))
 }
 
 /// The begin that sets the payload of this view.
@@ -84,7 +83,7 @@ pub(crate) fn set_payload(
     client: u64,
     number: u64,
     payload: u64,
-) -> Result<AnyEvent<Manifest>, AllocError>
+) -> Result<Event<Manifest>, AllocError>
     ensures { IfOk result (λ event. event_by (Some view.now) (SetPayload client number payload) ≡ Some event) }
 {
     let value = Manifest {
@@ -92,5 +91,5 @@ pub(crate) fn set_payload(
         payload,
         pins: view.object.pins.clone()?,
     };
-    Ok(AnyEvent::Begin(client, update(view, number, value)))
+    Ok(Event::Begin(client, update(view, number, value)))
 }

@@ -1,7 +1,7 @@
 //! Clients over one store of manifests, one event at a time.
 ghost use Rattle.std.specs.Prelude.{◌≡◌, ◌≤◌, ℕ, [], true, nat_eq, Some, IfOk, OnErr};
 ghost use Rattle.std.specs.Option.{option_copied};
-ghost use Rattle.txn_any_machine.specs.Machine.{opening, seen_of};
+ghost use Rattle.txn_machine.specs.Machine.{opening, seen_of};
 ghost use Rattle.std.specs.List.{list_any};
 ghost use Rattle.txn_history.specs.History.{newest, IsEntry};
 ghost use Rattle.txn_manifest.specs.declared.manifest.Manifest.{Manifest};
@@ -18,9 +18,8 @@ use crate::manifest::{Manifest, ManifestCodec, ManifestEpoch};
 use crate::pins::Pins;
 use std::alloc::{AllocError, Global};
 use std::marker::Model;
-use txn_history::event::{Call, EventFault};
-use txn_view_history::event::{AnyCall, AnyEvent, AnyTold};
-use txn_view_history::view::View;
+use txn_history::event::{Call, Event, EventFault, PlainCall, Told};
+use txn_history::view::View;
 use txn_world::world::World;
 
 /// The world of manifests below.
@@ -37,13 +36,10 @@ fn own_view(world: &Manifests, client: u64, number: u64) -> Option<&View<Manifes
 }
 
 /// An event of the world, unless it is the begin of a call that is not of manifests.
-fn make_plain(
-    world: &Manifests,
-    event: AnyEvent<Manifest>,
-) -> Result<AnyEvent<Manifest>, ManifestFault>
+fn make_plain(world: &Manifests, event: Event<Manifest>) -> Result<Event<Manifest>, ManifestFault>
     ensures { IsMadeAs world.now.state (made.World event) result }
 {
-    if let AnyEvent::Begin(_, call) = &event {
+    if let Event::Begin(_, call) = &event {
         if !is_manifest_call(call) {
             return Err(ManifestFault::NotOfManifest);
         }
@@ -56,7 +52,7 @@ fn make_checkpoint(
     world: &Manifests,
     client: u64,
     number: u64,
-) -> Result<AnyEvent<Manifest>, ManifestFault>
+) -> Result<Event<Manifest>, ManifestFault>
     ensures { IsMadeAs world.now.state (Checkpoint client number) result }
 {
     let Some(view) = own_view(world, client, number) else {
@@ -74,7 +70,7 @@ fn make_release(
     client: u64,
     number: u64,
     id: u64,
-) -> Result<AnyEvent<Manifest>, ManifestFault>
+) -> Result<Event<Manifest>, ManifestFault>
     ensures { IsMadeAs world.now.state (Release client number id) result }
 {
     let Some(view) = own_view(world, client, number) else {
@@ -95,7 +91,7 @@ fn make_payload(
     client: u64,
     number: u64,
     payload: u64,
-) -> Result<AnyEvent<Manifest>, ManifestFault>
+) -> Result<Event<Manifest>, ManifestFault>
     ensures { IsMadeAs world.now.state (SetPayload client number payload) result }
 {
     let Some(view) = own_view(world, client, number) else {
@@ -107,18 +103,14 @@ fn make_payload(
     }
 }
 
-fn make_fence(
-    world: &Manifests,
-    client: u64,
-    number: u64,
-) -> Result<AnyEvent<Manifest>, ManifestFault>
+fn make_fence(world: &Manifests, client: u64, number: u64) -> Result<Event<Manifest>, ManifestFault>
     ensures { IsMadeAs world.now.state (Fence client number) result }
 {
     let Some(view) = own_view(world, client, number) else {
         return Err(ManifestFault::World(EventFault::UnknownNumber));
     };
     let to = view.id.saturating_sub(1);
-    Ok(AnyEvent::Begin(client, AnyCall::Plain(Call::Advance(to))))
+    Ok(Event::Begin(client, Call::Plain(PlainCall::Advance(to))))
 }
 
 fn make_sweep(
@@ -126,7 +118,7 @@ fn make_sweep(
     client: u64,
     number: u64,
     id: u64,
-) -> Result<AnyEvent<Manifest>, ManifestFault>
+) -> Result<Event<Manifest>, ManifestFault>
     ensures { IsMadeAs world.now.state (Sweep client number id) result }
 {
     let Some(view) = own_view(world, client, number) else {
@@ -135,7 +127,7 @@ fn make_sweep(
     if id >= view.id || view.object.pins.contains(id) {
         return Err(ManifestFault::Needed);
     }
-    Ok(AnyEvent::Begin(client, AnyCall::Plain(Call::Delete(id))))
+    Ok(Event::Begin(client, Call::Plain(PlainCall::Delete(id))))
 }
 
 /// The event of the world that an event of manifests is.
@@ -143,7 +135,7 @@ fn make(
     alloc: Global,
     world: &Manifests,
     event: ManifestEvent,
-) -> Result<AnyEvent<Manifest>, ManifestFault>
+) -> Result<Event<Manifest>, ManifestFault>
     ensures { IsMadeAs world.now.state event result }
 {
     match event {
@@ -169,7 +161,7 @@ pub struct ManifestWorld {
 }
 
 impl Model for ManifestWorld {
-    ghost use Rattle.txn_any_machine.specs.Machine.{WorldState};
+    ghost use Rattle.txn_machine.specs.Machine.{WorldState};
     ghost use Rattle.txn_manifest.specs.declared.manifest.Manifest.{Manifest};
     ghost use Rattle.txn_manifest.specs.declared.manifest.ManifestCodec.{ManifestCodec};
     ghost use Rattle.txn_manifest.specs.declared.manifest.ManifestEpoch.{ManifestEpoch};
@@ -211,7 +203,7 @@ impl ManifestWorld {
     /// that is updated (`ViewBusy`); the id of a release is pinned ([`ManifestFault::NotPinned`]); the id of a sweep is
     /// below that of the view and not pinned ([`ManifestFault::Needed`]); and then those of the world. `NoMemory` comes only
     /// where a growth was refused, and may stand in the place of another fault.
-    pub fn take(&mut self, event: ManifestEvent) -> Result<AnyTold<Manifest>, ManifestFault>
+    pub fn take(&mut self, event: ManifestEvent) -> Result<Told<Manifest>, ManifestFault>
         ensures refused { IsRefusedAs (manifest_fault manifest_read (seen_of self.old.state) self.old.state.trace event) result }
         ensures err { OnErr result (self.new ≡ self.old) }
         // The step, by that of the world.

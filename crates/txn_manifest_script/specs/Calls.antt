@@ -2,7 +2,7 @@
 use Rattle.std.specs.Prelude.{ℕ, ◌<◌, ◌^◌, List, ◌∷◌, ◌++◌, codes, decimal}
 use Rattle.txn_history.specs.declared.event.EventOf.{EventOf}
 use Rattle.txn_history.specs.declared.event.EventOf.TheVariants as events
-use Rattle.txn_view_history.specs.Trace.{AnyEvent}
+use Rattle.txn_history.specs.Trace.{Event}
 use Rattle.txn_lines.specs.Numerals.{pair_text, PairFits}
 use Rattle.txn_lines.specs.Grammar.{call_text, CallFits}
 use Rattle.txn_manifest.specs.declared.manifest.Manifest.{Manifest}
@@ -61,7 +61,7 @@ event_of (events.Land loose) = made.World (events.Land loose)
 event_of (events.Crash client) = made.World (events.Crash client)
 
 -- an event of the world, as one of a script
-abbrev pub as_manifests : AnyEvent Manifest → EventOf ManifestCall
+abbrev pub as_manifests : Event Manifest → EventOf ManifestCall
 as_manifests (events.Begin client call) = events.Begin client (Any call)
 as_manifests (events.Look op) = events.Look op
 as_manifests (events.Serve op) = events.Serve op

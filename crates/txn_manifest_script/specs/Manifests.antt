@@ -2,8 +2,8 @@
 use Rattle.std.specs.Prelude.{◌≡◌, ℕ, List, [], Some, codes}
 use Rattle.std.specs.Option.{option_map}
 use Rattle.txn_history.specs.History.{newest, IsEntry}
-use Rattle.txn_view_history.specs.Trace.{AnyRow}
-use Rattle.txn_any_machine.specs.Machine.{seen_of, next_event}
+use Rattle.txn_history.specs.Trace.{Row}
+use Rattle.txn_machine.specs.Machine.{seen_of, next_event}
 use Rattle.txn_lines.specs.Printed.{fault_name, named_fault_text}
 use Rattle.txn_script.specs.Rules.{WorldRules, Rules}
 use Rattle.txn_manifest.specs.declared.manifest.Manifest.{Manifest}
@@ -27,7 +27,7 @@ abbrev pub manifest_fault_text : ManifestFault → List ℕ
 manifest_fault_text fault = named_fault_text (fault_number fault) (manifest_fault_name fault)
 
 -- These ids are pinned in the newest entry; none are where there is no entry.
-pub record AreNewestPins (rows : List (AnyRow Manifest)) (pins : List ℕ) : Type 0 where
+pub record AreNewestPins (rows : List (Row Manifest)) (pins : List ℕ) : Type 0 where
   pub none : newest rows ≡ 0 → pins ≡ []
   pub newest : (entry : Manifest) → IsEntry manifest_read rows (newest rows) entry → pins ≡ entry.pins
 

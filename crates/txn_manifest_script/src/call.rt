@@ -6,12 +6,11 @@ ghost use Rattle.txn_history.specs.declared.event.EventOf.{EventOf};
 ghost use Rattle.txn_manifest_script.specs.declared.call.OwnCall.{OwnCall};
 
 use std::alloc::{AllocError, Global};
-use txn_history::event::EventOf;
+use txn_history::event::{Call, Event, EventOf};
 use txn_lines::numerals::{read_decimal, read_pair};
 use txn_lines::text_form::TextForm;
 use txn_manifest::event::ManifestEvent;
 use txn_manifest::manifest::Manifest;
-use txn_view_history::event::{AnyCall, AnyEvent};
 
 /// What a client asks for that only manifests have. The first number is that of its view.
 #[derive(Clone, Copy, Debug, PartialEq, Eq)]
@@ -32,7 +31,7 @@ pub enum OwnCall {
 #[derive(Debug, Drop)]
 pub enum ManifestCall {
     /// A call as any world has it.
-    Any(AnyCall<Manifest>),
+    Any(Call<Manifest>),
     /// A call that only manifests have.
     Own(OwnCall),
 }
@@ -78,7 +77,7 @@ impl TextForm for ManifestCall {
         if let Some(call) = read_own(words) {
             return Ok(Some(ManifestCall::Own(call)));
         }
-        let read: Option<AnyCall<Manifest>> = TextForm::read_text(alloc, words)?;
+        let read: Option<Call<Manifest>> = TextForm::read_text(alloc, words)?;
         match read {
             Some(call) => Ok(Some(ManifestCall::Any(call))),
             None => Ok(None),
@@ -95,7 +94,7 @@ fn begin_of(client: u64, call: ManifestCall) -> ManifestEvent
     ensures { result ≡ event_of (EventOf.Begin client call) }
 {
     match call {
-        ManifestCall::Any(call) => ManifestEvent::World(AnyEvent::Begin(client, call)),
+        ManifestCall::Any(call) => ManifestEvent::World(Event::Begin(client, call)),
         ManifestCall::Own(OwnCall::Checkpoint(view)) => ManifestEvent::Checkpoint(client, view),
         ManifestCall::Own(OwnCall::Release(view, id)) => ManifestEvent::Release(client, view, id),
         ManifestCall::Own(OwnCall::SetPayload(view, payload)) => {
@@ -112,26 +111,26 @@ pub fn event_of(event: EventOf<ManifestCall>) -> ManifestEvent
 {
     match event {
         EventOf::Begin(client, call) => begin_of(client, call),
-        EventOf::Look(op) => ManifestEvent::World(AnyEvent::Look(op)),
-        EventOf::Serve(op) => ManifestEvent::World(AnyEvent::Serve(op)),
-        EventOf::Fail(op, failure) => ManifestEvent::World(AnyEvent::Fail(op, failure)),
-        EventOf::GiveUp(op) => ManifestEvent::World(AnyEvent::GiveUp(op)),
-        EventOf::Land(loose) => ManifestEvent::World(AnyEvent::Land(loose)),
-        EventOf::Crash(client) => ManifestEvent::World(AnyEvent::Crash(client)),
+        EventOf::Look(op) => ManifestEvent::World(Event::Look(op)),
+        EventOf::Serve(op) => ManifestEvent::World(Event::Serve(op)),
+        EventOf::Fail(op, failure) => ManifestEvent::World(Event::Fail(op, failure)),
+        EventOf::GiveUp(op) => ManifestEvent::World(Event::GiveUp(op)),
+        EventOf::Land(loose) => ManifestEvent::World(Event::Land(loose)),
+        EventOf::Crash(client) => ManifestEvent::World(Event::Crash(client)),
     }
 }
 
 /// An event of the world, as a line's.
-pub fn as_manifests(event: AnyEvent<Manifest>) -> EventOf<ManifestCall>
+pub fn as_manifests(event: Event<Manifest>) -> EventOf<ManifestCall>
     ensures { result ≡ as_manifests event }
 {
     match event {
-        AnyEvent::Begin(client, call) => EventOf::Begin(client, ManifestCall::Any(call)),
-        AnyEvent::Look(op) => EventOf::Look(op),
-        AnyEvent::Serve(op) => EventOf::Serve(op),
-        AnyEvent::Fail(op, failure) => EventOf::Fail(op, failure),
-        AnyEvent::GiveUp(op) => EventOf::GiveUp(op),
-        AnyEvent::Land(loose) => EventOf::Land(loose),
-        AnyEvent::Crash(client) => EventOf::Crash(client),
+        Event::Begin(client, call) => EventOf::Begin(client, ManifestCall::Any(call)),
+        Event::Look(op) => EventOf::Look(op),
+        Event::Serve(op) => EventOf::Serve(op),
+        Event::Fail(op, failure) => EventOf::Fail(op, failure),
+        Event::GiveUp(op) => EventOf::GiveUp(op),
+        Event::Land(loose) => EventOf::Land(loose),
+        Event::Crash(client) => EventOf::Crash(client),
     }
 }

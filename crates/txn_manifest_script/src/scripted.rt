@@ -8,12 +8,12 @@ ghost use Rattle.txn_manifest_script.specs.Manifests.{manifest_fault_name, manif
 use crate::call::{ManifestCall, as_manifests, event_of};
 use std::alloc::{AllocError, Global};
 use txn_history::event::{EventFault, EventOf};
+use txn_history::view::View;
 use txn_lines::printed::{FaultLine, PinnedLine, fault_name as world_fault_name};
 use txn_manifest::event::ManifestFault;
 use txn_manifest::manifest::Manifest;
 use txn_manifest::world::ManifestWorld;
 use txn_script::kind::{Came, ScriptWorld};
-use txn_view_history::view::View;
 
 /// The name of a fault.
 fn fault_name(fault: ManifestFault) -> &'static str

@@ -1,6 +1,6 @@
 //! The clock of claims.
 use slatedb_txn_obj::{Readings, SystemClock};
-use uses_of_protocol::ticking::TickingClock;
+use slatedb_txn_obj_uses::ticking::TickingClock;
 
 /// A clock that gives the readings of a script, one after another, and after the last of them 0, 1, 2 and so on.
 #[derive(Drop)]

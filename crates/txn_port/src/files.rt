@@ -3,10 +3,9 @@ use crate::reading::{first_word, read_bytes};
 use crate::said::Said;
 use bytes::Bytes;
 use std::alloc::{AllocError, Global};
-use txn_history::event::Answer;
+use txn_history::event::{Answer, PlainAnswer};
 use txn_store::path::{Path, PathFault};
 use txn_store::store::{Got, ObjectStore, PutMode, StoreError};
-use txn_view_history::event::AnyAnswer;
 
 /// The path that a word is, where it is one.
 fn read_path(alloc: Global, word: &str) -> Result<Option<Path>, AllocError> {
@@ -28,7 +27,7 @@ fn got(answer: Result<Got, StoreError>) -> Said {
 
 fn done<T: Drop>(answer: Result<T, StoreError>) -> Said {
     match answer {
-        Ok(_) => Said::Answered(AnyAnswer::Plain(Answer::Done)),
+        Ok(_) => Said::Answered(Answer::Plain(PlainAnswer::Done)),
         Err(error) => Said::Refused(error.into()),
     }
 }

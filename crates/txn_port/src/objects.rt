@@ -8,17 +8,16 @@ use slatedb_txn_obj::{
 };
 use std::alloc::{AllocError, Global};
 use std::cell::Cell;
-use txn_history::event::Answer;
+use txn_history::event::{Answer, PlainAnswer};
 use txn_lines::record::{Record, RecordEpoch};
 use txn_store::store::ObjectStore;
-use txn_view_history::event::AnyAnswer;
 
 pub(crate) type View = SimpleTransactionalObject<Record, MonotonicId, Ceiling>;
 
 pub(crate) type Holder = FenceableTransactionalObject<Record, Ceiling, RecordEpoch>;
 
 /// What a call answers, or its error.
-pub(crate) type AnyResult = Result<AnyAnswer<Record>, TransactionalObjectError>;
+pub(crate) type AnyResult = Result<Answer<Record>, TransactionalObjectError>;
 
 /// An object of a number.
 #[derive(Drop)]
@@ -34,9 +33,9 @@ pub(crate) fn shown(number: u64, object: &Object) -> Said {
     match object {
         Object::Ended => Said::Misplaced,
         Object::View(view) => {
-            Said::Answered(AnyAnswer::View(number, view.id().id(), *view.object()))
+            Said::Answered(Answer::View(number, view.id().id(), *view.object()))
         }
-        Object::Holder(holder) => Said::Answered(AnyAnswer::Held(
+        Object::Holder(holder) => Said::Answered(Answer::Held(
             number,
             holder.id().id(),
             *holder.object(),
@@ -48,7 +47,7 @@ pub(crate) fn shown(number: u64, object: &Object) -> Said {
 /// The candidate of an object.
 pub(crate) fn prepared<O: TransactionalObject<Record, MonotonicId>>(object: &O) -> AnyResult {
     let dirty = object.prepare_dirty()?;
-    Ok(AnyAnswer::Plain(Answer::Read(Some((dirty.id.id(), dirty.value)))))
+    Ok(Answer::Plain(PlainAnswer::Read(Some((dirty.id.id(), dirty.value)))))
 }
 
 /// An object goes on to the newest version.
@@ -58,7 +57,7 @@ pub(crate) fn refreshed<
     O: TransactionalObject<Record, MonotonicId>,
 >(number: u64, object: &mut O, protocol: &mut P, store: &mut S, turns: &mut Turns) -> AnyResult {
     let value = *object.refresh(protocol, store, turns)?;
-    Ok(AnyAnswer::View(number, object.id().id(), value))
+    Ok(Answer::View(number, object.id().id(), value))
 }
 
 /// An update to this value, whose candidate has this id where one is given.
@@ -77,7 +76,7 @@ pub(crate) fn updated<
     let DirtyObject { id: own, .. } = object.prepare_dirty()?;
     let id = id.map_or(own, MonotonicId::new);
     object.update(protocol, store, DirtyObject { id, value })?;
-    Ok(AnyAnswer::View(number, object.id().id(), *object.object()))
+    Ok(Answer::View(number, object.id().id(), *object.object()))
 }
 
 /// What a mutator makes of a payload.
@@ -118,7 +117,7 @@ pub(crate) fn applied<S: ObjectStore, P: TransactionalStorageProtocol<Record, Mo
     let attempts = Cell::new(0);
     let mutator = |view: &View| candidate(view, change, &attempts);
     view.maybe_apply_update(protocol, store, turns, &mutator)?;
-    Ok(AnyAnswer::View(number, view.id().id(), *view.object()))
+    Ok(Answer::View(number, view.id().id(), *view.object()))
 }
 
 /// The holder of a view that is claimed with this epoch, or with the next one.

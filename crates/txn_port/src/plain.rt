@@ -6,19 +6,18 @@ use slatedb_txn_obj::{
 };
 use std::alloc::{AllocError, Global};
 use std::ops::Bound;
-use txn_history::event::{Answer, Call};
+use txn_history::event::{Answer, PlainAnswer, PlainCall};
 use txn_history::ids::Ids;
 use txn_lines::record::Record;
 use txn_store::store::ObjectStore;
-use txn_view_history::event::AnyAnswer;
 
 /// What a call without a view answers, or its error.
-pub(crate) type PlainResult = Result<Answer<Record>, TransactionalObjectError>;
+pub(crate) type PlainResult = Result<PlainAnswer<Record>, TransactionalObjectError>;
 
 /// What an answer of a call without a view, or an error, says.
 pub(crate) fn said_of(answer: PlainResult) -> Said {
     match answer {
-        Ok(answer) => Said::Answered(AnyAnswer::Plain(answer)),
+        Ok(answer) => Said::Answered(Answer::Plain(answer)),
         Err(error) => Said::Refused(error),
     }
 }
@@ -50,10 +49,10 @@ fn ids_of(
 }
 
 /// The newest version, as it is answered.
-pub(crate) fn newest(found: Option<(MonotonicId, Record)>) -> Answer<Record> {
+pub(crate) fn newest(found: Option<(MonotonicId, Record)>) -> PlainAnswer<Record> {
     match found {
-        None => Answer::Read(None),
-        Some((id, value)) => Answer::Read(Some((id.id(), value))),
+        None => PlainAnswer::Read(None),
+        Some((id, value)) => PlainAnswer::Read(Some((id.id(), value))),
     }
 }
 
@@ -65,7 +64,7 @@ fn list<S: ObjectStore, P: SequencedStorageProtocol<Record, S>>(
     to: Bound<u64>,
 ) -> PlainResult {
     let versions = protocol.list(store, bound_of(from), bound_of(to))?;
-    Ok(Answer::Ids(ids_of(alloc, versions.as_slice())?))
+    Ok(PlainAnswer::Ids(ids_of(alloc, versions.as_slice())?))
 }
 
 /// A call that writes, checks, advances or deletes.
@@ -73,28 +72,28 @@ fn change<S: ObjectStore, P: SequencedStorageProtocol<Record, S>>(
     protocol: &mut P,
     store: &mut S,
     turns: &mut Turns,
-    call: Call<Record>,
+    call: PlainCall<Record>,
 ) -> PlainResult {
     match call {
-        Call::Write(base, value) => Ok(Answer::Wrote(
+        PlainCall::Write(base, value) => Ok(PlainAnswer::Wrote(
             protocol.write(store, base_of(base), &value)?.id(),
         )),
-        Call::WriteUnchecked(base, value) => Ok(Answer::Wrote(
+        PlainCall::WriteUnchecked(base, value) => Ok(PlainAnswer::Wrote(
             protocol.write_unchecked(store, base_of(base), &value)?.id(),
         )),
-        Call::Check(id) => {
+        PlainCall::Check(id) => {
             protocol.check(store, MonotonicId::new(id))?;
-            Ok(Answer::Done)
+            Ok(PlainAnswer::Done)
         }
-        Call::Advance(id) => {
+        PlainCall::Advance(id) => {
             protocol.advance(store, MonotonicId::new(id), turns)?;
-            Ok(Answer::Done)
+            Ok(PlainAnswer::Done)
         }
-        Call::Delete(id) => {
+        PlainCall::Delete(id) => {
             protocol.delete(store, MonotonicId::new(id))?;
-            Ok(Answer::Done)
+            Ok(PlainAnswer::Done)
         }
-        _ => Ok(Answer::Done),
+        _ => Ok(PlainAnswer::Done),
     }
 }
 
@@ -104,19 +103,19 @@ pub(crate) fn perform<S: ObjectStore, P: SequencedStorageProtocol<Record, S>>(
     protocol: &mut P,
     store: &mut S,
     turns: &mut Turns,
-    call: Call<Record>,
+    call: PlainCall<Record>,
 ) -> PlainResult {
     match call {
-        Call::Read => Ok(newest(protocol.try_read_latest(store, turns)?)),
-        Call::ReadUnchecked(id) => Ok(Answer::Value(protocol.try_read_unchecked(
+        PlainCall::Read => Ok(newest(protocol.try_read_latest(store, turns)?)),
+        PlainCall::ReadUnchecked(id) => Ok(PlainAnswer::Value(protocol.try_read_unchecked(
             store,
             MonotonicId::new(id),
         )?)),
-        Call::ReadSeen(id) => Ok(Answer::Value(protocol.try_read_seen(
+        PlainCall::ReadSeen(id) => Ok(PlainAnswer::Value(protocol.try_read_seen(
             store,
             MonotonicId::new(id),
         )?)),
-        Call::ListIds(from, to) => list(alloc, protocol, store, from, to),
+        PlainCall::ListIds(from, to) => list(alloc, protocol, store, from, to),
         _ => change(protocol, store, turns, call),
     }
 }
@@ -137,7 +136,7 @@ pub(crate) fn delete_unchecked<S: ObjectStore, P: SequencedStorageProtocol<Recor
     id: u64,
 ) -> PlainResult {
     protocol.delete_unchecked(store, MonotonicId::new(id))?;
-    Ok(Answer::Done)
+    Ok(PlainAnswer::Done)
 }
 
 /// A check by a boundary.
@@ -147,7 +146,7 @@ pub(crate) fn check<S: ObjectStore, B: BoundaryObject<S>>(
     id: u64,
 ) -> PlainResult {
     boundary.check(store, MonotonicId::new(id))?;
-    Ok(Answer::Done)
+    Ok(PlainAnswer::Done)
 }
 
 /// An advance of a boundary.
@@ -158,5 +157,5 @@ pub(crate) fn advance<S: ObjectStore, B: BoundaryObject<S>>(
     id: u64,
 ) -> PlainResult {
     boundary.advance(store, MonotonicId::new(id), turns)?;
-    Ok(Answer::Done)
+    Ok(PlainAnswer::Done)
 }

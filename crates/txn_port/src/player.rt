@@ -10,12 +10,12 @@ use crate::setting::{Client, Desk, Store, clients, new_desk};
 use crate::views::{copy, keep_at, place, prepare, show, view_call};
 use slatedb_txn_obj::Turns;
 use std::alloc::{AllocError, Global};
+use txn_history::event::Call;
 use txn_lines::numerals::read_decimal;
 use txn_lines::record::Record;
 use txn_lines::text_form::TextForm;
 use txn_store::failing::Counts;
 use txn_types::layout::PAGE;
-use txn_view_history::event::AnyCall;
 
 /// The turns of a call, where no line sets them.
 const TURNS: u64 = 20;
@@ -52,15 +52,15 @@ fn call(
     desk: &mut Desk<Store>,
     words: &str,
 ) -> Result<Option<Said>, AllocError> {
-    let read: Option<AnyCall<Record>> = TextForm::read_text(alloc, words)?;
+    let read: Option<Call<Record>> = TextForm::read_text(alloc, words)?;
     match read {
         None => call_beyond(client, objects, desk, words),
-        Some(AnyCall::Plain(call)) => {
+        Some(Call::Plain(call)) => {
             let Desk { store, turns, .. } = desk;
             let answer = perform(alloc, &mut client.protocol, store, turns, call);
             Ok(Some(said_of(answer)))
         }
-        Some(AnyCall::View(call)) => {
+        Some(Call::View(call)) => {
             Ok(Some(view_call(objects, &mut client.protocol, desk, call)?))
         }
     }

@@ -3,12 +3,11 @@ use percent_encoding::{AsciiSet, CONTROLS, ascii_set, percent_encode};
 use slatedb_txn_obj::TransactionalObjectError;
 use std::fmt;
 use txn_caches::caches::CachedBoundary;
-use txn_history::event::Answer;
+use txn_history::event::{Answer, PlainAnswer};
 use txn_lines::printed::Answered;
 use txn_lines::record::Record;
 use txn_store::failing::Counts;
 use txn_store::store::Got;
-use txn_view_history::event::AnyAnswer;
 
 /// The bytes that are not shown as they are, beside those outside ASCII: the controls, the space and `%`.
 const ESCAPED: AsciiSet = ascii_set!(CONTROLS.add(b' ').add(b'%'));
@@ -19,7 +18,7 @@ pub enum Said {
     /// Something is set from here on. Nothing is printed.
     Set,
     /// A call's answer.
-    Answered(AnyAnswer<Record>),
+    Answered(Answer<Record>),
     /// A call's error.
     Refused(TransactionalObjectError),
     /// What a boundary object has cached.
@@ -36,7 +35,7 @@ pub enum Said {
 
 impl Said {
     /// What an answer or an error says.
-    pub(crate) fn of(answer: Result<AnyAnswer<Record>, TransactionalObjectError>) -> Said {
+    pub(crate) fn of(answer: Result<Answer<Record>, TransactionalObjectError>) -> Said {
         match answer {
             Ok(answer) => Said::Answered(answer),
             Err(error) => Said::Refused(error),
@@ -50,7 +49,7 @@ struct Named(u8);
 
 impl fmt::Display for Named {
     fn fmt<W: fmt::Write>(&self, f: &mut fmt::Formatter<W>) -> fmt::Result {
-        let answer: AnyAnswer<Record> = AnyAnswer::Plain(Answer::Refused(self.0));
+        let answer: Answer<Record> = Answer::Plain(PlainAnswer::Refused(self.0));
         let answered = Answered(&answer);
         write!(f, "{answered}")
     }

@@ -6,12 +6,12 @@ use crate::plain::newest;
 use crate::said::Said;
 use crate::setting::Desk;
 use slatedb_txn_obj::{MonotonicId, TransactionalObjectError, TransactionalStorageProtocol};
+use slatedb_txn_obj_uses::holders::fences_older_holder;
 use std::alloc::{AllocError, Global};
 use std::mem;
+use txn_history::event::{Answer, ViewCall};
 use txn_lines::record::{Record, RecordEpoch};
 use txn_store::store::ObjectStore;
-use txn_view_history::event::{AnyAnswer, ViewCall};
-use uses_of_protocol::holders::fences_older_holder;
 
 /// The place of a number, counted from 1, and past the end for 0.
 pub(crate) fn place(number: u64) -> usize {
@@ -37,7 +37,7 @@ fn opened(
 ) -> Result<Said, AllocError> {
     match answer {
         Ok(Some(view)) => enter(objects, view),
-        Ok(None) => Ok(Said::Answered(AnyAnswer::Plain(newest(None)))),
+        Ok(None) => Ok(Said::Answered(Answer::Plain(newest(None)))),
         Err(error) => Ok(Said::Refused(error)),
     }
 }

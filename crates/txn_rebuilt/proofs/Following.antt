@@ -7,20 +7,20 @@ use Rattle.txn_recorded.specs.declared.row.Row.{Row}
 use Rattle.txn_recorded.specs.declared.row.Row.TheVariants as kinds
 use Rattle.txn_rebuilt.specs.declared.stage.Stage.{Stage}
 use Rattle.txn_rebuilt.specs.declared.stage.Stage.TheVariants as stages
-use Rattle.txn_rebuilt.specs.Told.{Told, row_tells, recording_tells, journal_tells}
+use Rattle.txn_rebuilt.specs.Told.{RowTold, row_tells, recording_tells, journal_tells}
 use Rattle.txn_rebuilt.specs.Stages.{all_begun, IsAt, Stands, Goes}
 
 module _ {T : Type 0} where
   -- what has been told at a place, and with the rows that are left all that the recording tells after its first row
-  pub record IsOnTheWay (text : T → List ℕ) (rows : List (Row T)) (place : ℕ) (recorded : List (Told T)) (after : List (JournalRow T)) (begun : ℕ) (stage : Stage) : Type 0 where
-    pub so_far : List (Told T)
+  pub record IsOnTheWay (text : T → List ℕ) (rows : List (Row T)) (place : ℕ) (recorded : List (RowTold T)) (after : List (JournalRow T)) (begun : ℕ) (stage : Stage) : Type 0 where
+    pub so_far : List (RowTold T)
     pub stands : Stands text so_far after begun stage
     pub whole : so_far ++ recording_tells (drop place rows) ≡ recorded ++ recording_tells (drop 1 rows)
 
   -- the rows before a place lead from one stage to another
   abbrev pub Leads : (T → List ℕ) → List (Row T) → ℕ → List (JournalRow T) → ℕ → Stage → List (JournalRow T) → ℕ → Stage → Type 0
   Leads text rows place before begun stage after begun_then then =
-      (recorded : List (Told T)) → Stands text recorded before begun stage → IsOnTheWay text rows place recorded after begun_then then
+      (recorded : List (RowTold T)) → Stands text recorded before begun stage → IsOnTheWay text rows place recorded after begun_then then
 
   -- before the second row
   pub leads_first : (text : T → List ℕ) (rows : List (Row T)) (before : List (JournalRow T)) (begun : ℕ) (stage : Stage) → Leads text rows 1 before begun stage before begun stage

@@ -3,11 +3,11 @@ ghost use Rattle.std.specs.Prelude.{◌≡◌, ◌+◌, ◌∷◌, [], ℕ, List
 ghost use Rattle.txn_types.specs.Clones.{IsExactClone};
 ghost use Rattle.txn_history.specs.Added.{told_of};
 ghost use Rattle.txn_history.specs.Seen.{Store};
-ghost use Rattle.txn_view_history.specs.Trace.{AnyTold};
-ghost use Rattle.txn_view_history.specs.declared.event.AnyAnswer.{AnyAnswer};
-ghost use Rattle.txn_machine.specs.Doing.{asks_as};
+ghost use Rattle.txn_history.specs.Trace.{Told};
+ghost use Rattle.txn_history.specs.declared.event.Answer.{Answer};
+ghost use Rattle.txn_machine_inner.specs.Doing.{asks_as};
 ghost use Rattle.txn_lines.specs.Printed.{answered_text};
-ghost use Rattle.txn_rebuilt.specs.Told.{Told, Began, Asked, Replied, Failed, GaveUp, Answered, row_tells, journal_tells, TellsSame};
+ghost use Rattle.txn_rebuilt.specs.Told.{RowTold, Began, Asked, Replied, Failed, GaveUp, Answered, row_tells, journal_tells, TellsSame};
 ghost use Rattle.txn_rebuilt.specs.Stages.{Stands, Goes, GoesOn, IsStageOf, IsUnanswered, IsSameClient};
 ghost use Rattle.txn_rebuilt.specs.declared.stage.Stage.TheVariants as stages;
 
@@ -15,6 +15,7 @@ use crate::fault::RowFault;
 use std::alloc::Global;
 use txn_caches::ask::Ask;
 use txn_diary::diary::Diary;
+use txn_history::event::{Call, Told};
 use txn_journals::rows::Receipt;
 use txn_journals::same::same_request;
 use txn_lines::printed;
@@ -23,7 +24,6 @@ use txn_recorded::row::Row;
 use txn_store::request::{Reply, Request};
 use txn_types::codec::ObjectCodec;
 use txn_types::epoch::EpochField;
-use txn_view_history::event::{AnyCall, AnyTold};
 
 /// What the last operation of a client does between two rows of its recording.
 #[derive(Drop)]
@@ -39,11 +39,11 @@ pub(crate) enum Stage<'a> {
 }
 
 /// The stage that comes with what a client is told.
-fn stage_of<'a, T: LineValue>(alloc: Global, told: AnyTold<T>) -> Result<Stage<'a>, RowFault>
-    ensures { (otherwise : AnyTold T) (op : ℕ) (answer : Option (AnyAnswer T)) → IsUnanswered otherwise → told ≡ told_of otherwise op answer → IfOk result (IsStageOf (answered_text T.text) answer) }
+fn stage_of<'a, T: LineValue>(alloc: Global, told: Told<T>) -> Result<Stage<'a>, RowFault>
+    ensures { (otherwise : Told T) (op : ℕ) (answer : Option (Answer T)) → IsUnanswered otherwise → told ≡ told_of otherwise op answer → IfOk result (IsStageOf (answered_text T.text) answer) }
 {
     match told {
-        AnyTold::Answered(_, answer) => {
+        Told::Answered(_, answer) => {
             let answered = printed::Answered(&answer);
             Ok(Stage::Answers(format!(in alloc; "{answered}")?))
         }
@@ -151,7 +151,7 @@ impl<'a, T: Clone + LineValue, C: ObjectCodec<T> + Drop, E: EpochField<T>> Rebui
     }
 
     /// A call begins.
-    fn begin(&mut self, alloc: Global, op: u64, call: &AnyCall<T>) -> Result<(), RowFault>
+    fn begin(&mut self, alloc: Global, op: u64, call: &Call<T>) -> Result<(), RowFault>
         requires { IsExactClone T.is_clone }
         ensures told { OnOk result (Goes T.text (Began op call.now ∷ []) self.old.diary.rows self.old.begun self.old.stage self.new.diary.rows self.new.begun self.new.stage) }
         ensures same { OnOk result (IsSameClient self.old.diary self.new.diary) }
@@ -299,7 +299,7 @@ impl<'a, T: Clone + LineValue, C: ObjectCodec<T> + Drop, E: EpochField<T>> Rebui
 
     /// The recording ends. A client of which an operation runs, or an answer is not written, was killed.
     pub fn finish(&mut self) -> Result<(), RowFault>
-        ensures told { OnOk result ((recorded : List (Told T)) → Stands T.text recorded self.old.diary.rows self.old.begun self.old.stage → TellsSame recorded (journal_tells (answered_text T.text) 0 self.new.diary.rows)) }
+        ensures told { OnOk result ((recorded : List (RowTold T)) → Stands T.text recorded self.old.diary.rows self.old.begun self.old.stage → TellsSame recorded (journal_tells (answered_text T.text) 0 self.new.diary.rows)) }
         ensures same { OnOk result (IsSameClient self.old.diary self.new.diary) }
     {
         if !self.stage.is_idle() {

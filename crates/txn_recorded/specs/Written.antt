@@ -13,8 +13,8 @@ use Rattle.txn_store.specs.declared.request.Request.{Request}
 use Rattle.txn_store.specs.declared.request.Request.TheVariants as requests
 use Rattle.txn_store.specs.declared.request.Reply.{Reply}
 use Rattle.txn_store.specs.declared.request.Reply.TheVariants as replies
-use Rattle.txn_view_history.specs.declared.event.AnyCall.{AnyCall}
-use Rattle.txn_view_history.specs.declared.event.AnyAnswer.{AnyAnswer}
+use Rattle.txn_history.specs.declared.event.Call.{Call}
+use Rattle.txn_history.specs.declared.event.Answer.{Answer}
 use Rattle.txn_lines.specs.Grammar.{call_text}
 use Rattle.txn_lines.specs.Printed.{answered_text}
 
@@ -126,9 +126,9 @@ give_up_row_text op = codes "giveup" then decimal op
 -- the rows of calls, by the text of a value
 module _ {T : Type 0} (text : T → List ℕ) where
   -- a call that begins as the operation of this number
-  abbrev pub begin_row_text : ℕ → AnyCall T → List ℕ
+  abbrev pub begin_row_text : ℕ → Call T → List ℕ
   begin_row_text op call = codes "begin" then decimal op then call_text text call
 
   -- the answer of an operation
-  abbrev pub answer_row_text : ℕ → AnyAnswer T → List ℕ
+  abbrev pub answer_row_text : ℕ → Answer T → List ℕ
   answer_row_text op answer = codes "answer" then decimal op then answered_text text answer

@@ -1,7 +1,7 @@
 //! The rows of a recording.
 
+use txn_history::event::Call;
 use txn_store::request::{Reply, Request};
-use txn_view_history::event::AnyCall;
 
 /// One row of a client's recording. The client counts its operations from 1, in the order in which they begin, and has one at
 /// a time. Times are nanoseconds of one clock, which all clients of a machine read.
@@ -10,7 +10,7 @@ pub enum Row<T> {
     /// The recording is of the client of this number, at least 1, whose listings have pages of at most so many files, at least 1.
     Client(u64, u64),
     /// The client begins a call as its operation of this number.
-    Begin(u64, AnyCall<T>),
+    Begin(u64, Call<T>),
     /// At this time the operation is about to ask the store.
     Ask(u64, u64, Request),
     /// At this time it has the store's reply.

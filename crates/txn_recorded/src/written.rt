@@ -8,6 +8,7 @@ ghost use Rattle.txn_recorded.specs.Written.{put_text, request_text, error_text,
 use bytes::Bytes;
 use std::alloc::{AllocError, Global};
 use std::fmt::Write;
+use txn_history::event::{Answer, Call};
 use txn_lines::called::Called;
 use txn_lines::printed::Answered;
 use txn_lines::text_form::LineValue;
@@ -15,7 +16,6 @@ use txn_store::page::Page;
 use txn_store::path::Path;
 use txn_store::request::{Reply, Request};
 use txn_store::store::{Got, ObjectMeta, PutMode, StoreError, Token};
-use txn_view_history::event::{AnyAnswer, AnyCall};
 
 /// What a put asks for.
 fn put_text(alloc: Global, path: &Path, bytes: &Bytes, mode: &PutMode) -> Result<String, AllocError>
@@ -247,11 +247,7 @@ pub fn give_up_row(alloc: Global, op: u64) -> Result<String, AllocError>
 }
 
 /// The row of a call that begins as the operation of this number.
-pub fn begin_row<T: LineValue>(
-    alloc: Global,
-    op: u64,
-    call: &AnyCall<T>,
-) -> Result<String, AllocError>
+pub fn begin_row<T: LineValue>(alloc: Global, op: u64, call: &Call<T>) -> Result<String, AllocError>
     ensures { IfOk result (λ text. string_bytes text ≡ begin_row_text T.text op call.now) }
 {
     let called = Called(call);
@@ -262,7 +258,7 @@ pub fn begin_row<T: LineValue>(
 pub fn answer_row<T: LineValue>(
     alloc: Global,
     op: u64,
-    answer: &AnyAnswer<T>,
+    answer: &Answer<T>,
 ) -> Result<String, AllocError>
     ensures { IfOk result (λ text. string_bytes text ≡ answer_row_text T.text op answer.now) }
 {

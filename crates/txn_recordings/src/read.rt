@@ -5,6 +5,7 @@ ghost use Rattle.txn_recordings.specs.Rows.{row_text};
 use bytes::Bytes;
 use hex::FromHexError;
 use std::alloc::{AllocError, AllocFailed, Global};
+use txn_history::event::Call;
 use txn_lines::numerals::read_decimal;
 use txn_lines::text_form::{LineValue, TextForm};
 use txn_recorded::row::Row;
@@ -13,7 +14,6 @@ use txn_store::page::{Listing, Page};
 use txn_store::path::{Path, PathFault};
 use txn_store::request::{Reply, Request};
 use txn_store::store::{Got, ObjectMeta, PutMode, StoreError, Token};
-use txn_view_history::event::AnyCall;
 
 /// Why a text is not read as a row.
 #[derive(Clone, Copy, Debug, PartialEq, Eq)]
@@ -246,7 +246,7 @@ fn read_replied<T>(alloc: Global, op: u64, text: &str) -> Result<Row<T>, TextFau
 
 /// A call that begins.
 fn read_begin<T: LineValue>(alloc: Global, op: u64, text: &str) -> Result<Row<T>, TextFault> {
-    match AnyCall::<T>::read_text(alloc, text)? {
+    match Call::<T>::read_text(alloc, text)? {
         Some(call) => Ok(Row::Begin(op, call)),
         None => Err(TextFault::BadRow),
     }

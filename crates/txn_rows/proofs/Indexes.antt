@@ -9,13 +9,13 @@ use Rattle.std.proofs.Math.Bool.{or-false}
 use Rattle.txn_store.specs.Paths.{path_cmp}
 use Rattle.txn_store.specs.declared.request.Request.{Request}
 use Rattle.txn_store.specs.declared.request.Request.TheVariants as requests
-use Rattle.txn_view_history.specs.declared.event.AnyCall.{AnyCall}
-use Rattle.txn_view_history.specs.declared.event.AnyAnswer.{AnyAnswer}
-use Rattle.txn_view_history.specs.Trace.{AnyRow}
+use Rattle.txn_history.specs.declared.event.Call.{Call}
+use Rattle.txn_history.specs.declared.event.Answer.{Answer}
+use Rattle.txn_history.specs.Trace.{Row}
 use Rattle.txn_history.specs.declared.trace.RowOf.TheVariants.{Effect, Begun, Answered}
 use Rattle.txn_history.specs.Names.{world_boundary}
 use Rattle.txn_history.specs.History.{Version, is_id, removed, created, has_id, with_version, versions_of, boundary_said, boundary, erases, was_erased, epoch_in, epoch_at}
-use Rattle.txn_view_history.specs.Calls.{tells_id, tells, was_told, is_below_told}
+use Rattle.txn_history.specs.Calls.{tells_id, tells, was_told, is_below_told}
 use Rattle.txn_history.proofs.Rows.{stored-more, boundary-same, versions_of-more}
 use Rattle.txn_history.proofs.Fronts as fronts
 use Rattle.txn_rows.specs.Beside.{boundary_after, is_among, epoch_read, epochs_of, epoch_made}
@@ -61,7 +61,7 @@ module _ {T : Type 0} (decode : List ℕ → Option T) (get_epoch : T → ℕ) w
   epoch_of_version (v ∷ versions) (suc k) = epoch_of_version versions k
 
   -- an epoch that is looked up
-  pub epoch_found : (rows : List (AnyRow T)) (epochs : List ℕ) (n epoch : ℕ) → epochs ≡ epochs_of decode get_epoch (versions_of rows) → (n ≡ 0 → ⊥) → epoch ≡ get_or epochs (n - 1) 0 → epoch ≡ epoch_at decode get_epoch rows n
+  pub epoch_found : (rows : List (Row T)) (epochs : List ℕ) (n epoch : ℕ) → epochs ≡ epochs_of decode get_epoch (versions_of rows) → (n ≡ 0 → ⊥) → epoch ≡ get_or epochs (n - 1) 0 → epoch ≡ epoch_at decode get_epoch rows n
   epoch_found rows epochs zero epoch e some is = absurd (some refl)
   epoch_found rows epochs (suc n) epoch e some is =
       let place : suc n - 1 ≡ n = omega arith in
@@ -74,54 +74,54 @@ is_among_same has other (Some id) same = same id
 module _ {T : Type 0} where
   -- a begin leaves all that stands beside the trace
 
-  pub begun_told : (rows : List (AnyRow T)) (op : ℕ) (call : AnyCall T) (n : ℕ) → was_told (rows ++ Begun op call ∷ []) n ≡ was_told rows n
+  pub begun_told : (rows : List (Row T)) (op : ℕ) (call : Call T) (n : ℕ) → was_told (rows ++ Begun op call ∷ []) n ≡ was_told rows n
   begun_told rows op call n = any_quiet (tells (nat_eq n)) rows (Begun op call) refl
 
-  pub begun_below : (rows : List (AnyRow T)) (op : ℕ) (call : AnyCall T) (n : ℕ) → is_below_told (rows ++ Begun op call ∷ []) n ≡ is_below_told rows n
+  pub begun_below : (rows : List (Row T)) (op : ℕ) (call : Call T) (n : ℕ) → is_below_told (rows ++ Begun op call ∷ []) n ≡ is_below_told rows n
   begun_below rows op call n = any_quiet (tells (nat_lt n)) rows (Begun op call) refl
 
-  pub begun_reached : (rows : List (AnyRow T)) (op : ℕ) (call : AnyCall T) → boundary (rows ++ Begun op call ∷ []) ≡ boundary rows
+  pub begun_reached : (rows : List (Row T)) (op : ℕ) (call : Call T) → boundary (rows ++ Begun op call ∷ []) ≡ boundary rows
   begun_reached rows op call = boundary-same rows (Begun op call) (stored-more rows (Begun op call))
 
-  pub begun_erased : (rows : List (AnyRow T)) (op : ℕ) (call : AnyCall T) (n : ℕ) → was_erased (rows ++ Begun op call ∷ []) n ≡ was_erased rows n
+  pub begun_erased : (rows : List (Row T)) (op : ℕ) (call : Call T) (n : ℕ) → was_erased (rows ++ Begun op call ∷ []) n ≡ was_erased rows n
   begun_erased rows op call n = any_quiet (erases n) rows (Begun op call) refl
 
   -- an answer may tell ids
 
-  pub answered_told : (rows : List (AnyRow T)) (op : ℕ) (answer : AnyAnswer T) (n : ℕ) → was_told (rows ++ Answered op answer ∷ []) n ≡ (was_told rows n || tells_id (nat_eq n) answer)
+  pub answered_told : (rows : List (Row T)) (op : ℕ) (answer : Answer T) (n : ℕ) → was_told (rows ++ Answered op answer ∷ []) n ≡ (was_told rows n || tells_id (nat_eq n) answer)
   answered_told rows op answer n = any_one (tells (nat_eq n)) rows (Answered op answer)
 
-  pub answered_below : (rows : List (AnyRow T)) (op : ℕ) (answer : AnyAnswer T) (n : ℕ) → is_below_told (rows ++ Answered op answer ∷ []) n ≡ (is_below_told rows n || tells_id (nat_lt n) answer)
+  pub answered_below : (rows : List (Row T)) (op : ℕ) (answer : Answer T) (n : ℕ) → is_below_told (rows ++ Answered op answer ∷ []) n ≡ (is_below_told rows n || tells_id (nat_lt n) answer)
   answered_below rows op answer n = any_one (tells (nat_lt n)) rows (Answered op answer)
 
-  pub answered_reached : (rows : List (AnyRow T)) (op : ℕ) (answer : AnyAnswer T) → boundary (rows ++ Answered op answer ∷ []) ≡ boundary rows
+  pub answered_reached : (rows : List (Row T)) (op : ℕ) (answer : Answer T) → boundary (rows ++ Answered op answer ∷ []) ≡ boundary rows
   answered_reached rows op answer = boundary-same rows (Answered op answer) (stored-more rows (Answered op answer))
 
-  pub answered_erased : (rows : List (AnyRow T)) (op : ℕ) (answer : AnyAnswer T) (n : ℕ) → was_erased (rows ++ Answered op answer ∷ []) n ≡ was_erased rows n
+  pub answered_erased : (rows : List (Row T)) (op : ℕ) (answer : Answer T) (n : ℕ) → was_erased (rows ++ Answered op answer ∷ []) n ≡ was_erased rows n
   answered_erased rows op answer n = any_quiet (erases n) rows (Answered op answer) refl
 
   -- an effect may put the boundary, remove a name, or create a version
 
-  pub effect_told : (rows : List (AnyRow T)) (op : ℕ) (request : Request) (n : ℕ) → was_told (rows ++ Effect op request ∷ []) n ≡ was_told rows n
+  pub effect_told : (rows : List (Row T)) (op : ℕ) (request : Request) (n : ℕ) → was_told (rows ++ Effect op request ∷ []) n ≡ was_told rows n
   effect_told rows op request n = any_quiet (tells (nat_eq n)) rows (Effect op request) refl
 
-  pub effect_below : (rows : List (AnyRow T)) (op : ℕ) (request : Request) (n : ℕ) → is_below_told (rows ++ Effect op request ∷ []) n ≡ is_below_told rows n
+  pub effect_below : (rows : List (Row T)) (op : ℕ) (request : Request) (n : ℕ) → is_below_told (rows ++ Effect op request ∷ []) n ≡ is_below_told rows n
   effect_below rows op request n = any_quiet (tells (nat_lt n)) rows (Effect op request) refl
 
-  pub effect_erased : (rows : List (AnyRow T)) (op : ℕ) (request : Request) (n : ℕ) → was_erased (rows ++ Effect op request ∷ []) n ≡ (was_erased rows n || is_id n (removed request))
+  pub effect_erased : (rows : List (Row T)) (op : ℕ) (request : Request) (n : ℕ) → was_erased (rows ++ Effect op request ∷ []) n ≡ (was_erased rows n || is_id n (removed request))
   effect_erased rows op request n = any_one (erases n) rows (Effect op request)
 
-  pub effect_reached : (rows : List (AnyRow T)) (op : ℕ) (request : Request) → boundary (rows ++ Effect op request ∷ []) ≡ boundary_after (boundary rows) request
+  pub effect_reached : (rows : List (Row T)) (op : ℕ) (request : Request) → boundary (rows ++ Effect op request ∷ []) ≡ boundary_after (boundary rows) request
   effect_reached rows op (requests.Put path bytes mode) = fronts.effect_reached rows op (requests.Put path bytes mode)
   effect_reached rows op (requests.Get path known) = fronts.effect_reached rows op (requests.Get path known)
   effect_reached rows op (requests.List prefix after limit) = fronts.effect_reached rows op (requests.List prefix after limit)
   effect_reached rows op (requests.Delete path) = fronts.effect_reached rows op (requests.Delete path)
 
-  pub effect_created : (rows : List (AnyRow T)) (op : ℕ) (request : Request) (n : ℕ) → has_id (versions_of (rows ++ Effect op request ∷ [])) n ≡ (has_id (versions_of rows) n || is_id n (option_map (λ version. version.0) (created request)))
+  pub effect_created : (rows : List (Row T)) (op : ℕ) (request : Request) (n : ℕ) → has_id (versions_of (rows ++ Effect op request ∷ [])) n ≡ (has_id (versions_of rows) n || is_id n (option_map (λ version. version.0) (created request)))
   effect_created rows op request n = ap (λ (vs : List Version). has_id vs n) (versions_of-more rows (Effect op request)) ∙ has_with (versions_of rows) (created request) n
 
 -- the epochs after an effect, as they are entered
-pub effect_epochs : {T : Type 0} (decode : List ℕ → Option T) (get_epoch : T → ℕ) (rows : List (AnyRow T)) (op : ℕ) (request : Request) (has : ℕ → Bool) (epochs new : List ℕ) (id : Option ℕ) (epoch : ℕ) →
+pub effect_epochs : {T : Type 0} (decode : List ℕ → Option T) (get_epoch : T → ℕ) (rows : List (Row T)) (op : ℕ) (request : Request) (has : ℕ → Bool) (epochs new : List ℕ) (id : Option ℕ) (epoch : ℕ) →
     ((n : ℕ) → has n ≡ has_id (versions_of rows) n) → epochs ≡ epochs_of decode get_epoch (versions_of rows) → id ≡ option_map (λ version. version.0) (created request) → epoch ≡ epoch_made decode get_epoch (created request) →
     new ≡ cond (is_among has id) epochs (epochs ++ epoch ∷ []) → new ≡ epochs_of decode get_epoch (versions_of (rows ++ Effect op request ∷ []))
 effect_epochs decode get_epoch rows op request has epochs new id epoch same all is made e =
@@ -132,7 +132,7 @@ effect_epochs decode get_epoch rows op request has epochs new id epoch same all 
     ∙ (sym (epochs_with decode get_epoch (versions_of rows) (created request)) ∙ ap (epochs_of decode get_epoch) (sym (versions_of-more rows (Effect op request)))))))
 
 -- no row, and nothing reached
-pub none_reached : (T : Type 0) → boundary {C = AnyCall T} {A = AnyAnswer T} [] ≡ 0
+pub none_reached : (T : Type 0) → boundary {C = Call T} {A = Answer T} [] ≡ 0
 none_reached T = ap boundary_said (get-empty path_cmp world_boundary)
 
 -- an empty set has nothing

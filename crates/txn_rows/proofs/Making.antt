@@ -7,15 +7,15 @@ use Rattle.anyhow.specs.declared.error.Error.{Error}
 use Rattle.txn_types.specs.declared.codec.CodecFault.{CodecFault}
 use Rattle.txn_types.specs.declared.codec.CodecFault.TheVariants.{Refused}
 use Rattle.txn_types.specs.Refusal.{OnRefused}
-use Rattle.txn_view_history.specs.Trace.{AnyRow}
+use Rattle.txn_history.specs.Trace.{Row}
 use Rattle.txn_history.specs.Lists.{numbered}
 use Rattle.txn_history.specs.History.{Version, bytes_as, created_by, has_id, with_version, versions_of, newest, history}
-use Rattle.txn_view_history.specs.OneHistory.{IsOneHistory}
+use Rattle.txn_history.specs.OneHistory.{IsOneHistory}
 use Rattle.txn_history.proofs.Lists.{numbered_last}
 use Rattle.txn_history.proofs.Rows.{versions_of-more}
 use Rattle.txn_history.proofs.Entries.{Front, fronts_of}
-use Rattle.txn_view_history.proofs.Legal.{are_moves}
-use Rattle.txn_machine.proofs.Effects.{lacks_counted}
+use Rattle.txn_history.proofs.Legal.{are_moves}
+use Rattle.txn_machine_inner.proofs.Effects.{lacks_counted}
 
 module _ {T : Type 0} (decode : List ℕ → Option T) where
   abbrev read_all : List Version → List (Option T)
@@ -80,22 +80,22 @@ module _ {T : Type 0} (decode : List ℕ → Option T) where
       cc
 
   -- so many entries so far
-  pub entries_count : (rows : List (AnyRow T)) (k : ℕ) (entries : List T) → map Some entries ≡ history decode (take k rows) → length entries ≡ newest (take k rows)
+  pub entries_count : (rows : List (Row T)) (k : ℕ) (entries : List T) → map Some entries ≡ history decode (take k rows) → length entries ≡ newest (take k rows)
   entries_count rows k entries so_far = sym (length-map entries Some) ∙ (ap (λ (os : List (Option T)). length os) so_far ∙ length-map (versions_of (take k rows)) (λ (v : Version). decode v.1))
 
 module _ {T : Type 0} (decode : List ℕ → Option T) (get_epoch : T → ℕ) (set_epoch : T → ℕ → T) (failed : List ℕ) where
-  row_makes : (rows : List (AnyRow T)) (k : ℕ) (row : AnyRow T) → IsOneHistory decode get_epoch set_epoch failed rows → k < length rows → row ≡ get_or rows k row → MakesOf decode (versions_of (take k rows)) (created_by row) (versions_of (take (k + 1) rows))
+  row_makes : (rows : List (Row T)) (k : ℕ) (row : Row T) → IsOneHistory decode get_epoch set_epoch failed rows → k < length rows → row ≡ get_or rows k row → MakesOf decode (versions_of (take k rows)) (created_by row) (versions_of (take (k + 1) rows))
   row_makes rows k row good lt is =
-      let longer : take (k + 1) rows ≡ take k rows ++ row ∷ [] = take_more rows k row lt ∙ ap (λ (r : AnyRow T). take k rows ++ r ∷ []) (sym is) in
-      let more : versions_of (take (k + 1) rows) ≡ with_version (versions_of (take k rows)) (created_by row) = ap (λ (front : List (AnyRow T)). versions_of front) longer ∙ versions_of-more (take k rows) row in
+      let longer : take (k + 1) rows ≡ take k rows ++ row ∷ [] = take_more rows k row lt ∙ ap (λ (r : Row T). take k rows ++ r ∷ []) (sym is) in
+      let more : versions_of (take (k + 1) rows) ≡ with_version (versions_of (take k rows)) (created_by row) = ap (λ (front : List (Row T)). versions_of front) longer ∙ versions_of-more (take k rows) row in
       let after = subst (λ (vs : List Version). Front decode get_epoch vs) more (fronts_of decode get_epoch rows (are_moves decode get_epoch set_epoch failed rows good) (k + 1)) in
       subst (λ (vs : List Version). MakesOf decode (versions_of (take k rows)) (created_by row) vs) (sym more) (makes_of decode get_epoch (versions_of (take k rows)) (created_by row) (fronts_of decode get_epoch rows (are_moves decode get_epoch set_epoch failed rows good) k) after)
 
-  history_more : (rows : List (AnyRow T)) (k : ℕ) (row : AnyRow T) → IsOneHistory decode get_epoch set_epoch failed rows → k < length rows → row ≡ get_or rows k row → history decode (take (k + 1) rows) ≡ history decode (take k rows) ++ made decode (bytes_as (newest (take k rows) + 1) (created_by row))
+  history_more : (rows : List (Row T)) (k : ℕ) (row : Row T) → IsOneHistory decode get_epoch set_epoch failed rows → k < length rows → row ≡ get_or rows k row → history decode (take (k + 1) rows) ≡ history decode (take k rows) ++ made decode (bytes_as (newest (take k rows) + 1) (created_by row))
   history_more rows k row good lt is = makes_made decode (versions_of (take k rows)) (created_by row) (versions_of (take (k + 1) rows)) (row_makes rows k row good lt is)
 
   -- what was written is read
-  pub never_refused : (rows : List (AnyRow T)) (k : ℕ) (row : AnyRow T) (bytes : List ℕ) (entries : List T) (next : ℕ) → IsOneHistory decode get_epoch set_epoch failed rows → k < length rows → row ≡ get_or rows k row → map Some entries ≡ history decode (take k rows) → next ≡ length entries + 1 →
+  pub never_refused : (rows : List (Row T)) (k : ℕ) (row : Row T) (bytes : List ℕ) (entries : List T) (next : ℕ) → IsOneHistory decode get_epoch set_epoch failed rows → k < length rows → row ≡ get_or rows k row → map Some entries ≡ history decode (take k rows) → next ≡ length entries + 1 →
       Some bytes ≡ bytes_as next (created_by row) → decode bytes ≡ None → ⊥
   never_refused rows k row bytes entries next good lt is so_far n e none =
       let at : next ≡ newest (take k rows) + 1 = n ∙ ap (λ m. m + 1) (entries_count decode rows k entries so_far) in
@@ -104,7 +104,7 @@ module _ {T : Type 0} (decode : List ℕ → Option T) (get_epoch : T → ℕ) (
       cc
 
   -- one more entry
-  pub one_entry : (rows : List (AnyRow T)) (k : ℕ) (row : AnyRow T) (bytes : List ℕ) (entries more : List T) (value : T) (next : ℕ) → IsOneHistory decode get_epoch set_epoch failed rows → k < length rows → row ≡ get_or rows k row → next ≡ length entries + 1 → Some bytes ≡ bytes_as next (created_by row) → decode bytes ≡ Some value →
+  pub one_entry : (rows : List (Row T)) (k : ℕ) (row : Row T) (bytes : List ℕ) (entries more : List T) (value : T) (next : ℕ) → IsOneHistory decode get_epoch set_epoch failed rows → k < length rows → row ≡ get_or rows k row → next ≡ length entries + 1 → Some bytes ≡ bytes_as next (created_by row) → decode bytes ≡ Some value →
       map Some entries ≡ history decode (take k rows) → more ≡ entries ++ value ∷ [] → map Some more ≡ history decode (take (k + 1) rows)
   one_entry rows k row bytes entries more value next good lt is n e reads so_far pushed =
       let at : next ≡ newest (take k rows) + 1 = n ∙ ap (λ m. m + 1) (entries_count decode rows k entries so_far) in
@@ -113,7 +113,7 @@ module _ {T : Type 0} (decode : List ℕ → Option T) (get_epoch : T → ℕ) (
       ∙ sym (history_more rows k row good lt is ∙ (ap (λ (o : Option (List ℕ)). history decode (take k rows) ++ made decode o) (sym found) ∙ ap (λ (o : Option T). history decode (take k rows) ++ o ∷ []) reads))))
 
   -- no more entry
-  pub no_entry : (rows : List (AnyRow T)) (k : ℕ) (row : AnyRow T) (entries : List T) (next : ℕ) → IsOneHistory decode get_epoch set_epoch failed rows → k < length rows → row ≡ get_or rows k row → next ≡ length entries + 1 → None ≡ bytes_as next (created_by row) →
+  pub no_entry : (rows : List (Row T)) (k : ℕ) (row : Row T) (entries : List T) (next : ℕ) → IsOneHistory decode get_epoch set_epoch failed rows → k < length rows → row ≡ get_or rows k row → next ≡ length entries + 1 → None ≡ bytes_as next (created_by row) →
       map Some entries ≡ history decode (take k rows) → map Some entries ≡ history decode (take (k + 1) rows)
   no_entry rows k row entries next good lt is n e so_far =
       let at : next ≡ newest (take k rows) + 1 = n ∙ ap (λ m. m + 1) (entries_count decode rows k entries so_far) in

@@ -2,12 +2,12 @@
 use Rattle.std.specs.Prelude.{◌≡◌, ◌⊎◌, ℕ, List, length, map, if◌then◌else◌, Bool, true, Option, Some, None}
 use Rattle.txn_store.specs.declared.request.Request.{Request}
 use Rattle.txn_store.specs.declared.request.Request.TheVariants as requests
+use Rattle.txn_history.specs.declared.event.PlainAnswer.{PlainAnswer}
+use Rattle.txn_history.specs.declared.event.PlainAnswer.TheVariants as plain_answers
 use Rattle.txn_history.specs.declared.event.Answer.{Answer}
-use Rattle.txn_history.specs.declared.event.Answer.TheVariants as plain_answers
-use Rattle.txn_view_history.specs.declared.event.AnyAnswer.{AnyAnswer}
-use Rattle.txn_view_history.specs.declared.event.AnyAnswer.TheVariants as answers
-use Rattle.txn_any_machine.specs.declared.doing.Ending.{Ending}
-use Rattle.txn_any_machine.specs.declared.doing.Ending.TheVariants as endings
+use Rattle.txn_history.specs.declared.event.Answer.TheVariants as answers
+use Rattle.txn_machine.specs.declared.doing.Ending.{Ending}
+use Rattle.txn_machine.specs.declared.doing.Ending.TheVariants as endings
 use Rattle.txn_history.specs.History.{Version, is_boundary, boundary_said, epoch_in}
 
 -- the boundary after a request that changed the store, by the boundary before it
@@ -38,7 +38,7 @@ module _ {T : Type 0} (decode : List ℕ → Option T) (get_epoch : T → ℕ) w
 
 module _ {T : Type 0} where
   -- how many ids an answer of a call without a view tells
-  abbrev pub plain_count : Answer T → ℕ
+  abbrev pub plain_count : PlainAnswer T → ℕ
   plain_count (plain_answers.Wrote id) = 1
   plain_count (plain_answers.Read None) = 0
   plain_count (plain_answers.Read (Some found)) = 1
@@ -48,7 +48,7 @@ module _ {T : Type 0} where
   plain_count (plain_answers.Refused number) = 0
 
   -- how many ids an answer tells
-  abbrev pub told_count : AnyAnswer T → ℕ
+  abbrev pub told_count : Answer T → ℕ
   told_count (answers.Plain answer) = plain_count answer
   told_count (answers.View view id value) = 1
   told_count (answers.Held view id value epoch) = 1

@@ -3,24 +3,24 @@ ghost use Rattle.std.specs.Prelude.{◌≡◌, map, IfOk, Some};
 ghost use Rattle.std.specs.Option.{option_copied};
 ghost use Rattle.txn_history.specs.Names.{world_names};
 ghost use Rattle.txn_history.specs.History.{created_by, bytes_as, history};
-ghost use Rattle.txn_view_history.specs.OneHistory.{IsOneHistory};
+ghost use Rattle.txn_history.specs.OneHistory.{IsOneHistory};
 
 use crate::requests::created_version;
 use bytes::Bytes;
 use std::alloc::{AllocError, Global};
+use txn_history::trace::Row;
 use txn_store::version_names::VersionNames;
 use txn_types::codec::{CodecFault, ObjectCodec};
 use txn_types::epoch::EpochField;
 use txn_types::layout::Layout;
-use txn_view_history::trace::AnyRow;
 
 /// The bytes of the version of this id, where a row creates it.
-fn bytes_of<'a, T>(names: &VersionNames, row: &'a AnyRow<T>, id: u64) -> Option<&'a Bytes>
+fn bytes_of<'a, T>(names: &VersionNames, row: &'a Row<T>, id: u64) -> Option<&'a Bytes>
     requires { names.now ≡ world_names }
     ensures { option_copied result ≡ bytes_as id (created_by row.now) }
 {
     match row {
-        AnyRow::Effect(_, request) => match created_version(names, request) {
+        Row::Effect(_, request) => match created_version(names, request) {
             Some((created, bytes)) if created == id => Some(bytes),
             _ => None,
         },
@@ -35,7 +35,7 @@ pub fn entries_of<T: Drop, C: ObjectCodec<T>, E: EpochField<T>>(
     layout: &Layout<C>,
     field: &E,
     failed: &[u64],
-    rows: &[AnyRow<T>],
+    rows: &[Row<T>],
 ) -> Result<Vec<T>, AllocError>
     requires names { layout.now.names ≡ world_names }
     requires good { IsOneHistory (C.decoded layout.now.codec) (E.epoch_of field.now) (E.with_epoch field.now) failed.now rows.now }

@@ -6,22 +6,21 @@ ghost use Rattle.std.specs.Option.{ForSome};
 ghost use Rattle.txn_history.specs.Names.{world_names, world_boundary};
 ghost use Rattle.txn_history.specs.History.{is_id, boundary, was_erased, has_id, versions_of};
 ghost use Rattle.txn_history.specs.Calls as plain;
-ghost use Rattle.txn_view_history.specs.Calls.{was_told, is_below_told, tells_id};
+ghost use Rattle.txn_history.specs.Calls.{was_told, is_below_told, tells_id};
 ghost use Rattle.txn_rows.specs.Beside.{is_among, epochs_of, plain_count, told_count, ending_count, IsAfforded};
 
 use crate::requests::{boundary_after, created_id, created_version, removed_id};
 use crate::sets::insert_id;
 use std::alloc::{AllocError, Global};
 use std::collections::HashSet;
-use txn_any_machine::doing::{Ending, Twice};
-use txn_history::event::Answer;
+use txn_history::event::{Answer, Call, PlainAnswer};
+use txn_history::trace::Row;
+use txn_machine::doing::{Ending, Twice};
 use txn_store::request::Request;
 use txn_types::codec::{CodecFault, ObjectCodec};
 use txn_types::epoch::EpochField;
 use txn_types::layout::Layout;
 use txn_types::room::push_within;
-use txn_view_history::event::{AnyAnswer, AnyCall};
-use txn_view_history::trace::AnyRow;
 
 /// The rows so far, where their files lie, and how their values are read. What the rows told, reached, created and
 /// erased stands beside them, so that it is looked up and not searched for.
@@ -29,7 +28,7 @@ use txn_view_history::trace::AnyRow;
 pub struct Trace<T: Drop, C: ObjectCodec<T> + Drop, E: EpochField<T>> {
     pub layout: Layout<C>,
     pub field: E,
-    pub rows: Vec<AnyRow<T>>,
+    pub rows: Vec<Row<T>>,
     /// The ids that were told.
     pub told: HashSet<u64>,
     /// The greatest of them, 0 where there is none.
@@ -60,7 +59,7 @@ impl<T: Drop, C: ObjectCodec<T> + Drop, E: EpochField<T>> Trace<T, C, E> {
     ghost use Rattle.txn_history.specs.History.{created, epoch_at};
     ghost use Rattle.txn_history.specs.declared.trace.RowOf.TheVariants.{Begun, Answered};
     ghost use Rattle.txn_history.specs.Added.{effect_rows};
-    ghost use Rattle.txn_view_history.specs.Calls.{was_told, is_below_told};
+    ghost use Rattle.txn_history.specs.Calls.{was_told, is_below_told};
     ghost use Rattle.txn_rows.specs.Beside.{epoch_made, told_count, ending_count, IsAfforded};
 
     pub fn new(alloc: Global, layout: Layout<C>, field: E) -> Trace<T, C, E>
@@ -159,7 +158,7 @@ impl<T: Drop, C: ObjectCodec<T> + Drop, E: EpochField<T>> Trace<T, C, E> {
     }
 
     /// Adds that an operation began.
-    pub fn begin(&mut self, op: u64, call: AnyCall<T>)
+    pub fn begin(&mut self, op: u64, call: Call<T>)
         requires { vec_len self.old.rows < vec_capacity self.old.rows }
         ensures layout { self.new.layout ≡ self.old.layout }
         ensures field { self.new.field ≡ self.old.field }
@@ -168,7 +167,7 @@ impl<T: Drop, C: ObjectCodec<T> + Drop, E: EpochField<T>> Trace<T, C, E> {
         ensures capacity { vec_capacity self.old.rows ≤ vec_capacity self.new.rows }
         ensures spare { spare self.new.told ≡ spare self.old.told }
     {
-        push_within(&mut self.rows, AnyRow::Begun(op, call));
+        push_within(&mut self.rows, Row::Begun(op, call));
     }
 
     /// Adds the request of an operation, where one changed the store. The epoch is that of the version that it creates.
@@ -190,12 +189,12 @@ impl<T: Drop, C: ObjectCodec<T> + Drop, E: EpochField<T>> Trace<T, C, E> {
             insert_within(&mut self.erased, removed_id(&self.layout.names, &request));
             let id = created_id(&self.layout.names, &request);
             enter(&mut self.created, &mut self.epochs, id, epoch);
-            push_within(&mut self.rows, AnyRow::Effect(op, request));
+            push_within(&mut self.rows, Row::Effect(op, request));
         }
     }
 
     /// Adds an operation's answer.
-    pub fn answer(&mut self, op: u64, answer: AnyAnswer<T>)
+    pub fn answer(&mut self, op: u64, answer: Answer<T>)
         requires room { vec_len self.old.rows < vec_capacity self.old.rows }
         requires spare { told_count answer ≤ spare self.old.told }
         ensures layout { self.new.layout ≡ self.old.layout }
@@ -203,7 +202,7 @@ impl<T: Drop, C: ObjectCodec<T> + Drop, E: EpochField<T>> Trace<T, C, E> {
         ensures rows { self.new.rows.items ≡ self.old.rows.items ++ Answered op answer ∷ [] }
     {
         tell(&mut self.told, &mut self.greatest, &answer);
-        push_within(&mut self.rows, AnyRow::Answered(op, answer));
+        push_within(&mut self.rows, Row::Answered(op, answer));
     }
 }
 
@@ -229,8 +228,8 @@ fn afford_ids<T: Drop>(told: &mut HashSet<u64>, answers: Twice<T>) -> Twice<T>
 {
     let (answer, copy) = answers.into_answers();
     match answer {
-        Answer::Ids(ids) => match told.reserve(ids.as_slice().len()) {
-            Ok(()) => Twice::new(Answer::Ids(ids), copy),
+        PlainAnswer::Ids(ids) => match told.reserve(ids.as_slice().len()) {
+            Ok(()) => Twice::new(PlainAnswer::Ids(ids), copy),
             Err(_) => Twice::refused(9),
         },
         answer => Twice::new(answer, copy),
@@ -264,28 +263,28 @@ fn insert_within(ids: &mut HashSet<u64>, id: Option<u64>)
 }
 
 /// Keeps the ids that an answer tells, where there is room.
-fn tell<T>(told: &mut HashSet<u64>, greatest: &mut u64, answer: &AnyAnswer<T>)
+fn tell<T>(told: &mut HashSet<u64>, greatest: &mut u64, answer: &Answer<T>)
     requires { told_count answer.now ≤ spare told.old }
     ensures told { (n : ℕ) → contains nat_eq told.new n ≡ (contains nat_eq told.old n || tells_id (nat_eq n) answer.now) }
     ensures greatest { (n : ℕ) → nat_lt n greatest.new ≡ (nat_lt n greatest.old || tells_id (nat_lt n) answer.now) }
 {
     match answer {
-        AnyAnswer::Plain(answer) => tell_plain(told, greatest, answer),
-        AnyAnswer::View(_, id, _) => tell_one(told, greatest, *id),
-        AnyAnswer::Held(_, id, _, _) => tell_one(told, greatest, *id),
+        Answer::Plain(answer) => tell_plain(told, greatest, answer),
+        Answer::View(_, id, _) => tell_one(told, greatest, *id),
+        Answer::Held(_, id, _, _) => tell_one(told, greatest, *id),
     }
 }
 
 /// Keeps the ids that the answer of a call without a view tells, where there is room.
-fn tell_plain<T>(told: &mut HashSet<u64>, greatest: &mut u64, answer: &Answer<T>)
+fn tell_plain<T>(told: &mut HashSet<u64>, greatest: &mut u64, answer: &PlainAnswer<T>)
     requires { plain_count answer.now ≤ spare told.old }
-    ensures told { (n : ℕ) → contains nat_eq told.new n ≡ (contains nat_eq told.old n || plain.tells_id (nat_eq n) answer.now) }
-    ensures greatest { (n : ℕ) → nat_lt n greatest.new ≡ (nat_lt n greatest.old || plain.tells_id (nat_lt n) answer.now) }
+    ensures told { (n : ℕ) → contains nat_eq told.new n ≡ (contains nat_eq told.old n || plain.plain_tells_id (nat_eq n) answer.now) }
+    ensures greatest { (n : ℕ) → nat_lt n greatest.new ≡ (nat_lt n greatest.old || plain.plain_tells_id (nat_lt n) answer.now) }
 {
     match answer {
-        Answer::Wrote(id) => tell_one(told, greatest, *id),
-        Answer::Read(Some((id, _))) => tell_one(told, greatest, *id),
-        Answer::Ids(ids) => tell_all(told, greatest, ids.as_slice()),
+        PlainAnswer::Wrote(id) => tell_one(told, greatest, *id),
+        PlainAnswer::Read(Some((id, _))) => tell_one(told, greatest, *id),
+        PlainAnswer::Ids(ids) => tell_all(told, greatest, ids.as_slice()),
         _ => {}
     }
 }

@@ -7,9 +7,9 @@ use Rattle.std.specs.Prelude.{map}
 use Rattle.std.specs.Io.KnownBytes.{Appends, append_known}
 use Rattle.txn_history.specs.History.{history, boundary, AreErased}
 use Rattle.txn_history.specs.Lists.{numbered}
-use Rattle.txn_view_history.specs.Views.{View}
-use Rattle.txn_view_history.specs.Seen.{view_in, view_of}
-use Rattle.txn_any_machine.specs.Machine.{State, seen_of, seen_views}
+use Rattle.txn_history.specs.Views.{View}
+use Rattle.txn_history.specs.Seen.{view_in, view_of}
+use Rattle.txn_machine.specs.Machine.{State, seen_of, seen_views}
 use Rattle.txn_lines.specs.declared.stop.Stop.{Stop}
 use Rattle.txn_lines.specs.declared.stop.Stop.TheVariants as stops
 use Rattle.txn_lines.specs.Printed.{entry_text, boundary_text, erased_text}

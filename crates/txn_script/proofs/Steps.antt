@@ -1,18 +1,18 @@
 -- The steps of a run, one turn after another.
 use Rattle.std.proofs.Common.{◌≡◌, ℕ, suc, ◌-◌, ◌<◌, ◌≤◌, ◌+◌, List, [], ◌++◌, true, false, inl, inr, refl, sym, ◌∙◌, ap, subst, arith}
 use Rattle.std.proofs.lemmas.List.{append-nil, append_assoc}
-use Rattle.txn_view_history.specs.Trace.{AnyTold}
+use Rattle.txn_history.specs.Trace.{Told}
 use Rattle.txn_history.specs.declared.event.EventOf.{EventOf}
 use Rattle.txn_history.specs.declared.event.ToldOf.TheVariants as told
-use Rattle.txn_any_machine.specs.Machine.{State}
+use Rattle.txn_machine.specs.Machine.{State}
 use Rattle.txn_script.specs.declared.kind.Came.{Came}
-use Rattle.txn_script.specs.declared.kind.Came.TheVariants.{Told}
+use Rattle.txn_script.specs.declared.kind.Came.TheVariants as comes
 use Rattle.txn_script.specs.Rules.{Rules}
 use Rattle.txn_script.specs.Running.{CameOf}
 use Rattle.txn_script.specs.Script.{Steps, RunsOperation, goes_on, told_text}
 
 -- what is told with no answer is not printed
-going_nothing : {T : Type 0} (text : T → List ℕ) (t : AnyTold T) → true ≡ goes_on t → told_text text t ≡ []
+going_nothing : {T : Type 0} (text : T → List ℕ) (t : Told T) → true ≡ goes_on t → told_text text t ≡ []
 going_nothing text (told.Began op) e = refl
 going_nothing text (told.Went op) e = refl
 going_nothing text (told.Answered op answer) e = absurd (cc)
@@ -58,8 +58,8 @@ module _ {T C : Type 0} (rules : Rules T C) where
       on' [] now (refl, refl)
 
   -- what is told and not printed
-  pub quiet_step : (old new : State T) (event : EventOf C) (t : AnyTold T) → rules.world.takes old event t new → true ≡ goes_on t → Steps rules old event true [] new
+  pub quiet_step : (old new : State T) (event : EventOf C) (t : Told T) → rules.world.takes old event t new → true ≡ goes_on t → Steps rules old event true [] new
   quiet_step old new event t h e = inl (t, h, e, sym (going_nothing rules.value_text t e))
 
-  pub quiet_came : (old new : State T) (event : EventOf C) (came : Came T) (t : AnyTold T) → CameOf rules.world old event came new → came ≡ Told t → goes_on t ≡ true → Steps rules old event true [] new
+  pub quiet_came : (old new : State T) (event : EventOf C) (came : Came T) (t : Told T) → CameOf rules.world old event came new → came ≡ comes.Told t → goes_on t ≡ true → Steps rules old event true [] new
   quiet_came old new event came t h is going = quiet_step old new event t (subst (λ (c : Came T). CameOf rules.world old event c new) is h) (sym going)

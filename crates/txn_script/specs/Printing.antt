@@ -1,7 +1,7 @@
 -- How lines are printed and a run stops, for the functions that print them.
 use Rattle.std.specs.Prelude.{◌≡◌, ℕ, List, [], ◌++◌, ◌⊎◌, Option, Some, None}
 use Rattle.std.specs.Io.KnownBytes.{Appends, append_known}
-use Rattle.txn_any_machine.specs.Machine.{State}
+use Rattle.txn_machine.specs.Machine.{State}
 use Rattle.txn_lines.specs.declared.line.Line.{Line}
 use Rattle.txn_lines.specs.declared.line.Line.TheVariants as lines
 use Rattle.txn_lines.specs.declared.stop.Stop.{Stop}

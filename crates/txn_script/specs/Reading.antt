@@ -1,6 +1,6 @@
 -- How the first line of a script opens its world.
 use Rattle.std.specs.Prelude.{◌≡◌, ℕ, ◌≤◌, List, Option, Some, None, IfSome}
-use Rattle.txn_any_machine.specs.Machine.{State, opening}
+use Rattle.txn_machine.specs.Machine.{State, opening}
 use Rattle.txn_lines.specs.declared.line.Line.{Line}
 use Rattle.txn_lines.specs.declared.line.Line.TheVariants as lines
 use Rattle.txn_lines.specs.Grammar.{line_text, LineFits}

@@ -1,13 +1,13 @@
 -- What scripts of a kind of world speak of, and what a world of it does.
 use Rattle.std.specs.Prelude.{ℕ, List, Option}
 use Rattle.txn_history.specs.declared.event.EventOf.{EventOf}
-use Rattle.txn_view_history.specs.Trace.{AnyTold}
-use Rattle.txn_any_machine.specs.Machine.{State}
+use Rattle.txn_history.specs.Trace.{Told}
+use Rattle.txn_machine.specs.Machine.{State}
 
 -- How a kind of world goes on.
 pub record WorldRules (T C : Type 0) : Type 1 where
   -- from a state an event may tell this, and lead to another
-  pub takes : State T → EventOf C → AnyTold T → State T → Type 0
+  pub takes : State T → EventOf C → Told T → State T → Type 0
   -- the line of the fault that an event is due, where it is due one
   pub due : State T → EventOf C → Option (List ℕ)
   -- the event that gives an operation what it asks for

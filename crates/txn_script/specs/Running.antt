@@ -1,7 +1,7 @@
 -- What came of an event, by the rules of its world.
 use Rattle.std.specs.Prelude.{◌≡◌, Some}
 use Rattle.txn_history.specs.declared.event.EventOf.{EventOf}
-use Rattle.txn_any_machine.specs.Machine.{State}
+use Rattle.txn_machine.specs.Machine.{State}
 use Rattle.txn_lines.specs.Printed.{named_fault_text}
 use Rattle.txn_script.specs.declared.kind.Came.{Came}
 use Rattle.txn_script.specs.declared.kind.Came.TheVariants.{Told, Refused}

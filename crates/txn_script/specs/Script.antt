@@ -4,8 +4,8 @@ use Rattle.std.specs.Io.KnownBytes.{Appends}
 use Rattle.txn_history.specs.declared.event.EventOf.{EventOf}
 use Rattle.txn_history.specs.declared.event.ToldOf.TheVariants as told
 use Rattle.txn_history.specs.History.{history, boundary, AreErased}
-use Rattle.txn_view_history.specs.Trace.{AnyTold}
-use Rattle.txn_any_machine.specs.Machine.{State, opening, seen_views}
+use Rattle.txn_history.specs.Trace.{Told}
+use Rattle.txn_machine.specs.Machine.{State, opening, seen_views}
 use Rattle.txn_lines.specs.declared.line.Line.{Line}
 use Rattle.txn_lines.specs.declared.line.Line.TheVariants as lines
 use Rattle.txn_lines.specs.declared.stop.Stop.{Stop}
@@ -17,7 +17,7 @@ use Rattle.txn_script.specs.Printed.{with_feed, end_text}
 use Rattle.txn_script.specs.Rules.{Rules}
 
 -- no answer was told: after a look or a serve, its operation goes on
-abbrev pub goes_on : {T : Type 0} → AnyTold T → Bool
+abbrev pub goes_on : {T : Type 0} → Told T → Bool
 goes_on (told.Began op) = true
 goes_on (told.Went op) = true
 goes_on (told.Answered op answer) = false
@@ -26,7 +26,7 @@ goes_on (told.Landed k changed) = true
 goes_on (told.Crashed client) = true
 
 -- what is printed of what an event was told
-abbrev pub told_text : {T : Type 0} → (T → List ℕ) → AnyTold T → List ℕ
+abbrev pub told_text : {T : Type 0} → (T → List ℕ) → Told T → List ℕ
 told_text text (told.Began op) = []
 told_text text (told.Went op) = []
 told_text text (told.Answered op answer) = with_feed (answer_text text op answer)
@@ -77,7 +77,7 @@ module _ {T C : Type 0} (rules : Rules T C) where
   -- An event is taken, or is due its fault: whether neither an answer nor a fault was told, what is printed, and the state after it.
   abbrev pub Steps : State T → EventOf C → Bool → List ℕ → State T → Type 0
   Steps old event going text new =
-      ((t : AnyTold T) × rules.world.takes old event t new × (going ≡ goes_on t) × (text ≡ told_text rules.value_text t))
+      ((t : Told T) × rules.world.takes old event t new × (going ≡ goes_on t) × (text ≡ told_text rules.value_text t))
       ⊎ ((fault : List ℕ) × (rules.world.due old event ≡ Some fault) × (new ≡ old) × (going ≡ false) × (text ≡ with_feed fault))
 
   -- An operation gets what it asks for while it goes on, at most n times. It is no abbreviation, so that `RunsOperation 100` stays as it is.

@@ -2,23 +2,22 @@
 
 ghost use Rattle.std.specs.Prelude.{◌≡◌, ◌≤◌, List, Option, Some, map, length, IfOk};
 ghost use Rattle.std.specs.Option.{option_copied, option_map};
-ghost use Rattle.txn_any_machine.specs.Machine.{State, opening, seen_of, seen_views};
+ghost use Rattle.txn_machine.specs.Machine.{State, opening, seen_of, seen_views};
 ghost use Rattle.txn_history.specs.History.{history, boundary, AreErased};
-ghost use Rattle.txn_view_history.specs.Seen.{view_of};
+ghost use Rattle.txn_history.specs.Seen.{view_of};
 ghost use Rattle.txn_script.specs.Rules.{WorldRules};
 ghost use Rattle.txn_script.specs.Running.{CameOf};
 
 use std::alloc::{AllocError, Global};
-use txn_history::event::EventOf;
+use txn_history::event::{EventOf, Told};
+use txn_history::view::View;
 use txn_lines::printed::{FaultLine, PinnedLine};
-use txn_view_history::event::AnyTold;
-use txn_view_history::view::View;
 
 /// What came of an event.
 #[derive(Debug, Drop)]
 pub enum Came<T> {
     /// It was taken, and told this.
-    Told(AnyTold<T>),
+    Told(Told<T>),
     /// It was refused, with the fault of this line, and changed nothing.
     Refused(FaultLine),
 }

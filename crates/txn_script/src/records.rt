@@ -6,14 +6,13 @@ ghost use Rattle.txn_script.specs.Running.{CameOf};
 
 use crate::kind::{Came, ScriptWorld};
 use std::alloc::{AllocError, Global};
-use txn_history::event::EventFault;
+use txn_history::event::{Call, Event, EventFault};
+use txn_history::view::View;
 use txn_lines::printed::{FaultLine, PinnedLine};
 use txn_lines::record::{Record, RecordCodec, RecordEpoch};
-use txn_view_history::event::{AnyCall, AnyEvent};
-use txn_view_history::view::View;
 use txn_world::world::World;
 
-impl ScriptWorld<Record, AnyCall<Record>> for World<Record, RecordCodec, RecordEpoch> {
+impl ScriptWorld<Record, Call<Record>> for World<Record, RecordCodec, RecordEpoch> {
     ghost use Rattle.txn_script.specs.Records.{record_world};
 
     ghost rules = { record_world };
@@ -28,7 +27,7 @@ impl ScriptWorld<Record, AnyCall<Record>> for World<Record, RecordCodec, RecordE
         World::new(alloc, RecordCodec, RecordEpoch, clients, page)
     }
 
-    fn take(&mut self, event: AnyEvent<Record>) -> Result<Came<Record>, AllocError>
+    fn take(&mut self, event: Event<Record>) -> Result<Came<Record>, AllocError>
         ensures { IfOk result (λ came. CameOf record_world self.old.state event came self.new.state) }
     {
         match World::take(self, event) {
@@ -38,7 +37,7 @@ impl ScriptWorld<Record, AnyCall<Record>> for World<Record, RecordCodec, RecordE
         }
     }
 
-    fn next_event(&self, op: u64) -> AnyEvent<Record> {
+    fn next_event(&self, op: u64) -> Event<Record> {
         World::next_event(self, op)
     }
 

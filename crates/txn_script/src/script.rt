@@ -11,15 +11,15 @@ ghost use Rattle.txn_script.specs.Script.{IsClients, Steps, RunsOperation, PageS
 ghost use Rattle.txn_lines.specs.Reading.{reader_of, number_of, OnBadLine};
 ghost use Rattle.txn_script.specs.Reading.{Opens, OpensBad};
 ghost use Rattle.txn_script.specs.Printing.{held, Gathers, IsUnchanged, StopsLine, StopsWithin, StopsInEnd};
-ghost use Rattle.txn_view_history.specs.Seen.{view_of};
-ghost use Rattle.txn_any_machine.specs.Machine.{seen_of, seen_views};
+ghost use Rattle.txn_history.specs.Seen.{view_of};
+ghost use Rattle.txn_machine.specs.Machine.{seen_of, seen_views};
 
 use crate::kind::{Came, ScriptWorld};
 use crate::printer::Printer;
 use std::alloc::Global;
 use std::io::{BufRead, BufReader, Read, Write};
 use std::mem;
-use txn_history::event::EventOf;
+use txn_history::event::{Call, EventOf, Told};
 use txn_lines::line::Line;
 use txn_lines::lines::Lines;
 use txn_lines::printed::{
@@ -29,7 +29,6 @@ use txn_lines::record::{Record, RecordCodec, RecordEpoch};
 use txn_lines::stop::Stop;
 use txn_lines::text_form::{LineValue, TextForm};
 use txn_types::layout::PAGE;
-use txn_view_history::event::{AnyCall, AnyTold};
 use txn_world::world::World;
 
 /// The most clients that a script may have.
@@ -58,16 +57,16 @@ fn take_event<T: LineValue, C: TextForm, K: ScriptWorld<T, C>>(
         return Err(Stop::NoMemory);
     };
     match came {
-        Came::Told(AnyTold::Answered(op, answer)) => {
+        Came::Told(Told::Answered(op, answer)) => {
             let answered = Answered(&answer);
             printer.print_line(AnswerLine { op, answered })?;
             Ok(false)
         }
-        Came::Told(AnyTold::Began(_)) => Ok(true),
-        Came::Told(AnyTold::Went(_)) => Ok(true),
-        Came::Told(AnyTold::GaveUp(_)) => Ok(true),
-        Came::Told(AnyTold::Landed(_, _)) => Ok(true),
-        Came::Told(AnyTold::Crashed(_)) => Ok(true),
+        Came::Told(Told::Began(_)) => Ok(true),
+        Came::Told(Told::Went(_)) => Ok(true),
+        Came::Told(Told::GaveUp(_)) => Ok(true),
+        Came::Told(Told::Landed(_, _)) => Ok(true),
+        Came::Told(Told::Crashed(_)) => Ok(true),
         Came::Refused(line) => {
             printer.print_line(line)?;
             Ok(false)
@@ -365,7 +364,7 @@ pub fn print_script<R: Read + Drop, W: Write>(
     ensures stop { IfErr result
         (λ stop. StopsAfter record_rules stop (R.remaining reader) (W.contents out.old) (W.contents out.new)) }
 {
-    print_world::<Record, AnyCall<Record>, World<Record, RecordCodec, RecordEpoch>, R, W>(
+    print_world::<Record, Call<Record>, World<Record, RecordCodec, RecordEpoch>, R, W>(
         alloc, reader, out,
     )
 }

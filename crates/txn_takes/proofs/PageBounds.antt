@@ -8,17 +8,17 @@ use Rattle.txn_store.specs.Store.{Files, listing}
 use Rattle.txn_store.specs.declared.store.ObjectMeta.{ObjectMeta}
 use Rattle.txn_steps.specs.Requests.{last_location, next_after}
 use Rattle.txn_history.specs.Names.{world_names}
-use Rattle.txn_machine.specs.Alone.{page_after, AtMost, HasPages}
+use Rattle.txn_machine_inner.specs.Alone.{page_after, AtMost, HasPages}
 use Rattle.txn_drivers.specs.PageCount.{pages_below}
 use Rattle.txn_drivers.proofs.NextPages.{next_page, has_pages}
-use Rattle.txn_view_history.specs.declared.event.AnyCall.{AnyCall}
-use Rattle.txn_view_history.specs.Trace.{AnyEvent, AnyTold}
-use Rattle.txn_any_machine.specs.Alone.{IsReading, ReadsAlone, turns}
-use Rattle.txn_any_machine.specs.Machine.{State, opening, next_op, Runs}
-use Rattle.txn_any_machine.proofs.Mirroring.{turns_at_rest}
-use Rattle.txn_any_machine.proofs.Owned.{run_same}
-use Rattle.txn_any_machine.proofs.Reached.{run_reaches}
-use Rattle.txn_any_machine.proofs.Runs.{runs_or_lacking}
+use Rattle.txn_history.specs.declared.event.Call.{Call}
+use Rattle.txn_history.specs.Trace.{Event, Told}
+use Rattle.txn_machine.specs.Alone.{IsReading, ReadsAlone, turns}
+use Rattle.txn_machine.specs.Machine.{State, opening, next_op, Runs}
+use Rattle.txn_machine.proofs.Mirroring.{turns_at_rest}
+use Rattle.txn_machine.proofs.Owned.{run_same}
+use Rattle.txn_machine.proofs.Reached.{run_reaches}
+use Rattle.txn_machine.proofs.Runs.{runs_or_lacking}
 
 module _ (files : Files) (limit : ℕ) (room : 1 ≤ limit) where
   abbrev metas_after : Option Segments → List ObjectMeta
@@ -62,7 +62,7 @@ module _ (files : Files) (limit : ℕ) (room : 1 ≤ limit) where
 
 module _ {T : Type 0} (encode : T → List ℕ) (decode : List ℕ → Option T) (get_epoch : T → ℕ) (set_epoch : T → ℕ → T) where
   -- a read that nothing disturbs takes two turns for each page at most
-  pub turns_by_files : (clients page : ℕ) (before : List (AnyEvent T × AnyTold T)) (s : State T) (client : ℕ) (call : AnyCall T) (states : List (State T)) → 1 ≤ page → Runs encode decode get_epoch set_epoch (opening clients page) before s → IsReading call → ReadsAlone encode decode get_epoch set_epoch s client call states →
+  pub turns_by_files : (clients page : ℕ) (before : List (Event T × Told T)) (s : State T) (client : ℕ) (call : Call T) (states : List (State T)) → 1 ≤ page → Runs encode decode get_epoch set_epoch (opening clients page) before s → IsReading call → ReadsAlone encode decode get_epoch set_epoch s client call states →
       turns (next_op s) s states ≤ 2 * pages_below world_names page s.store.files
   turns_by_files clients page before s client call states room runs is alone =
       let count = pages_below world_names page s.store.files in

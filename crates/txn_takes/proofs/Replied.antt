@@ -46,10 +46,10 @@ use Rattle.txn_drivers.specs.ListRuns.{CanList}
 use Rattle.txn_drivers.specs.RemovalRuns.{CanRemove}
 use Rattle.txn_drivers.specs.WriteRuns.{CanWrite}
 use Rattle.txn_history.specs.Seen.{Ask}
-use Rattle.txn_machine.specs.declared.doing.Doing.{Doing}
-use Rattle.txn_machine.specs.declared.doing.Doing.TheVariants as doings
-use Rattle.txn_machine.specs.Doing as plain
-use Rattle.txn_machine.specs.Doing.{ask_of}
+use Rattle.txn_machine_inner.specs.declared.doing.PlainDoing.{PlainDoing}
+use Rattle.txn_machine_inner.specs.declared.doing.PlainDoing.TheVariants as doings
+use Rattle.txn_machine_inner.specs.Doing as plain
+use Rattle.txn_machine_inner.specs.Doing.{ask_of}
 use Rattle.txn_clients.specs.Operations.{request_of}
 use Rattle.txn_view_steps.specs.declared.entry.EntryOp.{EntryOp}
 use Rattle.txn_view_steps.specs.declared.entry.EntryOp.TheVariants as entries
@@ -60,9 +60,9 @@ use Rattle.txn_view_steps.specs.declared.op.ViewOp.TheVariants as views
 use Rattle.txn_view_steps.specs.Entries.{entry_asked, IsEntryReply}
 use Rattle.txn_view_steps.specs.Attempts.{claiming_asked, IsClaimingReply, IsClaimingInRange}
 use Rattle.txn_view_steps.specs.ViewOps.{view_asked, IsViewReply, IsViewInRange}
-use Rattle.txn_any_machine.specs.declared.doing.AnyDoing.{AnyDoing}
-use Rattle.txn_any_machine.specs.declared.doing.AnyDoing.TheVariants as does
-use Rattle.txn_any_machine.specs.Doing as any
+use Rattle.txn_machine.specs.declared.doing.Doing.{Doing}
+use Rattle.txn_machine.specs.declared.doing.Doing.TheVariants as does
+use Rattle.txn_machine.specs.Doing as any
 use Rattle.txn_takes.specs.Taking.{CanDo, CanEnter, CanClaim, CanView, CanTake, FitsAsk, CanServe}
 
 ask_request : (request : Option Request) → request_of (Some (ask_of request)) ≡ request
@@ -353,7 +353,7 @@ module _ {T : Type 0} where
   -- any operation
 
   -- it takes what fits what it asks for, where it has not ended
-  plain_replies : (doing : Doing T) (ask : Ask) (reply : Option Reply) → CanDo doing → plain.asked doing ≡ Some ask → FitsAsk (request_of (plain.asked doing)) reply → plain.IsReply doing reply
+  plain_replies : (doing : PlainDoing T) (ask : Ask) (reply : Option Reply) → CanDo doing → plain.asked doing ≡ Some ask → FitsAsk (request_of (plain.asked doing)) reply → plain.IsReply doing reply
   plain_replies (doings.Write op) ask reply can is fits = write_replies op reply can (subst (λ r. FitsAsk r reply) (ask_request (write_asked op)) fits)
   plain_replies (doings.WriteUnchecked op) ask reply can is fits = unchecked_replies op reply can (subst (λ r. FitsAsk r reply) (ask_request (unchecked_asked op)) fits)
   plain_replies (doings.Read op) ask reply can is fits = read_replies op reply can (subst (λ r. FitsAsk r reply) (ask_request (read_asked op)) fits)
@@ -365,7 +365,7 @@ module _ {T : Type 0} where
   plain_replies (doings.Advance op) ask reply can is fits = advance_replies op reply can (subst (λ r. FitsAsk r reply) (ask_request (advance_asked op)) fits)
   plain_replies doings.Ended ask reply can is fits = absurd (cc)
 
-  plain_serves : (doing : Doing T) → CanDo doing → CanServe (request_of (plain.asked doing))
+  plain_serves : (doing : PlainDoing T) → CanDo doing → CanServe (request_of (plain.asked doing))
   plain_serves (doings.Write op) can = subst CanServe (sym (ask_request (write_asked op))) (write_serves op can)
   plain_serves (doings.WriteUnchecked op) can = subst CanServe (sym (ask_request (unchecked_asked op))) (unchecked_serves op can)
   plain_serves (doings.Read op) can = subst CanServe (sym (ask_request (read_asked op))) (read_serves op can)
@@ -377,7 +377,7 @@ module _ {T : Type 0} where
   plain_serves (doings.Advance op) can = subst CanServe (sym (ask_request (advance_asked op))) (advance_serves op can)
   plain_serves doings.Ended can = tt
 
-  plain_range : (doing : Doing T) → CanDo doing → plain.InRange doing
+  plain_range : (doing : PlainDoing T) → CanDo doing → plain.InRange doing
   plain_range (doings.Read op) can = read_range op can
   plain_range (doings.Write op) can = tt
   plain_range (doings.WriteUnchecked op) can = tt
@@ -389,14 +389,14 @@ module _ {T : Type 0} where
   plain_range (doings.Advance op) can = tt
   plain_range doings.Ended can = tt
 
-  pub takes_fitting : (doing : AnyDoing T) (ask : Ask) (reply : Option Reply) → CanTake doing → any.asked doing ≡ Some ask → FitsAsk (request_of (any.asked doing)) reply → any.IsReply doing reply
+  pub takes_fitting : (doing : Doing T) (ask : Ask) (reply : Option Reply) → CanTake doing → any.asked doing ≡ Some ask → FitsAsk (request_of (any.asked doing)) reply → any.IsReply doing reply
   takes_fitting (does.Plain doing) ask reply can is fits = plain_replies doing ask reply can is fits
   takes_fitting (does.View op) ask reply can is fits = view_replies op reply can (subst (λ r. FitsAsk r reply) (ask_request (view_asked op)) fits)
 
-  pub can_be_served : (doing : AnyDoing T) → CanTake doing → CanServe (request_of (any.asked doing))
+  pub can_be_served : (doing : Doing T) → CanTake doing → CanServe (request_of (any.asked doing))
   can_be_served (does.Plain doing) can = plain_serves doing can
   can_be_served (does.View op) can = subst CanServe (sym (ask_request (view_asked op))) (view_serves op can)
 
-  pub is_in_range : (doing : AnyDoing T) → CanTake doing → any.InRange doing
+  pub is_in_range : (doing : Doing T) → CanTake doing → any.InRange doing
   is_in_range (does.Plain doing) can = plain_range doing can
   is_in_range (does.View op) can = view_range op can

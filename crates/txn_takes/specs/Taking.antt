@@ -7,19 +7,19 @@ use Rattle.txn_logged.specs.Logged.{IsOfKind}
 use Rattle.txn_drivers.specs.DriveSteps.{CanGet, CanCheck, CanAdvance, CanWriteChecked, CanDelete, CanReadSeen, CanRead}
 use Rattle.txn_drivers.specs.ListRuns.{CanList}
 use Rattle.txn_drivers.specs.WriteRuns.{CanWrite}
-use Rattle.txn_machine.specs.declared.doing.Doing.{Doing}
-use Rattle.txn_machine.specs.declared.doing.Doing.TheVariants.{Write, WriteUnchecked, Read, ReadUnchecked, ReadSeen, ListIds, Delete, Check, Advance, Ended}
+use Rattle.txn_machine_inner.specs.declared.doing.PlainDoing.{PlainDoing}
+use Rattle.txn_machine_inner.specs.declared.doing.PlainDoing.TheVariants.{Write, WriteUnchecked, Read, ReadUnchecked, ReadSeen, ListIds, Delete, Check, Advance, Ended}
 use Rattle.txn_view_steps.specs.declared.entry.EntryOp.{EntryOp}
 use Rattle.txn_view_steps.specs.declared.entry.EntryOp.TheVariants as entries
 use Rattle.txn_view_steps.specs.declared.claiming.Claiming.{Claiming}
 use Rattle.txn_view_steps.specs.declared.claiming.Claiming.TheVariants as claimings
 use Rattle.txn_view_steps.specs.declared.op.ViewOp.{ViewOp}
 use Rattle.txn_view_steps.specs.declared.op.ViewOp.TheVariants as views
-use Rattle.txn_any_machine.specs.declared.doing.AnyDoing.{AnyDoing}
-use Rattle.txn_any_machine.specs.declared.doing.AnyDoing.TheVariants as does
+use Rattle.txn_machine.specs.declared.doing.Doing.{Doing}
+use Rattle.txn_machine.specs.declared.doing.Doing.TheVariants as does
 
 module _ {T : Type 0} where
-  abbrev pub CanDo : Doing T → Type 0
+  abbrev pub CanDo : PlainDoing T → Type 0
   CanDo (Write op) = CanWriteChecked op
   CanDo (WriteUnchecked op) = CanWrite op
   CanDo (Read op) = CanRead op
@@ -50,7 +50,7 @@ module _ {T : Type 0} where
   CanView (views.HolderRefresh op) = CanRead op.read
   CanView (views.HolderUpdate op) = CanEnter op.entry
 
-  abbrev pub CanTake : AnyDoing T → Type 0
+  abbrev pub CanTake : Doing T → Type 0
   CanTake (does.Plain doing) = CanDo doing
   CanTake (does.View op) = CanView op
 

@@ -4,18 +4,18 @@ ghost use Rattle.txn_store.specs.declared.request.Reply.{Reply};
 ghost use Rattle.txn_caches.specs.declared.caches.Caches.{Caches};
 ghost use Rattle.txn_history.specs.Seen.{Ask};
 ghost use Rattle.txn_clients.specs.Operations.{request_of};
-ghost use Rattle.txn_view_history.specs.declared.event.AnyCall.{AnyCall};
-ghost use Rattle.txn_view_history.specs.Views.{View};
-ghost use Rattle.txn_any_machine.specs.declared.doing.AnyDoing.{AnyDoing};
-ghost use Rattle.txn_any_machine.specs.Doing.{asked, started, turned, IsReply, InRange};
+ghost use Rattle.txn_history.specs.declared.event.Call.{Call};
+ghost use Rattle.txn_history.specs.Views.{View};
+ghost use Rattle.txn_machine.specs.declared.doing.Doing.{Doing};
+ghost use Rattle.txn_machine.specs.Doing.{asked, started, turned, IsReply, InRange};
 ghost use Rattle.txn_takes.specs.Taking.{CanTake, FitsAsk, CanServe};
 
 /// An operation can take what it asks for when it starts, and after each look and each reply, whatever that is. So it takes a
 /// reply of the kind that it asks for, and what it asks for can be served.
 pub fn operations_take_replies<T: Drop>(_value: &T)
-    ensures started { (page : ℕ) (encode : T → List ℕ) (get_epoch : T → ℕ) (set_epoch : T → ℕ → T) (call : AnyCall T) (view : Option (View T)) → 1 ≤ page → CanTake (started page encode get_epoch set_epoch call view).0 }
-    ensures turned { (page : ℕ) (encode : T → List ℕ) (decode : List ℕ → Option T) (get_epoch : T → ℕ) (set_epoch : T → ℕ → T) (refused : Bool) (doing : AnyDoing T) (caches : Caches) (reply : Option Reply) → 1 ≤ page → CanTake doing → CanTake (turned page encode decode get_epoch set_epoch refused doing caches reply).0 }
-    ensures takes { (doing : AnyDoing T) (ask : Ask) (reply : Option Reply) → CanTake doing → asked doing ≡ Some ask → FitsAsk (request_of (asked doing)) reply → IsReply doing reply }
-    ensures serves { (doing : AnyDoing T) → CanTake doing → CanServe (request_of (asked doing)) }
-    ensures range { (doing : AnyDoing T) → CanTake doing → InRange doing }
+    ensures started { (page : ℕ) (encode : T → List ℕ) (get_epoch : T → ℕ) (set_epoch : T → ℕ → T) (call : Call T) (view : Option (View T)) → 1 ≤ page → CanTake (started page encode get_epoch set_epoch call view).0 }
+    ensures turned { (page : ℕ) (encode : T → List ℕ) (decode : List ℕ → Option T) (get_epoch : T → ℕ) (set_epoch : T → ℕ → T) (refused : Bool) (doing : Doing T) (caches : Caches) (reply : Option Reply) → 1 ≤ page → CanTake doing → CanTake (turned page encode decode get_epoch set_epoch refused doing caches reply).0 }
+    ensures takes { (doing : Doing T) (ask : Ask) (reply : Option Reply) → CanTake doing → asked doing ≡ Some ask → FitsAsk (request_of (asked doing)) reply → IsReply doing reply }
+    ensures serves { (doing : Doing T) → CanTake doing → CanServe (request_of (asked doing)) }
+    ensures range { (doing : Doing T) → CanTake doing → InRange doing }
 {}

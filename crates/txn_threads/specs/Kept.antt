@@ -1,11 +1,11 @@
 -- A world beside the journal of what its workers did, and the shares that its workers hold.
 use Rattle.std.specs.Prelude.{◌≡◌, ◌⊎◌, ◌+◌, ◌-◌, ◌^◌, ◌≤◌, ◌++◌, ◌∷◌, [], ℕ, List, Option, Some, None, Result, Ok, Err, All, count_by, length, map, nat_eq, if◌then◌else◌, slice_get, slice_index}
-use Rattle.txn_view_history.specs.Trace.{AnyEvent, AnyTold}
+use Rattle.txn_history.specs.Trace.{Event, Told}
 use Rattle.txn_history.specs.declared.event.EventFault.{EventFault}
 use Rattle.txn_history.specs.declared.event.EventFault.TheVariants as faults
 use Rattle.txn_threads.specs.declared.kept.JournalRow.{JournalRow}
 use Rattle.txn_threads.specs.declared.kept.Share.{Share}
-use Rattle.txn_any_machine.specs.Machine.{State, WorldState, opening, refusal_of, Takes, Runs}
+use Rattle.txn_machine.specs.Machine.{State, WorldState, opening, refusal_of, Takes, Runs}
 use Rattle.txn_threads.specs.Lists.{AreEach}
 
 -- a world, how many workers it has, and what they did
@@ -16,7 +16,7 @@ pub record KeptState (T C E : Type 0) : Type 0 where
 
 module _ {T : Type 0} where
   -- the events of a journal, each with what it told
-  abbrev pub taken_of : List (JournalRow T) → List (AnyEvent T × AnyTold T)
+  abbrev pub taken_of : List (JournalRow T) → List (Event T × Told T)
   taken_of journal = map (λ row. (row.event, row.told)) journal
 
   -- how many rows of a journal are this worker's
@@ -24,7 +24,7 @@ module _ {T : Type 0} where
   rows_of journal worker = count_by (λ row. nat_eq row.worker worker) journal
 
   -- what the last row of a journal tells
-  abbrev pub IsLastTold : List (JournalRow T) → AnyTold T → Type 0
+  abbrev pub IsLastTold : List (JournalRow T) → Told T → Type 0
   IsLastTold journal told = (rows : List (JournalRow T)) × (row : JournalRow T) × (journal ≡ rows ++ row ∷ []) × (row.told ≡ told)
 
 -- An event that is due this fault, where it is due one, is refused with it, or for want of memory.
@@ -46,7 +46,7 @@ one_more share = record { worker = share.worker; count = if nat_eq share.count (
 
 module _ {T : Type 0} (encode : T → List ℕ) (decode : List ℕ → Option T) (get_epoch : T → ℕ) (set_epoch : T → ℕ → T) where
   -- why this world refuses the event, where it does
-  abbrev pub due_fault : {C E : Type 0} → WorldState T C E → AnyEvent T → Option EventFault
+  abbrev pub due_fault : {C E : Type 0} → WorldState T C E → Event T → Option EventFault
   due_fault world event = refusal_of encode decode get_epoch set_epoch world.state event
 
   -- Taking the journal's events in order, from a world in which nothing has happened, tells what the
@@ -55,7 +55,7 @@ module _ {T : Type 0} (encode : T → List ℕ) (decode : List ℕ → Option T)
   Replays journal state = Runs encode decode get_epoch set_epoch (opening state.clients state.page) (taken_of journal) state
 
   -- One row more, of this worker, event and what the world told of it; and the world took the event.
-  pub record AddsJournalRow {C E : Type 0} (old new : KeptState T C E) (worker : ℕ) (event : AnyEvent T) (told : AnyTold T) : Type 0 where
+  pub record AddsJournalRow {C E : Type 0} (old new : KeptState T C E) (worker : ℕ) (event : Event T) (told : Told T) : Type 0 where
     pub row : new.journal ≡ old.journal ++ record { worker = worker; event = event; told = told } ∷ []
     pub step : Takes encode decode get_epoch set_epoch old.world.state event told new.world.state
     pub codec : new.world.codec ≡ old.world.codec

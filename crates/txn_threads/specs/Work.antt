@@ -1,9 +1,9 @@
 -- What a worker hears of its events, and how far its share may grow.
 use Rattle.std.specs.Prelude.{ℕ, ◌≡◌, ◌+◌, ◌≤◌, Option, Some, None}
-use Rattle.txn_history.specs.declared.event.Answer.TheVariants as plain
-use Rattle.txn_view_history.specs.declared.event.AnyAnswer.{AnyAnswer}
-use Rattle.txn_view_history.specs.declared.event.AnyAnswer.TheVariants as answers
-use Rattle.txn_view_history.specs.Trace.{AnyTold}
+use Rattle.txn_history.specs.declared.event.PlainAnswer.TheVariants as plain
+use Rattle.txn_history.specs.declared.event.Answer.{Answer}
+use Rattle.txn_history.specs.declared.event.Answer.TheVariants as answers
+use Rattle.txn_history.specs.Trace.{Told}
 use Rattle.txn_history.specs.declared.event.ToldOf.TheVariants as told
 use Rattle.txn_threads.specs.declared.kept.Share.{Share}
 use Rattle.txn_threads.specs.declared.caller.Heard.{Heard}
@@ -12,7 +12,7 @@ use Rattle.txn_threads.specs.declared.caller.Heard.TheVariants.{Goes, Ended}
 module _ {T : Type 0} where
   -- The base that a call's answer gives for a write: the id that a read found, or that it found none.
   -- Another answer gives none.
-  abbrev pub base_read : AnyAnswer T → Option (Option ℕ)
+  abbrev pub base_read : Answer T → Option (Option ℕ)
   base_read (answers.Plain (plain.Read None)) = Some None
   base_read (answers.Plain (plain.Read (Some found))) = Some (Some found.0)
   base_read (answers.Plain (plain.Wrote id)) = None
@@ -24,7 +24,7 @@ module _ {T : Type 0} where
   base_read (answers.Held view id value epoch) = None
 
   -- Whether the operation goes on or has ended, and with which base. What is told of no answer gives none: a worker makes no event that tells it.
-  abbrev pub heard_of : AnyTold T → Heard
+  abbrev pub heard_of : Told T → Heard
   heard_of (told.Began op) = Goes op
   heard_of (told.Went op) = Goes op
   heard_of (told.Answered op answer) = Ended (base_read answer)

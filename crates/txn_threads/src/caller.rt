@@ -3,8 +3,7 @@ ghost use Rattle.std.specs.Prelude.{◌≡◌};
 ghost use Rattle.txn_threads.specs.Work.{base_read, heard_of};
 
 use std::sync::Wait;
-use txn_history::event::{Answer, EventFault};
-use txn_view_history::event::{AnyAnswer, AnyCall, AnyTold};
+use txn_history::event::{Answer, Call, EventFault, PlainAnswer, Told};
 
 /// What a worker hears of its event.
 pub(crate) enum Heard {
@@ -16,25 +15,25 @@ pub(crate) enum Heard {
 }
 
 /// The base for a write that the answer gives.
-fn base_read<T>(answer: &AnyAnswer<T>) -> Option<Option<u64>>
+fn base_read<T>(answer: &Answer<T>) -> Option<Option<u64>>
     ensures { result ≡ base_read answer.now }
 {
     match answer {
-        AnyAnswer::Plain(Answer::Read(None)) => Some(None),
-        AnyAnswer::Plain(Answer::Read(Some((id, _)))) => Some(Some(*id)),
+        Answer::Plain(PlainAnswer::Read(None)) => Some(None),
+        Answer::Plain(PlainAnswer::Read(Some((id, _)))) => Some(Some(*id)),
         _ => None,
     }
 }
 
 /// What a worker hears of what its event told.
-pub(crate) fn hear<T>(told: &AnyTold<T>) -> Heard
+pub(crate) fn hear<T>(told: &Told<T>) -> Heard
     ensures { result ≡ heard_of told.now }
 {
     match told {
-        AnyTold::Began(op) | AnyTold::Went(op) => Heard::Goes(*op),
-        AnyTold::Answered(_, answer) => Heard::Ended(base_read(answer)),
+        Told::Began(op) | Told::Went(op) => Heard::Goes(*op),
+        Told::Answered(_, answer) => Heard::Ended(base_read(answer)),
         // A worker makes no event that tells these.
-        AnyTold::GaveUp(_) | AnyTold::Landed(_, _) | AnyTold::Crashed(_) => Heard::Ended(None),
+        Told::GaveUp(_) | Told::Landed(_, _) | Told::Crashed(_) => Heard::Ended(None),
     }
 }
 
@@ -51,7 +50,7 @@ pub(crate) trait Caller<T: Clone, P> {
     fn number(&self) -> u64;
 
     /// Begins a call.
-    fn begin<R: Wait>(&mut self, rt: &R, place: &P, call: AnyCall<T>) -> Result<Heard, EventFault>
+    fn begin<R: Wait>(&mut self, rt: &R, place: &P, call: Call<T>) -> Result<Heard, EventFault>
         requires { IsExactClone T.is_clone }
         ensures { goes self.old 1 self.new };
 

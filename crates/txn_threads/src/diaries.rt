@@ -12,11 +12,10 @@ use std::sync::{Mutex, Wait};
 use std::thread;
 use std::thread::Threads;
 use txn_diary::diary::Diary;
-use txn_history::event::EventFault;
+use txn_history::event::{Call, EventFault};
 use txn_logged::logged::LoggedStore;
 use txn_types::codec::ObjectCodec;
 use txn_types::epoch::EpochField;
-use txn_view_history::event::AnyCall;
 
 /// A client's diary, and how the client's worker came to its end.
 #[derive(Drop)]
@@ -42,7 +41,7 @@ impl<T: Clone, C: ObjectCodec<T> + Drop, E: EpochField<T>> Caller<T, Mutex<Logge
         &mut self,
         _rt: &R,
         _place: &Mutex<LoggedStore>,
-        call: AnyCall<T>,
+        call: Call<T>,
     ) -> Result<Heard, EventFault>
         requires { IsExactClone T.is_clone }
         ensures { Lengthens self.old 1 self.new }

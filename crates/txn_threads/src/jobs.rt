@@ -5,8 +5,7 @@ ghost use Rattle.txn_types.specs.Clones.{IsExactClone};
 use crate::caller::{Caller, Heard};
 use crate::gate::Gate;
 use std::sync::Wait;
-use txn_history::event::{Call, EventFault};
-use txn_view_history::event::AnyCall;
+use txn_history::event::{Call, EventFault, PlainCall};
 
 /// The most events of one call of a worker, its begin among them.
 pub const EVENTS_OF_A_CALL: u64 = 200;
@@ -15,7 +14,7 @@ pub const EVENTS_OF_A_CALL: u64 = 200;
 #[derive(Debug, Drop, PartialEq, Eq)]
 pub enum Job<T> {
     /// Makes this call.
-    Call(AnyCall<T>),
+    PlainCall(Call<T>),
     /// Reads, then writes the value on the id that it read, or as the first version where there was
     /// none. Where the read is refused there is no write.
     WriteOnRead(T),
@@ -55,7 +54,7 @@ fn begin<R: Wait, T: Clone, P, X: Caller<T, P>, G: Gate>(
     place: &P,
     worker: &mut Turns<X>,
     gate: &mut G,
-    call: AnyCall<T>,
+    call: Call<T>,
 ) -> Result<Heard, End>
     requires { IsExactClone T.is_clone }
     ensures { X.goes worker.old.caller 1 worker.new.caller }
@@ -91,7 +90,7 @@ fn call<R: Wait, T: Clone, P, X: Caller<T, P>, G: Gate>(
     place: &P,
     worker: &mut Turns<X>,
     gate: &mut G,
-    call: AnyCall<T>,
+    call: Call<T>,
 ) -> Result<Option<Option<u64>>, End>
     requires { IsExactClone T.is_clone }
     ensures { X.goes worker.old.caller 200 worker.new.caller }
@@ -120,8 +119,8 @@ fn write_on_read<R: Wait, T: Clone, P, X: Caller<T, P>, G: Gate>(
     requires { IsExactClone T.is_clone }
     ensures { X.goes worker.old.caller 400 worker.new.caller }
 {
-    if let Some(base) = call(rt, place, worker, gate, AnyCall::Plain(Call::Read))? {
-        let write = AnyCall::Plain(Call::Write(base, value));
+    if let Some(base) = call(rt, place, worker, gate, Call::Plain(PlainCall::Read))? {
+        let write = Call::Plain(PlainCall::Write(base, value));
         call(rt, place, worker, gate, write)?;
     }
     Ok(())

@@ -2,27 +2,26 @@
 ghost use Rattle.std.specs.Prelude.{◌≡◌, ◌≤◌, ◌<◌, ◌+◌, ◌-◌, ◌^◌, [], IfOk, IfErr, All, Some, length, nat_eq, if◌then◌else◌, slice_get, slice_index};
 ghost use Rattle.txn_types.specs.Clones.{IsExactClone};
 ghost use Rattle.txn_history.specs.Seen.{asks_of};
-ghost use Rattle.txn_machine.specs.Doing.{asks_as};
-ghost use Rattle.txn_any_machine.specs.Machine.{opening, seen_calls};
+ghost use Rattle.txn_machine_inner.specs.Doing.{asks_as};
+ghost use Rattle.txn_machine.specs.Machine.{opening, seen_calls};
 ghost use Rattle.txn_threads.specs.Lists.{AreEach};
 ghost use Rattle.txn_threads.specs.Kept.{one_more, AreCounts, AreFirst, AreZeros};
 
 use std::alloc::{AllocError, Global};
 use std::marker::Model;
 use txn_caches::ask::Ask;
-use txn_history::event::EventFault;
+use txn_history::event::{Event, EventFault, Told, try_clone_event};
 use txn_types::codec::ObjectCodec;
 use txn_types::epoch::EpochField;
 use txn_types::room::push_within;
-use txn_view_history::event::{AnyEvent, AnyTold, try_clone_event};
 use txn_world::world::World;
 
 /// One event that a worker took, and what it told.
 #[derive(Debug, Drop)]
 pub struct JournalRow<T> {
     pub worker: u64,
-    pub event: AnyEvent<T>,
-    pub told: AnyTold<T>,
+    pub event: Event<T>,
+    pub told: Told<T>,
 }
 
 /// A worker's own count of the events that it took. Workers are numbered from 1. It is made by
@@ -120,9 +119,9 @@ impl<T: Clone, C: ObjectCodec<T> + Drop, E: EpochField<T>> Kept<T, C, E> {
     ghost use Rattle.std.specs.Borrow.{sem};
     ghost use Rattle.txn_types.specs.Clones.{IsExactClone};
     ghost use Rattle.txn_history.specs.Seen.{asks_of};
-    ghost use Rattle.txn_view_history.specs.Trace.{AnyTold};
-    ghost use Rattle.txn_machine.specs.Doing.{asks_as};
-    ghost use Rattle.txn_any_machine.specs.Machine.{opening, seen_calls, next_event};
+    ghost use Rattle.txn_history.specs.Trace.{Told};
+    ghost use Rattle.txn_machine_inner.specs.Doing.{asks_as};
+    ghost use Rattle.txn_machine.specs.Machine.{opening, seen_calls, next_event};
     ghost use Rattle.txn_threads.specs.Kept.{IsRefusedAs, due_fault, one_more, AreFirst, AddsJournalRow, IsLastTold, Replays, AreCounts};
     ghost use Rattle.txn_threads.specs.KeptLends.{ends_taken};
 
@@ -152,16 +151,16 @@ impl<T: Clone, C: ObjectCodec<T> + Drop, E: EpochField<T>> Kept<T, C, E> {
 
     /// Takes an event of a worker and adds its row. Room and the row's copy of the event are made before
     /// the world takes it.
-    fn add(&mut self, worker: u64, event: AnyEvent<T>) -> Result<(), EventFault>
+    fn add(&mut self, worker: u64, event: Event<T>) -> Result<(), EventFault>
         requires { IsExactClone T.is_clone }
-        ensures ok { OnOk result ((told : AnyTold T) × AddsJournalRow (C.encoded self.old.world.codec) (C.decoded self.old.world.codec) (E.epoch_of self.old.world.epochs) (E.with_epoch self.old.world.epochs) self.old self.new worker event told) }
+        ensures ok { OnOk result ((told : Told T) × AddsJournalRow (C.encoded self.old.world.codec) (C.decoded self.old.world.codec) (E.epoch_of self.old.world.epochs) (E.with_epoch self.old.world.epochs) self.old self.new worker event told) }
         ensures refused { IsRefusedAs (due_fault (C.encoded self.old.world.codec) (C.decoded self.old.world.codec) (E.epoch_of self.old.world.epochs) (E.with_epoch self.old.world.epochs) self.old.world event) result }
         ensures err { OnErr result (self.new ≡ self.old) }
     {
         let Ok(()) = self.journal.reserve(1) else {
             return Err(EventFault::NoMemory);
         };
-        let Ok(copy) = try_clone_event(&event) else {
+        let Ok(copy) = event.try_clone() else {
             return Err(EventFault::NoMemory);
         };
         let told = self.world.take(event)?;
@@ -177,7 +176,7 @@ impl<T: Clone, C: ObjectCodec<T> + Drop, E: EpochField<T>> Kept<T, C, E> {
     }
 
     /// What the last row of the journal tells.
-    fn last_told(&self) -> &AnyTold<T>
+    fn last_told(&self) -> &Told<T>
         requires { 0 < length self.now.journal }
         ensures { IsLastTold self.now.journal result.now }
     {
@@ -191,8 +190,8 @@ impl<T: Clone, C: ObjectCodec<T> + Drop, E: EpochField<T>> Kept<T, C, E> {
     pub fn take<'a>(
         &'a mut self,
         share: &mut Share,
-        event: AnyEvent<T>,
-    ) -> Result<&'a AnyTold<T>, EventFault>
+        event: Event<T>,
+    ) -> Result<&'a Told<T>, EventFault>
         requires { IsExactClone T.is_clone }
         ensures refused { IsRefusedAs (due_fault (C.encoded self.old.world.codec) (C.decoded self.old.world.codec) (E.epoch_of self.old.world.epochs) (E.with_epoch self.old.world.epochs) self.old.world event) result }
         ensures share { MatchResult result (λ _. share.new ≡ one_more share.old) (λ _. share.new ≡ share.old) }
@@ -209,7 +208,7 @@ impl<T: Clone, C: ObjectCodec<T> + Drop, E: EpochField<T>> Kept<T, C, E> {
         &'a mut self,
         share: &mut Share,
         op: u64,
-    ) -> Result<&'a AnyTold<T>, EventFault>
+    ) -> Result<&'a Told<T>, EventFault>
         requires { IsExactClone T.is_clone }
         ensures refused { IsRefusedAs (due_fault (C.encoded self.old.world.codec) (C.decoded self.old.world.codec) (E.epoch_of self.old.world.epochs) (E.with_epoch self.old.world.epochs) self.old.world (next_event self.old.world.state op)) result }
         ensures share { MatchResult result (λ _. share.new ≡ one_more share.old) (λ _. share.new ≡ share.old) }
@@ -228,7 +227,7 @@ impl<T: Clone, C: ObjectCodec<T> + Drop, E: EpochField<T>> Kept<T, C, E> {
     }
 
     /// The event that gives an operation what it asks for.
-    fn next_event(&self, op: u64) -> AnyEvent<T>
+    fn next_event(&self, op: u64) -> Event<T>
         ensures { result ≡ next_event self.now.world.state op }
     {
         self.world.next_event(op)

@@ -12,10 +12,9 @@ use std::alloc::AllocError;
 use std::sync::{Mutex, Wait};
 use std::thread;
 use std::thread::Threads;
-use txn_history::event::EventFault;
+use txn_history::event::{Call, Event, EventFault};
 use txn_types::codec::ObjectCodec;
 use txn_types::epoch::EpochField;
-use txn_view_history::event::{AnyCall, AnyEvent};
 
 /// A worker's share, and how the worker came to its end.
 #[derive(Debug, Drop, PartialEq, Eq)]
@@ -41,12 +40,12 @@ impl<T: Clone, C: ObjectCodec<T> + Drop, E: EpochField<T>> Caller<T, Mutex<Kept<
         &mut self,
         rt: &R,
         place: &Mutex<Kept<T, C, E>>,
-        call: AnyCall<T>,
+        call: Call<T>,
     ) -> Result<Heard, EventFault>
         requires { IsExactClone T.is_clone }
         ensures { Grows self.old 1 self.new }
     {
-        let begin = AnyEvent::Begin(self.worker(), call);
+        let begin = Event::Begin(self.worker(), call);
         match place.lock(rt).take(self, begin) {
             Ok(told) => Ok(hear(told)),
             Err(fault) => Err(fault),

@@ -9,13 +9,13 @@ use Rattle.std.specs.List.{list_any}
 use Rattle.std.specs.HashSet.{HashSet, contains}
 use Rattle.txn_history.specs.Lists.{numbered}
 use Rattle.txn_history.specs.History.{is_id}
-use Rattle.txn_view_history.specs.Seen.{view_in}
-use Rattle.txn_view_machine.specs.Layer.{Used, Change, Keeps, Puts, Makes, Closes, changed, with_busy, new_view}
-use Rattle.txn_view_machine.specs.Steps.{view_without}
+use Rattle.txn_history.specs.Seen.{view_in}
+use Rattle.txn_machine_views.specs.Layer.{Used, Change, Keeps, Puts, Makes, Closes, changed, with_busy, new_view}
+use Rattle.txn_machine_views.specs.Steps.{view_without}
 use Rattle.txn_view_steps.specs.declared.outcome.Outcome.TheVariants as outcomes
-use Rattle.txn_any_machine.specs.declared.doing.Ending.{Ending}
-use Rattle.txn_any_machine.specs.declared.doing.Ending.TheVariants as endings
-use Rattle.txn_any_machine.specs.Machine.{seen_view, seen_views, used_in, used_by, with_used, made_by, views_changed, views_taken}
+use Rattle.txn_machine.specs.declared.doing.Ending.{Ending}
+use Rattle.txn_machine.specs.declared.doing.Ending.TheVariants as endings
+use Rattle.txn_machine.specs.Machine.{seen_view, seen_views, used_in, used_by, with_used, made_by, views_changed, views_taken}
 use Rattle.txn_clients.specs.Views.{as_made, IsFromOne}
 use Rattle.txn_clients.proofs.Acting.{held_at, numbered_past}
 use Rattle.txn_world.specs.Owning.{is_in_set, owns, is_own, stands_for, owner_of, emptied_where}

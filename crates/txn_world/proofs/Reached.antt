@@ -5,19 +5,19 @@ use Rattle.std.proofs.lemmas.List.{map-append}
 use Rattle.txn_history.specs.declared.event.EventFault.{EventFault}
 use Rattle.txn_history.specs.Added.{AddsRows}
 use Rattle.txn_history.specs.Lists.{numbered}
-use Rattle.txn_view_history.specs.Trace.{AnyEvent, AnyTold}
-use Rattle.txn_view_history.specs.Allowed.{is_busy}
-use Rattle.txn_view_history.specs.GoesOn.{GoesOn}
-use Rattle.txn_view_history.specs.Seen.{view_of}
-use Rattle.txn_view_history.specs.Views.{View}
-use Rattle.txn_view_machine.specs.Layer.{Used}
-use Rattle.txn_machine.specs.Machine.{fault_met, taken_count}
-use Rattle.txn_any_machine.specs.Machine.{State, WorldState, seen_calls, seen_of, used_in, refusal_of, Takes, Meets, Outcomes, RunsPast, IsReached}
-use Rattle.txn_any_machine.proofs.Runs.{taken_reached}
-use Rattle.txn_any_machine.proofs.AddedRows.{added_rows}
-use Rattle.txn_any_machine.proofs.Owned.{reached_owned}
-use Rattle.txn_any_machine.proofs.Busy.{reached_busy, reached_idle}
-use Rattle.txn_any_machine.proofs.Reached.{reached_replies, reached_looks, reached_range, reached_goes_on}
+use Rattle.txn_history.specs.Trace.{Event, Told}
+use Rattle.txn_history.specs.Allowed.{is_busy}
+use Rattle.txn_history.specs.GoesOn.{GoesOn}
+use Rattle.txn_history.specs.Seen.{view_of}
+use Rattle.txn_history.specs.Views.{View}
+use Rattle.txn_machine_views.specs.Layer.{Used}
+use Rattle.txn_machine_inner.specs.Machine.{fault_met, taken_count}
+use Rattle.txn_machine.specs.Machine.{State, WorldState, seen_calls, seen_of, used_in, refusal_of, Takes, Meets, Outcomes, RunsPast, IsReached}
+use Rattle.txn_machine.proofs.Runs.{taken_reached}
+use Rattle.txn_machine.proofs.AddedRows.{added_rows}
+use Rattle.txn_machine.proofs.Owned.{reached_owned}
+use Rattle.txn_machine.proofs.Busy.{reached_busy, reached_idle}
+use Rattle.txn_machine.proofs.Reached.{reached_replies, reached_looks, reached_range, reached_goes_on}
 use Rattle.txn_clients.specs.Views.{is_used}
 use Rattle.txn_world.specs.Answering.{IsAnswerable}
 
@@ -41,29 +41,29 @@ module _ {T : Type 0} (encode : T → List ℕ) (decode : List ℕ → Option T)
   pub client_within : (s : State T) → IsReached encode decode get_epoch set_epoch s → (number : ℕ) (seen : Option (View T)) → seen ≡ view_of (seen_of s) number → ForSome seen (λ view. (1 ≤ view.client) × (view.client ≤ s.clients))
   client_within s r number seen e view is = reached_owned encode decode get_epoch set_epoch s r number view (sym e ∙ is)
 
-  pub reached_after : (r : Result (AnyTold T) EventFault) (old : State T) (event : AnyEvent T) (new : State T) → IsReached encode decode get_epoch set_epoch old → OnErr r (new ≡ old) → IfOk r (λ said. Takes encode decode get_epoch set_epoch old event said new) → IsReached encode decode get_epoch set_epoch new
+  pub reached_after : (r : Result (Told T) EventFault) (old : State T) (event : Event T) (new : State T) → IsReached encode decode get_epoch set_epoch old → OnErr r (new ≡ old) → IfOk r (λ said. Takes encode decode get_epoch set_epoch old event said new) → IsReached encode decode get_epoch set_epoch new
   reached_after (Ok said) old event new reached err ok = taken_reached encode decode get_epoch set_epoch old event said new reached ok
   reached_after (Err fault) old event new reached err ok = subst (IsReached encode decode get_epoch set_epoch) (sym err) reached
 
-  pub adds_after : (r : Result (AnyTold T) EventFault) (old : State T) (event : AnyEvent T) (new : State T) → IsReached encode decode get_epoch set_epoch old → IfOk r (λ said. Takes encode decode get_epoch set_epoch old event said new) → IfOk r (λ said. AddsRows (seen_calls old) old.trace old.store.files event said new.trace new.store.files)
+  pub adds_after : (r : Result (Told T) EventFault) (old : State T) (event : Event T) (new : State T) → IsReached encode decode get_epoch set_epoch old → IfOk r (λ said. Takes encode decode get_epoch set_epoch old event said new) → IfOk r (λ said. AddsRows (seen_calls old) old.trace old.store.files event said new.trace new.store.files)
   adds_after (Ok said) old event new reached ok = added_rows encode decode get_epoch set_epoch old event said new reached ok
   adds_after (Err fault) old event new reached ok = tt
 
-  pub goes_after : (r : Result (AnyTold T) EventFault) (old : State T) (event : AnyEvent T) (new : State T) → IsReached encode decode get_epoch set_epoch old → IfOk r (λ said. Takes encode decode get_epoch set_epoch old event said new) → IfOk r (λ said. GoesOn (seen_of old) event said new.trace (seen_of new))
+  pub goes_after : (r : Result (Told T) EventFault) (old : State T) (event : Event T) (new : State T) → IsReached encode decode get_epoch set_epoch old → IfOk r (λ said. Takes encode decode get_epoch set_epoch old event said new) → IfOk r (λ said. GoesOn (seen_of old) event said new.trace (seen_of new))
   goes_after (Ok said) old event new reached ok = reached_goes_on encode decode get_epoch set_epoch old event said new reached ok
   goes_after (Err fault) old event new reached ok = tt
 
   -- a run past refused events, with one more
 
-  meets : (r : Result (AnyTold T) EventFault) (old : State T) (event : AnyEvent T) (new : State T) → fault_met r ≡ refusal_of encode decode get_epoch set_epoch old event → OnErr r (new ≡ old) → IfOk r (λ said. Takes encode decode get_epoch set_epoch old event said new) → Meets encode decode get_epoch set_epoch old event r new
+  meets : (r : Result (Told T) EventFault) (old : State T) (event : Event T) (new : State T) → fault_met r ≡ refusal_of encode decode get_epoch set_epoch old event → OnErr r (new ≡ old) → IfOk r (λ said. Takes encode decode get_epoch set_epoch old event said new) → Meets encode decode get_epoch set_epoch old event r new
   meets (Ok said) old event new fault err ok = ok
   meets (Err fault') old event new fault err ok = (fault, err)
 
-  outcomes_more : (old : State T) (met : List (AnyEvent T × Result (AnyTold T) EventFault)) (middle : State T) (event : AnyEvent T) (r : Result (AnyTold T) EventFault) (new : State T) → Outcomes encode decode get_epoch set_epoch old met middle → Meets encode decode get_epoch set_epoch middle event r new → Outcomes encode decode get_epoch set_epoch old (met ++ (event, r) ∷ []) new
+  outcomes_more : (old : State T) (met : List (Event T × Result (Told T) EventFault)) (middle : State T) (event : Event T) (r : Result (Told T) EventFault) (new : State T) → Outcomes encode decode get_epoch set_epoch old met middle → Meets encode decode get_epoch set_epoch middle event r new → Outcomes encode decode get_epoch set_epoch old (met ++ (event, r) ∷ []) new
   outcomes_more old [] middle event r new run m = (new, subst (λ (s : State T). Meets encode decode get_epoch set_epoch s event r new) run m, refl)
   outcomes_more old (first ∷ met) middle event r new run m = (run.0, run.1, outcomes_more run.0 met middle event r new run.2 m)
 
-  taken_more : (met : List (AnyEvent T × Result (AnyTold T) EventFault)) (event : AnyEvent T) (r : Result (AnyTold T) EventFault) → taken_count (met ++ (event, r) ∷ []) ≡ cond (is_ok r) (taken_count met + 1) (taken_count met)
+  taken_more : (met : List (Event T × Result (Told T) EventFault)) (event : Event T) (r : Result (Told T) EventFault) → taken_count (met ++ (event, r) ∷ []) ≡ cond (is_ok r) (taken_count met + 1) (taken_count met)
   taken_more [] event r = refl
   taken_more ((e, Ok said) ∷ met) event r = ap (λ n. 1 + n) (taken_more met event r) ∙ one_later (is_ok r) (taken_count met)
     where
@@ -72,17 +72,17 @@ module _ {T : Type 0} (encode : T → List ℕ) (decode : List ℕ → Option T)
       one_later false n = omega arith
   taken_more ((e, Err fault) ∷ met) event r = taken_more met event r
 
-  pub runs_past_more : (old : State T) (events : List (AnyEvent T)) (count : ℕ) (middle : State T) (event : AnyEvent T) (r : Result (AnyTold T) EventFault) (new : State T) (count' : ℕ) → RunsPast encode decode get_epoch set_epoch old events count middle →
+  pub runs_past_more : (old : State T) (events : List (Event T)) (count : ℕ) (middle : State T) (event : Event T) (r : Result (Told T) EventFault) (new : State T) (count' : ℕ) → RunsPast encode decode get_epoch set_epoch old events count middle →
       fault_met r ≡ refusal_of encode decode get_epoch set_epoch middle event → OnErr r (new ≡ middle) → IfOk r (λ said. Takes encode decode get_epoch set_epoch middle event said new) → count' ≡ cond (is_ok r) (count + 1) count → RunsPast encode decode get_epoch set_epoch old (events ++ event ∷ []) count' new
   runs_past_more old events count middle event r new count' run fault err ok next =
       record {
         met = run.met ++ (event, r) ∷ [];
-        all = map-append _ run.met ((event, r) ∷ []) ∙ ap (λ (es : List (AnyEvent T)). es ++ event ∷ []) run.all;
+        all = map-append _ run.met ((event, r) ∷ []) ∙ ap (λ (es : List (Event T)). es ++ event ∷ []) run.all;
         run = outcomes_more old run.met middle event r new run.run (meets r middle event new fault err ok);
         taken = next ∙ (ap (λ n. cond (is_ok r) (n + 1) n) run.taken ∙ sym (taken_more run.met event r));
       }
 
 module _ {T : Type 0} where
-  pub err_state : {C E : Type 0} (r : Result (AnyTold T) EventFault) (old new : WorldState T C E) → OnErr r (new ≡ old) → OnErr r (new.state ≡ old.state)
+  pub err_state : {C E : Type 0} (r : Result (Told T) EventFault) (old new : WorldState T C E) → OnErr r (new ≡ old) → OnErr r (new.state ≡ old.state)
   err_state (Ok said) old new err = tt
   err_state (Err fault) old new err = ap (λ w. w.state) err

@@ -16,16 +16,16 @@ use Rattle.txn_store.specs.declared.request.Request.{Request}
 use Rattle.txn_history.specs.Lists.{numbered, AreAscending}
 use Rattle.txn_history.specs.Seen.{Ask}
 use Rattle.txn_history.specs.GoesOn.{as_loose, left_loose, all_left_loose}
+use Rattle.txn_machine_inner.specs.declared.doing.PlainDoing.{PlainDoing}
+use Rattle.txn_machine_inner.specs.declared.doing.PlainDoing.TheVariants.{Write, WriteUnchecked, Read, ReadUnchecked, ReadSeen, ListIds, Delete, Check, Advance, Ended}
+use Rattle.txn_machine_inner.specs.Doing as plain
 use Rattle.txn_machine.specs.declared.doing.Doing.{Doing}
-use Rattle.txn_machine.specs.declared.doing.Doing.TheVariants.{Write, WriteUnchecked, Read, ReadUnchecked, ReadSeen, ListIds, Delete, Check, Advance, Ended}
-use Rattle.txn_machine.specs.Doing as plain
-use Rattle.txn_any_machine.specs.declared.doing.AnyDoing.{AnyDoing}
-use Rattle.txn_any_machine.specs.declared.doing.AnyDoing.TheVariants as does
-use Rattle.txn_any_machine.specs.declared.doing.AnyOperation.{AnyOperation}
-use Rattle.txn_any_machine.specs.Doing.{asked, ended}
-use Rattle.txn_any_machine.specs.Machine.{doing_next, with_doing, ended_by, seen_operations}
+use Rattle.txn_machine.specs.declared.doing.Doing.TheVariants as does
+use Rattle.txn_machine.specs.declared.doing.Operation.{Operation}
+use Rattle.txn_machine.specs.Doing.{asked, ended}
+use Rattle.txn_machine.specs.Machine.{doing_next, with_doing, ended_by, seen_operations}
 use Rattle.txn_history.proofs.Lists.{numbered_last}
-use Rattle.txn_machine.proofs.Lists.{numbered_here, numbered_other}
+use Rattle.txn_machine_inner.proofs.Lists.{numbered_here, numbered_other}
 use Rattle.txn_clients.specs.Operations.{asked_of, asked_by, loose_of}
 use Rattle.txn_clients.proofs.Acting.{held_at, numbered_past}
 use Rattle.txn_world.specs.Running.{is_in_set, is_in, runs_as, runs_for, left_of, ended_where}
@@ -37,11 +37,11 @@ as_left op None = refl
 as_left op (Some ask) = refl
 
 module _ {T : Type 0} where
-  left_of-append : (operations : List (AnyOperation T)) (xs ys : List ℕ) → left_of operations (xs ++ ys) ≡ left_of operations xs ++ left_of operations ys
+  left_of-append : (operations : List (Operation T)) (xs ys : List ℕ) → left_of operations (xs ++ ys) ≡ left_of operations xs ++ left_of operations ys
   left_of-append operations [] ys = refl
   left_of-append operations (x ∷ xs) ys = ap (λ (rest : List (ℕ × Request)). left_loose x (asked_by operations x) ++ rest) (left_of-append operations xs ys) ∙ sym (append_assoc (left_loose x (asked_by operations x)) (left_of operations xs) (left_of operations ys))
 
-  pub one_left : (operations : List (AnyOperation T)) (ops : List ℕ) (i : ℕ) (copy : Option Request) (left new : List (ℕ × Request)) → i < length ops → copy ≡ loose_of (asked_by operations (get_or ops i 0)) → left ≡ left_of operations (take i ops) → new ≡ left ++ as_loose (get_or ops i 0) copy → new ≡ left_of operations (take (i + 1) ops)
+  pub one_left : (operations : List (Operation T)) (ops : List ℕ) (i : ℕ) (copy : Option Request) (left new : List (ℕ × Request)) → i < length ops → copy ≡ loose_of (asked_by operations (get_or ops i 0)) → left ≡ left_of operations (take i ops) → new ≡ left ++ as_loose (get_or ops i 0) copy → new ≡ left_of operations (take (i + 1) ops)
   one_left operations ops i copy left new lt is so_far e =
       let op = get_or ops i 0 in
       e ∙ (ap (λ (o : Option Request). left ++ as_loose op o) is ∙ (ap (λ (rest : List (ℕ × Request)). left ++ rest) (as_left op (asked_by operations op)) ∙ (ap (λ (front : List (ℕ × Request)). front ++ left_loose op (asked_by operations op)) so_far
@@ -157,18 +157,18 @@ in_range running (suc client) op h = (omega arith, within (slice_get running cli
 
 module _ {T : Type 0} where
   -- the sets of those that run
-  abbrev pub AreRunning : List (BTreeSet ℕ) → List (AnyOperation T) → Type 0
+  abbrev pub AreRunning : List (BTreeSet ℕ) → List (Operation T) → Type 0
   AreRunning running operations = (client op : ℕ) → is_in running client op ≡ runs_for operations client op
 
-  runs_here : (operations : List (AnyOperation T)) (op : ℕ) (o : AnyOperation T) (client : ℕ) → numbered operations op ≡ Some o → runs_for operations client op ≡ (o.client == client && is_some (asked o.doing))
+  runs_here : (operations : List (Operation T)) (op : ℕ) (o : Operation T) (client : ℕ) → numbered operations op ≡ Some o → runs_for operations client op ≡ (o.client == client && is_some (asked o.doing))
   runs_here operations op o client found = ap (runs_as client) found
 
   -- the client of an operation that runs is there
-  pub client_there : (running : List (BTreeSet ℕ)) (operations : List (AnyOperation T)) (op : ℕ) (o : AnyOperation T) → AreRunning running operations → numbered operations op ≡ Some o → is_some (asked o.doing) ≡ true → (1 ≤ o.client) × (o.client ≤ length running)
+  pub client_there : (running : List (BTreeSet ℕ)) (operations : List (Operation T)) (op : ℕ) (o : Operation T) → AreRunning running operations → numbered operations op ≡ Some o → is_some (asked o.doing) ≡ true → (1 ≤ o.client) × (o.client ≤ length running)
   client_there running operations op o all found runs =
       in_range running o.client op (all o.client op ∙ (runs_here operations op o o.client found ∙ (ap (λ b. b && is_some (asked o.doing)) (eq-eqb o.client o.client refl) ∙ runs)))
 
-  running_here : (running new : List (BTreeSet ℕ)) (operations : List (AnyOperation T)) (op : ℕ) (o : AnyOperation T) (doing : AnyDoing T) (ends : Bool) → AreRunning running operations → numbered operations op ≡ Some o → is_some (asked o.doing) ≡ true → is_some (asked doing) ≡ not ends →
+  running_here : (running new : List (BTreeSet ℕ)) (operations : List (Operation T)) (op : ℕ) (o : Operation T) (doing : Doing T) (ends : Bool) → AreRunning running operations → numbered operations op ≡ Some o → is_some (asked o.doing) ≡ true → is_some (asked doing) ≡ not ends →
       ((c n : ℕ) → is_in new c n ≡ (is_in running c n && not (ends && ((o.client == c) && (op == n))))) → (c : ℕ) → is_in new c op ≡ runs_for (with_doing operations op o doing) c op
   running_here running new operations op o doing ends all found runs after left c =
       let itself : (op == op) ≡ true = eq-eqb op op refl in
@@ -180,18 +180,18 @@ module _ {T : Type 0} where
       and_same true = refl
       and_same false = refl
 
-  running_other : (running new : List (BTreeSet ℕ)) (operations : List (AnyOperation T)) (op : ℕ) (o : AnyOperation T) (doing : AnyDoing T) (ends : Bool) → AreRunning running operations → 0 < op →
+  running_other : (running new : List (BTreeSet ℕ)) (operations : List (Operation T)) (op : ℕ) (o : Operation T) (doing : Doing T) (ends : Bool) → AreRunning running operations → 0 < op →
       ((c n : ℕ) → is_in new c n ≡ (is_in running c n && not (ends && ((o.client == c) && (op == n))))) → (c n : ℕ) → n ≢ op → is_in new c n ≡ runs_for (with_doing operations op o doing) c n
   running_other running new operations op o doing ends all some left c n ne =
       let apart : (op == n) ≡ false = ne_eqb op n (λ e. ne (sym e)) in
       left c n ∙ (ap (λ b. is_in running c n && not (ends && ((o.client == c) && b))) apart ∙ (keeps_other (is_in running c n) (o.client == c) ends ∙ (all c n ∙ sym (ap (runs_as c) (numbered_other operations op n (doing_next o doing) some ne)))))
 
-  found_some : (operations : List (AnyOperation T)) (op : ℕ) (o : AnyOperation T) → numbered operations op ≡ Some o → 0 < op
+  found_some : (operations : List (Operation T)) (op : ℕ) (o : Operation T) → numbered operations op ≡ Some o → 0 < op
   found_some operations zero o found = cc
   found_some operations (suc op) o found = omega arith
 
   -- an operation does something else, or has ended
-  pub running_with : (running new : List (BTreeSet ℕ)) (operations : List (AnyOperation T)) (op : ℕ) (o : AnyOperation T) (doing : AnyDoing T) (ends : Bool) → AreRunning running operations → numbered operations op ≡ Some o → is_some (asked o.doing) ≡ true → is_some (asked doing) ≡ not ends →
+  pub running_with : (running new : List (BTreeSet ℕ)) (operations : List (Operation T)) (op : ℕ) (o : Operation T) (doing : Doing T) (ends : Bool) → AreRunning running operations → numbered operations op ≡ Some o → is_some (asked o.doing) ≡ true → is_some (asked doing) ≡ not ends →
       ((c n : ℕ) → is_in new c n ≡ (is_in running c n && not (ends && ((o.client == c) && (op == n))))) → AreRunning new (with_doing operations op o doing)
   running_with running new operations op o doing ends all found runs after left c n =
       elim (eq_cases n op) [
@@ -200,7 +200,7 @@ module _ {T : Type 0} where
       ]
 
   -- one operation more
-  pub running_more : (running new : List (BTreeSet ℕ)) (operations : List (AnyOperation T)) (op : ℕ) (o : AnyOperation T) → AreRunning running operations → op ≡ length operations + 1 →
+  pub running_more : (running new : List (BTreeSet ℕ)) (operations : List (Operation T)) (op : ℕ) (o : Operation T) → AreRunning running operations → op ≡ length operations + 1 →
       ((c n : ℕ) → is_in new c n ≡ (is_in running c n || (is_some (asked o.doing) && ((o.client == c) && (op == n))))) → AreRunning new (operations ++ o ∷ [])
   running_more running new operations op o all is entered c n =
       elim (eq_cases n op) [
@@ -238,7 +238,7 @@ stays : (b r d e : Bool) → (b && r) ≡ false → (d ≡ true → e ≡ b) →
 stays b r false e t h = and_true_same (e && r)
 stays b r true e t h = let none : (e && r) ≡ false = ap (λ x. x && r) (h refl) ∙ t in and_false (e && r) ∙ sym none
 
-plain_ended : {T : Type 0} (doing : Doing T) → is_some (plain.asked doing) ≡ false → doing ≡ Ended
+plain_ended : {T : Type 0} (doing : PlainDoing T) → is_some (plain.asked doing) ≡ false → doing ≡ Ended
 plain_ended (Write op) h = cc
 plain_ended (WriteUnchecked op) h = cc
 plain_ended (Read op) h = cc
@@ -250,7 +250,7 @@ plain_ended (Check op) h = cc
 plain_ended (Advance op) h = cc
 plain_ended Ended h = refl
 
-ended_doing : {T : Type 0} (doing : AnyDoing T) → is_some (asked doing) ≡ false → doing ≡ ended
+ended_doing : {T : Type 0} (doing : Doing T) → is_some (asked doing) ≡ false → doing ≡ ended
 ended_doing (does.Plain doing) h = ap does.Plain (plain_ended doing h)
 ended_doing (does.View op) h = cc
 
@@ -285,32 +285,32 @@ from_at_most first n h = elim (cases_lt n first) [ inl lt ↦ absurd (both_ways 
 
 module _ {T : Type 0} where
   -- the numbers of the operations of a client that run, from the first on
-  abbrev HasFrom : List (AnyOperation T) → ℕ → ℕ → List ℕ → Type 0
+  abbrev HasFrom : List (Operation T) → ℕ → ℕ → List ℕ → Type 0
   HasFrom operations client first keys = (n : ℕ) → list_any (nat_eq n) keys ≡ (nat_at_most first n && runs_for operations client n)
 
   -- the rest of the operations, from the first on
-  abbrev AreFrom : List (AnyOperation T) → ℕ → List (AnyOperation T) → Type 0
+  abbrev AreFrom : List (Operation T) → ℕ → List (Operation T) → Type 0
   AreFrom operations first rest = (k : ℕ) → slice_get rest k ≡ numbered operations (k + first)
 
-  rest_from : (operations : List (AnyOperation T)) (first : ℕ) (o : AnyOperation T) (rest : List (AnyOperation T)) → AreFrom operations first (o ∷ rest) → AreFrom operations (first + 1) rest
+  rest_from : (operations : List (Operation T)) (first : ℕ) (o : Operation T) (rest : List (Operation T)) → AreFrom operations first (o ∷ rest) → AreFrom operations (first + 1) rest
   rest_from operations first o rest from k = let place : suc k + first ≡ k + (first + 1) = omega arith in from (suc k) ∙ ap (numbered operations) place
 
-  head_from : (operations : List (AnyOperation T)) (first : ℕ) (o : AnyOperation T) (rest : List (AnyOperation T)) → AreFrom operations first (o ∷ rest) → numbered operations first ≡ Some o
+  head_from : (operations : List (Operation T)) (first : ℕ) (o : Operation T) (rest : List (Operation T)) → AreFrom operations first (o ∷ rest) → numbered operations first ≡ Some o
   head_from operations first o rest from = let place : 0 + first ≡ first = omega arith in sym (from 0 ∙ ap (numbered operations) place)
 
-  none_from : (operations : List (AnyOperation T)) (client first n : ℕ) → AreFrom operations first [] → first ≤ n → runs_for operations client n ≡ false
+  none_from : (operations : List (Operation T)) (client first n : ℕ) → AreFrom operations first [] → first ≤ n → runs_for operations client n ≡ false
   none_from operations client first n from le =
       let place : (n - first) + first ≡ n = omega (arith, le) in
       ap (runs_as client) (sym (from (n - first) ∙ ap (numbered operations) place))
 
-  skip_first : (operations : List (AnyOperation T)) (client first : ℕ) (keys : List ℕ) → runs_for operations client first ≡ false → HasFrom operations client first keys → HasFrom operations client (first + 1) keys
+  skip_first : (operations : List (Operation T)) (client first : ℕ) (keys : List ℕ) → runs_for operations client first ≡ false → HasFrom operations client first keys → HasFrom operations client (first + 1) keys
   skip_first operations client first keys idle has n =
       elim (eq_cases n first) [
         | inl same ↦ has n ∙ (ap (λ b. nat_at_most first n && b) (ap (runs_for operations client) same ∙ idle) ∙ (and_false (nat_at_most first n) ∙ sym (ap (λ b. b && runs_for operations client n) (ap (nat_at_most (first + 1)) same ∙ not_at_most_next first))))
         | inr ne ↦ has n ∙ ap (λ b. b && runs_for operations client n) (sym (at_most_next first n ne))
       ]
 
-  drop_first : (operations : List (AnyOperation T)) (client first : ℕ) (keys : List ℕ) → AllByRecursion (λ y. nat_cmp first y ≡ Less) keys → HasFrom operations client first (first ∷ keys) → HasFrom operations client (first + 1) keys
+  drop_first : (operations : List (Operation T)) (client first : ℕ) (keys : List ℕ) → AllByRecursion (λ y. nat_cmp first y ≡ Less) keys → HasFrom operations client first (first ∷ keys) → HasFrom operations client (first + 1) keys
   drop_first operations client first keys above has n =
       elim (eq_cases n first) [
         | inl same ↦ ap (λ m. list_any (nat_eq m) keys) same ∙ (absent_after first first keys above (omega arith) ∙ sym (ap (λ b. b && runs_for operations client n) (ap (nat_at_most (first + 1)) same ∙ not_at_most_next first)))
@@ -318,7 +318,7 @@ module _ {T : Type 0} where
       ]
 
   -- the first of them is the least number
-  is_first : (operations : List (AnyOperation T)) (client first k : ℕ) (keys : List ℕ) → runs_for operations client first ≡ true → IsStrictlySortedBy nat_cmp (k ∷ keys) → HasFrom operations client first (k ∷ keys) → k ≡ first
+  is_first : (operations : List (Operation T)) (client first k : ℕ) (keys : List ℕ) → runs_for operations client first ≡ true → IsStrictlySortedBy nat_cmp (k ∷ keys) → HasFrom operations client first (k ∷ keys) → k ≡ first
   is_first operations client first k keys runs sorted has =
       let least : first ≤ k = from_at_most first k ((and_true (nat_at_most first k) (runs_for operations client k) (sym (has k) ∙ has_first k keys)).0) in
       let there : list_any (nat_eq first) (k ∷ keys) ≡ true = has first ∙ (ap (λ b. b && runs_for operations client first) (at_most_itself first) ∙ runs) in
@@ -329,10 +329,10 @@ module _ {T : Type 0} where
             absurd (both_ways (list_any (nat_eq first) (k ∷ keys)) missing there)
       ]
 
-  not_empty : (operations : List (AnyOperation T)) (client first : ℕ) → runs_for operations client first ≡ true → HasFrom operations client first [] → ⊥
+  not_empty : (operations : List (Operation T)) (client first : ℕ) → runs_for operations client first ≡ true → HasFrom operations client first [] → ⊥
   not_empty operations client first runs has = both_ways false refl (has first ∙ (ap (λ b. b && runs_for operations client first) (at_most_itself first) ∙ runs))
 
-  left_from : (operations : List (AnyOperation T)) (client first : ℕ) (rest : List (AnyOperation T)) (keys : List ℕ) → AreFrom operations first rest → IsStrictlySortedBy nat_cmp keys → HasFrom operations client first keys → left_of operations keys ≡ all_left_loose client first (seen_operations rest)
+  left_from : (operations : List (Operation T)) (client first : ℕ) (rest : List (Operation T)) (keys : List ℕ) → AreFrom operations first rest → IsStrictlySortedBy nat_cmp keys → HasFrom operations client first keys → left_of operations keys ≡ all_left_loose client first (seen_operations rest)
   left_from operations client first [] [] from sorted has = refl
   left_from operations client first [] (k ∷ keys) from sorted has =
       let both = and_true (nat_at_most first k) (runs_for operations client k) (sym (has k) ∙ has_first k keys) in
@@ -358,7 +358,7 @@ module _ {T : Type 0} where
           ∙ sym (ap (λ (ls : List (ℕ × Request)). ls ++ all_left_loose client (first + 1) (seen_operations rest)) (running_left first (asked o.doing) (o.client == client) (sym (ap (runs_as client) here) ∙ runs)))))
 
   -- what the operations of a client leave loose
-  pub crash_leaves : (running : List (BTreeSet ℕ)) (operations : List (AnyOperation T)) (client : ℕ) (keys : List ℕ) → AreRunning running operations → IsStrictlySortedBy nat_cmp keys → ((n : ℕ) → list_any (nat_eq n) keys ≡ is_in running client n) → left_of operations keys ≡ all_left_loose client 1 (seen_operations operations)
+  pub crash_leaves : (running : List (BTreeSet ℕ)) (operations : List (Operation T)) (client : ℕ) (keys : List ℕ) → AreRunning running operations → IsStrictlySortedBy nat_cmp keys → ((n : ℕ) → list_any (nat_eq n) keys ≡ is_in running client n) → left_of operations keys ≡ all_left_loose client 1 (seen_operations operations)
   crash_leaves running operations client keys all sorted has = left_from operations client 1 operations keys at_first sorted from_first
     where
       at_first : AreFrom operations 1 operations
@@ -368,16 +368,16 @@ module _ {T : Type 0} where
       from_first zero = has 0 ∙ (all client 0 ∙ sym (and_false (nat_at_most 1 0)))
       from_first (suc n) = has (suc n) ∙ (all client (suc n) ∙ sym (ap (λ b. b && runs_for operations client (suc n)) (ap not (le-ltb (suc n) 1 (omega arith)))))
 
-  ends_running : (client c : ℕ) (o : AnyOperation T) (t : Bool) → (o.client == client && is_some (asked o.doing)) ≡ t → ((o.client == c && is_some (asked o.doing)) && not (client == c)) ≡ runs_as c (ended_where t (Some o))
+  ends_running : (client c : ℕ) (o : Operation T) (t : Bool) → (o.client == client && is_some (asked o.doing)) ≡ t → ((o.client == c && is_some (asked o.doing)) && not (client == c)) ≡ runs_as c (ended_where t (Some o))
   ends_running client c o true e = gone (o.client == client) (is_some (asked o.doing)) (client == c) (o.client == c) e (λ same. ap (λ m. m == c) (eqb-true o.client client same))
   ends_running client c o false e = stays (o.client == client) (is_some (asked o.doing)) (client == c) (o.client == c) e (λ same. ap (λ m. o.client == m) (sym (eqb-true client c same)))
 
   -- those that run after a crash
-  pub crash_running : (running new : List (BTreeSet ℕ)) (operations ended : List (AnyOperation T)) (client : ℕ) (keys : List ℕ) → AreRunning running operations → ((n : ℕ) → list_any (nat_eq n) keys ≡ is_in running client n) → ((n : ℕ) → numbered ended n ≡ ended_where (list_any (nat_eq n) keys) (numbered operations n)) →
+  pub crash_running : (running new : List (BTreeSet ℕ)) (operations ended : List (Operation T)) (client : ℕ) (keys : List ℕ) → AreRunning running operations → ((n : ℕ) → list_any (nat_eq n) keys ≡ is_in running client n) → ((n : ℕ) → numbered ended n ≡ ended_where (list_any (nat_eq n) keys) (numbered operations n)) →
       ((c n : ℕ) → is_in new c n ≡ (is_in running c n && not (client == c))) → AreRunning new ended
   crash_running running new operations ended client keys all has ends left c n = by (numbered operations n) refl
     where
-      by : (found : Option (AnyOperation T)) → numbered operations n ≡ found → is_in new c n ≡ runs_for ended c n
+      by : (found : Option (Operation T)) → numbered operations n ≡ found → is_in new c n ≡ runs_for ended c n
       by None e =
           let none : is_in running c n ≡ false = all c n ∙ ap (runs_as c) e in
           left c n ∙ (ap (λ b. b && not (client == c)) none ∙ sym (ap (runs_as c) (ends n ∙ ap (ended_where (list_any (nat_eq n) keys)) e)))
@@ -386,27 +386,27 @@ module _ {T : Type 0} where
           let test : (o.client == client && is_some (asked o.doing)) ≡ list_any (nat_eq n) keys = sym (has n ∙ (all client n ∙ ap (runs_as client) e)) in
           left c n ∙ (ap (λ b. b && not (client == c)) was ∙ (ends_running client c o (list_any (nat_eq n) keys) test ∙ sym (ap (runs_as c) (ends n ∙ ap (ended_where (list_any (nat_eq n) keys)) e))))
 
-  ends_all : (client : ℕ) (o : AnyOperation T) (b r : Bool) → (o.client == client) ≡ b → is_some (asked o.doing) ≡ r → ended_where (b && r) (Some o) ≡ Some (ended_by client o)
+  ends_all : (client : ℕ) (o : Operation T) (b r : Bool) → (o.client == client) ≡ b → is_some (asked o.doing) ≡ r → ended_where (b && r) (Some o) ≡ Some (ended_by client o)
   ends_all client o true true e h = ap (λ b. Some (cond b (doing_next o ended) o)) (sym e)
-  ends_all client o true false e h = ap (λ (doing : AnyDoing T). Some (doing_next o doing)) (ended_doing o.doing h) ∙ ap (λ b. Some (cond b (doing_next o ended) o)) (sym e)
+  ends_all client o true false e h = ap (λ (doing : Doing T). Some (doing_next o doing)) (ended_doing o.doing h) ∙ ap (λ b. Some (cond b (doing_next o ended) o)) (sym e)
   ends_all client o false r e h = ap (λ b. Some (cond b (doing_next o ended) o)) (sym e)
 
   -- the operations after a crash
-  pub crash_operations : (running : List (BTreeSet ℕ)) (operations ended : List (AnyOperation T)) (client : ℕ) (keys : List ℕ) → AreRunning running operations → ((n : ℕ) → list_any (nat_eq n) keys ≡ is_in running client n) → ((n : ℕ) → numbered ended n ≡ ended_where (list_any (nat_eq n) keys) (numbered operations n)) →
+  pub crash_operations : (running : List (BTreeSet ℕ)) (operations ended : List (Operation T)) (client : ℕ) (keys : List ℕ) → AreRunning running operations → ((n : ℕ) → list_any (nat_eq n) keys ≡ is_in running client n) → ((n : ℕ) → numbered ended n ≡ ended_where (list_any (nat_eq n) keys) (numbered operations n)) →
       ended ≡ map (ended_by client) operations
   crash_operations running operations ended client keys all has ends = same_numbered ended (map (ended_by client) operations) (λ n. by n (numbered operations n) refl)
     where
-      by : (n : ℕ) (found : Option (AnyOperation T)) → numbered operations n ≡ found → numbered ended n ≡ numbered (map (ended_by client) operations) n
+      by : (n : ℕ) (found : Option (Operation T)) → numbered operations n ≡ found → numbered ended n ≡ numbered (map (ended_by client) operations) n
       by n None e = ends n ∙ (ap (ended_where (list_any (nat_eq n) keys)) e ∙ sym (numbered_mapped (ended_by client) operations n ∙ ap (option_map (ended_by client)) e))
       by n (Some o) e =
           let test : list_any (nat_eq n) keys ≡ (o.client == client && is_some (asked o.doing)) = has n ∙ (all client n ∙ ap (runs_as client) e) in
           ends n ∙ (ap (ended_where (list_any (nat_eq n) keys)) e ∙ (ap (λ b. ended_where b (Some o)) test ∙ (ends_all client o (o.client == client) (is_some (asked o.doing)) refl refl ∙ sym (numbered_mapped (ended_by client) operations n ∙ ap (option_map (ended_by client)) e))))
 
   -- those that run are there
-  pub running_found : (running : List (BTreeSet ℕ)) (operations : List (AnyOperation T)) (client n : ℕ) → AreRunning running operations → is_in running client n ≡ true → is_some (numbered operations n) ≡ true
+  pub running_found : (running : List (BTreeSet ℕ)) (operations : List (Operation T)) (client n : ℕ) → AreRunning running operations → is_in running client n ≡ true → is_some (numbered operations n) ≡ true
   running_found running operations client n all h = by (numbered operations n) refl
     where
-      by : (found : Option (AnyOperation T)) → numbered operations n ≡ found → is_some found ≡ true
+      by : (found : Option (Operation T)) → numbered operations n ≡ found → is_some found ≡ true
       by None e = absurd (both_ways (is_in running client n) (all client n ∙ ap (runs_as client) e) h)
       by (Some o) e = refl
 
@@ -427,12 +427,12 @@ more_empty sets found all none c n =
 
 module _ {T : Type 0} where
   -- one operation more, where room was made
-  pub running_entered : (running new : List (BTreeSet ℕ)) (operations kept after : List (AnyOperation T)) (o : AnyOperation T) (runs made : Bool) (next : ℕ) → AreRunning running operations → next ≡ length operations + 1 → runs ≡ is_some (asked o.doing) → kept ≡ operations → after ≡ cond made (kept ++ o ∷ []) kept →
+  pub running_entered : (running new : List (BTreeSet ℕ)) (operations kept after : List (Operation T)) (o : Operation T) (runs made : Bool) (next : ℕ) → AreRunning running operations → next ≡ length operations + 1 → runs ≡ is_some (asked o.doing) → kept ≡ operations → after ≡ cond made (kept ++ o ∷ []) kept →
       ((c n : ℕ) → is_in new c n ≡ (is_in running c n || ((made && runs) && ((o.client == c) && (next == n))))) → AreRunning new after
   running_entered running new operations kept after o runs true next all at is same more entered =
-      subst (λ (os : List (AnyOperation T)). AreRunning new os) (sym (more ∙ ap (λ (os : List (AnyOperation T)). os ++ o ∷ []) same))
+      subst (λ (os : List (Operation T)). AreRunning new os) (sym (more ∙ ap (λ (os : List (Operation T)). os ++ o ∷ []) same))
       (running_more running new operations next o all at (λ c n. entered c n ∙ ap (λ (b : Bool). is_in running c n || (b && ((o.client == c) && (next == n)))) is))
-  running_entered running new operations kept after o runs false next all at is same more entered = λ c n. entered c n ∙ (or-false (is_in running c n) ∙ (all c n ∙ ap (λ (os : List (AnyOperation T)). runs_for os c n) (sym (more ∙ same))))
+  running_entered running new operations kept after o runs false next all at is same more entered = λ c n. entered c n ∙ (or-false (is_in running c n) ∙ (all c n ∙ ap (λ (os : List (Operation T)). runs_for os c n) (sym (more ∙ same))))
 
 -- the numbers of a client's set, listed
 pub has_all : (running : List (BTreeSet ℕ)) (client : ℕ) (found : BTreeSet ℕ) (listed keys : List ℕ) → 1 ≤ client → client ≤ length running → found ≡ get_or running (client - 1) found → AreAscending (contains nat_cmp found) listed → keys ≡ listed → (n : ℕ) → list_any (nat_eq n) keys ≡ is_in running client n

@@ -23,8 +23,8 @@ use Rattle.txn_view_steps.specs.declared.outcome.Outcome.{Outcome}
 use Rattle.txn_view_steps.specs.declared.outcome.Outcome.TheVariants as outcomes
 use Rattle.txn_view_steps.specs.declared.op.ViewOp.{ViewOp}
 use Rattle.txn_view_steps.specs.ViewOps.{view_turned}
-use Rattle.txn_history.specs.declared.event.Answer.{Answer}
-use Rattle.txn_history.specs.declared.event.Answer.TheVariants as answers
+use Rattle.txn_history.specs.declared.event.PlainAnswer.{PlainAnswer}
+use Rattle.txn_history.specs.declared.event.PlainAnswer.TheVariants as answers
 use Rattle.txn_history.specs.declared.event.ToldOf.TheVariants as told
 use Rattle.txn_history.specs.declared.trace.RowOf.TheVariants.{Answered, Begun}
 use Rattle.txn_history.specs.Lists.{numbered}
@@ -32,26 +32,26 @@ use Rattle.txn_history.specs.Names.{world_names, world_boundary}
 use Rattle.txn_history.specs.Seen.{Ask, Store, Look, asks_in}
 use Rattle.txn_history.specs.GoesOn.{as_loose, left_loose}
 use Rattle.txn_history.specs.Added.{told_of, answer_rows, effect_rows}
-use Rattle.txn_view_history.specs.declared.event.AnyCall.{AnyCall}
-use Rattle.txn_view_history.specs.declared.event.AnyAnswer.{AnyAnswer}
-use Rattle.txn_view_history.specs.declared.event.AnyAnswer.TheVariants as any
-use Rattle.txn_view_history.specs.Allowed.{may_use, id_seen, base_seen}
-use Rattle.txn_view_history.specs.OneHistory.{base_of}
-use Rattle.txn_view_history.specs.Trace.{AnyRow, AnyTold}
-use Rattle.txn_view_history.specs.Calls.{view_used}
-use Rattle.txn_view_machine.specs.Layer.{Used}
+use Rattle.txn_history.specs.declared.event.Call.{Call}
+use Rattle.txn_history.specs.declared.event.Answer.{Answer}
+use Rattle.txn_history.specs.declared.event.Answer.TheVariants as any
+use Rattle.txn_history.specs.Allowed.{may_use, id_seen, base_seen}
+use Rattle.txn_history.specs.OneHistory.{base_of}
+use Rattle.txn_history.specs.Trace.{Row, Told}
+use Rattle.txn_history.specs.Calls.{view_used}
+use Rattle.txn_machine_views.specs.Layer.{Used}
+use Rattle.txn_machine_inner.specs.declared.doing.PlainDoing.{PlainDoing}
+use Rattle.txn_machine_inner.specs.declared.doing.PlainDoing.TheVariants.{Write, WriteUnchecked, Read, ReadUnchecked, ReadSeen, ListIds, Delete, Check, Advance, Ended}
+use Rattle.txn_machine_inner.specs.Doing as plain
+use Rattle.txn_machine_inner.specs.Doing.{next_of, or_no_memory, write_answer, read_answer, value_answer, ids_answer, done_answer, read_next, value_next, seen_next, ids_next, advance_next}
+use Rattle.txn_machine_inner.specs.Machine.{effect_of}
 use Rattle.txn_machine.specs.declared.doing.Doing.{Doing}
-use Rattle.txn_machine.specs.declared.doing.Doing.TheVariants.{Write, WriteUnchecked, Read, ReadUnchecked, ReadSeen, ListIds, Delete, Check, Advance, Ended}
-use Rattle.txn_machine.specs.Doing as plain
-use Rattle.txn_machine.specs.Doing.{next_of, or_no_memory, write_answer, read_answer, value_answer, ids_answer, done_answer, read_next, value_next, seen_next, ids_next, advance_next}
-use Rattle.txn_machine.specs.Machine.{effect_of}
-use Rattle.txn_any_machine.specs.declared.doing.AnyDoing.{AnyDoing}
-use Rattle.txn_any_machine.specs.declared.doing.AnyDoing.TheVariants as does
-use Rattle.txn_any_machine.specs.declared.doing.AnyOperation.{AnyOperation}
-use Rattle.txn_any_machine.specs.declared.doing.Ending.{Ending}
-use Rattle.txn_any_machine.specs.declared.doing.Ending.TheVariants as endings
-use Rattle.txn_any_machine.specs.Doing.{Next, asked, ended, refused, plain_next, view_next, turned, started, caches_left, answer_in, is_claim_call, IsClaimReading, IsMadeSo, ReadsBack, FitsWord, MayLack}
-use Rattle.txn_any_machine.specs.Machine.{State, seen_operation, seen_operations, seen_of, with_doing, answer_of, answered, acted, effected, loosened, failing, given_up, let_go, views_changed, views_after, views_taken, next_op, begun_as, view_now, FailsFirst, FailsAfter, GivesUp, Lands, Looks, Served, Begins}
+use Rattle.txn_machine.specs.declared.doing.Doing.TheVariants as does
+use Rattle.txn_machine.specs.declared.doing.Operation.{Operation}
+use Rattle.txn_machine.specs.declared.doing.Ending.{Ending}
+use Rattle.txn_machine.specs.declared.doing.Ending.TheVariants as endings
+use Rattle.txn_machine.specs.Doing.{Next, asked, ended, refused, plain_next, view_next, turned, started, caches_left, answer_in, is_claim_call, IsClaimReading, IsMadeSo, ReadsBack, FitsWord, MayLack}
+use Rattle.txn_machine.specs.Machine.{State, seen_operation, seen_operations, seen_of, with_doing, answer_of, answered, acted, effected, loosened, failing, given_up, let_go, views_changed, views_after, views_taken, next_op, begun_as, view_now, FailsFirst, FailsAfter, GivesUp, Lands, Looks, Served, Begins}
 use Rattle.txn_clients.specs.declared.operations.Usage.{Usage}
 use Rattle.txn_clients.specs.Operations.{request_of, loose_of, asked_of, asked_by, usage_of, TakesReply}
 use Rattle.txn_clients.specs.Views.{seen_with}
@@ -69,18 +69,18 @@ module _ {T : Type 0} where
       ∙ (ap (λ (x : ℕ). record s { clients = t.clients; page = x }) b
       ∙ (ap (λ (x : StoreState). record s { clients = t.clients; page = t.page; store = x }) c
       ∙ (ap (λ (x : List Caches). record s { clients = t.clients; page = t.page; store = t.store; caches = x }) d
-      ∙ (ap (λ (x : List (AnyOperation T)). record s { clients = t.clients; page = t.page; store = t.store; caches = t.caches; operations = x }) e
+      ∙ (ap (λ (x : List (Operation T)). record s { clients = t.clients; page = t.page; store = t.store; caches = t.caches; operations = x }) e
       ∙ (ap (λ (x : List (Option (Used T))). record s { clients = t.clients; page = t.page; store = t.store; caches = t.caches; operations = t.operations; views = x }) v
       ∙ (ap (λ (x : List (ℕ × Request)). record s { clients = t.clients; page = t.page; store = t.store; caches = t.caches; operations = t.operations; views = t.views; loose = x }) f
       ∙ (ap (λ (x : List ℕ). record s { clients = t.clients; page = t.page; store = t.store; caches = t.caches; operations = t.operations; views = t.views; loose = t.loose; failed = x }) g
-      ∙ ap (λ (x : List (AnyRow T)). record s { clients = t.clients; page = t.page; store = t.store; caches = t.caches; operations = t.operations; views = t.views; loose = t.loose; failed = t.failed; trace = x }) h)))))))
+      ∙ ap (λ (x : List (Row T)). record s { clients = t.clients; page = t.page; store = t.store; caches = t.caches; operations = t.operations; views = t.views; loose = t.loose; failed = t.failed; trace = x }) h)))))))
 
   -- an answer that is a list of ids
 
-  abbrev ArePlainIds : Option (Answer T) → Type 0
+  abbrev ArePlainIds : Option (PlainAnswer T) → Type 0
   ArePlainIds answer = AreIds (option_map endings.Answers answer)
 
-  next_ids : (doing : Doing T) (answer : Option (Answer T)) → ArePlainIds (next_of doing answer).1 → ((next_of doing answer).0 ≡ Ended) × ArePlainIds answer
+  next_ids : (doing : PlainDoing T) (answer : Option (PlainAnswer T)) → ArePlainIds (next_of doing answer).1 → ((next_of doing answer).0 ≡ Ended) × ArePlainIds answer
   next_ids doing None h = absurd h
   next_ids doing (Some answer) h = (refl, h)
 
@@ -88,10 +88,10 @@ module _ {T : Type 0} where
   lacks_ids true next h = absurd h
   lacks_ids false next h = (refl, h)
 
-  write_no_ids : (turn : Turned (Result ℕ ℕ)) (said : Option (Answer T)) → said ≡ write_answer turn → ArePlainIds said → ⊥
-  write_no_ids turns.Goes said e h = subst (λ (a : Option (Answer T)). ArePlainIds a) e h
-  write_no_ids (turns.Done (Ok id)) said e h = subst (λ (a : Option (Answer T)). ArePlainIds a) e h
-  write_no_ids (turns.Done (Err number)) said e h = subst (λ (a : Option (Answer T)). ArePlainIds a) e h
+  write_no_ids : (turn : Turned (Result ℕ ℕ)) (said : Option (PlainAnswer T)) → said ≡ write_answer turn → ArePlainIds said → ⊥
+  write_no_ids turns.Goes said e h = subst (λ (a : Option (PlainAnswer T)). ArePlainIds a) e h
+  write_no_ids (turns.Done (Ok id)) said e h = subst (λ (a : Option (PlainAnswer T)). ArePlainIds a) e h
+  write_no_ids (turns.Done (Err number)) said e h = subst (λ (a : Option (PlainAnswer T)). ArePlainIds a) e h
 
   read_no_ids : (turn : Turned (ReadAnswer T)) → ArePlainIds (read_answer turn) → ⊥
   read_no_ids turns.Goes h = h
@@ -103,10 +103,10 @@ module _ {T : Type 0} where
   value_no_ids (turns.Done (Ok found)) h = h
   value_no_ids (turns.Done (Err number)) h = h
 
-  done_no_ids : (turn : Turned (Result (Unit {0}) ℕ)) (said : Option (Answer T)) → said ≡ done_answer turn → ArePlainIds said → ⊥
-  done_no_ids turns.Goes said e h = subst (λ (a : Option (Answer T)). ArePlainIds a) e h
-  done_no_ids (turns.Done (Ok done)) said e h = subst (λ (a : Option (Answer T)). ArePlainIds a) e h
-  done_no_ids (turns.Done (Err number)) said e h = subst (λ (a : Option (Answer T)). ArePlainIds a) e h
+  done_no_ids : (turn : Turned (Result (Unit {0}) ℕ)) (said : Option (PlainAnswer T)) → said ≡ done_answer turn → ArePlainIds said → ⊥
+  done_no_ids turns.Goes said e h = subst (λ (a : Option (PlainAnswer T)). ArePlainIds a) e h
+  done_no_ids (turns.Done (Ok done)) said e h = subst (λ (a : Option (PlainAnswer T)). ArePlainIds a) e h
+  done_no_ids (turns.Done (Err number)) said e h = subst (λ (a : Option (PlainAnswer T)). ArePlainIds a) e h
 
   -- a call on a view answers no list of ids
   view_no_ids : (next : ViewOp T × Turned (Result (Outcome T) ℕ)) → AreIds (view_next next).1 → ⊥
@@ -130,13 +130,13 @@ module _ {T : Type 0} where
 
 module _ {T : Type 0} (page : ℕ) (decode : List ℕ → Option T) where
   -- a list of ids may be refused in place of being answered
-  abbrev MayRefuse : Bool → Doing T → Caches → Option Reply → Type 0
+  abbrev MayRefuse : Bool → PlainDoing T → Caches → Option Reply → Type 0
   MayRefuse refused doing caches reply =
       ((Ended, Some (answers.Refused 9)) ≡ plain.turned page decode true doing caches reply)
       × ((plain.turned page decode refused doing caches reply).0 ≡ Ended)
       × (plain.caches_left doing caches (plain.turned page decode refused doing caches reply).1 ≡ plain.caches_left doing caches (Some (answers.Refused 9)))
 
-  may_refuse : (refused : Bool) (doing : Doing T) (caches : Caches) (reply : Option Reply) → ArePlainIds (plain.turned page decode refused doing caches reply).1 → MayRefuse refused doing caches reply
+  may_refuse : (refused : Bool) (doing : PlainDoing T) (caches : Caches) (reply : Option Reply) → ArePlainIds (plain.turned page decode refused doing caches reply).1 → MayRefuse refused doing caches reply
   may_refuse refused (Write op) caches reply h = let next = write_turned op caches reply in absurd (write_no_ids next.1 (write_answer next.1) refl (next_ids (Write next.0) (write_answer next.1) h).1)
   may_refuse refused (WriteUnchecked op) caches reply h = let next = unchecked_turned op reply in absurd (write_no_ids next.1 (write_answer next.1) refl (next_ids (WriteUnchecked next.0) (write_answer next.1) h).1)
   may_refuse refused (Read op) caches reply h = let next = read_turned world_names world_boundary page decode op caches reply in absurd (read_no_ids next.1 (next_ids (Read next.0) (read_answer next.1) (lacks_ids refused (read_next next) h).1).1)
@@ -153,14 +153,14 @@ module _ {T : Type 0} (page : ℕ) (decode : List ℕ → Option T) where
 
 module _ {T : Type 0} (page : ℕ) (encode : T → List ℕ) (decode : List ℕ → Option T) (get_epoch : T → ℕ) (set_epoch : T → ℕ → T) where
   -- the same of any call
-  record MayEnd (lacks : Bool) (doing : AnyDoing T) (caches : Caches) (reply : Option Reply) : Type 0 where
+  record MayEnd (lacks : Bool) (doing : Doing T) (caches : Caches) (reply : Option Reply) : Type 0 where
     pub refuses : (ended, Some (endings.Answers (answers.Refused 9))) ≡ turned page encode decode get_epoch set_epoch true doing caches reply
     pub ends : (turned page encode decode get_epoch set_epoch lacks doing caches reply).0 ≡ ended
     pub leaves : caches_left doing caches (turned page encode decode get_epoch set_epoch lacks doing caches reply).1 ≡ caches_left doing caches (Some (endings.Answers (answers.Refused 9)))
     pub may : MayLack doing caches reply true
     pub reads_no_claim : IsClaimReading doing → ⊥
 
-  may_end : (lacks : Bool) (doing : AnyDoing T) (caches : Caches) (reply : Option Reply) → AreIds (turned page encode decode get_epoch set_epoch lacks doing caches reply).1 → MayEnd lacks doing caches reply
+  may_end : (lacks : Bool) (doing : Doing T) (caches : Caches) (reply : Option Reply) → AreIds (turned page encode decode get_epoch set_epoch lacks doing caches reply).1 → MayEnd lacks doing caches reply
   may_end lacks (does.Plain doing) caches reply h =
       let next = plain.turned page decode lacks doing caches reply in
       let may = may_refuse page decode lacks doing caches reply (plain_ids next h) in
@@ -174,7 +174,7 @@ module _ {T : Type 0} (page : ℕ) (encode : T → List ℕ) (decode : List ℕ 
   may_end lacks (does.View op) caches reply h = absurd (view_no_ids (view_turned world_names world_boundary page encode decode get_epoch set_epoch lacks op caches reply) h)
 
   -- a turn, where the growth for the ids of its answer may have been refused
-  pub afforded_turn : (old : List (AnyOperation T)) (caches : List Caches) (op : ℕ) (reply : Option Reply) (new : List (AnyOperation T)) (left : List Caches) (ending said : Option (Ending T)) →
+  pub afforded_turn : (old : List (Operation T)) (caches : List Caches) (op : ℕ) (reply : Option Reply) (new : List (Operation T)) (left : List Caches) (ending said : Option (Ending T)) →
       TurnsAmong page encode decode get_epoch set_epoch old caches op reply new left ending → IsAfforded ending said → TurnsAmong page encode decode get_epoch set_epoch old caches op reply new left said
   afforded_turn old caches op reply new left ending said v (inl same) = subst (λ (e : Option (Ending T)). TurnsAmong page encode decode get_epoch set_epoch old caches op reply new left e) (sym same) v
   afforded_turn old caches op reply new left ending said v (inr lacks) =
@@ -199,10 +199,10 @@ module _ {T : Type 0} (page : ℕ) (encode : T → List ℕ) (decode : List ℕ 
       }
 
 module _ {T : Type 0} where
-  asked_found : (operations : List (AnyOperation T)) (op : ℕ) (ask : Ask) → asked_by operations op ≡ Some ask → (o : AnyOperation T) × (numbered operations op ≡ Some o) × (asked o.doing ≡ Some ask)
+  asked_found : (operations : List (Operation T)) (op : ℕ) (ask : Ask) → asked_by operations op ≡ Some ask → (o : Operation T) × (numbered operations op ≡ Some o) × (asked o.doing ≡ Some ask)
   asked_found operations op ask e = by (numbered operations op) refl e
     where
-      by : (found : Option (AnyOperation T)) → numbered operations op ≡ found → asked_of found ≡ Some ask → (o : AnyOperation T) × (numbered operations op ≡ Some o) × (asked o.doing ≡ Some ask)
+      by : (found : Option (Operation T)) → numbered operations op ≡ found → asked_of found ≡ Some ask → (o : Operation T) × (numbered operations op ≡ Some o) × (asked o.doing ≡ Some ask)
       by None is h = cc
       by (Some o) is h = (o, is, h)
 
@@ -214,20 +214,20 @@ module _ {T : Type 0} where
 
   -- the answer of an operation, and the views after it, by how it ends
 
-  answered_as : (count : ℕ) (o : AnyOperation T) (of : Usage) (said ending : Option (Ending T)) → of ≡ usage_of o → said ≡ ending → answered count of.view said ≡ answered count o.view ending
+  answered_as : (count : ℕ) (o : Operation T) (of : Usage) (said ending : Option (Ending T)) → of ≡ usage_of o → said ≡ ending → answered count of.view said ≡ answered count o.view ending
   answered_as count o of said ending same is = ap (λ (u : Usage). answered count u.view said) same ∙ ap (answered count o.view) is
 
-  after_as : (views : List (Option (Used T))) (o : AnyOperation T) (of : Usage) (said ending : Option (Ending T)) → of ≡ usage_of o → said ≡ ending → views_after views of.client of.view of.claims said ≡ views_after views o.client o.view o.claims ending
+  after_as : (views : List (Option (Used T))) (o : Operation T) (of : Usage) (said ending : Option (Ending T)) → of ≡ usage_of o → said ≡ ending → views_after views of.client of.view of.claims said ≡ views_after views o.client o.view o.claims ending
   after_as views o of said ending same is = ap (λ (u : Usage). views_after views u.client u.view u.claims said) same ∙ ap (views_after views o.client o.view o.claims) is
 
   -- a refusal lets the view go
-  pub let_go_after : (views : List (Option (Used T))) (client : ℕ) (view : Option ℕ) (claims : Bool) (answer : Answer T) → views_after views client view claims (Some (endings.Answers answer)) ≡ views_changed views view (let_go claims)
+  pub let_go_after : (views : List (Option (Used T))) (client : ℕ) (view : Option ℕ) (claims : Bool) (answer : PlainAnswer T) → views_after views client view claims (Some (endings.Answers answer)) ≡ views_changed views view (let_go claims)
   let_go_after views client None claims answer = append-nil views
   let_go_after views client (Some number) claims answer = refl
 
 module _ {T : Type 0} (encode : T → List ℕ) (decode : List ℕ → Option T) (get_epoch : T → ℕ) (set_epoch : T → ℕ → T) where
   -- a look
-  pub looked : (old new : State T) (op : ℕ) (of : Usage) (ending said : Option (Ending T)) (tells : AnyTold T) → asked_by old.operations op ≡ Some Look → option_map usage_of (numbered old.operations op) ≡ Some of →
+  pub looked : (old new : State T) (op : ℕ) (of : Usage) (ending said : Option (Ending T)) (tells : Told T) → asked_by old.operations op ≡ Some Look → option_map usage_of (numbered old.operations op) ≡ Some of →
       TurnsAmong old.page encode decode get_epoch set_epoch old.operations old.caches op None new.operations new.caches ending → IsAfforded ending said → tells ≡ told_of (told.Went op) op (answered (length old.views) of.view said) →
       new.clients ≡ old.clients → new.page ≡ old.page → new.store ≡ old.store → new.views ≡ views_after old.views of.client of.view of.claims said → new.loose ≡ old.loose → new.failed ≡ old.failed → new.trace ≡ old.trace ++ answer_rows op (answered (length old.views) of.view said) →
       Looks encode decode get_epoch set_epoch old op tells new
@@ -249,7 +249,7 @@ module _ {T : Type 0} (encode : T → List ℕ) (decode : List ℕ → Option T)
       }
 
   -- a serve
-  pub served : (old new : State T) (op : ℕ) (of : Usage) (request : Request) (reply : Reply) (ending said : Option (Ending T)) (tells : AnyTold T) → asked_by old.operations op ≡ Some (Store request) → option_map usage_of (numbered old.operations op) ≡ Some of →
+  pub served : (old new : State T) (op : ℕ) (of : Usage) (request : Request) (reply : Reply) (ending said : Option (Ending T)) (tells : Told T) → asked_by old.operations op ≡ Some (Store request) → option_map usage_of (numbered old.operations op) ≡ Some of →
       Serves request old.store reply new.store → new.store.failures ≡ 0 → TurnsAmong old.page encode decode get_epoch set_epoch old.operations old.caches op (Some reply) new.operations new.caches ending → IsAfforded ending said → tells ≡ told_of (told.Went op) op (answered (length old.views) of.view said) →
       new.clients ≡ old.clients → new.page ≡ old.page → new.views ≡ views_after old.views of.client of.view of.claims said → new.loose ≡ old.loose → new.failed ≡ old.failed → new.trace ≡ (old.trace ++ effect_rows op (effect_of old.store.files request reply)) ++ answer_rows op (answered (length old.views) of.view said) →
       Served encode decode get_epoch set_epoch old op tells new
@@ -276,7 +276,7 @@ module _ {T : Type 0} (encode : T → List ℕ) (decode : List ℕ → Option T)
       }
 
   -- a begin, of an operation of this number, view and kind
-  pub begun : (old new : State T) (client op : ℕ) (view : Option ℕ) (claims : Bool) (call : AnyCall T) (next : Next T) (taken : List (Option (Used T))) (tells : AnyTold T) → op ≡ next_op old → view ≡ view_used call → claims ≡ is_claim_call call →
+  pub begun : (old new : State T) (client op : ℕ) (view : Option ℕ) (claims : Bool) (call : Call T) (next : Next T) (taken : List (Option (Used T))) (tells : Told T) → op ≡ next_op old → view ≡ view_used call → claims ≡ is_claim_call call →
       ReadsBack encode decode call → FitsWord call → next ≡ started old.page encode get_epoch set_epoch call (view_now old call) → IsMadeSo encode decode get_epoch next.0 → tells ≡ told_of (told.Began op) op (answered (length old.views) view next.1) →
       new.clients ≡ old.clients → new.page ≡ old.page → new.store ≡ old.store → new.caches ≡ old.caches → new.operations ≡ old.operations ++ record { client = client; view = view; claims = claims; doing = next.0 } ∷ [] →
       taken ≡ views_taken old.views view op → new.views ≡ views_after taken client view claims next.1 → new.loose ≡ old.loose → new.failed ≡ old.failed →
@@ -376,13 +376,13 @@ module _ {T : Type 0} where
       }
 
   -- a failure before its effect
-  pub failed_before : (old new : State T) (op : ℕ) (tells : AnyTold T) → is_some (request_of (asked_by old.operations op)) ≡ true → ToldFailure old op tells new → FailsFirst old op tells false new
+  pub failed_before : (old new : State T) (op : ℕ) (tells : Told T) → is_some (request_of (asked_by old.operations op)) ≡ true → ToldFailure old op tells new → FailsFirst old op tells false new
   failed_before old new op tells asks v =
       let some = request_there (asked_by old.operations op) asks in
       record { operation = v.operation; request = some.0; caches = v.caches; acts = record { found = v.found; asks = sym (ap asked_of v.found) ∙ some.1; kept = v.kept }; tells = v.tells; state = v.state }
 
   -- a failure of a request that becomes loose
-  pub failed_loose : (old middle new : State T) (op : ℕ) (copy : Option Request) (tells : AnyTold T) → is_some (request_of (asked_by old.operations op)) ≡ true → copy ≡ loose_of (asked_by old.operations op) → middle ≡ record old { loose = old.loose ++ as_loose op copy } → ToldFailure middle op tells new → FailsFirst old op tells true new
+  pub failed_loose : (old middle new : State T) (op : ℕ) (copy : Option Request) (tells : Told T) → is_some (request_of (asked_by old.operations op)) ≡ true → copy ≡ loose_of (asked_by old.operations op) → middle ≡ record old { loose = old.loose ++ as_loose op copy } → ToldFailure middle op tells new → FailsFirst old op tells true new
   failed_loose old middle new op copy tells asks is e v =
       let some = request_there (asked_by old.operations op) asks in
       let loose : as_loose op copy ≡ left_loose op (Some (Store some.0)) = ap (as_loose op) is ∙ (as_left op (asked_by old.operations op) ∙ ap (left_loose op) some.1) in
@@ -391,16 +391,16 @@ module _ {T : Type 0} where
       record { operation = w.operation; request = some.0; caches = w.caches; acts = record { found = w.found; asks = sym (ap asked_of w.found) ∙ some.1; kept = w.kept }; tells = w.tells; state = w.state }
 
   -- a failure after its effect
-  pub failed_after : (old middle new : State T) (op : ℕ) (request : Request) (reply : Reply) (tells : AnyTold T) → asked_by old.operations op ≡ Some (Store request) → Serves request old.store reply middle.store → middle.store.failures ≡ 0 → lacks_memory reply ≡ false → middle ≡ effected old op request reply middle.store → ToldFailure middle op tells new → FailsAfter old op tells new
+  pub failed_after : (old middle new : State T) (op : ℕ) (request : Request) (reply : Reply) (tells : Told T) → asked_by old.operations op ≡ Some (Store request) → Serves request old.store reply middle.store → middle.store.failures ≡ 0 → lacks_memory reply ≡ false → middle ≡ effected old op request reply middle.store → ToldFailure middle op tells new → FailsAfter old op tells new
   failed_after old middle new op request reply tells asks serves honest answered e v =
       let w = subst (λ (s : State T). ToldFailure s op tells new) e v in
       record { operation = w.operation; request = request; caches = w.caches; acts = record { found = w.found; asks = sym (ap asked_of w.found) ∙ asks; kept = w.kept }; reply = reply; store = middle.store; reaches = record { serves = serves; honest = honest }; answered = answered; tells = w.tells; state = w.state }
 
 -- what an operation asks for, as it is seen
-pub asks_seen : {T : Type 0} (operations : List (AnyOperation T)) (op : ℕ) → asked_by operations op ≡ asks_in (numbered (seen_operations operations) op)
+pub asks_seen : {T : Type 0} (operations : List (Operation T)) (op : ℕ) → asked_by operations op ≡ asks_in (numbered (seen_operations operations) op)
 asks_seen {T = T} operations op = by (numbered operations op) ∙ sym (ap asks_in (numbered_mapped seen_operation operations op))
   where
-    by : (found : Option (AnyOperation T)) → asked_of found ≡ asks_in (option_map seen_operation found)
+    by : (found : Option (Operation T)) → asked_of found ≡ asks_in (option_map seen_operation found)
     by None = refl
     by (Some operation) = refl
 
@@ -419,11 +419,11 @@ told_few count (Some number) (endings.Comes (outcomes.Held id value epoch)) = om
 told_few count view (endings.Comes (outcomes.Shut id value error)) = omega arith
 
 -- there is room for the ids of an answer
-pub told_within : {T : Type 0} (count room : ℕ) (view : Option ℕ) (ending : Option (Ending T)) (result : Option (AnyAnswer T × AnyAnswer T)) (pair : AnyAnswer T × AnyAnswer T) → result ≡ Some pair → plain.first_of result ≡ answered count view ending → ForSome ending (λ e. ending_count e ≤ room) → told_count pair.0 ≤ room
+pub told_within : {T : Type 0} (count room : ℕ) (view : Option ℕ) (ending : Option (Ending T)) (result : Option (Answer T × Answer T)) (pair : Answer T × Answer T) → result ≡ Some pair → plain.first_of result ≡ answered count view ending → ForSome ending (λ e. ending_count e ≤ room) → told_count pair.0 ≤ room
 told_within count room view None result pair is answer fits = let clash = sym (ap plain.first_of is) ∙ answer in cc
 told_within {T = T} count room view (Some e) result pair is answer fits =
     let same : pair.0 ≡ answer_of count view e = same_Some pair.0 (answer_of count view e) (sym (ap plain.first_of is) ∙ answer) in
-    let few : told_count pair.0 ≤ ending_count e = subst (λ (a : AnyAnswer T). told_count a ≤ ending_count e) (sym same) (told_few count view e) in
+    let few : told_count pair.0 ≤ ending_count e = subst (λ (a : Answer T). told_count a ≤ ending_count e) (sym same) (told_few count view e) in
     let most = fits e refl in
     omega (arith, few, most)
 
@@ -433,7 +433,7 @@ pub may_use_seen : {T : Type 0} (s : State T) (client : ℕ) (holders : Bool) (v
 may_use_seen s client holders None = refl
 may_use_seen s client holders (Some number) = refl
 
-pub base_as_seen : {T : Type 0} (s : State T) (call : AnyCall T) → base_seen (seen_with s.views) call ≡ base_seen (seen_of s) call
+pub base_as_seen : {T : Type 0} (s : State T) (call : Call T) → base_seen (seen_with s.views) call ≡ base_seen (seen_of s) call
 base_as_seen s call = by (view_used call)
   where
     by : (view : Option ℕ) → base_of (id_seen (seen_with s.views) view) call ≡ base_of (id_seen (seen_of s) view) call

@@ -5,29 +5,29 @@ use Rattle.txn_store.specs.Requests.{Serves}
 use Rattle.txn_store.specs.declared.request.Request.{Request}
 use Rattle.txn_store.specs.declared.request.Reply.{Reply}
 use Rattle.txn_caches.specs.declared.caches.Caches.{Caches}
-use Rattle.txn_history.specs.declared.event.Answer.TheVariants as plain_answers
+use Rattle.txn_history.specs.declared.event.PlainAnswer.TheVariants as plain_answers
 use Rattle.txn_history.specs.declared.event.ToldOf.TheVariants as told
 use Rattle.txn_history.specs.Lists.{numbered}
 use Rattle.txn_history.specs.Seen.{Store, Look}
-use Rattle.txn_view_history.specs.declared.event.AnyAnswer.TheVariants as answers
-use Rattle.txn_view_history.specs.Trace.{AnyTold}
-use Rattle.txn_view_history.specs.Allowed.{is_busy}
-use Rattle.txn_any_machine.specs.declared.doing.AnyOperation.{AnyOperation}
-use Rattle.txn_any_machine.specs.Doing.{asked, refused, IsReply, InRange}
-use Rattle.txn_any_machine.specs.Machine.{State, used_by, acted, failing, seen_of}
+use Rattle.txn_history.specs.declared.event.Answer.TheVariants as answers
+use Rattle.txn_history.specs.Trace.{Told}
+use Rattle.txn_history.specs.Allowed.{is_busy}
+use Rattle.txn_machine.specs.declared.doing.Operation.{Operation}
+use Rattle.txn_machine.specs.Doing.{asked, refused, IsReply, InRange}
+use Rattle.txn_machine.specs.Machine.{State, used_by, acted, failing, seen_of}
 use Rattle.txn_clients.specs.Views.{is_used}
 
 -- The store's reply to what an operation asks for is of the kind that it takes, a look is taken where it is asked for, no
 -- read has counted too far, and a view is marked as busy exactly where an operation runs on it.
 pub record IsAnswerable {T : Type 0} (s : State T) : Type 0 where
-  pub replies : (op : ℕ) (o : AnyOperation T) → numbered s.operations op ≡ Some o → (request : Request) (reply : Reply) (new : StoreState) → asked o.doing ≡ Some (Store request) → Serves request s.store reply new → IsReply o.doing (Some reply)
-  pub looks : (op : ℕ) (o : AnyOperation T) → numbered s.operations op ≡ Some o → asked o.doing ≡ Some Look → IsReply o.doing None
-  pub range : (op : ℕ) (o : AnyOperation T) → numbered s.operations op ≡ Some o → InRange o.doing
+  pub replies : (op : ℕ) (o : Operation T) → numbered s.operations op ≡ Some o → (request : Request) (reply : Reply) (new : StoreState) → asked o.doing ≡ Some (Store request) → Serves request s.store reply new → IsReply o.doing (Some reply)
+  pub looks : (op : ℕ) (o : Operation T) → numbered s.operations op ≡ Some o → asked o.doing ≡ Some Look → IsReply o.doing None
+  pub range : (op : ℕ) (o : Operation T) → numbered s.operations op ≡ Some o → InRange o.doing
   pub busy : (number : ℕ) → is_busy (seen_of s) s.trace (Some number) ≡ is_used (used_by s.views (Some number))
 
 -- An operation was told that its store call failed: it has ended, and is one of those that failed.
-pub record ToldFailure {T : Type 0} (old : State T) (op : ℕ) (said : AnyTold T) (new : State T) : Type 0 where
-  pub operation : AnyOperation T
+pub record ToldFailure {T : Type 0} (old : State T) (op : ℕ) (said : Told T) (new : State T) : Type 0 where
+  pub operation : Operation T
   pub found : numbered old.operations op ≡ Some operation
   pub caches : Caches
   pub kept : numbered old.caches operation.client ≡ Some caches

@@ -5,9 +5,9 @@ use Rattle.std.specs.BTreeSet.{BTreeSet, contains}
 use Rattle.txn_store.specs.declared.request.Request.{Request}
 use Rattle.txn_history.specs.Lists.{numbered}
 use Rattle.txn_history.specs.GoesOn.{left_loose}
-use Rattle.txn_any_machine.specs.declared.doing.AnyOperation.{AnyOperation}
-use Rattle.txn_any_machine.specs.Doing.{asked, ended}
-use Rattle.txn_any_machine.specs.Machine.{doing_next}
+use Rattle.txn_machine.specs.declared.doing.Operation.{Operation}
+use Rattle.txn_machine.specs.Doing.{asked, ended}
+use Rattle.txn_machine.specs.Machine.{doing_next}
 use Rattle.txn_clients.specs.Operations.{asked_by}
 
 -- a set, where there is one, has the number
@@ -21,20 +21,20 @@ is_in sets client n = is_in_set (numbered sets client) n
 
 module _ {T : Type 0} where
   -- it is there, is this client's, and has not ended
-  abbrev pub runs_as : ℕ → Option (AnyOperation T) → Bool
+  abbrev pub runs_as : ℕ → Option (Operation T) → Bool
   runs_as client None = false
   runs_as client (Some operation) = operation.client == client && is_some (asked operation.doing)
 
   -- the operation runs, and is this client's
-  abbrev pub runs_for : List (AnyOperation T) → ℕ → ℕ → Bool
+  abbrev pub runs_for : List (Operation T) → ℕ → ℕ → Bool
   runs_for operations client op = runs_as client (numbered operations op)
 
   -- the requests that these operations leave loose, in this order
-  abbrev pub left_of : List (AnyOperation T) → List ℕ → List (ℕ × Request)
+  abbrev pub left_of : List (Operation T) → List ℕ → List (ℕ × Request)
   left_of operations [] = []
   left_of operations (op ∷ ops) = left_loose op (asked_by operations op) ++ left_of operations ops
 
   -- an operation, ended where this is so
-  abbrev pub ended_where : Bool → Option (AnyOperation T) → Option (AnyOperation T)
+  abbrev pub ended_where : Bool → Option (Operation T) → Option (Operation T)
   ended_where ends None = None
   ended_where ends (Some operation) = Some (if ends then doing_next operation ended else operation)

@@ -3,7 +3,7 @@ use Rattle.txn_store.specs.Memory.{searched_state}
 use Rattle.txn_types.specs.declared.codec.ObjectCodec as coding
 use Rattle.txn_types.specs.declared.epoch.EpochField as fields
 use Rattle.txn_world.specs.declared.tables.Tables.{Tables}
-use Rattle.txn_any_machine.specs.Machine.{State, WorldState}
+use Rattle.txn_machine.specs.Machine.{State, WorldState}
 
 module _ {T C E : Type 0} {codec : coding.Ghosts C T} {field : fields.Ghosts E T} where
   abbrev pub shown : Tables T C E codec field → State T

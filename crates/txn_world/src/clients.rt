@@ -2,17 +2,17 @@
 ghost use Rattle.std.specs.Prelude.{◌≡◌, ◌||◌, ◌&&◌, ◌==◌, ◌++◌, ◌∷◌, [], ◌<◌, ◌≤◌, ◌+◌, ◌-◌, ℕ, not, true, false, Some, IfOk, OnOk, IsSome, is_ok, if◌then◌else◌, replicate, nat_eq, vec_len, vec_capacity};
 ghost use Rattle.std.specs.List.{list_any};
 ghost use Rattle.txn_history.specs.GoesOn.{as_loose};
-ghost use Rattle.txn_machine.specs.Machine.{no_caches};
-ghost use Rattle.txn_any_machine.specs.declared.doing.AnyOperation.{AnyOperation};
+ghost use Rattle.txn_machine_inner.specs.Machine.{no_caches};
+ghost use Rattle.txn_machine.specs.declared.doing.Operation.{Operation};
 ghost use Rattle.txn_history.specs.Lists.{numbered};
 ghost use Rattle.txn_clients.specs.Views.{IsFromOne};
 ghost use Rattle.txn_world.specs.Running.{is_in, runs_for, left_of, ended_where};
 
 use std::alloc::{AllocError, Global};
 use std::collections::BTreeSet;
-use txn_any_machine::doing::{AnyDoing, AnyOperation, Ending};
 use txn_caches::caches::Caches;
 use txn_clients::operations::{self, Usage, asked, loose_copy, runs};
+use txn_machine::doing::{Doing, Ending, Operation};
 use txn_rows::sets::numbers_of;
 use txn_store::request::{Reply, Request};
 use txn_types::codec::ObjectCodec;
@@ -33,7 +33,7 @@ pub(crate) fn push_loose(loose: &mut Vec<(u64, Request)>, op: u64, copy: Option<
 /// The requests that these operations leave loose, in this order. The only error is want of memory.
 fn left_of<T: Drop>(
     alloc: Global,
-    operations: &[AnyOperation<T>],
+    operations: &[Operation<T>],
     ops: &[u64],
 ) -> Result<Vec<(u64, Request)>, AllocError>
     ensures { IfOk result (λ left. left.items ≡ left_of operations.now ops.now) }
@@ -48,7 +48,7 @@ fn left_of<T: Drop>(
 }
 
 /// Ends an operation that is there.
-fn end_one<T: Drop>(operations: &mut Vec<AnyOperation<T>>, op: u64)
+fn end_one<T: Drop>(operations: &mut Vec<Operation<T>>, op: u64)
     requires { IsSome (numbered operations.old.items op) }
     ensures { (n : ℕ) → numbered operations.new.items n ≡ ended_where (nat_eq n op) (numbered operations.old.items n) }
 {
@@ -56,7 +56,7 @@ fn end_one<T: Drop>(operations: &mut Vec<AnyOperation<T>>, op: u64)
 }
 
 /// Ends these operations, which are there.
-fn end_all<T: Drop>(operations: &mut Vec<AnyOperation<T>>, ops: &[u64])
+fn end_all<T: Drop>(operations: &mut Vec<Operation<T>>, ops: &[u64])
     requires { (n : ℕ) → list_any (nat_eq n) ops.now ≡ true → IsSome (numbered operations.old.items n) }
     ensures { (n : ℕ) → numbered operations.new.items n ≡ ended_where (list_any (nat_eq n) ops.now) (numbered operations.old.items n) }
 {
@@ -85,7 +85,7 @@ fn enlist(
 
 /// Makes room for an operation, and enters it with its client's, where it runs.
 fn enter<T: Drop>(
-    operations: &mut Vec<AnyOperation<T>>,
+    operations: &mut Vec<Operation<T>>,
     running: &mut Vec<BTreeSet<u64>>,
     client: u64,
     runs: bool,
@@ -169,13 +169,13 @@ pub(crate) struct Clients<T> {
     /// What each client keeps.
     pub caches: Vec<Caches>,
     /// The operations of all clients, numbered from 1.
-    pub operations: Vec<AnyOperation<T>>,
+    pub operations: Vec<Operation<T>>,
     /// The numbers of each client's operations that have not ended.
     running: Vec<BTreeSet<u64>>,
     ghost wide: { vec_len caches ≡ count },
     ghost each: { vec_len running ≡ count },
     ghost all_running: { (client op : ℕ) → is_in running.items client op ≡ runs_for operations.items client op },
-    ghost from_one: { (op : ℕ) (o : AnyOperation T) → numbered operations.items op ≡ Some o → IsFromOne o.view },
+    ghost from_one: { (op : ℕ) (o : Operation T) → numbered operations.items op ≡ Some o → IsFromOne o.view },
 }
 
 impl<T: Clone> Clients<T> {
@@ -185,8 +185,8 @@ impl<T: Clone> Clients<T> {
     ghost use Rattle.txn_history.specs.GoesOn.{all_left_loose};
     ghost use Rattle.txn_history.specs.Names.{world_names, world_boundary};
     ghost use Rattle.txn_types.specs.Clones.{IsExactClone};
-    ghost use Rattle.txn_machine.specs.Machine.{no_caches};
-    ghost use Rattle.txn_any_machine.specs.Machine.{ended_by, seen_operations};
+    ghost use Rattle.txn_machine_inner.specs.Machine.{no_caches};
+    ghost use Rattle.txn_machine.specs.Machine.{ended_by, seen_operations};
     ghost use Rattle.txn_clients.specs.Operations.{asked_by, usage_of, TakesReply};
     ghost use Rattle.txn_clients.specs.Views.{IsFromOne};
     ghost use Rattle.txn_world.specs.Acting.{EndsAmong, TurnsAmong};
@@ -216,7 +216,7 @@ impl<T: Clone> Clients<T> {
     }
 
     /// Adds an operation. The only error is want of memory, and then nothing changes.
-    pub fn add(&mut self, of: Usage, doing: AnyDoing<T>) -> Result<(), AllocError>
+    pub fn add(&mut self, of: Usage, doing: Doing<T>) -> Result<(), AllocError>
         requires some { 1 ≤ of.client }
         requires within { of.client ≤ self.old.count }
         requires view { IsFromOne of.view }
@@ -231,7 +231,7 @@ impl<T: Clone> Clients<T> {
             of.client,
             runs(&doing),
         );
-        let operation = AnyOperation {
+        let operation = Operation {
             client: of.client,
             view: of.view,
             claims: of.claims,

@@ -5,20 +5,19 @@ ghost use Rattle.std.specs.Option.{ForSome};
 ghost use Rattle.txn_history.specs.declared.event.ToldOf.TheVariants as tolds;
 ghost use Rattle.txn_history.specs.declared.trace.RowOf.TheVariants.{Answered};
 ghost use Rattle.txn_history.specs.Added.{told_of, answer_rows};
-ghost use Rattle.txn_any_machine.specs.Doing.{refusal_in};
-ghost use Rattle.txn_any_machine.specs.Machine.{answered, let_go, views_changed, views_after};
+ghost use Rattle.txn_machine.specs.Doing.{refusal_in};
+ghost use Rattle.txn_machine.specs.Machine.{answered, let_go, views_changed, views_after};
 ghost use Rattle.txn_clients.specs.Views.{IsFromOne};
 ghost use Rattle.txn_rows.specs.Beside.{ending_count};
 ghost use Rattle.txn_world.specs.Owning.{room_of};
 
 use crate::views::Views;
-use txn_any_machine::doing::Ending;
 use txn_clients::operations::Usage;
-use txn_history::event::Answer;
+use txn_history::event::{Answer, PlainAnswer, Told};
+use txn_machine::doing::Ending;
 use txn_rows::trace::Trace;
 use txn_types::codec::ObjectCodec;
 use txn_types::epoch::EpochField;
-use txn_view_history::event::{AnyAnswer, AnyTold};
 
 /// What the end of an operation, where it ends, leaves of its view and adds to the rows, and what is told.
 pub(crate) fn tell<T: Drop, C: ObjectCodec<T> + Drop, E: EpochField<T>>(
@@ -27,8 +26,8 @@ pub(crate) fn tell<T: Drop, C: ObjectCodec<T> + Drop, E: EpochField<T>>(
     op: u64,
     of: Usage,
     ending: Option<Ending<T>>,
-    otherwise: AnyTold<T>,
-) -> AnyTold<T>
+    otherwise: Told<T>,
+) -> Told<T>
     requires room { vec_len trace.old.rows < vec_capacity trace.old.rows }
     requires spare { ForSome ending (λ e. ending_count e ≤ spare trace.old.told) }
     requires view { IsFromOne of.view }
@@ -47,7 +46,7 @@ pub(crate) fn tell<T: Drop, C: ObjectCodec<T> + Drop, E: EpochField<T>>(
         None => otherwise,
         Some((answer, copy)) => {
             trace.answer(op, answer);
-            AnyTold::Answered(op, copy)
+            Told::Answered(op, copy)
         }
     }
 }
@@ -59,19 +58,19 @@ pub(crate) fn refuse<T: Drop, C: ObjectCodec<T> + Drop, E: EpochField<T>>(
     op: u64,
     of: Usage,
     number: u8,
-) -> AnyTold<T>
+) -> Told<T>
     requires room { vec_len trace.old.rows < vec_capacity trace.old.rows }
     requires view { IsFromOne of.view }
     ensures layout { trace.new.layout ≡ trace.old.layout }
     ensures field { trace.new.field ≡ trace.old.field }
-    ensures told { result ≡ tolds.Answered op (AnyAnswer.Plain (Answer.Refused number)) }
-    ensures rows { trace.new.rows.items ≡ trace.old.rows.items ++ Answered op (AnyAnswer.Plain (Answer.Refused number)) ∷ [] }
+    ensures told { result ≡ tolds.Answered op (Answer.Plain (PlainAnswer.Refused number)) }
+    ensures rows { trace.new.rows.items ≡ trace.old.rows.items ++ Answered op (Answer.Plain (PlainAnswer.Refused number)) ∷ [] }
     ensures views { views.new.used.items ≡ views_changed views.old.used.items of.view (let_go of.claims) }
     ensures count { views.new.count ≡ views.old.count }
 {
     views.let_go(of.view, of.claims);
-    trace.answer(op, AnyAnswer::Plain(Answer::Refused(number)));
-    AnyTold::Answered(op, AnyAnswer::Plain(Answer::Refused(number)))
+    trace.answer(op, Answer::Plain(PlainAnswer::Refused(number)));
+    Told::Answered(op, Answer::Plain(PlainAnswer::Refused(number)))
 }
 
 /// A begin is told, or that its operation was refused at once.
@@ -81,7 +80,7 @@ pub(crate) fn tell_begin<T: Drop, C: ObjectCodec<T> + Drop, E: EpochField<T>>(
     op: u64,
     of: Usage,
     refusal: Option<u8>,
-) -> AnyTold<T>
+) -> Told<T>
     requires room { vec_len trace.old.rows < vec_capacity trace.old.rows }
     requires view { IsFromOne of.view }
     ensures layout { trace.new.layout ≡ trace.old.layout }
@@ -92,7 +91,7 @@ pub(crate) fn tell_begin<T: Drop, C: ObjectCodec<T> + Drop, E: EpochField<T>>(
     ensures count { views.new.count ≡ views.old.count }
 {
     match refusal {
-        None => AnyTold::Began(op),
+        None => Told::Began(op),
         Some(number) => refuse(trace, views, op, of, number),
     }
 }

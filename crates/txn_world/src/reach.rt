@@ -5,7 +5,7 @@ ghost use Rattle.txn_store.specs.Memory.{searched_state};
 ghost use Rattle.txn_store.specs.MemoryServes.{lacks_memory};
 ghost use Rattle.txn_store.specs.Requests.{Serves};
 ghost use Rattle.txn_history.specs.Added.{effect_rows};
-ghost use Rattle.txn_machine.specs.Machine.{effect_of, took, may_change};
+ghost use Rattle.txn_machine_inner.specs.Machine.{effect_of, took, may_change};
 
 use std::alloc::{AllocError, Global};
 use txn_rows::trace::Trace;

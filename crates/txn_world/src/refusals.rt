@@ -2,11 +2,10 @@
 use crate::tables::Tables;
 use txn_clients::calls::{is_holders, value_written, view_used};
 use txn_clients::refusals::{self, ask_refusal, end_refusal};
-use txn_history::event::{Call, EventFault};
+use txn_history::event::{Call, Event, EventFault, PlainCall};
+use txn_history::view::View;
 use txn_types::codec::ObjectCodec;
 use txn_types::epoch::EpochField;
-use txn_view_history::event::{AnyCall, AnyEvent};
-use txn_view_history::view::View;
 
 impl<T: Clone, C: ObjectCodec<T> + Drop, E: EpochField<T>> Tables<T, C, E> {
     ghost use Rattle.std.specs.Prelude.{◌≡◌, Some, is_some};
@@ -14,12 +13,11 @@ impl<T: Clone, C: ObjectCodec<T> + Drop, E: EpochField<T>> Tables<T, C, E> {
     ghost use Rattle.txn_history.specs.Lists.{numbered};
     ghost use Rattle.txn_types.specs.Numbers.{number_of};
     ghost use Rattle.txn_history.specs.History.{epoch_at};
-    ghost use Rattle.txn_history.specs.OneHistory.{is_high};
-    ghost use Rattle.txn_history.specs.Allowed.{is_client};
-    ghost use Rattle.txn_view_history.specs.OneHistory.{is_known_base, has_low_boundary, keeps_epoch};
-    ghost use Rattle.txn_view_history.specs.Seen.{view_of};
-    ghost use Rattle.txn_view_history.specs.Allowed.{may_use, is_busy, base_seen, begin_fault, fault_of};
-    ghost use Rattle.txn_any_machine.specs.Machine.{seen_of};
+    ghost use Rattle.txn_history.specs.Facts.{is_high};
+    ghost use Rattle.txn_history.specs.Allowed.{is_client, may_use, is_busy, base_seen, begin_fault, fault_of};
+    ghost use Rattle.txn_history.specs.OneHistory.{is_known_base, has_low_boundary, keeps_epoch};
+    ghost use Rattle.txn_history.specs.Seen.{view_of};
+    ghost use Rattle.txn_machine.specs.Machine.{seen_of};
     ghost use Rattle.txn_world.specs.Answering.{IsAnswerable};
     ghost use Rattle.txn_world.specs.Shown.{shown};
 
@@ -57,7 +55,7 @@ impl<T: Clone, C: ObjectCodec<T> + Drop, E: EpochField<T>> Tables<T, C, E> {
     }
 
     /// The base that a call writes on: an update's is where its view stands.
-    fn base(&self, call: &AnyCall<T>) -> Option<u64>
+    fn base(&self, call: &Call<T>) -> Option<u64>
         ensures { result ≡ base_seen (seen_of (shown self.now)) call.now }
     {
         refusals::base(&self.views.used, call)
@@ -74,11 +72,11 @@ impl<T: Clone, C: ObjectCodec<T> + Drop, E: EpochField<T>> Tables<T, C, E> {
     }
 
     /// Whether the call advances to 0, or to what is below an id that some call answered.
-    fn is_low(&self, call: &AnyCall<T>) -> bool
+    fn is_low(&self, call: &Call<T>) -> bool
         ensures { result ≡ has_low_boundary (shown self.now).trace call.now }
     {
         match call {
-            AnyCall::Plain(Call::Advance(to)) => *to == 0 || self.trace.has_told_above(*to),
+            Call::Plain(PlainCall::Advance(to)) => *to == 0 || self.trace.has_told_above(*to),
             _ => true,
         }
     }
@@ -91,7 +89,7 @@ impl<T: Clone, C: ObjectCodec<T> + Drop, E: EpochField<T>> Tables<T, C, E> {
     }
 
     /// Whether the value that a call writes has an epoch of at least that of its base's entry.
-    fn keeps_epoch(&self, base: Option<u64>, call: &AnyCall<T>) -> bool
+    fn keeps_epoch(&self, base: Option<u64>, call: &Call<T>) -> bool
         ensures { result ≡ keeps_epoch (C.decoded self.now.trace.layout.codec) (E.epoch_of self.now.trace.field) (shown self.now).trace base call.now }
     {
         match value_written(call) {
@@ -102,7 +100,7 @@ impl<T: Clone, C: ObjectCodec<T> + Drop, E: EpochField<T>> Tables<T, C, E> {
 
     /// Why a begin is refused, where it is: its client and its view, whether that is free, its base, its boundary and its
     /// epoch are tested, in this order.
-    fn begin_refusal(&self, client: u64, call: &AnyCall<T>) -> Option<EventFault>
+    fn begin_refusal(&self, client: u64, call: &Call<T>) -> Option<EventFault>
         requires fit { IsAnswerable (shown self.now) }
         ensures { result ≡ begin_fault (C.decoded self.now.trace.layout.codec) (E.epoch_of self.now.trace.field) (seen_of (shown self.now)) (shown self.now).trace client call.now }
     {
@@ -134,19 +132,19 @@ impl<T: Clone, C: ObjectCodec<T> + Drop, E: EpochField<T>> Tables<T, C, E> {
     }
 
     /// Why an event is refused, want of memory aside.
-    pub fn refusal(&self, event: &AnyEvent<T>) -> Option<EventFault>
+    pub fn refusal(&self, event: &Event<T>) -> Option<EventFault>
         requires fit { IsAnswerable (shown self.now) }
         ensures { result ≡ fault_of (C.decoded self.now.trace.layout.codec) (E.epoch_of self.now.trace.field) (seen_of (shown self.now)) (shown self.now).trace event.now }
     {
         match event {
-            AnyEvent::Begin(client, call) => self.begin_refusal(*client, call),
-            AnyEvent::Look(op) => ask_refusal(false, self.asks(*op)),
-            AnyEvent::Serve(op) => ask_refusal(true, self.asks(*op)),
-            AnyEvent::Fail(op, _) => ask_refusal(true, self.asks(*op)),
-            AnyEvent::GiveUp(op) => end_refusal(self.asks(*op)),
-            AnyEvent::Land(number) if self.has_loose(*number) => None,
-            AnyEvent::Crash(client) if self.has_client(*client) => None,
-            AnyEvent::Land(_) | AnyEvent::Crash(_) => Some(EventFault::UnknownNumber),
+            Event::Begin(client, call) => self.begin_refusal(*client, call),
+            Event::Look(op) => ask_refusal(false, self.asks(*op)),
+            Event::Serve(op) => ask_refusal(true, self.asks(*op)),
+            Event::Fail(op, _) => ask_refusal(true, self.asks(*op)),
+            Event::GiveUp(op) => end_refusal(self.asks(*op)),
+            Event::Land(number) if self.has_loose(*number) => None,
+            Event::Crash(client) if self.has_client(*client) => None,
+            Event::Land(_) | Event::Crash(_) => Some(EventFault::UnknownNumber),
         }
     }
 }

@@ -6,12 +6,13 @@ use crate::ends::{refuse, tell, tell_begin};
 use crate::reach::{Taker, reach};
 use crate::views::Views;
 use std::alloc::{AllocError, Global};
-use txn_any_machine::doing::{is_claim, start};
 use txn_caches::ask::Ask;
 use txn_clients::calls::view_used;
 use txn_clients::layout::world_layout;
 use txn_clients::operations::{Usage, asked, loose_copy, request_of};
-use txn_history::event::{EventFault, Failure};
+use txn_history::event::{Call, Event, EventFault, Failure, Told};
+use txn_history::trace::Row;
+use txn_machine::doing::{is_claim, start};
 use txn_rows::sets::ascending;
 use txn_rows::trace::Trace;
 use txn_store::in_memory::InMemory;
@@ -19,8 +20,6 @@ use txn_store::request::Request;
 use txn_types::codec::ObjectCodec;
 use txn_types::epoch::EpochField;
 use txn_types::room::push_within;
-use txn_view_history::event::{AnyCall, AnyEvent, AnyTold};
-use txn_view_history::trace::AnyRow;
 
 /// All that a world keeps.
 #[derive(Drop)]
@@ -42,13 +41,12 @@ impl<T: Clone, C: ObjectCodec<T> + Drop, E: EpochField<T>> Tables<T, C, E> {
     ghost use Rattle.txn_history.specs.Lists.{numbered};
     ghost use Rattle.txn_history.specs.Seen.{Look, asks_of};
     ghost use Rattle.txn_history.specs.History.{boundary, AreErased};
-    ghost use Rattle.txn_history.specs.Allowed.{is_client};
-    ghost use Rattle.txn_view_history.specs.Calls.{view_used};
-    ghost use Rattle.txn_view_history.specs.Allowed.{fault_of};
-    ghost use Rattle.txn_machine.specs.Doing.{asks_as};
-    ghost use Rattle.txn_machine.specs.Machine.{fault_met};
+    ghost use Rattle.txn_history.specs.Allowed.{is_client, fault_of};
+    ghost use Rattle.txn_history.specs.Calls.{view_used};
+    ghost use Rattle.txn_machine_inner.specs.Doing.{asks_as};
+    ghost use Rattle.txn_machine_inner.specs.Machine.{fault_met};
     ghost use Rattle.txn_types.specs.Clones.{IsExactClone};
-    ghost use Rattle.txn_any_machine.specs.Machine.{opening, seen_calls, seen_of, Begins, Looks, Served, FailsFirst, FailsAfter, GivesUp, Lands, Crashes, Steps, Takes};
+    ghost use Rattle.txn_machine.specs.Machine.{opening, seen_calls, seen_of, Begins, Looks, Served, FailsFirst, FailsAfter, GivesUp, Lands, Crashes, Steps, Takes};
     ghost use Rattle.txn_clients.specs.Operations.{asked_by, request_of};
     ghost use Rattle.txn_clients.specs.Views.{IsFromOne};
     ghost use Rattle.txn_world.specs.Answering.{IsAnswerable, ToldFailure};
@@ -77,7 +75,7 @@ impl<T: Clone, C: ObjectCodec<T> + Drop, E: EpochField<T>> Tables<T, C, E> {
         })
     }
 
-    pub fn rows(&self) -> &[AnyRow<T>]
+    pub fn rows(&self) -> &[Row<T>]
         ensures { result.now ≡ (shown self.now).trace }
     {
         &self.trace.rows
@@ -108,7 +106,7 @@ impl<T: Clone, C: ObjectCodec<T> + Drop, E: EpochField<T>> Tables<T, C, E> {
         asked(&self.clients.operations, op)
     }
 
-    fn begin(&mut self, client: u64, call: AnyCall<T>) -> Result<AnyTold<T>, AllocError>
+    fn begin(&mut self, client: u64, call: Call<T>) -> Result<Told<T>, AllocError>
         requires exact { IsExactClone T.is_clone }
         requires there { is_client (shown self.old).clients client ≡ true }
         requires view { IsFromOne (view_used call) }
@@ -137,7 +135,7 @@ impl<T: Clone, C: ObjectCodec<T> + Drop, E: EpochField<T>> Tables<T, C, E> {
         Ok(tell_begin(&mut self.trace, &mut self.views, op, of, refusal))
     }
 
-    fn look(&mut self, op: u64) -> Result<AnyTold<T>, AllocError>
+    fn look(&mut self, op: u64) -> Result<Told<T>, AllocError>
         requires exact { IsExactClone T.is_clone }
         requires fit { IsAnswerable (shown self.old) }
         requires asks { asked_by (shown self.old).operations op ≡ Some Look }
@@ -157,11 +155,11 @@ impl<T: Clone, C: ObjectCodec<T> + Drop, E: EpochField<T>> Tables<T, C, E> {
             op,
             of,
             ending,
-            AnyTold::Went(op),
+            Told::Went(op),
         ))
     }
 
-    fn serve(&mut self, op: u64) -> Result<AnyTold<T>, AllocError>
+    fn serve(&mut self, op: u64) -> Result<Told<T>, AllocError>
         requires exact { IsExactClone T.is_clone }
         requires fit { IsAnswerable (shown self.old) }
         requires asks { IsSome (request_of (asked_by (shown self.old).operations op)) }
@@ -199,12 +197,12 @@ impl<T: Clone, C: ObjectCodec<T> + Drop, E: EpochField<T>> Tables<T, C, E> {
             op,
             of,
             ending,
-            AnyTold::Went(op),
+            Told::Went(op),
         ))
     }
 
     /// Tells an operation that its store call failed, where there is room for it.
-    fn tell_failure(&mut self, op: u64) -> AnyTold<T>
+    fn tell_failure(&mut self, op: u64) -> Told<T>
         requires asks { IsSome (asked_by (shown self.old).operations op) }
         requires room_failed { vec_len self.old.failed < vec_capacity self.old.failed }
         requires room { vec_len self.old.trace.rows < vec_capacity self.old.trace.rows }
@@ -232,7 +230,7 @@ impl<T: Clone, C: ObjectCodec<T> + Drop, E: EpochField<T>> Tables<T, C, E> {
         self.trace.reserve()
     }
 
-    fn fail_before(&mut self, op: u64) -> Result<AnyTold<T>, AllocError>
+    fn fail_before(&mut self, op: u64) -> Result<Told<T>, AllocError>
         requires asks { IsSome (request_of (asked_by (shown self.old).operations op)) }
         ensures layout { self.new.trace.layout ≡ self.old.trace.layout }
         ensures field { self.new.trace.field ≡ self.old.trace.field }
@@ -243,7 +241,7 @@ impl<T: Clone, C: ObjectCodec<T> + Drop, E: EpochField<T>> Tables<T, C, E> {
         Ok(self.tell_failure(op))
     }
 
-    fn fail_loose(&mut self, op: u64) -> Result<AnyTold<T>, AllocError>
+    fn fail_loose(&mut self, op: u64) -> Result<Told<T>, AllocError>
         requires asks { IsSome (request_of (asked_by (shown self.old).operations op)) }
         ensures layout { self.new.trace.layout ≡ self.old.trace.layout }
         ensures field { self.new.trace.field ≡ self.old.trace.field }
@@ -256,7 +254,7 @@ impl<T: Clone, C: ObjectCodec<T> + Drop, E: EpochField<T>> Tables<T, C, E> {
         Ok(self.tell_failure(op))
     }
 
-    fn fail_after(&mut self, op: u64) -> Result<AnyTold<T>, AllocError>
+    fn fail_after(&mut self, op: u64) -> Result<Told<T>, AllocError>
         requires asks { IsSome (request_of (asked_by (shown self.old).operations op)) }
         ensures layout { self.new.trace.layout ≡ self.old.trace.layout }
         ensures field { self.new.trace.field ≡ self.old.trace.field }
@@ -282,7 +280,7 @@ impl<T: Clone, C: ObjectCodec<T> + Drop, E: EpochField<T>> Tables<T, C, E> {
         Ok(self.tell_failure(op))
     }
 
-    fn give_up(&mut self, op: u64) -> Result<AnyTold<T>, AllocError>
+    fn give_up(&mut self, op: u64) -> Result<Told<T>, AllocError>
         requires asks { IsSome (asked_by (shown self.old).operations op) }
         ensures layout { self.new.trace.layout ≡ self.old.trace.layout }
         ensures field { self.new.trace.field ≡ self.old.trace.field }
@@ -295,10 +293,10 @@ impl<T: Clone, C: ObjectCodec<T> + Drop, E: EpochField<T>> Tables<T, C, E> {
         push_loose(&mut self.loose, op, copy);
         self.clients.end(op);
         self.views.let_go(of.view, of.claims);
-        Ok(AnyTold::GaveUp(op))
+        Ok(Told::GaveUp(op))
     }
 
-    fn land(&mut self, number: u64) -> Result<AnyTold<T>, AllocError>
+    fn land(&mut self, number: u64) -> Result<Told<T>, AllocError>
         requires there { IsSome (numbered (shown self.old).loose number) }
         ensures layout { self.new.trace.layout ≡ self.old.trace.layout }
         ensures field { self.new.trace.field ≡ self.old.trace.field }
@@ -316,10 +314,10 @@ impl<T: Clone, C: ObjectCodec<T> + Drop, E: EpochField<T>> Tables<T, C, E> {
             Taker::Nobody,
         )?;
         drop(reply);
-        Ok(AnyTold::Landed(number, changed))
+        Ok(Told::Landed(number, changed))
     }
 
-    fn crash(&mut self, client: u64) -> Result<AnyTold<T>, AllocError>
+    fn crash(&mut self, client: u64) -> Result<Told<T>, AllocError>
         requires there { is_client (shown self.old).clients client ≡ true }
         ensures layout { self.new.trace.layout ≡ self.old.trace.layout }
         ensures field { self.new.trace.field ≡ self.old.trace.field }
@@ -328,11 +326,11 @@ impl<T: Clone, C: ObjectCodec<T> + Drop, E: EpochField<T>> Tables<T, C, E> {
     {
         self.clients.crash(self.alloc, client, &mut self.loose)?;
         self.views.crash(client);
-        Ok(AnyTold::Crashed(client))
+        Ok(Told::Crashed(client))
     }
 
     /// The step of an event that is not refused. The only error is want of memory, and then nothing changes.
-    fn step(&mut self, event: AnyEvent<T>) -> Result<AnyTold<T>, AllocError>
+    fn step(&mut self, event: Event<T>) -> Result<Told<T>, AllocError>
         requires exact { IsExactClone T.is_clone }
         requires fit { IsAnswerable (shown self.old) }
         requires allowed { fault_of (C.decoded self.old.trace.layout.codec) (E.epoch_of self.old.trace.field) (seen_of (shown self.old)) (shown self.old).trace event ≡ None }
@@ -342,20 +340,20 @@ impl<T: Clone, C: ObjectCodec<T> + Drop, E: EpochField<T>> Tables<T, C, E> {
         ensures ok { IfOk result (λ told. Steps (C.encoded self.old.trace.layout.codec) (C.decoded self.old.trace.layout.codec) (E.epoch_of self.old.trace.field) (E.with_epoch self.old.trace.field) (shown self.old) event told (shown self.new)) }
     {
         match event {
-            AnyEvent::Begin(client, call) => self.begin(client, call),
-            AnyEvent::Look(op) => self.look(op),
-            AnyEvent::Serve(op) => self.serve(op),
-            AnyEvent::Fail(op, Failure::Before) => self.fail_before(op),
-            AnyEvent::Fail(op, Failure::After) => self.fail_after(op),
-            AnyEvent::Fail(op, Failure::Loose) => self.fail_loose(op),
-            AnyEvent::GiveUp(op) => self.give_up(op),
-            AnyEvent::Land(number) => self.land(number),
-            AnyEvent::Crash(client) => self.crash(client),
+            Event::Begin(client, call) => self.begin(client, call),
+            Event::Look(op) => self.look(op),
+            Event::Serve(op) => self.serve(op),
+            Event::Fail(op, Failure::Before) => self.fail_before(op),
+            Event::Fail(op, Failure::After) => self.fail_after(op),
+            Event::Fail(op, Failure::Loose) => self.fail_loose(op),
+            Event::GiveUp(op) => self.give_up(op),
+            Event::Land(number) => self.land(number),
+            Event::Crash(client) => self.crash(client),
         }
     }
 
     /// Takes one event. What it needs to grow is made room for before its first effect.
-    pub fn take(&mut self, event: AnyEvent<T>) -> Result<AnyTold<T>, EventFault>
+    pub fn take(&mut self, event: Event<T>) -> Result<Told<T>, EventFault>
         requires exact { IsExactClone T.is_clone }
         requires fit { IsAnswerable (shown self.old) }
         ensures fault { fault_met result ≡ fault_of (C.decoded self.old.trace.layout.codec) (E.epoch_of self.old.trace.field) (seen_of (shown self.old)) (shown self.old).trace event }

@@ -4,17 +4,17 @@ ghost use Rattle.std.specs.HashSet.{contains};
 ghost use Rattle.std.specs.Option.{ForSome};
 ghost use Rattle.txn_history.specs.Lists.{numbered};
 ghost use Rattle.txn_history.specs.History.{is_id};
-ghost use Rattle.txn_any_machine.specs.Machine.{used_by};
+ghost use Rattle.txn_machine.specs.Machine.{used_by};
 ghost use Rattle.txn_world.specs.Owning.{owns, owner_of, room_of, stands_for, emptied_where};
 
 use std::alloc::{AllocError, Global};
 use std::collections::HashSet;
-use txn_any_machine::doing::Ending;
 use txn_clients::operations::Usage;
 use txn_clients::views::{self, Answers};
+use txn_history::view::View;
+use txn_machine::doing::Ending;
+use txn_machine_views::used::Used;
 use txn_rows::sets::insert_id;
-use txn_view_history::view::View;
-use txn_view_machine::used::Used;
 
 /// The client of the view of this number, where it stands.
 fn owner<T>(used: &[Option<Used<T>>], number: u64) -> Option<u64>
@@ -116,9 +116,9 @@ pub(crate) struct Views<T> {
 impl<T: Drop> Views<T> {
     ghost use Rattle.std.specs.Prelude.{◌≡◌, ◌<◌, ◌≤◌, ◌+◌, [], None, Some, IfOk, OnOk, length, map, vec_len, vec_capacity};
     ghost use Rattle.std.specs.Option.{option_copied, ForSome};
-    ghost use Rattle.txn_view_machine.specs.Steps.{view_without};
-    ghost use Rattle.txn_machine.specs.Doing.{first_of};
-    ghost use Rattle.txn_any_machine.specs.Machine.{seen_view, used_by, let_go, answered, views_changed, views_after, views_taken};
+    ghost use Rattle.txn_machine_views.specs.Steps.{view_without};
+    ghost use Rattle.txn_machine_inner.specs.Doing.{first_of};
+    ghost use Rattle.txn_machine.specs.Machine.{seen_view, used_by, let_go, answered, views_changed, views_after, views_taken};
     ghost use Rattle.txn_clients.specs.Views.{is_used, IsFromOne};
     ghost use Rattle.txn_world.specs.Owning.{room_of};
 

@@ -2,30 +2,28 @@
 ghost use Rattle.std.specs.Prelude.{◌≡◌, ◌≤◌, map, length, IfOk, OnErr, Some};
 ghost use Rattle.std.specs.Option.{option_copied, ForSome};
 ghost use Rattle.txn_history.specs.History.{history, stored, boundary, AreErased};
-ghost use Rattle.txn_history.specs.Seen.{asks_of};
+ghost use Rattle.txn_history.specs.Seen.{asks_of, view_of};
 ghost use Rattle.txn_history.specs.Added.{AddsRows};
-ghost use Rattle.txn_view_history.specs.OneHistory.{IsOneHistory};
-ghost use Rattle.txn_view_history.specs.Views.{ViewsFit};
-ghost use Rattle.txn_view_history.specs.Laws.{HasOneClaimer};
-ghost use Rattle.txn_view_history.specs.Seen.{view_of};
-ghost use Rattle.txn_view_history.specs.Allowed.{is_busy, fault_of};
-ghost use Rattle.txn_view_history.specs.GoesOn.{GoesOn};
-ghost use Rattle.txn_machine.specs.Doing.{asks_as};
+ghost use Rattle.txn_history.specs.OneHistory.{IsOneHistory};
+ghost use Rattle.txn_history.specs.Views.{ViewsFit};
+ghost use Rattle.txn_history.specs.Laws.{HasOneClaimer};
+ghost use Rattle.txn_history.specs.Allowed.{is_busy, fault_of};
+ghost use Rattle.txn_history.specs.GoesOn.{GoesOn};
+ghost use Rattle.txn_machine_inner.specs.Doing.{asks_as};
 ghost use Rattle.txn_types.specs.Clones.{IsExactClone};
-ghost use Rattle.txn_machine.specs.Machine.{HasContents, fault_met};
-ghost use Rattle.txn_any_machine.specs.Machine.{opening, seen_calls, seen_views, seen_of, next_event, Takes, RunsPast};
+ghost use Rattle.txn_machine_inner.specs.Machine.{HasContents, fault_met};
+ghost use Rattle.txn_machine.specs.Machine.{opening, seen_calls, seen_views, seen_of, next_event, Takes, RunsPast};
 
 use crate::tables::Tables;
 use std::alloc::{AllocError, Global};
 use std::marker::Model;
 use txn_caches::ask::Ask;
-use txn_history::event::EventFault;
+use txn_history::event::{Event, EventFault, Told};
+use txn_history::trace::Row;
+use txn_history::view::View;
 use txn_rows::entries::entries_of;
 use txn_types::codec::ObjectCodec;
 use txn_types::epoch::EpochField;
-use txn_view_history::event::{AnyEvent, AnyTold};
-use txn_view_history::trace::AnyRow;
-use txn_view_history::view::View;
 
 /// Clients over one store. Contracts see its codec, where its values keep their epochs, and the state that
 /// its events lead to.
@@ -41,7 +39,7 @@ impl<T: Clone, C: ObjectCodec<T> + Drop, E: EpochField<T>> Drop for World<T, C, 
 }
 
 impl<T: Clone, C: ObjectCodec<T> + Drop, E: EpochField<T>> Model for World<T, C, E> {
-    ghost use Rattle.txn_any_machine.specs.Machine.{WorldState, IsReached};
+    ghost use Rattle.txn_machine.specs.Machine.{WorldState, IsReached};
 
     ghost Value = { WorldState T C E };
 
@@ -84,7 +82,7 @@ impl<T: Clone, C: ObjectCodec<T> + Drop, E: EpochField<T>> World<T, C, E> {
     /// in place of a store call or a store call in place of a look; a begin also with [`EventFault::ViewBusy`],
     /// [`EventFault::UnknownBase`], [`EventFault::BoundaryTooHigh`] or [`EventFault::EpochLowered`], in this order; and with
     /// [`EventFault::NoMemory`] only where a growth was refused. The base of an update is the version at which its view stands.
-    pub fn take(&mut self, event: AnyEvent<T>) -> Result<AnyTold<T>, EventFault>
+    pub fn take(&mut self, event: Event<T>) -> Result<Told<T>, EventFault>
         requires { IsExactClone T.is_clone }
         ensures refused { fault_met result ≡ fault_of (C.decoded self.old.codec) (E.epoch_of self.old.epochs) (seen_of self.old.state) self.old.state.trace event }
         ensures codec { self.new.codec ≡ self.old.codec }
@@ -101,7 +99,7 @@ impl<T: Clone, C: ObjectCodec<T> + Drop, E: EpochField<T>> World<T, C, E> {
 
     /// Takes these events in order, past those that are refused, and says how many were taken. An event
     /// that is refused for want of memory is passed over too.
-    pub fn run(&mut self, events: Vec<AnyEvent<T>>) -> u64
+    pub fn run(&mut self, events: Vec<Event<T>>) -> u64
         requires { IsExactClone T.is_clone }
         ensures codec { self.new.codec ≡ self.old.codec }
         ensures epochs { self.new.epochs ≡ self.old.epochs }
@@ -117,7 +115,7 @@ impl<T: Clone, C: ObjectCodec<T> + Drop, E: EpochField<T>> World<T, C, E> {
     }
 
     /// What happened, row by row. It takes no memory.
-    pub fn trace(&self) -> &[AnyRow<T>]
+    pub fn trace(&self) -> &[Row<T>]
         ensures rows { result.now ≡ self.now.state.trace }
         // Whatever events came, the versions are one history, and each answer fits it.
         ensures one_history { IsOneHistory (C.decoded self.now.codec) (E.epoch_of self.now.epochs) (E.with_epoch self.now.epochs) self.now.state.failed result.now }
@@ -146,13 +144,13 @@ impl<T: Clone, C: ObjectCodec<T> + Drop, E: EpochField<T>> World<T, C, E> {
 
     /// The event that gives an operation what it asks for: a look where it asks for a look, and else a serve. Where it asks
     /// for nothing, as one that has ended, the serve is refused. It takes no memory.
-    pub fn next_event(&self, op: u64) -> AnyEvent<T>
+    pub fn next_event(&self, op: u64) -> Event<T>
         ensures { result ≡ next_event self.now.state op }
     {
         match self.asks(op) {
-            Some(Ask::Look) => AnyEvent::Look(op),
-            Some(Ask::Store(_)) => AnyEvent::Serve(op),
-            None => AnyEvent::Serve(op),
+            Some(Ask::Look) => Event::Look(op),
+            Some(Ask::Store(_)) => Event::Serve(op),
+            None => Event::Serve(op),
         }
     }
 

@@ -10,11 +10,11 @@ use std::time::Duration;
 use std::{fs, io};
 use txn_client::recorder::Recorder;
 use txn_entries::entry::Entry;
+use txn_history::event::{Answer, Call};
 use txn_recorded::written::{
     answer_row, ask_row, begin_row, client_row, failed_row, give_up_row, reply_row, source_row,
 };
 use txn_store::request::{Reply, Request};
-use txn_view_history::event::{AnyAnswer, AnyCall};
 
 /// The file in which a machine says which of its starts this is.
 const START: &str = "/proc/sys/kernel/random/boot_id";
@@ -148,7 +148,7 @@ impl Recording {
 impl Recorder<Entry> for Recording {
     ghost hands = { λ _ _ _. Unit {0} };
 
-    fn begun(&mut self, op: u64, call: &AnyCall<Entry>) -> io::Result<()> {
+    fn begun(&mut self, op: u64, call: &Call<Entry>) -> io::Result<()> {
         if self.is_idle() {
             return Ok(());
         }
@@ -191,7 +191,7 @@ impl Recorder<Entry> for Recording {
         self.add(row)
     }
 
-    fn answered(&mut self, op: u64, answer: &AnyAnswer<Entry>) -> io::Result<()> {
+    fn answered(&mut self, op: u64, answer: &Answer<Entry>) -> io::Result<()> {
         if self.is_idle() {
             return Ok(());
         }

@@ -9,9 +9,9 @@ use std::rt::Clock;
 use std::time::{Duration, SystemTime};
 use txn_entries::entry::Entry;
 use txn_files::doctor::examine;
+use txn_history::event::Call;
 use txn_lines::printed::Answered;
 use txn_lines::text_form::TextForm;
-use txn_view_history::event::AnyCall;
 use txnobj_words::options::{Command, Options, Source};
 
 /// How long a watch sleeps between two looks, in milliseconds.
@@ -180,7 +180,7 @@ fn watch(rt: &HostRuntime, options: &Options<'_>, after: u64, seconds: u64) -> R
 fn shell(rt: &HostRuntime, session: &mut Session) -> Result<u8, Halt> {
     for line in rt.lines(rt.alloc()) {
         let line = line?;
-        match AnyCall::<Entry>::read_text(rt.alloc(), line.as_str())? {
+        match Call::<Entry>::read_text(rt.alloc(), line.as_str())? {
             None => println!(rt; "bad call")?,
             Some(call) => make(rt, session, call)?,
         }
@@ -189,7 +189,7 @@ fn shell(rt: &HostRuntime, session: &mut Session) -> Result<u8, Halt> {
 }
 
 /// Makes a call, and prints its answer, or why it has none.
-fn make(rt: &HostRuntime, session: &mut Session, call: AnyCall<Entry>) -> Result<(), Halt> {
+fn make(rt: &HostRuntime, session: &mut Session, call: Call<Entry>) -> Result<(), Halt> {
     match session.call(call) {
         Ok(answer) => {
             let answered = Answered(&answer);

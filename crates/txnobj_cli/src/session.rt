@@ -13,11 +13,10 @@ use txn_clients::layout::world_layout;
 use txn_entries::entry::{Entry, EntryCodec, EntryEpoch};
 use txn_folder::folder::Folder;
 use txn_folder::store::FolderStore;
-use txn_history::event::{Answer, Call};
+use txn_history::event::{Answer, Call, PlainAnswer, PlainCall, ViewCall};
 use txn_history::ids::Ids;
 use txn_store::request::{Reply, Request};
 use txn_types::layout::Layout;
-use txn_view_history::event::{AnyAnswer, AnyCall, ViewCall};
 use txnobj_words::options::Options;
 
 /// The most looks and store calls of one call.
@@ -130,9 +129,9 @@ impl Session {
     }
 
     /// Makes a call.
-    pub fn call(&mut self, call: AnyCall<Entry>) -> Result<AnyAnswer<Entry>, Halt> {
+    pub fn call(&mut self, call: Call<Entry>) -> Result<Answer<Entry>, Halt> {
         let answer = self.client.call(call, STEPS)?;
-        if matches!(&answer, AnyAnswer::Plain(Answer::Refused(2))) {
+        if matches!(&answer, Answer::Plain(PlainAnswer::Refused(2))) {
             return Err(self.store_failed());
         }
         Ok(answer)
@@ -151,7 +150,7 @@ impl Session {
 
     /// The newest version, read into a view of this number.
     fn load(&mut self) -> Result<(u64, Version), Halt> {
-        version_in(self.call(AnyCall::View(ViewCall::Load))?)
+        version_in(self.call(Call::View(ViewCall::Load))?)
     }
 
     /// The newest version.
@@ -162,8 +161,8 @@ impl Session {
 
     /// The newest version, where there is one.
     pub fn read(&mut self) -> Result<Option<Version>, Halt> {
-        match self.call(AnyCall::Plain(Call::Read))? {
-            AnyAnswer::Plain(Answer::Read(read)) => Ok(version_of(read)),
+        match self.call(Call::Plain(PlainCall::Read))? {
+            Answer::Plain(PlainAnswer::Read(read)) => Ok(version_of(read)),
             other => Err(refused(&other)),
         }
     }
@@ -171,7 +170,7 @@ impl Session {
     /// Writes the first version, in epoch 0: its id.
     pub fn init(&mut self, payload: Bytes) -> Result<u64, Halt> {
         let entry = Entry { epoch: 0, payload };
-        let answer = self.call(AnyCall::View(ViewCall::Init(entry)))?;
+        let answer = self.call(Call::View(ViewCall::Init(entry)))?;
         id_in(&answer)
     }
 
@@ -189,7 +188,7 @@ impl Session {
             epoch: now,
             payload,
         };
-        let answer = self.call(AnyCall::View(ViewCall::Update(view, entry)))?;
+        let answer = self.call(Call::View(ViewCall::Update(view, entry)))?;
         id_in(&answer)
     }
 
@@ -218,7 +217,7 @@ impl Session {
                 let now = self.newest()?.entry.epoch;
                 Err(fenced(epoch, now).unwrap_or(Halt::Refused(7)))
             }
-            Applied::Answered(AnyAnswer::Plain(Answer::Refused(2))) => Err(self.store_failed()),
+            Applied::Answered(Answer::Plain(PlainAnswer::Refused(2))) => Err(self.store_failed()),
             Applied::Answered(answer) => Err(refused(answer)),
             Applied::AttemptsSpent => Err(Halt::NoEnd),
         }
@@ -231,35 +230,35 @@ impl Session {
             None => ViewCall::Claim(view),
             Some(epoch) => ViewCall::ClaimAt(view, epoch),
         };
-        let answer = self.call(AnyCall::View(call))?;
+        let answer = self.call(Call::View(call))?;
         match &answer {
-            AnyAnswer::Held(_, id, _, epoch) => Ok((*id, *epoch)),
+            Answer::Held(_, id, _, epoch) => Ok((*id, *epoch)),
             other => Err(refused(other)),
         }
     }
 
     /// The ids of the stored versions, ascending.
     pub fn ids(&mut self) -> Result<Ids, Halt> {
-        let call = Call::ListIds(Bound::Unbounded, Bound::Unbounded);
-        match self.call(AnyCall::Plain(call))? {
-            AnyAnswer::Plain(Answer::Ids(ids)) => Ok(ids),
+        let call = PlainCall::ListIds(Bound::Unbounded, Bound::Unbounded);
+        match self.call(Call::Plain(call))? {
+            Answer::Plain(PlainAnswer::Ids(ids)) => Ok(ids),
             other => Err(refused(&other)),
         }
     }
 
     /// What a stored version says.
     pub fn entry(&mut self, id: u64) -> Result<Option<Entry>, Halt> {
-        match self.call(AnyCall::Plain(Call::ReadUnchecked(id)))? {
-            AnyAnswer::Plain(Answer::Value(entry)) => Ok(entry),
+        match self.call(Call::Plain(PlainCall::ReadUnchecked(id)))? {
+            Answer::Plain(PlainAnswer::Value(entry)) => Ok(entry),
             other => Err(refused(&other)),
         }
     }
 
     /// Makes a call that is answered as done.
-    fn done(&mut self, call: Call<Entry>) -> Result<(), Halt> {
-        let answer = self.call(AnyCall::Plain(call))?;
+    fn done(&mut self, call: PlainCall<Entry>) -> Result<(), Halt> {
+        let answer = self.call(Call::Plain(call))?;
         match &answer {
-            AnyAnswer::Plain(Answer::Done) => Ok(()),
+            Answer::Plain(PlainAnswer::Done) => Ok(()),
             other => Err(refused(other)),
         }
     }
@@ -267,12 +266,12 @@ impl Session {
     /// Raises the boundary to an id below the newest.
     pub fn advance(&mut self, id: u64) -> Result<(), Halt> {
         self.read()?;
-        self.done(Call::Advance(id))
+        self.done(PlainCall::Advance(id))
     }
 
     /// Removes a version at or below the boundary.
     pub fn delete(&mut self, id: u64) -> Result<(), Halt> {
-        self.done(Call::Delete(id))
+        self.done(PlainCall::Delete(id))
     }
 
     /// Removes all versions below the newest: how many.
@@ -283,7 +282,7 @@ impl Session {
         if newest.id == 1 {
             return Ok(0);
         }
-        self.done(Call::Advance(newest.id.saturating_sub(1)))?;
+        self.done(PlainCall::Advance(newest.id.saturating_sub(1)))?;
         let ids = self.ids()?;
         let mut removed: u64 = 0;
         for id in ids.as_slice() {
@@ -305,25 +304,25 @@ fn version_of(read: Option<(u64, Entry)>) -> Option<Version> {
 }
 
 /// The view that a call is answered with: its number, and its version.
-fn version_in(answer: AnyAnswer<Entry>) -> Result<(u64, Version), Halt> {
+fn version_in(answer: Answer<Entry>) -> Result<(u64, Version), Halt> {
     match answer {
-        AnyAnswer::View(view, id, entry) => Ok((view, Version { id, entry })),
+        Answer::View(view, id, entry) => Ok((view, Version { id, entry })),
         other => Err(refused(&other)),
     }
 }
 
 /// The id of the version of the view that a call is answered with.
-fn id_in(answer: &AnyAnswer<Entry>) -> Result<u64, Halt> {
+fn id_in(answer: &Answer<Entry>) -> Result<u64, Halt> {
     match answer {
-        AnyAnswer::View(_, id, _) => Ok(*id),
+        Answer::View(_, id, _) => Ok(*id),
         other => Err(refused(other)),
     }
 }
 
 /// What the answer of a call says that was not answered as it wants.
-fn refused(answer: &AnyAnswer<Entry>) -> Halt {
+fn refused(answer: &Answer<Entry>) -> Halt {
     match answer {
-        AnyAnswer::Plain(Answer::Refused(number)) => Halt::Refused(*number),
+        Answer::Plain(PlainAnswer::Refused(number)) => Halt::Refused(*number),
         _ => Halt::Words("the answer is of another call"),
     }
 }

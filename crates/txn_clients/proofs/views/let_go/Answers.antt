@@ -1,6 +1,6 @@
 use Rattle.std.proofs.Common.{◌∙◌, Some, ap}
-use Rattle.txn_any_machine.specs.Machine.{with_used, let_go}
-use Rattle.txn_view_machine.specs.Layer.{changed}
+use Rattle.txn_machine.specs.Machine.{with_used, let_go}
+use Rattle.txn_machine_views.specs.Layer.{changed}
 use Rattle.txn_clients.proofs.Slots.{put_in}
 use Rattle.txn_clients.proofs.views.let_go.Goals as goal
 

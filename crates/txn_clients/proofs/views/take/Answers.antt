@@ -1,7 +1,7 @@
 use Rattle.std.proofs.Common.{◌∙◌, Some, ap}
 use Rattle.std.specs.Option.{option_map}
-use Rattle.txn_any_machine.specs.Machine.{with_used}
-use Rattle.txn_view_machine.specs.Layer.{with_busy}
+use Rattle.txn_machine.specs.Machine.{with_used}
+use Rattle.txn_machine_views.specs.Layer.{with_busy}
 use Rattle.txn_clients.proofs.Slots.{put_in}
 use Rattle.txn_clients.proofs.views.take.Goals as goal
 

@@ -6,7 +6,7 @@ use Rattle.txn_lines.specs.declared.record.RecordCodec.{RecordCodec}
 use Rattle.txn_lines.specs.declared.record.RecordEpoch.{RecordEpoch}
 use Rattle.txn_lines.specs.Record.{record_read}
 use Rattle.txn_history.specs.History.{history}
-use Rattle.txn_any_machine.specs.Machine.{WorldState}
+use Rattle.txn_machine.specs.Machine.{WorldState}
 use Rattle.txn_commands.proofs.Finishing.{agrees_then, agrees_else}
 use Rattle.txn_commands.proofs.threads.tally_of.Goals as goal
 use Rattle.txn_commands.proofs.threads.tally_of.Goals.{then-counts, else-counts}

@@ -1,5 +1,5 @@
 use Rattle.std.proofs.Common.{length}
-use Rattle.txn_view_history.specs.Calls.{view_used}
+use Rattle.txn_history.specs.Calls.{view_used}
 use Rattle.txn_diary.proofs.diary.start.Goals as goal
 
 pub returns-in-Ok-clause-ok : goal.returns-in-Ok-clause-ok

@@ -1,4 +1,4 @@
-use Rattle.txn_view_machine.specs.Steps.{view_without}
+use Rattle.txn_machine_views.specs.Steps.{view_without}
 use Rattle.txn_diary.proofs.Killing.{changed_next}
 use Rattle.txn_diary.proofs.kills.empty_all.Goals as goal
 

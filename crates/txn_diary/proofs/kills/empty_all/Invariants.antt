@@ -1,5 +1,5 @@
 use Rattle.std.proofs.Common.{◌≡◌, ◌++◌, map, take, drop}
-use Rattle.txn_view_machine.specs.Steps.{view_without}
+use Rattle.txn_machine_views.specs.Steps.{view_without}
 use Rattle.txn_diary.proofs.kills.empty_all.Given as goal
 
 -- those before this place have ended, where they are the client's

@@ -1,4 +1,4 @@
-use Rattle.txn_any_machine.specs.Machine.{ended_by}
+use Rattle.txn_machine.specs.Machine.{ended_by}
 use Rattle.txn_diary.proofs.Killing.{changed_next}
 use Rattle.txn_diary.proofs.kills.end_all.Goals as goal
 

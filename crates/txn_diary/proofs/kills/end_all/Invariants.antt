@@ -1,5 +1,5 @@
 use Rattle.std.proofs.Common.{◌≡◌, ◌++◌, map, take, drop}
-use Rattle.txn_any_machine.specs.Machine.{ended_by}
+use Rattle.txn_machine.specs.Machine.{ended_by}
 use Rattle.txn_diary.proofs.kills.end_all.Given as goal
 
 -- those before this place have ended, where they are the client's

@@ -5,7 +5,7 @@ use Rattle.std.specs.Io.KnownBytes.{append_known}
 use Rattle.txn_lines.specs.Printed.{boundary_text, erased_text}
 use Rattle.txn_lines.specs.declared.printed.PinnedLine.{PinnedLine}
 use Rattle.txn_history.specs.History.{boundary}
-use Rattle.txn_any_machine.specs.Machine.{seen_views}
+use Rattle.txn_machine.specs.Machine.{seen_views}
 use Rattle.txn_script.specs.Printed.{with_feed, pinned_line, entries_text, views_text}
 use Rattle.txn_script.specs.Rules.{rules_of}
 use Rattle.txn_script.proofs.Ending.{Ended, PrintedBefore, appends_nothing, ends_with, stops_in_views, part_front, stops_at_boundary, stops_at_erased, stops_at_pinned}

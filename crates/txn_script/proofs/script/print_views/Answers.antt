@@ -2,8 +2,8 @@ use Rattle.std.proofs.Common.{ℕ, [], ◌+◌, ◌++◌, ◌<◌, ◌≤◌, Li
 use Rattle.std.proofs.lemmas.Result.{err_from_is_err_and}
 use Rattle.std.proofs.lemmas.List.{append-nil, append_assoc, length-map}
 use Rattle.std.specs.Io.KnownBytes.{Appends, append_known}
-use Rattle.txn_view_history.specs.Views.{View}
-use Rattle.txn_any_machine.specs.Machine.{seen_view, seen_views}
+use Rattle.txn_history.specs.Views.{View}
+use Rattle.txn_machine.specs.Machine.{seen_view, seen_views}
 use Rattle.txn_script.specs.Printed.{view_line, views_text}
 use Rattle.txn_script.proofs.Ending.{appends_nothing, gathers_line, views_step, view_there}
 use Rattle.txn_script.proofs.script.print_views.Goals as goal

@@ -1,6 +1,6 @@
 use Rattle.std.proofs.Common.{◌≡◌, ℕ, ◌+◌, ◌++◌, List, drop}
 use Rattle.std.specs.Io.KnownBytes.{Appends, append_known}
-use Rattle.txn_any_machine.specs.Machine.{seen_views}
+use Rattle.txn_machine.specs.Machine.{seen_views}
 use Rattle.txn_script.specs.Printed.{views_text}
 use Rattle.txn_script.proofs.script.print_views.Given as goal
 

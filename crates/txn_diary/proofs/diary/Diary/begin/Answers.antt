@@ -1,7 +1,7 @@
 use Rattle.std.proofs.Common.{◌∙◌, ◌≡◌, ◌+◌, length, arith, ap, subst, refl}
 use Rattle.txn_history.specs.Added.{told_of}
 use Rattle.txn_history.specs.declared.event.ToldOf.TheVariants as tolds
-use Rattle.txn_machine.specs.Doing.{first_of}
+use Rattle.txn_machine_inner.specs.Doing.{first_of}
 use Rattle.txn_journals.specs.declared.rows.Step.TheVariants as steps
 use Rattle.txn_journals.specs.Parts.{begin_fault}
 use Rattle.txn_diary.specs.Diaries.{fault_if, refusal_of}

@@ -1,7 +1,7 @@
 use Rattle.std.proofs.Common.{◌≡◌, ◌∙◌, ap, None, Some, true, false}
 use Rattle.txn_history.specs.Seen.{Look}
 use Rattle.txn_history.specs.Allowed.{ask_fault}
-use Rattle.txn_machine.specs.Doing.{first_of}
+use Rattle.txn_machine_inner.specs.Doing.{first_of}
 use Rattle.txn_clients.specs.Operations.{asked_by}
 use Rattle.txn_journals.specs.declared.rows.Act.TheVariants as acts
 use Rattle.txn_journals.specs.declared.rows.Step.TheVariants as steps

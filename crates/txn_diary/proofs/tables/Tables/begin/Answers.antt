@@ -1,6 +1,6 @@
 use Rattle.std.proofs.Common.{◌∙◌, sym, ap, ◌++◌, ◌∷◌, [], length, ◌+◌, arith}
 use Rattle.std.specs.Option.{option_copied}
-use Rattle.txn_any_machine.specs.Machine.{seen_view, used_by}
+use Rattle.txn_machine.specs.Machine.{seen_view, used_by}
 use Rattle.txn_diary.specs.Shown.{shown}
 use Rattle.txn_diary.proofs.Starting.{begins_so, made_so, refused_so}
 use Rattle.txn_diary.proofs.tables.Tables.begin.Goals as goal

@@ -1,5 +1,5 @@
 use Rattle.std.proofs.Common.{ap}
-use Rattle.txn_machine.specs.Doing.{first_of}
+use Rattle.txn_machine_inner.specs.Doing.{first_of}
 use Rattle.txn_diary.specs.Shown.{shown}
 use Rattle.txn_diary.proofs.Acting.{used_from_one, takes_turn_so}
 use Rattle.txn_diary.proofs.tables.Tables.turn.Goals as goal

@@ -1,6 +1,6 @@
 use Rattle.std.proofs.Common.{sym, ◌∙◌, ap, ◌||◌, List, nat_eq, nat_lt}
 use Rattle.txn_history.specs.History.{Version, has_id}
-use Rattle.txn_view_history.specs.Calls.{tells_id}
+use Rattle.txn_history.specs.Calls.{tells_id}
 use Rattle.txn_history.specs.declared.trace.RowOf.TheVariants.{Answered}
 use Rattle.txn_history.proofs.Rows.{versions_of-more}
 use Rattle.txn_rows.specs.Beside.{epochs_of}

@@ -5,8 +5,8 @@ use Rattle.txn_threads.proofs.kept.Kept.add.Goals as goal
 pub invariant_of-self-2 : goal.invariant_of-self-2
 invariant_of-self-2 g c = (
   rw (c.in_ok-told.ensures.codec, c.in_ok-told.ensures.epochs)
-      (replays_push (g.C.ObjectCodec.encoded c.self.inside.world.codec) (g.C.ObjectCodec.decoded c.self.inside.world.codec) (g.E.EpochField.epoch_of c.self.inside.world.epochs) (g.E.EpochField.with_epoch c.self.inside.world.epochs) c.self.inside.journal.items c.push_within.new.items.items c.self.inside.world.state c.take.new.self.state c.args.worker c.args.event c.in-Ok-try_clone_event.copy c.in_ok-told.told
-      c.self.invariant.0 c.in_ok-told.ensures.ok c.in-Ok-try_clone_event.ensures (search rules)),
+      (replays_push (g.C.ObjectCodec.encoded c.self.inside.world.codec) (g.C.ObjectCodec.decoded c.self.inside.world.codec) (g.E.EpochField.epoch_of c.self.inside.world.epochs) (g.E.EpochField.with_epoch c.self.inside.world.epochs) c.self.inside.journal.items c.push_within.new.items.items c.self.inside.world.state c.take.new.self.state c.args.worker c.args.event c.in-Ok-try_clone.copy c.in_ok-told.told
+      c.self.invariant.0 c.in_ok-told.ensures.ok c.in-Ok-try_clone.ensures (search rules)),
   c.self.invariant.1,
 )
 

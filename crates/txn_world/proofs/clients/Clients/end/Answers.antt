@@ -1,6 +1,6 @@
 use Rattle.std.proofs.Common.{◌∙◌, arith}
 use Rattle.txn_world.proofs.Acting.{asks_there, end_running, ends_among, from_with}
-use Rattle.txn_any_machine.specs.Doing.{ended}
+use Rattle.txn_machine.specs.Doing.{ended}
 use Rattle.txn_world.proofs.clients.Clients.end.Goals as goal
 
 pub end-requires : goal.end-requires

@@ -1,9 +1,9 @@
 use Rattle.std.proofs.Common.{◌∙◌, ◌≡◌, ◌+◌, ◌++◌, ◌∷◌, [], ap, refl, length, List, arith}
 use Rattle.txn_history.specs.declared.trace.RowOf.TheVariants.{Begun}
 use Rattle.txn_history.specs.Added.{answer_rows}
-use Rattle.txn_view_history.specs.Trace.{AnyRow}
-use Rattle.txn_any_machine.specs.Doing.{started, refusal_in}
-use Rattle.txn_any_machine.specs.Machine.{seen_view, used_by, next_op, answered}
+use Rattle.txn_history.specs.Trace.{Row}
+use Rattle.txn_machine.specs.Doing.{started, refusal_in}
+use Rattle.txn_machine.specs.Machine.{seen_view, used_by, next_op, answered}
 use Rattle.txn_world.specs.Shown.{shown}
 use Rattle.txn_world.proofs.Stepping.{begun}
 use Rattle.txn_world.proofs.tables.Tables.begin.Goals as goal
@@ -27,4 +27,4 @@ returns-clause-ok g c =
     back c.in_ok-doing.ensures.word
     (starts ∙ ap (started t.trace.layout.page encode get_epoch set_epoch c.args.call) (c.find.ensures ∙ ap (λ v. seen_view (used_by t.views.used.items v)) c.view_used.ensures))
     made (c.tell_begin.ensures.told count) c.in_ok-add.ensures.count (ap (λ l. l.page) layout) refl c.in_ok-add.ensures.caches c.in_ok-add.ensures.ok c.take.ensures.used c.tell_begin.ensures.views refl refl
-    (c.tell_begin.ensures.rows count ∙ ap (λ (rs : List (AnyRow g.row.T.Denot)). rs ++ answer_rows op (answered count c.view_used.result ending)) (c.begin.ensures.rows ∙ ap (λ (rs : List (AnyRow g.row.T.Denot)). rs ++ Begun op c.args.call ∷ []) c.in_ok-reserve.ensures.rows))
+    (c.tell_begin.ensures.rows count ∙ ap (λ (rs : List (Row g.row.T.Denot)). rs ++ answer_rows op (answered count c.view_used.result ending)) (c.begin.ensures.rows ∙ ap (λ (rs : List (Row g.row.T.Denot)). rs ++ Begun op c.args.call ∷ []) c.in_ok-reserve.ensures.rows))

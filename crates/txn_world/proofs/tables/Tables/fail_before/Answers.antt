@@ -1,5 +1,5 @@
 use Rattle.std.proofs.Common.{subst}
-use Rattle.txn_any_machine.specs.Machine.{State}
+use Rattle.txn_machine.specs.Machine.{State}
 use Rattle.txn_world.specs.Answering.{ToldFailure}
 use Rattle.txn_world.specs.Shown.{shown}
 use Rattle.txn_world.proofs.Stepping.{failed_before}

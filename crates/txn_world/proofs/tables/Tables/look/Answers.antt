@@ -1,8 +1,8 @@
 use Rattle.std.proofs.Common.{◌∙◌, ap, refl, ◌++◌, length, List, Option}
 use Rattle.txn_history.specs.declared.event.ToldOf.TheVariants as told
 use Rattle.txn_history.specs.Added.{told_of, answer_rows}
-use Rattle.txn_view_machine.specs.Layer.{Used}
-use Rattle.txn_any_machine.specs.Machine.{answered, views_after}
+use Rattle.txn_machine_views.specs.Layer.{Used}
+use Rattle.txn_machine.specs.Machine.{answered, views_after}
 use Rattle.txn_world.specs.Shown.{shown}
 use Rattle.txn_world.proofs.Stepping.{takes_look, looked}
 use Rattle.txn_world.proofs.tables.Tables.look.Goals as goal

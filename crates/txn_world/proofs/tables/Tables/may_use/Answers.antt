@@ -1,5 +1,5 @@
 use Rattle.std.proofs.Common.{◌∙◌, ap}
-use Rattle.txn_view_history.specs.Allowed.{may_use}
+use Rattle.txn_history.specs.Allowed.{may_use}
 use Rattle.txn_clients.specs.Views.{seen_with}
 use Rattle.txn_world.specs.Shown.{shown}
 use Rattle.txn_world.proofs.Stepping.{may_use_seen}

@@ -2,8 +2,8 @@ use Rattle.std.proofs.Common.{◌∙◌, ap, refl, ◌++◌, length, List, Optio
 use Rattle.txn_store.specs.Memory.{searched_state}
 use Rattle.txn_history.specs.declared.event.ToldOf.TheVariants as told
 use Rattle.txn_history.specs.Added.{told_of, answer_rows}
-use Rattle.txn_view_machine.specs.Layer.{Used}
-use Rattle.txn_any_machine.specs.Machine.{answered, views_after}
+use Rattle.txn_machine_views.specs.Layer.{Used}
+use Rattle.txn_machine.specs.Machine.{answered, views_after}
 use Rattle.txn_clients.specs.Operations.{asked_by, request_of}
 use Rattle.txn_world.specs.Shown.{shown}
 use Rattle.txn_world.proofs.Stepping.{request_asked, takes_store, served}

@@ -1,5 +1,5 @@
 use Rattle.std.proofs.Common.{◌∙◌, Some, is_some, ap, arith}
-use Rattle.txn_any_machine.specs.Machine.{used_by, let_go}
+use Rattle.txn_machine.specs.Machine.{used_by, let_go}
 use Rattle.txn_world.specs.Owning.{owner_of}
 use Rattle.txn_world.proofs.Owning.{owned_by_change, owners_there}
 use Rattle.txn_world.proofs.views.Views.let_go.Goals as goal

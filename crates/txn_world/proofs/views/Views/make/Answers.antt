@@ -1,5 +1,5 @@
 use Rattle.std.proofs.Common.{◌∙◌, ◌+◌, Some, is_some, ap}
-use Rattle.txn_any_machine.specs.Machine.{used_by, views_after}
+use Rattle.txn_machine.specs.Machine.{used_by, views_after}
 use Rattle.txn_world.proofs.Owning.{owned_by_made}
 use Rattle.txn_world.proofs.views.Views.make.Goals as goal
 

@@ -1,5 +1,5 @@
 use Rattle.txn_world.specs.Shown.{shown}
-use Rattle.txn_any_machine.proofs.Reached.{reached_history}
+use Rattle.txn_machine.proofs.Reached.{reached_history}
 use Rattle.txn_world.proofs.world.World.entries.Goals as goal
 
 pub entries_of-requires-clause-good : goal.entries_of-requires-clause-good

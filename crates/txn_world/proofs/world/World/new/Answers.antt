@@ -1,6 +1,6 @@
 use Rattle.std.proofs.Common.{sym, subst}
-use Rattle.txn_any_machine.specs.Machine.{IsReached}
-use Rattle.txn_any_machine.proofs.Runs.{opening_reached}
+use Rattle.txn_machine.specs.Machine.{IsReached}
+use Rattle.txn_machine.proofs.Runs.{opening_reached}
 use Rattle.txn_world.proofs.world.World.new.Goals as goal
 
 pub invariant_of-result : goal.invariant_of-result

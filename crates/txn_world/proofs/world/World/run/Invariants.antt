@@ -1,6 +1,6 @@
 use Rattle.std.proofs.Common.{◌≡◌, ◌≤◌, ◌++◌, length}
 use Rattle.std.specs.Vec.Iter.{into_iter_items}
-use Rattle.txn_any_machine.specs.Machine.{RunsPast}
+use Rattle.txn_machine.specs.Machine.{RunsPast}
 use Rattle.txn_world.proofs.world.World.run.Given as goal
 
 -- the events so far were run, the others are still to come, and no more were taken than came

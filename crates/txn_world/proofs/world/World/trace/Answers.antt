@@ -1,5 +1,5 @@
 use Rattle.txn_world.specs.Shown.{shown}
-use Rattle.txn_any_machine.proofs.Reached.{reached_history, reached_stored, reached_claims}
+use Rattle.txn_machine.proofs.Reached.{reached_history, reached_stored, reached_claims}
 use Rattle.txn_world.proofs.world.World.trace.Goals as goal
 
 pub returns-clause-one_history : goal.returns-clause-one_history

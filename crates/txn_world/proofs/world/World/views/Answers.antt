@@ -1,5 +1,5 @@
 use Rattle.txn_world.specs.Shown.{shown}
-use Rattle.txn_any_machine.proofs.Reached.{reached_views}
+use Rattle.txn_machine.proofs.Reached.{reached_views}
 use Rattle.txn_world.proofs.world.World.views.Goals as goal
 
 pub returns-clause-views_fit : goal.returns-clause-views_fit

@@ -1,0 +1,63 @@
+use Rattle.std.proofs.Common.{◌≡◌, ◌∙◌, ◌+◌, ◌-◌, ◌<◌, ◌^◌, ℕ, [], ◌∷◌, ◌++◌, length, slice_get, Some, None, refl, ap, sym, subst, arith, length-append}
+use Rattle.std.proofs.lemmas.Option.{same_Some}
+use Rattle.std.specs.FinMap as map
+use Rattle.txn_store.specs.VersionName.{Names, version_path}
+use Rattle.slatedb_txn_obj.specs.Views.{IsVersion}
+use Rattle.txn_manifest.specs.Manifest.{with_pins, with_payload}
+use Rattle.txn_manifest.specs.Pins.{pins_with}
+use Rattle.txn_manifest.specs.Collected.{LeavesNeeded}
+use Rattle.tests_manifest.specs.Kept.{IsStored}
+use Rattle.tests_manifest.proofs.Keeping.{created_others, leaves_pinned}
+use Rattle.tests_manifest.proofs.kept.pin_and_collect.Goals as goal
+
+pub returns-clause-left : goal.returns-clause-left
+returns-clause-left g c = λ h b stands version. (
+    let names = c.args.protocol.now.layout.names in
+    let id = c.args.manifests.now.holder.delegate.id in
+    let object = c.args.manifests.now.holder.delegate.object in
+    let zero = g.S.ObjectStore.state c.args.store.now in
+    let one = g.S.ObjectStore.state c.checkpoint.new.store in
+    let two = g.S.ObjectStore.state c.set_payload.new.store in
+    let three = g.S.ObjectStore.state c.collect.new.store in
+    let pinned = with_pins object (pins_with id object.pins) in
+    let first = c.in_ok-kept.ensures.entered in
+    let top = first.updated.newest h b stands version in
+    let top_one = first.updated.next h b stands version in
+    let longer = h ++ pinned ∷ [] in
+    let long : length longer ≡ length h + 1 = length-append h (pinned ∷ []) in
+    let held = c.checkpoint.new.self.holder.delegate.object in
+    let version_one : IsVersion longer c.checkpoint.new.self.holder.delegate.id held = record { positive = omega (arith, top_one.id_is, top_one.some); within = omega (arith, top_one.id_is); entry = top_one.entry ∙ ap Some (sym first.now) } in
+    let second = c.in_ok-set_payload.ensures.entered in
+    let stands_one = first.updated.stands h b stands version in
+    let top_two = second.updated.next longer b stands_one version_one in
+    let stands_two = second.updated.stands longer b stands_one version_one in
+    let ends = longer ++ with_payload held c.args.payload ∷ [] in
+    let long_two : length ends ≡ length longer + 1 = length-append longer (with_payload held c.args.payload ∷ []) in
+    let done = c.in_ok-collect.ensures.stands ends b stands_two in
+    let fits = stands_two.versions.files_stand.fits in
+    let small : id + 2 < 2 ^ 64 = omega (arith, top.id_is, long, long_two, fits) in
+    let at = c.checkpoint.ensures.placed in
+    let at_two = c.set_payload.ensures.placed in
+    let names_one : c.checkpoint.new.protocol.layout.names ≡ names = ap (λ place. place.layout.names) at in
+    let names_two : c.set_payload.new.protocol.layout.names ≡ names = ap (λ place. place.layout.names) at_two ∙ names_one in
+    let names_three : c.collect.new.protocol.layout.names ≡ names = ap (λ layout. layout.names) c.collect.ensures.layout ∙ names_two in
+    let middle = c.checkpoint.new.self.holder.delegate.id in
+    let middle_is : middle + 1 ≡ id + 2 = omega (arith, top_one.id_is, top.id_is, long) in
+    let newest = c.collect.new.self.holder.delegate.id in
+    let newest_is : newest ≡ id + 2 = omega (arith, done.0.id_is, top.id_is, long, long_two) in
+    let same_id : newest ≡ c.set_payload.new.self.holder.delegate.id = done.0.id_is ∙ sym top_two.id_is in
+    let made_is : c.collect.new.self.holder.delegate.object ≡ with_payload pinned c.args.payload =
+    same_Some c.collect.new.self.holder.delegate.object (with_payload held c.args.payload) (sym done.0.entry ∙ (ap (λ (k : ℕ). slice_get ends (k - 1)) same_id ∙ top_two.entry)) ∙ ap (λ m. with_payload m c.args.payload) first.now in
+    let before = stands.versions.files_stand.stored id (omega (arith, stands.versions.files_stand.newest top.some, top.id_is)) (omega (arith, top.id_is)) in
+    let after = done.1.versions.files_stand.stored newest (omega (arith, done.1.versions.files_stand.newest done.0.some, done.0.id_is)) (omega (arith, done.0.id_is)) in
+    let left = c.in_ok-collect.ensures.needed stands_two.apart in
+    let rest = c.in_ok-collect.ensures.rest stands_two.apart in
+    leaves_pinned names id object c.args.payload zero.files one.files two.files three.files small
+    (created_others names names (id + 1) zero one refl (omega (arith, small)) c.checkpoint.ensures.creates)
+    (λ n fits differs. created_others names c.checkpoint.new.protocol.layout.names (middle + 1) one two names_one (omega (arith, small, middle_is)) c.set_payload.ensures.creates n fits (λ is. differs (is ∙ middle_is)))
+    newest c.collect.new.self.holder.delegate.object.pins newest_is (ap (λ m. m.pins) made_is)
+    (subst (λ (nm : Names). LeavesNeeded nm newest c.collect.new.self.holder.delegate.object.pins two.files three.files) names_two left)
+    (λ n lt unpinned. subst (λ (nm : Names). map.get three.files (version_path nm n) ≡ None) names_two (rest.gone n lt unpinned))
+    (before.0, before.1, before.2 ∙ top.entry)
+    (subst (λ (nm : Names). IsStored nm three.files newest (with_payload pinned c.args.payload)) names_three (after.0, after.1, after.2 ∙ (done.0.entry ∙ ap Some made_is)))
+    )

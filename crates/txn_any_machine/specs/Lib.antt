@@ -1,5 +1,0 @@
-pub mod Doing
-pub mod Machine
-pub mod CallsLeft
-pub mod Refusals
-pub mod Alone

@@ -1,0 +1,240 @@
+-- A claim takes a look or a reply as the write or the read of the machine of the nine calls does that its attempt is.
+use Rattle.std.proofs.Common.{◌≡◌, ℕ, ◌==◌, List, Bool, true, false, if◌then◌else◌, Option, Some, None, Result, Ok, Err, refl, sym, ◌∙◌, ap, subst, inl, inr}
+use Rattle.txn_store.specs.declared.request.Reply.{Reply}
+use Rattle.txn_types.specs.Errors.{error_number}
+use Rattle.txn_types.specs.Epochs.{claimed_epoch}
+use Rattle.txn_types.specs.declared.error.TransactionalObjectError.{TransactionalObjectError}
+use Rattle.txn_caches.specs.declared.caches.Caches.{Caches}
+use Rattle.txn_caches.specs.declared.turned.Turned.{Turned}
+use Rattle.txn_caches.specs.declared.turned.Turned.TheVariants as turns
+use Rattle.txn_caches.specs.Asking.{unless_lacking}
+use Rattle.txn_steps.specs.declared.read.ReadOp.{ReadOp}
+use Rattle.txn_steps.specs.declared.write.WriteOp.{WriteOp}
+use Rattle.txn_steps.specs.Latest.{ReadAnswer}
+use Rattle.txn_steps.specs.Reads.{read_started, read_turned, read_left}
+use Rattle.txn_steps.specs.Writes.{write_started, write_turned}
+use Rattle.txn_history.specs.declared.event.PlainAnswer.TheVariants as plain_answers
+use Rattle.txn_history.specs.Names.{world_names, world_boundary}
+use Rattle.txn_machine_inner.specs.declared.doing.PlainDoing.{PlainDoing}
+use Rattle.txn_machine_inner.specs.declared.doing.PlainDoing.TheVariants as doings
+use Rattle.txn_machine_inner.specs.Doing as plain
+use Rattle.txn_view_steps.specs.declared.claiming.Claiming.{Claiming}
+use Rattle.txn_view_steps.specs.declared.claiming.Claiming.TheVariants as claiming
+use Rattle.txn_view_steps.specs.declared.op.ViewOp.{ViewOp}
+use Rattle.txn_view_steps.specs.declared.op.ViewOp.TheVariants.{Claim, ClaimAt}
+use Rattle.txn_view_steps.specs.declared.outcome.Outcome.{Outcome}
+use Rattle.txn_view_steps.specs.declared.outcome.Outcome.TheVariants as outcomes
+use Rattle.txn_view_steps.specs.Attempts.{claiming_turned, claiming_left, attempt_turned, refreshed_turned, followed, entered_with, attempted_again, IsMade}
+use Rattle.txn_view_steps.specs.Readings.{said}
+use Rattle.txn_view_steps.specs.Shortages.{IsShort, LacksAsWrite}
+use Rattle.txn_view_steps.specs.ViewOps.{view_turned, view_left, held}
+use Rattle.txn_history.specs.declared.event.ViewCall.{ViewCall}
+use Rattle.txn_history.specs.declared.event.ViewCall.TheVariants as view_calls
+use Rattle.txn_history.specs.declared.event.Call.{Call}
+use Rattle.txn_history.specs.declared.event.Call.TheVariants as any
+use Rattle.txn_history.specs.declared.event.Answer.TheVariants as answers
+use Rattle.txn_history.specs.Calls.{view_used}
+use Rattle.txn_machine_views.specs.Layer as layer
+use Rattle.txn_machine_views.specs.Layer.{Writes, Reads, Makes, Goes, Ends}
+use Rattle.txn_machine_views.specs.Parts.{entered, denied, missed, refusing, claimed, attempted, written}
+use Rattle.txn_machine_views.specs.Parts as parts
+use Rattle.txn_machine_views.proofs.Inside.{inside}
+use Rattle.txn_machine.specs.declared.doing.Doing.TheVariants as does
+use Rattle.txn_machine.specs.declared.doing.Ending.TheVariants as endings
+use Rattle.txn_machine.specs.Doing.{Next, ended, refused, view_next, goes_by, IsMadeSo}
+use Rattle.txn_machine.specs.Doing as whole
+use Rattle.txn_machine.proofs.Matched.{ViewMatched, IsAttempt, IsClaimRead, EndsAs, Answered, TurnsAs}
+use Rattle.txn_machine.proofs.ReadsLeft.{left_by_refusal, left_as_refused, left_as_going}
+use Rattle.txn_machine.proofs.EntryTurns.{Tells, refusal_closes}
+use Rattle.txn_machine.proofs.Nexts.{write_goes, read_goes}
+
+module _ {T : Type 0} where
+  abbrev pub at_claim : Claiming T → ViewOp T
+  at_claim op = Claim (record { claiming = op })
+
+  abbrev pub at_claim_at : ℕ → Claiming T → ViewOp T
+  at_claim_at epoch op = ClaimAt (record { epoch = epoch; claiming = op })
+
+  -- a claim at its attempt, as a call on a view
+  abbrev pub wrapped : (Claiming T → ViewOp T) → Claiming T × Turned (Result (Outcome T) ℕ) → ViewOp T × Turned (Result (Outcome T) ℕ)
+  wrapped as_op next = (as_op next.0, next.1)
+
+  lacking_wrapped : {O : Type 0} (hold : O → ViewOp T) (as_op : Claiming T → O) (lacks : Bool) (x : Claiming T × Turned (Result (Outcome T) ℕ)) →
+      held hold (unless_lacking lacks (as_op claiming.Ended) (as_op x.0, x.1)) ≡ unless_lacking lacks (hold (as_op claiming.Ended)) (wrapped (λ c. hold (as_op c)) x)
+  lacking_wrapped {O} hold as_op true x = refl
+  lacking_wrapped {O} hold as_op false x = refl
+
+  -- the view is held
+  holds_view : (call : Call T) (number id : ℕ) (value : T) (epoch : ℕ) → view_used call ≡ Some number → EndsAs call (answers.Held number id value epoch) (Makes id value epoch) (ended, Some (endings.Comes (outcomes.Held id value epoch)))
+  holds_view call number id value epoch e = record {
+    ending = endings.Comes (outcomes.Held id value epoch);
+    ends = refl;
+    answers = λ count. rw e;
+    changes = refl;
+    quiet = λ none client. absurd (cc);
+  }
+
+module _ {T : Type 0} (page : ℕ) (encode : T → List ℕ) (decode : List ℕ → Option T) (get_epoch : T → ℕ) (set_epoch : T → ℕ → T) where
+  -- A claim: what the layer makes of the answers of its write and its read, and what its operation does then.
+  pub record IsClaimCall (call : ViewCall T) (local asked : Option ℕ) (as_op : Claiming T → ViewOp T) : Type 0 where
+    pub attempt : (write : WriteOp) (base : ℕ) (value : T) (epoch : ℕ) → ViewMatched (any.View call) local (Writes base value epoch) (as_op (claiming.Writes write value epoch)) (doings.Write write)
+    pub reading : (read : ReadOp T) → ViewMatched (any.View call) local Reads (as_op (claiming.Reads read)) (doings.Read read)
+    pub wrote : (id : ℕ) (value : T) (epoch : ℕ) → Tells page encode decode get_epoch call local (entered (any.View call) id value epoch) (ended, Some (endings.Comes (outcomes.Held id value epoch)))
+    pub refuses : (number : ℕ) → Tells page encode decode get_epoch call local (refusing (any.View call) number) (refused number)
+    pub denies : (number : ℕ) → denied (any.View call) number ≡ (if◌then◌else◌ {A = layer.Next T} (number == 5) (Goes Reads) (refusing (any.View call) number))
+    pub misses : missed (any.View call) ≡ refusing (any.View call) 7
+    pub finds : (id : ℕ) (value : T) → parts.found get_epoch set_epoch (any.View call) local id value ≡ attempted get_epoch set_epoch (any.View call) asked id value
+    pub turns : (op : Claiming T) (lacks : Bool) (caches : Caches) (reply : Option Reply) →
+        view_turned world_names world_boundary page encode decode get_epoch set_epoch lacks (as_op op) caches reply ≡ unless_lacking lacks (as_op claiming.Ended) (wrapped as_op (claiming_turned world_names world_boundary page encode decode get_epoch set_epoch asked op caches reply))
+    pub leaves : (op : Claiming T) (caches : Caches) (told : Turned (Result (Outcome T) ℕ)) → view_left (as_op op) caches told ≡ claiming_left op caches told
+    pub made : (op : Claiming T) → IsMadeSo encode decode get_epoch (does.View (as_op op)) → IsMade encode decode get_epoch op
+
+  module _ (call : ViewCall T) (local asked : Option ℕ) (as_op : Claiming T → ViewOp T) (facts : IsClaimCall call local asked as_op) where
+    -- what the layer makes of an answer, memory aside, and what the claim does then
+    abbrev pub Follows : layer.Next T → Next T → Type 0
+    Follows makes next = Tells page encode decode get_epoch call local makes next
+
+    -- it writes the value with this epoch, where there is a next id
+    follows_entry : (full : Bool) (id : ℕ) (value : T) (epoch : ℕ) → (id == 18446744073709551615) ≡ full →
+        IsMadeSo encode decode get_epoch (view_next (wrapped as_op (followed (if◌then◌else◌ {A = Result (Claiming T) ℕ} full (Err 10) (Ok (claiming.Writes (write_started world_names world_boundary (Some id) (encode value)) value epoch)))))).0 →
+        Follows (if◌then◌else◌ {A = layer.Next T} full (refusing (any.View call) 10) (Goes (Writes id value epoch)))
+        (view_next (wrapped as_op (followed (if◌then◌else◌ {A = Result (Claiming T) ℕ} full (Err 10) (Ok (claiming.Writes (write_started world_names world_boundary (Some id) (encode value)) value epoch))))))
+    follows_entry true id value epoch e made = facts.refuses 10
+    follows_entry false id value epoch e made =
+        let write = write_started world_names world_boundary (Some id) (encode value) in
+        let m = facts.made (claiming.Writes write value epoch) made in
+        (m.own, write_goes page encode decode get_epoch call local id value epoch (as_op (claiming.Writes write value epoch)) e m.reads_back (facts.attempt write id value epoch))
+
+    -- it begins an attempt on a version, whose epoch decides which one is set
+    pub follows_claim : (epoch : Result ℕ TransactionalObjectError) (id : ℕ) (value : T) →
+        IsMadeSo encode decode get_epoch (view_next (wrapped as_op (followed (entered_with world_names world_boundary encode set_epoch epoch id value)))).0 →
+        Follows (claimed set_epoch (any.View call) id value epoch) (view_next (wrapped as_op (followed (entered_with world_names world_boundary encode set_epoch epoch id value))))
+    follows_claim (Ok epoch) id value made = follows_entry (id == 18446744073709551615) id (set_epoch value epoch) epoch refl made
+    follows_claim (Err error) id value made = facts.refuses (error_number error)
+
+    -- after a conflict it reads
+    follows_conflict : (five : Bool) (number : ℕ) →
+        Follows (if◌then◌else◌ {A = layer.Next T} five (Goes Reads) (refusing (any.View call) number))
+        (view_next (wrapped as_op (if◌then◌else◌ {A = Claiming T × Turned (Result (Outcome T) ℕ)} five (claiming.Reads (read_started world_boundary), turns.Goes) (claiming.Ended, turns.Done (Err number)))))
+    follows_conflict true number = (tt, read_goes page encode decode get_epoch call local (as_op (claiming.Reads (read_started world_boundary))) (facts.reading (read_started world_boundary)))
+    follows_conflict false number = facts.refuses number
+
+    -- the attempt's write is answered
+    attempt_answered : (base : ℕ) (value : T) (epoch : ℕ) (lacks : Bool) (x : WriteOp × Turned (Result ℕ ℕ)) → (lacks ≡ true → IsShort x.1) →
+        Answered page encode decode get_epoch set_epoch (any.View call) local (Writes base value epoch) (plain.write_next {T = T} x).0 (plain.write_next {T = T} x).1 (view_next (unless_lacking lacks (as_op claiming.Ended) (wrapped as_op (attempt_turned world_boundary value epoch x))))
+    attempt_answered base value epoch true (write, turns.Goes) short = absurd (short refl)
+    attempt_answered base value epoch true (write, turns.Done (Ok id)) short = absurd (short refl)
+    attempt_answered base value epoch true (write, turns.Done (Err number)) short = (refusing (any.View call) 9, refl, inr refl, (facts.refuses 9).0, (facts.refuses 9).1)
+    attempt_answered base value epoch false (write, turns.Goes) short = (does.View (as_op (claiming.Writes write value epoch)), refl, facts.attempt write base value epoch)
+    attempt_answered base value epoch false (write, turns.Done (Ok id)) short = (entered (any.View call) id value epoch, refl, inl refl, (facts.wrote id value epoch).0, (facts.wrote id value epoch).1)
+    attempt_answered base value epoch false (write, turns.Done (Err number)) short =
+        let f = subst (λ (due : layer.Next T). Follows due (view_next (wrapped as_op (attempt_turned world_boundary value epoch (write, turns.Done (Err number)))))) (sym (facts.denies number)) (follows_conflict (number == 5) number) in
+        (denied (any.View call) number, refl, inl refl, f.0, f.1)
+
+    attempt_at : (base : ℕ) (value : T) (epoch : ℕ) (write : WriteOp) (caches : Caches) (reply : Option Reply) (lacks : Bool) → (lacks ≡ true → IsShort (write_turned write caches reply).1) →
+        TurnsAs page encode decode get_epoch set_epoch (any.View call) local (Writes base value epoch) (does.View (as_op (claiming.Writes write value epoch))) (doings.Write write) caches reply
+        (whole.turned page encode decode get_epoch set_epoch lacks (does.View (as_op (claiming.Writes write value epoch))) caches reply)
+    attempt_at base value epoch write caches reply lacks short =
+        let x = write_turned write caches reply in
+        record {
+          refused = lacks;
+          after = plain.write_next x;
+          turns = refl;
+          answered = subst (λ (n : ViewOp T × Turned (Result (Outcome T) ℕ)). Answered page encode decode get_epoch set_epoch (any.View call) local (Writes base value epoch) (plain.write_next {T = T} x).0 (plain.write_next {T = T} x).1 (view_next n))
+              (sym (facts.turns (claiming.Writes write value epoch) lacks caches reply)) (attempt_answered base value epoch lacks x short);
+          leaves = facts.leaves (claiming.Writes write value epoch) caches _;
+        }
+
+    -- its read found this
+    follows_found : (found : Option (ℕ × T)) → IsMadeSo encode decode get_epoch (view_next (wrapped as_op (followed (attempted_again world_names world_boundary encode get_epoch set_epoch asked found)))).0 →
+        Follows (parts.taken get_epoch set_epoch (any.View call) local Reads (inside (plain_answers.Read found))) (view_next (wrapped as_op (followed (attempted_again world_names world_boundary encode get_epoch set_epoch asked found))))
+    follows_found None made = subst (λ (due : layer.Next T). Follows due (refused 7)) (sym facts.misses) (facts.refuses 7)
+    follows_found (Some found) made =
+        subst (λ (due : layer.Next T). Follows due (view_next (wrapped as_op (followed (attempted_again world_names world_boundary encode get_epoch set_epoch asked (Some found)))))) (sym (facts.finds found.0 found.1))
+        (follows_claim (claimed_epoch asked (get_epoch found.1)) found.0 found.1 made)
+
+    reading_answered : (lacks : Bool) (x : ReadOp T × Turned (ReadAnswer T)) →
+        IsMadeSo encode decode get_epoch (view_next (unless_lacking lacks (as_op claiming.Ended) (wrapped as_op (refreshed_turned world_names world_boundary encode get_epoch set_epoch asked x)))).0 →
+        Answered page encode decode get_epoch set_epoch (any.View call) local Reads (plain.or_no_memory lacks (plain.read_next x)).0 (plain.or_no_memory lacks (plain.read_next x)).1
+        (view_next (unless_lacking lacks (as_op claiming.Ended) (wrapped as_op (refreshed_turned world_names world_boundary encode get_epoch set_epoch asked x))))
+    reading_answered true x made = (refusing (any.View call) 9, refl, inl refl, (facts.refuses 9).0, (facts.refuses 9).1)
+    reading_answered false (read, turns.Goes) made = (does.View (as_op (claiming.Reads read)), refl, facts.reading read)
+    reading_answered false (read, turns.Done (Ok found)) made = let f = follows_found found made in (parts.taken get_epoch set_epoch (any.View call) local Reads (inside (plain_answers.Read found)), refl, inl refl, f.0, f.1)
+    reading_answered false (read, turns.Done (Err number)) made = (refusing (any.View call) number, refl, inl refl, (facts.refuses number).0, (facts.refuses number).1)
+
+    -- it goes on or is refused, and leaves the same of the caches as its read
+    followed_left : (read : ReadOp T) (caches left : Caches) (next : Result (Claiming T) ℕ) → read_left read caches turns.Goes ≡ left → read_left read caches (turns.Done (Err 9)) ≡ left →
+        read_left read caches (said (goes_by (view_next (wrapped as_op (followed next))).1)) ≡ left
+    followed_left read caches left (Ok op) going refusing = going
+    followed_left read caches left (Err number) going refusing = refusing
+
+    reading_leaves : (read : ReadOp T) (caches : Caches) (reply : Option Reply) (lacks : Bool) (x : ReadOp T × Turned (ReadAnswer T)) → x ≡ read_turned world_names world_boundary page decode read caches reply →
+        read_left read caches (said (goes_by (view_next (unless_lacking lacks (as_op claiming.Ended) (wrapped as_op (refreshed_turned world_names world_boundary encode get_epoch set_epoch asked x)))).1)) ≡ read_left read caches (plain.said_of (plain.or_no_memory lacks (plain.read_next x)).1)
+    reading_leaves read caches reply true x e = refl
+    reading_leaves read caches reply false (next, turns.Goes) e = refl
+    reading_leaves read caches reply false (next, turns.Done (Ok found)) e =
+        followed_left read caches (read_left read caches (turns.Done (Ok None))) (attempted_again world_names world_boundary encode get_epoch set_epoch asked found)
+        (left_as_going world_names world_boundary page decode read caches reply next found e) (left_as_refused world_names world_boundary page decode read caches reply next found e)
+    reading_leaves read caches reply false (next, turns.Done (Err number)) e = left_by_refusal read caches 9 number
+
+    reading_at : (read : ReadOp T) (caches : Caches) (reply : Option Reply) (lacks : Bool) →
+        IsMadeSo encode decode get_epoch (whole.turned page encode decode get_epoch set_epoch lacks (does.View (as_op (claiming.Reads read))) caches reply).0 →
+        TurnsAs page encode decode get_epoch set_epoch (any.View call) local Reads (does.View (as_op (claiming.Reads read))) (doings.Read read) caches reply (whole.turned page encode decode get_epoch set_epoch lacks (does.View (as_op (claiming.Reads read))) caches reply)
+    reading_at read caches reply lacks made =
+        let x = read_turned world_names world_boundary page decode read caches reply in
+        let after = plain.or_no_memory lacks (plain.read_next x) in
+        let is = facts.turns (claiming.Reads read) lacks caches reply in
+        record {
+          refused = lacks;
+          after = after;
+          turns = refl;
+          answered = subst (λ (n : ViewOp T × Turned (Result (Outcome T) ℕ)). Answered page encode decode get_epoch set_epoch (any.View call) local Reads after.0 after.1 (view_next n)) (sym is)
+              (reading_answered lacks x (subst (λ (n : ViewOp T × Turned (Result (Outcome T) ℕ)). IsMadeSo encode decode get_epoch (view_next n).0) is made));
+          leaves = facts.leaves (claiming.Reads read) caches _ ∙ (ap (λ (n : ViewOp T × Turned (Result (Outcome T) ℕ)). read_left read caches (said (goes_by (view_next n).1))) is ∙ reading_leaves read caches reply lacks x refl);
+        }
+
+    pub attempt_turns : (base : ℕ) (value : T) (epoch : ℕ) (op : Claiming T) (fine : PlainDoing T) (caches : Caches) (reply : Option Reply) (lacks : Bool) → IsAttempt op value epoch fine → LacksAsWrite op caches reply lacks →
+        TurnsAs page encode decode get_epoch set_epoch (any.View call) local (Writes base value epoch) (does.View (as_op op)) fine caches reply (whole.turned page encode decode get_epoch set_epoch lacks (does.View (as_op op)) caches reply)
+    attempt_turns base value epoch op fine caches reply lacks m may =
+        subst (λ (f : PlainDoing T). TurnsAs page encode decode get_epoch set_epoch (any.View call) local (Writes base value epoch) (does.View (as_op op)) f caches reply (whole.turned page encode decode get_epoch set_epoch lacks (does.View (as_op op)) caches reply)) (sym m.fine_is)
+        (subst (λ (o : Claiming T). TurnsAs page encode decode get_epoch set_epoch (any.View call) local (Writes base value epoch) (does.View (as_op o)) (doings.Write m.write) caches reply (whole.turned page encode decode get_epoch set_epoch lacks (does.View (as_op o)) caches reply)) (sym m.attempt_is)
+        (attempt_at base value epoch m.write caches reply lacks (subst (λ (o : Claiming T). LacksAsWrite o caches reply lacks) m.attempt_is may)))
+
+    pub reading_turns : (op : Claiming T) (fine : PlainDoing T) (caches : Caches) (reply : Option Reply) (lacks : Bool) → IsClaimRead op fine →
+        ((read : ReadOp T) → op ≡ claiming.Reads read → IsMadeSo encode decode get_epoch (whole.turned page encode decode get_epoch set_epoch lacks (does.View (as_op op)) caches reply).0) →
+        TurnsAs page encode decode get_epoch set_epoch (any.View call) local Reads (does.View (as_op op)) fine caches reply (whole.turned page encode decode get_epoch set_epoch lacks (does.View (as_op op)) caches reply)
+    reading_turns op fine caches reply lacks m made =
+        subst (λ (f : PlainDoing T). TurnsAs page encode decode get_epoch set_epoch (any.View call) local Reads (does.View (as_op op)) f caches reply (whole.turned page encode decode get_epoch set_epoch lacks (does.View (as_op op)) caches reply)) (sym m.fine_is)
+        (subst (λ (o : Claiming T). TurnsAs page encode decode get_epoch set_epoch (any.View call) local Reads (does.View (as_op o)) (doings.Read m.read) caches reply (whole.turned page encode decode get_epoch set_epoch lacks (does.View (as_op o)) caches reply)) (sym m.attempt_is)
+        (reading_at m.read caches reply lacks
+        (subst (λ (o : Claiming T). IsMadeSo encode decode get_epoch (whole.turned page encode decode get_epoch set_epoch lacks (does.View (as_op o)) caches reply).0) m.attempt_is (made m.read m.attempt_is))))
+
+  -- the two claims
+
+  pub claim_call : (number : ℕ) (local : Option ℕ) → IsClaimCall (view_calls.Claim number) local None at_claim
+  claim_call number local = record {
+    attempt = λ write base value epoch. record { write = write; attempt_is = refl; fine_is = refl };
+    reading = λ read. record { read = read; attempt_is = refl; fine_is = refl };
+    wrote = λ id value epoch. (tt, holds_view (any.View (view_calls.Claim number)) number id value epoch refl);
+    refuses = λ n. (tt, refusal_closes (any.View (view_calls.Claim number)) n refl);
+    denies = λ n. refl;
+    misses = refl;
+    finds = λ id value. refl;
+    turns = λ op lacks caches reply. lacking_wrapped Claim (λ c. record { claiming = c }) lacks (claiming_turned world_names world_boundary page encode decode get_epoch set_epoch None op caches reply);
+    leaves = λ op caches told. refl;
+    made = λ op made. made;
+  }
+
+  pub claim_at_call : (number sought : ℕ) (local : Option ℕ) → IsClaimCall (view_calls.ClaimAt number sought) local (Some sought) (at_claim_at sought)
+  claim_at_call number sought local = record {
+    attempt = λ write base value epoch. (record { write = write; attempt_is = refl; fine_is = refl }, refl);
+    reading = λ read. (record { read = read; attempt_is = refl; fine_is = refl }, refl);
+    wrote = λ id value epoch. (tt, holds_view (any.View (view_calls.ClaimAt number sought)) number id value epoch refl);
+    refuses = λ n. (tt, refusal_closes (any.View (view_calls.ClaimAt number sought)) n refl);
+    denies = λ n. refl;
+    misses = refl;
+    finds = λ id value. refl;
+    turns = λ op lacks caches reply. lacking_wrapped ClaimAt (λ c. record { epoch = sought; claiming = c }) lacks (claiming_turned world_names world_boundary page encode decode get_epoch set_epoch (Some sought) op caches reply);
+    leaves = λ op caches told. refl;
+    made = λ op made. made;
+  }

@@ -1,0 +1,336 @@
+-- The operation of a bounded call spends its looks and its calls of the store, whatever others do.
+use Rattle.std.proofs.Common.{◌≡◌, ◌≢◌, ℕ, ◌+◌, ◌-◌, ◌≤◌, ◌==◌, List, [], ◌∷◌, ◌++◌, set, map, Bool, true, false, if◌then◌else◌, Option, Some, None, Result, Ok, Err, ◌⊎◌, inl, inr, refl, sym, ◌∙◌, ap, subst, arith}
+use Rattle.std.proofs.lemmas.Bool.{cases_Bool, eqb-true, eqb-false}
+use Rattle.std.proofs.lemmas.Option.{same_Some}
+use Rattle.txn_store.specs.declared.request.Reply.{Reply}
+use Rattle.txn_store.specs.declared.request.Reply.TheVariants as replies
+use Rattle.txn_types.specs.Numbers.{number_of}
+use Rattle.txn_caches.specs.declared.caches.Caches.{Caches}
+use Rattle.txn_caches.specs.declared.check.CheckOp.{CheckOp}
+use Rattle.txn_caches.specs.declared.turned.Turned.{Turned}
+use Rattle.txn_caches.specs.declared.turned.Turned.TheVariants.{Goes, Done}
+use Rattle.txn_caches.specs.Checks.{check_turned}
+use Rattle.txn_caches.specs.Counts.{Left, nothing_left, left_after, SpendsOne, check_left}
+use Rattle.txn_caches.proofs.CountLemmas.{check_spends}
+use Rattle.txn_steps.specs.declared.write.WriteUncheckedOp.{WriteUncheckedOp}
+use Rattle.txn_steps.specs.declared.write.WriteOp.{WriteOp}
+use Rattle.txn_steps.specs.declared.delete.DeleteOp.{DeleteOp}
+use Rattle.txn_steps.specs.declared.seen.ReadSeenOp.{ReadSeenOp}
+use Rattle.txn_steps.specs.declared.seen.ReadUncheckedOp.{ReadUncheckedOp}
+use Rattle.txn_steps.specs.CallsLeft.{unchecked_left, write_left, delete_left, seen_left}
+use Rattle.txn_steps.specs.Writes.{unchecked_started, unchecked_turned, write_started, write_turned}
+use Rattle.txn_steps.specs.Deletes.{delete_turned}
+use Rattle.txn_steps.specs.SeenSteps.{value_got, seen_turned}
+use Rattle.txn_steps.proofs.CallLemmas.{unchecked_spends, write_spends, delete_spends, seen_spends}
+use Rattle.txn_history.specs.declared.event.PlainCall.TheVariants as calls
+use Rattle.txn_history.specs.declared.event.PlainAnswer.TheVariants as plain_answers
+use Rattle.txn_history.specs.declared.event.EventOf.TheVariants as events
+use Rattle.txn_history.specs.declared.event.Failure.{Failure}
+use Rattle.txn_history.specs.declared.event.Failure.TheVariants as failures
+use Rattle.txn_history.specs.Lists.{numbered}
+use Rattle.txn_history.specs.Names.{world_names, world_boundary}
+use Rattle.txn_history.proofs.Lists.{numbered_kept}
+use Rattle.txn_machine_inner.proofs.Lists.{numbered_here, numbered_other, numbered_of_map, numbered_new, within}
+use Rattle.txn_machine_inner.specs.declared.doing.PlainDoing.{PlainDoing}
+use Rattle.txn_machine_inner.specs.declared.doing.PlainDoing.TheVariants as doings
+use Rattle.txn_machine_inner.specs.Doing as plain
+use Rattle.txn_view_steps.specs.declared.entry.EntryOp.{EntryOp}
+use Rattle.txn_view_steps.specs.declared.entry.EntryOp.TheVariants as entries
+use Rattle.txn_view_steps.specs.declared.op.ViewOp.{ViewOp}
+use Rattle.txn_view_steps.specs.declared.op.ViewOp.TheVariants.{Init, Load, Refresh, Update, Claim, ClaimAt, HolderRefresh, HolderUpdate}
+use Rattle.txn_view_steps.specs.declared.outcome.Outcome.{Outcome}
+use Rattle.txn_view_steps.specs.CallsLeft.{entry_left}
+use Rattle.txn_view_steps.specs.Entries.{entry_turned}
+use Rattle.txn_view_steps.specs.Holders.{holder_writes, own_epochs}
+use Rattle.txn_view_steps.proofs.CallLemmas.{entry_spends}
+use Rattle.txn_history.specs.declared.event.ViewCall.TheVariants as view_calls
+use Rattle.txn_history.specs.declared.event.Call.{Call}
+use Rattle.txn_history.specs.declared.event.Call.TheVariants as any
+use Rattle.txn_history.specs.Trace.{Event, Told}
+use Rattle.txn_history.specs.Views.{View}
+use Rattle.txn_machine.specs.declared.doing.Doing.{Doing}
+use Rattle.txn_machine.specs.declared.doing.Doing.TheVariants as does
+use Rattle.txn_machine.specs.declared.doing.Operation.{Operation}
+use Rattle.txn_machine.specs.Doing.{Next, ended, plain_next, next_of, with_local, first_next, started, turned, IsReply}
+use Rattle.txn_machine.specs.CallsLeft.{most_of, any_left, is_look_of, is_serve_of, taken_of}
+use Rattle.txn_machine.specs.Machine.{State, doing_next, with_doing, ended_by, next_op, new_operation, view_now, Fails, Takes, Runs, IsReached}
+use Rattle.txn_machine.proofs.Reached.{reached_replies, reached_looks}
+use Rattle.txn_machine.proofs.Runs.{taken_reached}
+
+-- where one is left at least, all may be spent at once
+spends_all : (reply : Option Reply) (before after : Left) → SpendsOne reply before after → SpendsOne reply before nothing_left
+spends_all None before after h = (let less = h.0 in omega (arith, less), omega arith)
+spends_all (Some reply) before after h = (omega arith, (let less = h.1 in omega (arith, less)))
+
+-- what an operation has left is one number
+one_left : (P : Left → Type 0) (own left : Left) → Some own ≡ Some left → P own → P left
+one_left P own left e h = subst P (same_Some own left e) h
+
+module _ {T : Type 0} where
+  -- an operation goes on with less, or has ended
+  abbrev pub Spent : Option Reply → Left → Next T → Type 0
+  Spent reply before next = (after : Left) × (any_left next.0 ≡ Some after) × SpendsOne reply before after
+
+module _ (T : Type 0) where
+  module _ (reply : Option Reply) (before : Left) where
+    write_next : (x : WriteOp × Turned (Result ℕ ℕ)) → SpendsOne reply before (left_after x.1 (write_left x.0)) → Spent reply before (plain_next {T = T} (plain.write_next x))
+    write_next (op, Goes) h = (write_left op, refl, h)
+    write_next (op, Done (Ok id)) h = (nothing_left, refl, h)
+    write_next (op, Done (Err number)) h = (nothing_left, refl, h)
+
+    unchecked_next : (x : WriteUncheckedOp × Turned (Result ℕ ℕ)) → SpendsOne reply before (left_after x.1 (unchecked_left x.0)) → Spent reply before (plain_next {T = T} (plain.unchecked_next x))
+    unchecked_next (op, Goes) h = (unchecked_left op, refl, h)
+    unchecked_next (op, Done (Ok id)) h = (nothing_left, refl, h)
+    unchecked_next (op, Done (Err number)) h = (nothing_left, refl, h)
+
+    delete_next : (x : DeleteOp × Turned (Result (Unit {0}) ℕ)) → SpendsOne reply before (left_after x.1 (delete_left x.0)) → Spent reply before (plain_next {T = T} (plain.delete_next x))
+    delete_next (op, Goes) h = (delete_left op, refl, h)
+    delete_next (op, Done (Ok done)) h = (nothing_left, refl, h)
+    delete_next (op, Done (Err number)) h = (nothing_left, refl, h)
+
+    check_next : (x : CheckOp × Turned (Result (Unit {0}) ℕ)) → SpendsOne reply before (left_after x.1 (check_left x.0)) → Spent reply before (plain_next {T = T} (plain.check_next x))
+    check_next (op, Goes) h = (check_left op, refl, h)
+    check_next (op, Done (Ok done)) h = (nothing_left, refl, h)
+    check_next (op, Done (Err number)) h = (nothing_left, refl, h)
+
+module _ {T : Type 0} where
+  module _ (reply : Option Reply) (before : Left) where
+    seen_next : (lacking : Bool) (x : ReadSeenOp T × Turned (Result (Option T) ℕ)) → SpendsOne reply before (left_after x.1 (seen_left x.0)) → Spent reply before (plain_next (plain.or_no_memory lacking (plain.seen_next x)))
+    seen_next true x h = (nothing_left, refl, spends_all reply before (left_after x.1 (seen_left x.0)) h)
+    seen_next false (op, Goes) h = (seen_left op, refl, h)
+    seen_next false (op, Done (Ok found)) h = (nothing_left, refl, h)
+    seen_next false (op, Done (Err number)) h = (nothing_left, refl, h)
+
+    entry_next : (whole : EntryOp T → ViewOp T) → ((entry : EntryOp T) → any_left (does.View (whole entry)) ≡ Some (entry_left entry)) → (x : EntryOp T × Turned (Result (Outcome T) ℕ)) → SpendsOne reply before (left_after x.1 (entry_left x.0)) → Spent reply before (next_of (does.View (whole x.0)) x.1)
+    entry_next whole is (entry, Goes) h = (entry_left entry, is entry, h)
+    entry_next whole is (entry, Done (Ok outcome)) h = (nothing_left, refl, h)
+    entry_next whole is (entry, Done (Err number)) h = (nothing_left, refl, h)
+
+  -- a get of one id, and nothing more
+  value_next : (lacking : Bool) (op : ReadUncheckedOp) (answer : Result (Option T) ℕ) (reply : Reply) → Spent (Some reply) (record { looks = 0; calls = 1 }) (plain_next (plain.or_no_memory lacking (plain.value_next op (Done answer))))
+  value_next true op answer reply = (nothing_left, refl, (omega arith, omega arith))
+  value_next false op (Ok found) reply = (nothing_left, refl, (omega arith, omega arith))
+  value_next false op (Err number) reply = (nothing_left, refl, (omega arith, omega arith))
+
+module _ {T : Type 0} (page : ℕ) (encode : T → List ℕ) (decode : List ℕ → Option T) (get_epoch : T → ℕ) (set_epoch : T → ℕ → T) (lacking : Bool) (caches : Caches) where
+  abbrev After : Doing T → Option Reply → Next T
+  After doing reply = turned page encode decode get_epoch set_epoch lacking doing caches reply
+
+  -- each look or reply of the kind that is asked for spends one of its kind
+  pub turn_spends : (doing : Doing T) (reply : Option Reply) (left : Left) → any_left doing ≡ Some left → IsReply doing reply → Spent reply left (After doing reply)
+  turn_spends (does.Plain (doings.Write op)) reply left e is =
+      one_left (λ l. Spent reply l (After (does.Plain (doings.Write op)) reply)) (write_left op) left e (write_next T reply (write_left op) (write_turned op caches reply) (write_spends op caches reply is))
+  turn_spends (does.Plain (doings.WriteUnchecked op)) reply left e is =
+      one_left (λ l. Spent reply l (After (does.Plain (doings.WriteUnchecked op)) reply)) (unchecked_left op) left e (unchecked_next T reply (unchecked_left op) (unchecked_turned op reply) (unchecked_spends op reply is))
+  turn_spends (does.Plain (doings.ReadSeen op)) reply left e is =
+      one_left (λ l. Spent reply l (After (does.Plain (doings.ReadSeen op)) reply)) (seen_left op) left e (seen_next reply (seen_left op) lacking (seen_turned world_names decode op caches.latest reply) (seen_spends world_names decode op caches.latest reply is))
+  turn_spends (does.Plain (doings.Delete op)) reply left e is =
+      one_left (λ l. Spent reply l (After (does.Plain (doings.Delete op)) reply)) (delete_left op) left e (delete_next T reply (delete_left op) (delete_turned op caches reply) (delete_spends op caches reply is))
+  turn_spends (does.Plain (doings.Check op)) reply left e is =
+      one_left (λ l. Spent reply l (After (does.Plain (doings.Check op)) reply)) (check_left op) left e (check_next T reply (check_left op) (check_turned op caches reply) (check_spends op caches reply is))
+  turn_spends (does.Plain (doings.ReadUnchecked op)) (Some (replies.Get answer)) left e is =
+      one_left (λ l. Spent (Some (replies.Get answer)) l (After (does.Plain (doings.ReadUnchecked op)) (Some (replies.Get answer)))) (record { looks = 0; calls = 1 }) left e
+      (value_next lacking op (value_got decode answer) (replies.Get answer))
+  turn_spends (does.Plain (doings.ReadUnchecked op)) (Some (replies.Put answer)) left e is = absurd is
+  turn_spends (does.Plain (doings.ReadUnchecked op)) (Some (replies.List answer)) left e is = absurd is
+  turn_spends (does.Plain (doings.ReadUnchecked op)) (Some (replies.Delete answer)) left e is = absurd is
+  turn_spends (does.Plain (doings.ReadUnchecked op)) None left e is = absurd is
+  turn_spends (does.Plain doings.Ended) reply left e is = absurd is
+  turn_spends (does.Plain (doings.Read op)) reply left e is = absurd (cc)
+  turn_spends (does.Plain (doings.ListIds op)) reply left e is = absurd (cc)
+  turn_spends (does.Plain (doings.Advance op)) reply left e is = absurd (cc)
+  turn_spends (does.View (Init op)) reply left e is =
+      one_left (λ l. Spent reply l (After (does.View (Init op)) reply)) (entry_left op.entry) left e (entry_next reply (entry_left op.entry) (λ entry. Init (record { entry = entry })) (λ entry. refl) (entry_turned op.entry caches reply) (entry_spends op.entry caches reply is))
+  turn_spends (does.View (Update op)) reply left e is =
+      one_left (λ l. Spent reply l (After (does.View (Update op)) reply)) (entry_left op.entry) left e (entry_next reply (entry_left op.entry) (λ entry. Update (record { entry = entry })) (λ entry. refl) (entry_turned op.entry caches reply) (entry_spends op.entry caches reply is))
+  turn_spends (does.View (HolderUpdate op)) reply left e is =
+      one_left (λ l. Spent reply l (After (does.View (HolderUpdate op)) reply)) (entry_left op.entry) left e (entry_next reply (entry_left op.entry) (λ entry. HolderUpdate (record { entry = entry })) (λ entry. refl) (entry_turned op.entry caches reply) (entry_spends op.entry caches reply is))
+  turn_spends (does.View (Load op)) reply left e is = absurd (cc)
+  turn_spends (does.View (Refresh op)) reply left e is = absurd (cc)
+  turn_spends (does.View (Claim op)) reply left e is = absurd (cc)
+  turn_spends (does.View (ClaimAt op)) reply left e is = absurd (cc)
+  turn_spends (does.View (HolderRefresh op)) reply left e is = absurd (cc)
+
+module _ {T : Type 0} where
+  -- it has the most of its call left as it starts, or is refused at once
+  abbrev pub Starts : Left → Next T → Type 0
+  Starts most next = (any_left next.0 ≡ Some most) ⊎ (next.0 ≡ ended)
+
+  either_starts : (b : Bool) (number : ℕ) (doing : PlainDoing T) (most : Left) → any_left (does.Plain doing) ≡ Some most → Starts most (plain_next {T = T} (if◌then◌else◌ {A = plain.Next T} b (doings.Ended, Some (plain_answers.Refused number)) (doing, None)))
+  either_starts true number doing most e = inr refl
+  either_starts false number doing most e = inl e
+
+  entry_starts : {O : Type 0} (whole : O → ViewOp T) (b : Bool) (op : O) (most : Left) → any_left (does.View (whole op)) ≡ Some most → Starts most (first_next whole (if◌then◌else◌ {A = Result O ℕ} b (Err 10) (Ok op)))
+  entry_starts whole true op most e = inr refl
+  entry_starts whole false op most e = inl e
+
+  local_starts : (most : Left) (local : Option ℕ) (next : ℕ → Next T) → ((own : ℕ) → Starts most (next own)) → Starts most (with_local local next)
+  local_starts most None next h = inr refl
+  local_starts most (Some own) next h = h own
+
+module _ {T : Type 0} (page : ℕ) (encode : T → List ℕ) (get_epoch : T → ℕ) (set_epoch : T → ℕ → T) where
+  holder_starts : (id : ℕ) (value : T) (own : Result (Unit {0}) ℕ) → Starts (record { looks = 5; calls = 2 }) (first_next HolderUpdate (holder_writes world_names world_boundary encode id value own))
+  holder_starts id value (Ok fits) = entry_starts HolderUpdate (id == 18446744073709551615) (record { entry = entries.Writes (write_started world_names world_boundary (Some id) (encode value)) value }) (record { looks = 5; calls = 2 }) refl
+  holder_starts id value (Err number) = inr refl
+
+  abbrev Start : Call T → Option (View T) → Next T
+  Start call view = started page encode get_epoch set_epoch call view
+
+  pub call_starts : (call : Call T) (view : Option (View T)) (most : Left) → most_of call ≡ Some most → Starts most (Start call view)
+  call_starts (any.Plain (calls.Write base value)) view most e =
+      one_left (λ l. Starts l (Start (any.Plain (calls.Write base value)) view)) (record { looks = 5; calls = 2 }) most e (either_starts (number_of base == 18446744073709551615) 10 (doings.Write (write_started world_names world_boundary base (encode value))) (record { looks = 5; calls = 2 }) refl)
+  call_starts (any.Plain (calls.WriteUnchecked base value)) view most e =
+      one_left (λ l. Starts l (Start (any.Plain (calls.WriteUnchecked base value)) view)) (record { looks = 1; calls = 1 }) most e (either_starts (number_of base == 18446744073709551615) 10 (doings.WriteUnchecked (unchecked_started world_names base (encode value))) (record { looks = 1; calls = 1 }) refl)
+  call_starts (any.Plain (calls.ReadUnchecked id)) view most e = inl e
+  call_starts (any.Plain (calls.ReadSeen id)) view most e = inl e
+  call_starts (any.Plain (calls.Delete id)) view most e = inl e
+  call_starts (any.Plain (calls.Check id)) view most e = inl e
+  call_starts (any.Plain calls.Read) view most e = absurd (cc)
+  call_starts (any.Plain (calls.ListIds from to)) view most e = absurd (cc)
+  call_starts (any.Plain (calls.Advance to)) view most e = absurd (cc)
+  call_starts (any.View (view_calls.Init value)) view most e = inl e
+  call_starts (any.View (view_calls.Update number value)) (Some view) most e =
+      one_left (λ l. Starts l (Start (any.View (view_calls.Update number value)) (Some view))) (record { looks = 5; calls = 2 }) most e
+      (entry_starts Update (view.id == 18446744073709551615) (record { entry = entries.Writes (write_started world_names world_boundary (Some view.id) (encode value)) value }) (record { looks = 5; calls = 2 }) refl)
+  call_starts (any.View (view_calls.HolderUpdate number value)) (Some view) most e =
+      one_left (λ l. Starts l (Start (any.View (view_calls.HolderUpdate number value)) (Some view))) (record { looks = 5; calls = 2 }) most e
+      (local_starts (record { looks = 5; calls = 2 }) view.epoch _ (λ own. holder_starts view.id value (own_epochs own (get_epoch view.object) (get_epoch value))))
+  call_starts (any.View (view_calls.Update number value)) None most e = inr refl
+  call_starts (any.View (view_calls.HolderUpdate number value)) None most e = inr refl
+  call_starts (any.View view_calls.Load) view most e = absurd (cc)
+  call_starts (any.View (view_calls.Refresh number)) view most e = absurd (cc)
+  call_starts (any.View (view_calls.Claim number)) view most e = absurd (cc)
+  call_starts (any.View (view_calls.ClaimAt number epoch)) view most e = absurd (cc)
+  call_starts (any.View (view_calls.HolderRefresh number)) view most e = absurd (cc)
+
+-- in a run
+
+abbrev one_where : Bool → ℕ
+one_where b = if b then 1 else 0
+
+module _ {T : Type 0} where
+  -- an operation that has so much left
+  abbrev Has : State T → ℕ → Left → Type 0
+  Has s op left = (o : Operation T) × (numbered s.operations op ≡ Some o) × (any_left o.doing ≡ Some left)
+
+  -- an event takes its look or its serve from what is left
+  abbrev Spends : Event T → ℕ → Left → State T → Type 0
+  Spends event op left new = (after : Left) × Has new op after × (one_where (is_look_of op event) + after.looks ≤ left.looks) × (one_where (is_serve_of op event) + after.calls ≤ left.calls)
+
+  -- it is as it was, or it has ended
+
+  stays : (event : Event T) (op : ℕ) (left : Left) (new : State T) → is_look_of op event ≡ false → is_serve_of op event ≡ false → Has new op left → Spends event op left new
+  stays event op left new look serve h = (left, h, rw look (omega arith), rw serve (omega arith))
+
+  ends : (event : Event T) (op : ℕ) (left : Left) (new : State T) (o : Operation T) → is_look_of op event ≡ false → is_serve_of op event ≡ false → numbered new.operations op ≡ Some (doing_next o ended) → Spends event op left new
+  ends event op left new o look serve there = (nothing_left, (doing_next o ended, there, refl), rw look (omega arith), rw serve (omega arith))
+
+  -- one of the operations does something else
+  other_has : (s new : State T) (op other : ℕ) (left : Left) (o now : Operation T) → numbered s.operations other ≡ Some o → new.operations ≡ set s.operations (other - 1) now → op ≢ other → Has s op left → Has new op left
+  other_has s new op other left o now found is ne h =
+      (h.0, ap (λ (os : List (Operation T)). numbered os op) is ∙ (numbered_other s.operations other op now (within s.operations other o found).0 ne ∙ h.1), h.2)
+
+  -- an operation ends by an event that is neither its look nor its serve
+  one_ends : (event : Event T) (s new : State T) (op other : ℕ) (left : Left) (o : Operation T) → is_look_of op event ≡ false → is_serve_of op event ≡ false → numbered s.operations other ≡ Some o → new.operations ≡ with_doing s.operations other o ended → Has s op left → Spends event op left new
+  one_ends event s new op other left o look serve found is h =
+      elim (cases_Bool (other == op)) [
+        | inl same ↦
+            let here : numbered (with_doing s.operations other o ended) other ≡ Some (doing_next o ended) = numbered_here s.operations other (doing_next o ended) o found in
+            ends event op left new o look serve (ap (λ (os : List (Operation T)). numbered os op) is ∙ (ap (λ (n : ℕ). numbered (with_doing s.operations other o ended) n) (sym (eqb-true other op same)) ∙ here))
+        | inr differ ↦ stays event op left new look serve (other_has s new op other left o (doing_next o ended) found is (λ same. eqb-false other op differ (sym same)) h)
+      ]
+
+  -- the operation itself goes on
+  own_spends : (event : Event T) (s new : State T) (op : ℕ) (left : Left) (reply : Option Reply) (o : Operation T) (next : Next T) → numbered s.operations op ≡ Some o → new.operations ≡ with_doing s.operations op o next.0 → Spent reply left next →
+      ((after : Left) → SpendsOne reply left after → (one_where (is_look_of op event) + after.looks ≤ left.looks) × (one_where (is_serve_of op event) + after.calls ≤ left.calls)) → Spends event op left new
+  own_spends event s new op left reply o next found is spent counts =
+      let here = numbered_here s.operations op (doing_next o next.0) o found in
+      let c = counts spent.0 spent.2 in
+      (spent.0, (doing_next o next.0, ap (λ (os : List (Operation T)). numbered os op) is ∙ here, spent.1), c.0, c.1)
+
+  fails_spend : (failure : Failure) (old : State T) (other : ℕ) (said : Told T) (new : State T) (op : ℕ) (left : Left) → Fails old other failure said new → Has old op left → Spends (events.Fail other failure) op left new
+  fails_spend failures.Before old other said new op left v h = one_ends (events.Fail other failures.Before) old new op other left v.operation refl refl v.acts.found (ap (λ (s : State T). s.operations) v.state) h
+  fails_spend failures.After old other said new op left v h = one_ends (events.Fail other failures.After) old new op other left v.operation refl refl v.acts.found (ap (λ (s : State T). s.operations) v.state) h
+  fails_spend failures.Loose old other said new op left v h = one_ends (events.Fail other failures.Loose) old new op other left v.operation refl refl v.acts.found (ap (λ (s : State T). s.operations) v.state) h
+
+  crash_spends : (old : State T) (client : ℕ) (new : State T) (op : ℕ) (left : Left) → new.operations ≡ map (ended_by client) old.operations → Has old op left → Spends (events.Crash client) op left new
+  crash_spends old client new op left is h = by (h.0.client == client) refl
+    where
+      there : numbered new.operations op ≡ Some (ended_by client h.0)
+      there = ap (λ (os : List (Operation T)). numbered os op) is ∙ numbered_of_map (ended_by client) old.operations op h.0 h.1
+
+      by : (b : Bool) → (h.0.client == client) ≡ b → Spends (events.Crash client) op left new
+      by true e = ends (events.Crash client) op left new h.0 refl refl (there ∙ ap (λ (b : Bool). Some (if◌then◌else◌ {A = Operation T} b (doing_next h.0 ended) h.0)) e)
+      by false e = stays (events.Crash client) op left new refl refl (h.0, there ∙ ap (λ (b : Bool). Some (if◌then◌else◌ {A = Operation T} b (doing_next h.0 ended) h.0)) e, h.2)
+
+module _ {T : Type 0} (encode : T → List ℕ) (decode : List ℕ → Option T) (get_epoch : T → ℕ) (set_epoch : T → ℕ → T) where
+  look_spends : (old : State T) (other : ℕ) (said : Told T) (new : State T) (op : ℕ) (left : Left) → IsReached encode decode get_epoch set_epoch old → Takes encode decode get_epoch set_epoch old (events.Look other) said new → Has old op left → Spends (events.Look other) op left new
+  look_spends old other said new op left r t h =
+      let v = t.step in
+      let operations : new.operations ≡ with_doing old.operations other v.operation v.next.0 = ap (λ (s : State T). s.operations) v.state in
+      elim (cases_Bool (other == op)) [
+        | inl same ↦
+            let is : other ≡ op = eqb-true other op same in
+            let found : numbered old.operations op ≡ Some v.operation = subst (λ (n : ℕ). numbered old.operations n ≡ Some v.operation) is v.acts.found in
+            let left_now : any_left v.operation.doing ≡ Some left = ap (λ (o : Operation T). any_left o.doing) (same_Some v.operation h.0 (sym found ∙ h.1)) ∙ h.2 in
+            let given = reached_looks encode decode get_epoch set_epoch old r other v.operation v.acts.found v.acts.asks in
+            let spent = turn_spends old.page encode decode get_epoch set_epoch v.turns.refused v.caches v.operation.doing None left left_now given in
+            own_spends (events.Look other) old new op left None v.operation v.next found (subst (λ (n : ℕ). new.operations ≡ with_doing old.operations n v.operation v.next.0) is operations)
+            (subst (Spent None left) (sym v.turns.turns) spent)
+            (λ after s. (rw same (let less = s.0 in omega (arith, less)), (let le = s.1 in omega (arith, le))))
+        | inr differ ↦ stays (events.Look other) op left new differ refl (other_has old new op other left v.operation (doing_next v.operation v.next.0) v.acts.found operations (λ same. eqb-false other op differ (sym same)) h)
+      ]
+
+  serve_spends : (old : State T) (other : ℕ) (said : Told T) (new : State T) (op : ℕ) (left : Left) → IsReached encode decode get_epoch set_epoch old → Takes encode decode get_epoch set_epoch old (events.Serve other) said new → Has old op left → Spends (events.Serve other) op left new
+  serve_spends old other said new op left r t h =
+      let v = t.step in
+      let operations : new.operations ≡ with_doing old.operations other v.operation v.next.0 = ap (λ (s : State T). s.operations) v.state in
+      elim (cases_Bool (other == op)) [
+        | inl same ↦
+            let is : other ≡ op = eqb-true other op same in
+            let found : numbered old.operations op ≡ Some v.operation = subst (λ (n : ℕ). numbered old.operations n ≡ Some v.operation) is v.acts.found in
+            let left_now : any_left v.operation.doing ≡ Some left = ap (λ (o : Operation T). any_left o.doing) (same_Some v.operation h.0 (sym found ∙ h.1)) ∙ h.2 in
+            let given = reached_replies encode decode get_epoch set_epoch old r other v.operation v.acts.found v.request v.reply v.store v.acts.asks v.reaches.serves in
+            let spent = turn_spends old.page encode decode get_epoch set_epoch v.turns.refused v.caches v.operation.doing (Some v.reply) left left_now given in
+            own_spends (events.Serve other) old new op left (Some v.reply) v.operation v.next found (subst (λ (n : ℕ). new.operations ≡ with_doing old.operations n v.operation v.next.0) is operations)
+            (subst (Spent (Some v.reply) left) (sym v.turns.turns) spent)
+            (λ after s. ((let le = s.0 in omega (arith, le)), rw same (let less = s.1 in omega (arith, less))))
+        | inr differ ↦ stays (events.Serve other) op left new refl differ (other_has old new op other left v.operation (doing_next v.operation v.next.0) v.acts.found operations (λ same. eqb-false other op differ (sym same)) h)
+      ]
+
+  pub takes_spend : (old : State T) (event : Event T) (said : Told T) (new : State T) (op : ℕ) (left : Left) → IsReached encode decode get_epoch set_epoch old → Takes encode decode get_epoch set_epoch old event said new → Has old op left → Spends event op left new
+  takes_spend old (events.Begin client call) said new op left r t h =
+      let is : new.operations ≡ old.operations ++ new_operation client call t.step.next.0 ∷ [] = ap (λ (s : State T). s.operations) t.step.state in
+      stays (events.Begin client call) op left new refl refl (h.0, ap (λ (os : List (Operation T)). numbered os op) is ∙ numbered_kept old.operations (new_operation client call t.step.next.0 ∷ []) op h.0 h.1, h.2)
+  takes_spend old (events.Look other) said new op left r t h = look_spends old other said new op left r t h
+  takes_spend old (events.Serve other) said new op left r t h = serve_spends old other said new op left r t h
+  takes_spend old (events.Fail other failure) said new op left r t h = fails_spend failure old other said new op left t.step h
+  takes_spend old (events.GiveUp other) said new op left r t h = one_ends (events.GiveUp other) old new op other left t.step.operation refl refl t.step.found (ap (λ (s : State T). s.operations) t.step.state) h
+  takes_spend old (events.Land k) said new op left r t h = stays (events.Land k) op left new refl refl (h.0, ap (λ (s : State T). numbered s.operations op) t.step.state ∙ h.1, h.2)
+  takes_spend old (events.Crash client) said new op left r t h = crash_spends old client new op left (ap (λ (s : State T). s.operations) t.step.state) h
+
+  run_spends : (taken : List (Event T × Told T)) (old new : State T) (op : ℕ) (left : Left) → IsReached encode decode get_epoch set_epoch old → Runs encode decode get_epoch set_epoch old taken new → Has old op left →
+      (taken_of (is_look_of op) taken ≤ left.looks) × (taken_of (is_serve_of op) taken ≤ left.calls)
+  run_spends [] old new op left r runs h = (omega arith, omega arith)
+  run_spends (one ∷ taken) old new op left r runs h =
+      let spent = takes_spend old one.0 one.1 runs.0 op left r runs.1 h in
+      let rest = run_spends taken runs.0 new op spent.0 (taken_reached encode decode get_epoch set_epoch old one.0 one.1 runs.0 r runs.1) runs.2 spent.1 in
+      (omega (arith, spent.2, rest.0), omega (arith, spent.3, rest.1))
+
+  -- from its begin on, an operation takes no more than the most of its call
+  pub call_is_bounded : (old : State T) (client : ℕ) (call : Call T) (said : Told T) (first : State T) (taken : List (Event T × Told T)) (new : State T) (most : Left) → IsReached encode decode get_epoch set_epoch old →
+      Takes encode decode get_epoch set_epoch old (events.Begin client call) said first → Runs encode decode get_epoch set_epoch first taken new → most_of call ≡ Some most →
+      (taken_of (is_look_of (next_op old)) taken ≤ most.looks) × (taken_of (is_serve_of (next_op old)) taken ≤ most.calls)
+  call_is_bounded old client call said first taken new most r t runs bound =
+      let v = t.step in
+      let one : Operation T = new_operation client call v.next.0 in
+      let is : first.operations ≡ old.operations ++ one ∷ [] = ap (λ (s : State T). s.operations) v.state in
+      let there : numbered first.operations (next_op old) ≡ Some one = ap (λ (os : List (Operation T)). numbered os (next_op old)) is ∙ numbered_new old.operations one in
+      let reached = taken_reached encode decode get_epoch set_epoch old (events.Begin client call) said first r t in
+      elim (subst (Starts most) (sym v.starts) (call_starts old.page encode get_epoch set_epoch call (view_now old call) most bound)) [
+        | inl left ↦ run_spends taken first new (next_op old) most reached runs (one, there, left)
+        | inr none ↦ (
+            let all = run_spends taken first new (next_op old) nothing_left reached runs (one, there, ap any_left none) in
+            (omega (arith, all.0), omega (arith, all.1))
+            )
+      ]

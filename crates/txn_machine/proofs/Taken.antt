@@ -1,0 +1,83 @@
+-- An operation takes a look or a reply as its state does, and an answer ends it.
+use Rattle.std.proofs.Common.{◌≡◌, ℕ, List, Option, Some, None, Result, Ok, Err, refl, sym, ◌∙◌, ap, subst}
+use Rattle.std.specs.Option.{option_map}
+use Rattle.txn_store.specs.Paths.{Segments}
+use Rattle.txn_store.specs.VersionName.{Names}
+use Rattle.txn_store.specs.declared.request.Reply.{Reply}
+use Rattle.txn_caches.specs.declared.caches.Caches.{Caches}
+use Rattle.txn_caches.specs.declared.turned.Turned.{Turned}
+use Rattle.txn_caches.specs.declared.turned.Turned.TheVariants.{Goes, Done}
+use Rattle.txn_caches.specs.Steps.{lacks_memory}
+use Rattle.txn_history.specs.declared.event.PlainAnswer.{PlainAnswer}
+use Rattle.txn_history.specs.Names.{world_names, world_boundary}
+use Rattle.txn_machine_inner.specs.declared.doing.PlainDoing.{PlainDoing}
+use Rattle.txn_machine_inner.specs.Doing as plain
+use Rattle.txn_view_steps.specs.declared.claiming.Claiming.{Claiming}
+use Rattle.txn_view_steps.specs.declared.claiming.Claiming.TheVariants as claiming
+use Rattle.txn_view_steps.specs.declared.op.ViewOp.{ViewOp}
+use Rattle.txn_view_steps.specs.declared.op.ViewOp.TheVariants.{Init, Load, Refresh, Update, Claim, ClaimAt, HolderRefresh, HolderUpdate}
+use Rattle.txn_view_steps.specs.declared.outcome.Outcome.{Outcome}
+use Rattle.txn_view_steps.specs.Attempts.{claiming_left}
+use Rattle.txn_view_steps.specs.ViewOps as views
+use Rattle.txn_view_steps.specs.ViewOps.{view_turned, view_left, IsViewMade}
+use Rattle.txn_machine.specs.declared.doing.Doing.{Doing}
+use Rattle.txn_machine.specs.declared.doing.Doing.TheVariants as does
+use Rattle.txn_machine.specs.declared.doing.Ending.{Ending}
+use Rattle.txn_machine.specs.declared.doing.Ending.TheVariants as endings
+use Rattle.txn_machine.specs.Doing.{Next, plain_next, next_of, view_next, goes_by, caches_left, IsMadeSo, Turns}
+
+module _ {T : Type 0} where
+  next_of_plain : (next : plain.Next T) → (does.Plain next.0, option_map endings.Answers next.1) ≡ plain_next next
+  next_of_plain (doing, None) = refl
+  next_of_plain (doing, Some answer) = refl
+
+  -- what it leaves of the caches depends on whether it goes on alone
+  claiming_left_so : (op : Claiming T) (caches : Caches) (answer : Result (Outcome T) ℕ) → claiming_left op caches (Done answer) ≡ claiming_left op caches (Done (Err 9))
+  claiming_left_so (claiming.Writes write value epoch) caches answer = refl
+  claiming_left_so (claiming.Reads read) caches answer = refl
+  claiming_left_so claiming.Ended caches answer = refl
+
+  view_left_so : (op : ViewOp T) (caches : Caches) (answer : Result (Outcome T) ℕ) → view_left op caches (Done answer) ≡ view_left op caches (Done (Err 9))
+  view_left_so (Init op) caches answer = refl
+  view_left_so (Load op) caches answer = refl
+  view_left_so (Refresh op) caches answer = refl
+  view_left_so (Update op) caches answer = refl
+  view_left_so (Claim op) caches answer = claiming_left_so op.claiming caches answer
+  view_left_so (ClaimAt op) caches answer = claiming_left_so op.claiming caches answer
+  view_left_so (HolderRefresh op) caches answer = refl
+  view_left_so (HolderUpdate op) caches answer = refl
+
+  left_at : (op new : ViewOp T) (caches : Caches) (told : Turned (Result (Outcome T) ℕ)) → view_left op caches told ≡ view_left op caches (goes_by (next_of (does.View new) told).1)
+  left_at op new caches Goes = refl
+  left_at op new caches (Done (Ok outcome)) = view_left_so op caches (Ok outcome)
+  left_at op new caches (Done (Err number)) = view_left_so op caches (Err number)
+
+  pub view_leaves : (old : Doing T) (op new : ViewOp T) (before after : Caches) (told : Turned (Result (Outcome T) ℕ)) (next : Next T) → old ≡ does.View op → after ≡ view_left op before told → next ≡ next_of (does.View new) told → after ≡ caches_left old before next.1
+  view_leaves old op new before after told next is left ends =
+      left ∙ (left_at op new before told ∙ (ap (λ (n : Next T). view_left op before (goes_by n.1)) (sym ends) ∙ ap (λ (o : Doing T). caches_left o before next.1) (sym is)))
+
+module _ {T : Type 0} (page : ℕ) (encode : T → List ℕ) (decode : List ℕ → Option T) (get_epoch : T → ℕ) (set_epoch : T → ℕ → T) (caches : Caches) (reply : Option Reply) where
+  pub plain_takes : (old : Doing T) (doing new : PlainDoing T) (answers : Option (PlainAnswer T)) (ending : Option (Ending T)) → old ≡ does.Plain doing → plain.Turns page decode doing caches reply new answers → ending ≡ option_map endings.Answers answers →
+      Turns page encode decode get_epoch set_epoch old caches reply (does.Plain new, ending)
+  plain_takes old doing new answers ending is t e =
+      subst (λ (o : Doing T). Turns page encode decode get_epoch set_epoch o caches reply (does.Plain new, ending)) (sym is)
+      (record { refused = t.0; turns = ap (λ (d : Option (Ending T)). (does.Plain new, d)) e ∙ (next_of_plain (new, answers) ∙ ap plain_next t.1); may = tt; made = λ never. absurd never })
+
+  next_made : (new : ViewOp T) (told : Turned (Result (Outcome T) ℕ)) → IsViewMade encode decode get_epoch new → IsMadeSo encode decode get_epoch (next_of (does.View new) told).0
+  next_made new Goes made = made
+  next_made new (Done (Ok outcome)) made = tt
+  next_made new (Done (Err number)) made = tt
+
+  pub view_takes : (names : Names) (path : Segments) → names ≡ world_names → path ≡ world_boundary → (old : Doing T) (op new : ViewOp T) (told : Turned (Result (Outcome T) ℕ)) (next : Next T) → old ≡ does.View op →
+      (new, told) ≡ view_turned names path page encode decode get_epoch set_epoch (lacks_memory told) op caches reply → (views.IsClaimReading op → IsViewMade encode decode get_epoch new) → views.MayLack op caches reply (lacks_memory told) →
+      next ≡ next_of (does.View new) told → Turns page encode decode get_epoch set_epoch old caches reply next
+  view_takes names path n p old op new told next is takes made short ends =
+      let so : (new, told) ≡ view_turned world_names world_boundary page encode decode get_epoch set_epoch (lacks_memory told) op caches reply =
+      takes ∙ (ap (λ (m : Names). view_turned m path page encode decode get_epoch set_epoch (lacks_memory told) op caches reply) n ∙ ap (λ (q : Segments). view_turned world_names q page encode decode get_epoch set_epoch (lacks_memory told) op caches reply) p) in
+      subst (λ (o : Doing T). Turns page encode decode get_epoch set_epoch o caches reply next) (sym is)
+      (record {
+        refused = lacks_memory told;
+        turns = ends ∙ ap view_next so;
+        may = short;
+        made = λ reads. subst (λ (m : Next T). IsMadeSo encode decode get_epoch m.0) (sym ends) (next_made new told (made reads));
+      })

@@ -1,0 +1,95 @@
+-- How many looks and calls of the store a bounded call makes at most, and how many its operation has left, whatever others do.
+-- A read, an advance, a listing and a claim have no bound: others may keep them going.
+use Rattle.std.specs.Prelude.{ℕ, ◌+◌, ◌==◌, if◌then◌else◌, Bool, false, List, [], ◌∷◌, Option, Some, None}
+use Rattle.txn_caches.specs.Counts.{Left, nothing_left, check_left}
+use Rattle.txn_steps.specs.CallsLeft.{one_of_each, unchecked_left, write_left, delete_left, seen_left}
+use Rattle.txn_history.specs.declared.event.PlainCall.TheVariants as calls
+use Rattle.txn_history.specs.declared.event.EventOf.TheVariants as events
+use Rattle.txn_machine_inner.specs.declared.doing.PlainDoing.{PlainDoing}
+use Rattle.txn_machine_inner.specs.declared.doing.PlainDoing.TheVariants as doings
+use Rattle.txn_view_steps.specs.declared.op.ViewOp.{ViewOp}
+use Rattle.txn_view_steps.specs.declared.op.ViewOp.TheVariants.{Init, Load, Refresh, Update, Claim, ClaimAt, HolderRefresh, HolderUpdate}
+use Rattle.txn_view_steps.specs.CallsLeft.{entry_left}
+use Rattle.txn_history.specs.declared.event.ViewCall.TheVariants as view_calls
+use Rattle.txn_history.specs.declared.event.Call.{Call}
+use Rattle.txn_history.specs.declared.event.Call.TheVariants as any
+use Rattle.txn_history.specs.Trace.{Event, Told}
+use Rattle.txn_machine.specs.declared.doing.Doing.{Doing}
+use Rattle.txn_machine.specs.declared.doing.Doing.TheVariants as does
+
+-- a create or a removal, and its check
+abbrev pub five_and_two : Left
+five_and_two = record { looks = 5; calls = 2 }
+
+module _ {T : Type 0} where
+  -- the most that a call makes, where it has a bound
+  abbrev pub most_of : Call T → Option Left
+  most_of (any.Plain (calls.Write base value)) = Some five_and_two
+  most_of (any.Plain (calls.WriteUnchecked base value)) = Some one_of_each
+  most_of (any.Plain (calls.ReadUnchecked id)) = Some (record { looks = 0; calls = 1 })
+  most_of (any.Plain (calls.ReadSeen id)) = Some (record { looks = 2; calls = 1 })
+  most_of (any.Plain (calls.Delete id)) = Some five_and_two
+  most_of (any.Plain (calls.Check id)) = Some (record { looks = 4; calls = 1 })
+  most_of (any.Plain calls.Read) = None
+  most_of (any.Plain (calls.ListIds from to)) = None
+  most_of (any.Plain (calls.Advance to)) = None
+  most_of (any.View (view_calls.Init value)) = Some five_and_two
+  most_of (any.View (view_calls.Update view value)) = Some five_and_two
+  most_of (any.View (view_calls.HolderUpdate view value)) = Some five_and_two
+  most_of (any.View view_calls.Load) = None
+  most_of (any.View (view_calls.Refresh view)) = None
+  most_of (any.View (view_calls.Claim view)) = None
+  most_of (any.View (view_calls.ClaimAt view epoch)) = None
+  most_of (any.View (view_calls.HolderRefresh view)) = None
+
+  abbrev pub plain_left : PlainDoing T → Option Left
+  plain_left (doings.Write op) = Some (write_left op)
+  plain_left (doings.WriteUnchecked op) = Some (unchecked_left op)
+  plain_left (doings.ReadUnchecked op) = Some (record { looks = 0; calls = 1 })
+  plain_left (doings.ReadSeen op) = Some (seen_left op)
+  plain_left (doings.Delete op) = Some (delete_left op)
+  plain_left (doings.Check op) = Some (check_left op)
+  plain_left doings.Ended = Some nothing_left
+  plain_left (doings.Read op) = None
+  plain_left (doings.ListIds op) = None
+  plain_left (doings.Advance op) = None
+
+  abbrev pub view_left : ViewOp T → Option Left
+  view_left (Init op) = Some (entry_left op.entry)
+  view_left (Update op) = Some (entry_left op.entry)
+  view_left (HolderUpdate op) = Some (entry_left op.entry)
+  view_left (Load op) = None
+  view_left (Refresh op) = None
+  view_left (Claim op) = None
+  view_left (ClaimAt op) = None
+  view_left (HolderRefresh op) = None
+
+  -- what an operation has left, where its call has a bound: nothing where it has ended
+  abbrev pub any_left : Doing T → Option Left
+  any_left (does.Plain doing) = plain_left doing
+  any_left (does.View op) = view_left op
+
+  -- a look, and a serve, of this operation
+
+  abbrev pub is_look_of : ℕ → Event T → Bool
+  is_look_of op (events.Look other) = other == op
+  is_look_of op (events.Begin client call) = false
+  is_look_of op (events.Serve other) = false
+  is_look_of op (events.Fail other failure) = false
+  is_look_of op (events.GiveUp other) = false
+  is_look_of op (events.Land k) = false
+  is_look_of op (events.Crash client) = false
+
+  abbrev pub is_serve_of : ℕ → Event T → Bool
+  is_serve_of op (events.Serve other) = other == op
+  is_serve_of op (events.Begin client call) = false
+  is_serve_of op (events.Look other) = false
+  is_serve_of op (events.Fail other failure) = false
+  is_serve_of op (events.GiveUp other) = false
+  is_serve_of op (events.Land k) = false
+  is_serve_of op (events.Crash client) = false
+
+  -- how many of such events were taken
+  abbrev pub taken_of : (Event T → Bool) → List (Event T × Told T) → ℕ
+  taken_of is_one [] = 0
+  taken_of is_one (taken ∷ rest) = (if is_one taken.0 then 1 else 0) + taken_of is_one rest

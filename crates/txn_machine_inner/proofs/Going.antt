@@ -1,0 +1,222 @@
+-- What stands beside the rows goes on as each event that is taken says.
+use Rattle.std.proofs.Common.{◌≡◌, ◌≢◌, ℕ, zero, suc, ◌+◌, List, [], ◌∷◌, ◌++◌, length, map, set, slice_get, Bool, true, false, not, ◌==◌, is_some, cond, Option, Some, None, refl, sym, ◌∙◌, ap, subst, arith}
+use Rattle.std.proofs.lemmas.Bool.{eq-eqb, ne_eqb}
+use Rattle.std.proofs.lemmas.List.{length-map, map-append, map-set}
+use Rattle.std.proofs.lemmas.Option.{same_Some}
+use Rattle.txn_store.specs.declared.request.Reply.{Reply}
+use Rattle.txn_types.specs.Numbers.{number_of}
+use Rattle.txn_caches.specs.declared.caches.Caches.{Caches}
+use Rattle.txn_caches.specs.Checks.{check_turned}
+use Rattle.txn_caches.specs.Advances.{advance_turned}
+use Rattle.txn_steps.specs.Writes.{unchecked_started, unchecked_turned, write_started, write_turned}
+use Rattle.txn_steps.specs.Reads.{read_turned}
+use Rattle.txn_steps.specs.SeenSteps.{unchecked_turned as value_turned, seen_turned}
+use Rattle.txn_steps.specs.Listings.{listing_turned}
+use Rattle.txn_steps.specs.Deletes.{delete_turned}
+use Rattle.txn_history.specs.declared.event.PlainCall.{PlainCall}
+use Rattle.txn_history.specs.declared.event.PlainCall.TheVariants as calls
+use Rattle.txn_history.specs.declared.event.PlainAnswer.{PlainAnswer}
+use Rattle.txn_history.specs.declared.event.PlainAnswer.TheVariants as answers
+use Rattle.txn_history.specs.declared.event.Failure.{Failure}
+use Rattle.txn_history.specs.declared.event.Failure.TheVariants as failures
+use Rattle.txn_machine_inner.specs.PlainTrace.{PlainTold, PlainEvent}
+use Rattle.txn_history.specs.declared.event.ToldOf.TheVariants as told
+use Rattle.txn_history.specs.declared.event.EventOf.TheVariants as events
+use Rattle.txn_history.specs.Lists.{numbered}
+use Rattle.txn_history.specs.Names.{world_names, world_boundary}
+use Rattle.txn_history.specs.Seen.{Ask, Store, Look, asks_in, asks_of}
+use Rattle.txn_history.specs.GoesOn.{left_loose, state_of, states_after, OperationsGoOn}
+use Rattle.txn_history.specs.Added.{told_of}
+use Rattle.txn_machine_inner.specs.declared.doing.PlainDoing.{PlainDoing}
+use Rattle.txn_machine_inner.specs.declared.doing.PlainDoing.TheVariants.{Write, WriteUnchecked, Read, ReadUnchecked, ReadSeen, ListIds, Delete, Check, Advance, Ended}
+use Rattle.txn_machine_inner.specs.declared.doing.PlainOperation.{PlainOperation}
+use Rattle.txn_machine_inner.specs.Doing.{Next, started, turned, caches_left, asked, next_of, or_no_memory, write_answer, read_answer, value_answer, ids_answer, done_answer}
+use Rattle.txn_machine_inner.specs.Machine.{State, seen_operation, seen_operations, seen_of, with_doing, effect_of, effected, acted, loosened, failing, given_up, told_failure, ended_by, crashed, next_op, begun_as, Acts, Fails, GivesUp, Lands, Crashes, Looks, Served, Begins, Takes}
+use Rattle.txn_machine_inner.proofs.Ends.{EndsOne, answer_ends, give_up_ends, told_ends, states_stay, states_set, states_begun, states_crashed}
+
+module _ {T : Type 0} where
+  -- what is seen of an operation
+
+  got_at : (os : List (PlainOperation T)) (k : ℕ) (o : PlainOperation T) → slice_get os k ≡ Some o → slice_get (seen_operations os) k ≡ Some (seen_operation o)
+  got_at [] k o e = cc
+  got_at (x ∷ os) zero o e = ap Some (ap seen_operation (same_Some x o e))
+  got_at (x ∷ os) (suc k) o e = got_at os k o e
+
+  asks_at : (os : List (PlainOperation T)) (op : ℕ) (o : PlainOperation T) → numbered os op ≡ Some o → asks_in (numbered (seen_operations os) op) ≡ asked o.doing
+  asks_at os zero o e = cc
+  asks_at os (suc k) o e = ap asks_in (got_at os k o e)
+
+  -- an operation that is there asks for what it is seen to ask for
+  pub seen_at : (s : State T) (op : ℕ) (o : PlainOperation T) → numbered s.operations op ≡ Some o → asks_of (seen_of s) op ≡ asked o.doing
+  seen_at s op o e = asks_at s.operations op o e
+
+  -- what an operation does next asks for something just where it has no answer
+  abbrev Fits : Next T → Type 0
+  Fits next = is_some (asked next.0) ≡ not (is_some next.1)
+
+  next_fits : (doing : PlainDoing T) (answer : Option (PlainAnswer T)) → is_some (asked doing) ≡ true → Fits (next_of doing answer)
+  next_fits doing None runs = runs
+  next_fits doing (Some answer) runs = refl
+
+  lacking_fits : (refused : Bool) (next : Next T) → Fits next → Fits (or_no_memory refused next)
+  lacking_fits true next fits = refl
+  lacking_fits false next fits = fits
+
+  turned_fits : (page : ℕ) (decode : List ℕ → Option T) (refused : Bool) (doing : PlainDoing T) (caches : Caches) (reply : Option Reply) (ask : Ask) → asked doing ≡ Some ask → Fits (turned page decode refused doing caches reply)
+  turned_fits page decode refused (Write op) caches reply ask e = let t = write_turned op caches reply in next_fits (Write t.0) (write_answer t.1) refl
+  turned_fits page decode refused (WriteUnchecked op) caches reply ask e = let t = unchecked_turned op reply in next_fits (WriteUnchecked t.0) (write_answer t.1) refl
+  turned_fits page decode refused (Read op) caches reply ask e =
+      let t = read_turned world_names world_boundary page decode op caches reply in
+      lacking_fits refused (next_of (Read t.0) (read_answer t.1)) (next_fits (Read t.0) (read_answer t.1) refl)
+  turned_fits page decode refused (ReadUnchecked op) caches reply ask e =
+      let t = value_turned decode reply in
+      lacking_fits refused (next_of (ReadUnchecked op) (value_answer t)) (next_fits (ReadUnchecked op) (value_answer t) refl)
+  turned_fits page decode refused (ReadSeen op) caches reply ask e =
+      let t = seen_turned world_names decode op caches.latest reply in
+      lacking_fits refused (next_of (ReadSeen t.0) (value_answer t.1)) (next_fits (ReadSeen t.0) (value_answer t.1) refl)
+  turned_fits page decode refused (ListIds op) caches reply ask e =
+      let t = listing_turned world_names page op reply in
+      lacking_fits refused (next_of (ListIds t.0) (ids_answer t.1)) (next_fits (ListIds t.0) (ids_answer t.1) refl)
+  turned_fits page decode refused (Delete op) caches reply ask e = let t = delete_turned op caches reply in next_fits (Delete t.0) (done_answer t.1) refl
+  turned_fits page decode refused (Check op) caches reply ask e = let t = check_turned op caches reply in next_fits (Check t.0) (done_answer t.1) refl
+  turned_fits page decode refused (Advance op) caches reply ask e =
+      let t = advance_turned world_boundary op caches reply in
+      lacking_fits refused (next_of (Advance t.0) (done_answer t.1)) (next_fits (Advance t.0) (done_answer t.1) refl)
+  turned_fits page decode refused Ended caches reply ask e = cc
+
+  write_fits : (last : Bool) (doing : PlainDoing T) → is_some (asked doing) ≡ true → Fits (cond last (Ended, Some (answers.Refused 10)) (doing, None))
+  write_fits true doing runs = refl
+  write_fits false doing runs = runs
+
+  started_fits : (page : ℕ) (encode : T → List ℕ) (call : PlainCall T) → Fits (started page encode call)
+  started_fits page encode (calls.Write base value) = write_fits (number_of base == 18446744073709551615) (Write (write_started world_names world_boundary base (encode value))) refl
+  started_fits page encode (calls.WriteUnchecked base value) = write_fits (number_of base == 18446744073709551615) (WriteUnchecked (unchecked_started world_names base (encode value))) refl
+  started_fits page encode calls.Read = refl
+  started_fits page encode (calls.ReadUnchecked id) = refl
+  started_fits page encode (calls.ReadSeen id) = refl
+  started_fits page encode (calls.ListIds from to) = refl
+  started_fits page encode (calls.Delete id) = refl
+  started_fits page encode (calls.Check id) = refl
+  started_fits page encode (calls.Advance to) = refl
+
+  -- one of the operations does something else
+  acted_states : (t : PlainTold T) (op : ℕ) (ends : Bool) (os : List (PlainOperation T)) (o : PlainOperation T) (ask : Ask) (doing : PlainDoing T) → numbered os op ≡ Some o → EndsOne t op ends → asked o.doing ≡ Some ask → is_some (asked doing) ≡ not ends →
+      map state_of (seen_operations (with_doing os op o doing)) ≡ states_after t 1 (seen_operations os) None
+  acted_states t zero ends os o ask doing e one asks fits = cc
+  acted_states t (suc k) ends os o ask doing e one asks fits =
+      let next : PlainOperation T = record { client = o.client; doing = doing } in
+      ap (λ n. map state_of (seen_operations (set os n next))) (omega arith) ∙ ap (map state_of) (map-set seen_operation os k next)
+      ∙ states_set t 1 k (suc k) ends (seen_operations os) (seen_operation o) (seen_operation next) (got_at os k o e) (omega arith) one refl (ap is_some asks) fits
+
+  -- a new operation, which goes on or has ended
+  new_states : (t : PlainTold T) (client : ℕ) (ends : Bool) (os : List (PlainOperation T)) (doing : PlainDoing T) → EndsOne t (length os + 1) ends → is_some (asked doing) ≡ not ends →
+      map state_of (seen_operations (os ++ record { client = client; doing = doing } ∷ [])) ≡ states_after t 1 (seen_operations os) (Some client)
+  new_states t client ends os doing one fits =
+      let new : PlainOperation T = record { client = client; doing = doing } in
+      ap (map state_of) (map-append seen_operation os (new ∷ []))
+      ∙ states_begun t 1 (length os + 1) ends (seen_operations os) (seen_operation new) (omega (arith, length-map os seen_operation)) one fits
+
+  -- the operations of a client end
+  ended_state : (client : ℕ) (o : PlainOperation T) → o.client ≡ client → state_of (seen_operation (ended_by client o)) ≡ (o.client, false)
+  ended_state client o e = rw (eq-eqb o.client client e) refl
+
+  stays_so : (client : ℕ) (o : PlainOperation T) → o.client ≢ client → ended_by client o ≡ o
+  stays_so client o ne = rw (ne_eqb o.client client ne) refl
+
+  -- each event
+
+  -- by what is told, and the state that is left
+  told_so : (old : State T) (event : PlainEvent T) (said t : PlainTold T) (new s : State T) → said ≡ t → new ≡ s → OperationsGoOn (seen_of old) event t (seen_of s) → OperationsGoOn (seen_of old) event said (seen_of new)
+  told_so old event said t new s tells is g = subst (λ (u : PlainTold T). OperationsGoOn (seen_of old) event u (seen_of new)) (sym tells) (subst (λ (x : State T). OperationsGoOn (seen_of old) event t (seen_of x)) (sym is) g)
+
+  begin_goes : (encode : T → List ℕ) (decode : List ℕ → Option T) (old : State T) (client : ℕ) (call : PlainCall T) (said : PlainTold T) (new : State T) → Begins encode decode old client call said new → OperationsGoOn (seen_of old) (events.Begin client call) said (seen_of new)
+  begin_goes encode decode old client call said new v =
+      let n = next_op old in
+      let t = told_of (told.Began n) n v.next.1 in
+      let fits = subst Fits (sym v.starts) (started_fits old.page encode call) in
+      told_so old (events.Begin client call) said t new (begun_as old client call v.next) v.tells v.state
+      (record {
+        clients = refl;
+        operations = new_states t client (is_some v.next.1) old.operations v.next.0 (told_ends (told.Began n) n v.next.1 (λ c m. refl)) fits;
+        loose = refl;
+        failed = refl;
+      })
+
+  look_goes : (decode : List ℕ → Option T) (old : State T) (op : ℕ) (said : PlainTold T) (new : State T) → Looks decode old op said new → OperationsGoOn {C = PlainCall T} (seen_of old) (events.Look op) said (seen_of new)
+  look_goes decode old op said new v =
+      let a = v.acts in
+      let t = told_of (told.Went op) op v.next.1 in
+      let fits = subst Fits (sym v.turns) (turned_fits old.page decode v.refused v.operation.doing v.caches None Look a.asks) in
+      told_so old (events.Look op) said t new (acted old op v.operation v.next (caches_left v.operation.doing v.caches v.next.1)) v.tells v.state
+      (record {
+        clients = refl;
+        operations = acted_states t op (is_some v.next.1) old.operations v.operation Look v.next.0 a.found (told_ends (told.Went op) op v.next.1 (λ c m. refl)) a.asks fits;
+        loose = refl;
+        failed = refl;
+      })
+
+  serve_goes : (decode : List ℕ → Option T) (old : State T) (op : ℕ) (said : PlainTold T) (new : State T) → Served decode old op said new → OperationsGoOn {C = PlainCall T} (seen_of old) (events.Serve op) said (seen_of new)
+  serve_goes decode old op said new v =
+      let a = v.acts in
+      let t = told_of (told.Went op) op v.next.1 in
+      let fits = subst Fits (sym v.turns) (turned_fits old.page decode v.refused v.operation.doing v.caches (Some v.reply) (Store v.request) a.asks) in
+      told_so old (events.Serve op) said t new (acted (effected old op v.request v.reply v.store) op v.operation v.next (caches_left v.operation.doing v.caches v.next.1)) v.tells v.state
+      (record {
+        clients = refl;
+        operations = acted_states t op (is_some v.next.1) old.operations v.operation (Store v.request) v.next.0 a.found (told_ends (told.Went op) op v.next.1 (λ c m. refl)) a.asks fits;
+        loose = refl;
+        failed = refl;
+      })
+
+  -- what an operation leaves loose, by what it is seen to ask for
+  leaves : (old : State T) (op : ℕ) (o : PlainOperation T) (ask : Ask) (caches : Caches) → Acts old op o ask caches → old.loose ++ left_loose op (Some ask) ≡ old.loose ++ left_loose op (asks_of (seen_of old) op)
+  leaves old op o ask caches a = ap (λ found. old.loose ++ left_loose op found) (sym (seen_at old op o a.found ∙ a.asks))
+
+  -- the operations, where one is told that its store call failed
+  failed_states : (old : State T) (op : ℕ) (o : PlainOperation T) (ask : Ask) (caches : Caches) → Acts old op o ask caches →
+      map state_of (seen_operations (with_doing old.operations op o Ended)) ≡ states_after {A = PlainAnswer T} (told.Answered op (answers.Refused 2)) 1 (seen_operations old.operations) None
+  failed_states old op o ask caches a = acted_states (told.Answered op (answers.Refused 2)) op true old.operations o ask Ended a.found (answer_ends op (answers.Refused 2)) a.asks refl
+
+  fail_goes : (failure : Failure) (old : State T) (op : ℕ) (said : PlainTold T) (new : State T) → Fails old op failure said new → OperationsGoOn {C = PlainCall T} (seen_of old) (events.Fail op failure) said (seen_of new)
+  fail_goes failures.Before old op said new v =
+      told_so old (events.Fail op failures.Before) said (told.Answered op (answers.Refused 2)) new (acted (failing old op) op v.operation told_failure v.caches) v.tells v.state
+      (record { clients = refl; operations = failed_states old op v.operation (Store v.request) v.caches v.acts; loose = refl; failed = refl })
+  fail_goes failures.After old op said new v =
+      told_so old (events.Fail op failures.After) said (told.Answered op (answers.Refused 2)) new (acted (failing (effected old op v.request v.reply v.store) op) op v.operation told_failure v.caches) v.tells v.state
+      (record { clients = refl; operations = failed_states old op v.operation (Store v.request) v.caches v.acts; loose = refl; failed = refl })
+  fail_goes failures.Loose old op said new v =
+      told_so old (events.Fail op failures.Loose) said (told.Answered op (answers.Refused 2)) new (acted (failing (loosened old op (Store v.request)) op) op v.operation told_failure v.caches) v.tells v.state
+      (record { clients = refl; operations = failed_states old op v.operation (Store v.request) v.caches v.acts; loose = leaves old op v.operation (Store v.request) v.caches v.acts; failed = refl })
+
+  give_up_goes : (old : State T) (op : ℕ) (said : PlainTold T) (new : State T) → GivesUp old op said new → OperationsGoOn {C = PlainCall T} (seen_of old) (events.GiveUp op) said (seen_of new)
+  give_up_goes old op said new v =
+      let a = v.acts in
+      told_so old (events.GiveUp op) said (told.GaveUp op) new (acted (loosened old op v.ask) op v.operation given_up v.caches) v.tells v.state
+      (record {
+        clients = refl;
+        operations = acted_states (told.GaveUp op) op true old.operations v.operation v.ask Ended a.found (give_up_ends op) a.asks refl;
+        loose = leaves old op v.operation v.ask v.caches a;
+        failed = refl;
+      })
+
+  land_goes : (old : State T) (k : ℕ) (said : PlainTold T) (new : State T) → Lands old k said new → OperationsGoOn {C = PlainCall T} (seen_of old) (events.Land k) said (seen_of new)
+  land_goes old k said new v =
+      let t = told.Landed k (is_some (effect_of old.store.files v.request v.reply)) in
+      told_so old (events.Land k) said t new (effected old v.op v.request v.reply v.store) v.tells v.state
+      (record { clients = refl; operations = states_stay t 1 (seen_operations old.operations) (λ client n le. refl); loose = refl; failed = refl })
+
+  crash_goes : (old : State T) (client : ℕ) (said : PlainTold T) (new : State T) → Crashes old client said new → OperationsGoOn {C = PlainCall T} (seen_of old) (events.Crash client) said (seen_of new)
+  crash_goes old client said new v =
+      told_so old (events.Crash client) said (told.Crashed client) new (crashed old client) v.tells v.state
+      (record { clients = refl; operations = states_crashed (PlainAnswer T) seen_operation (ended_by client) client (ended_state client) (stays_so client) 1 old.operations; loose = refl; failed = refl })
+
+module _ {T : Type 0} (encode : T → List ℕ) (decode : List ℕ → Option T) (get_epoch : T → ℕ) where
+  -- what stands beside the rows goes on with each event that is taken, whatever the state before it
+  pub goes_on_with : (old : State T) (event : PlainEvent T) (said : PlainTold T) (new : State T) → Takes encode decode get_epoch old event said new → OperationsGoOn (seen_of old) event said (seen_of new)
+  goes_on_with old (events.Begin client call) said new t = begin_goes encode decode old client call said new t.step
+  goes_on_with old (events.Look op) said new t = look_goes decode old op said new t.step
+  goes_on_with old (events.Serve op) said new t = serve_goes decode old op said new t.step
+  goes_on_with old (events.Fail op failure) said new t = fail_goes failure old op said new t.step
+  goes_on_with old (events.GiveUp op) said new t = give_up_goes old op said new t.step
+  goes_on_with old (events.Land k) said new t = land_goes old k said new t.step
+  goes_on_with old (events.Crash client) said new t = crash_goes old client said new t.step

@@ -1,0 +1,9 @@
+pub mod PlainTrace
+pub mod PlainCalls
+pub mod PlainHistory
+pub mod PlainLaws
+pub mod PlainAllowed
+pub mod Doing
+pub mod Machine
+pub mod Alone
+pub mod Probing

@@ -1,5 +1,0 @@
-pub mod Legal
-pub mod Owners
-pub mod Claimers
-pub mod Holders
-pub mod Begins
