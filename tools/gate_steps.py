@@ -28,8 +28,8 @@ CASES = {PROGRAM_OF_CASES: ("cases", []), "txnport_cli": ("cases of the port", [
 PROGRAM_OF_FOLDERS = "txnobj_cli"
 # For how many seconds processes of a program are killed that passed this on this machine before.
 SECONDS_AGAIN = 10
-# How the name of a crate of tests ends.
-TESTS = "_tests"
+# How the name of a crate of tests begins.
+TESTS = "tests_"
 LAST_LINE = re.compile(r"(\d+) passed, (\d+) failed")
 TESTS_LINE = re.compile(r"^test result: \w+\. (\d+) passed; (\d+) failed", re.M)
 REFUSALS_LINE = re.compile(r"(\d+) refusals, (\d+) odd")
@@ -226,7 +226,7 @@ def table(steps):
 
 def part_of(uses, names):
     """The crates that are tried with these: those below, the crates of tests that name one, and those below these."""
-    tops = {*names, *(it for it, below in uses.items() if it.endswith(TESTS) and {*below} & {*names})}
+    tops = {*names, *(it for it, below in uses.items() if it.startswith(TESTS) and {*below} & {*names})}
     return tops | {below for it in tops for below in all_below(it, uses)}
 
 

@@ -159,16 +159,16 @@ class Steps(unittest.TestCase):
         self.assertEqual(silently(lambda: list(folder_steps(self.room, ["txnobj_cli"]))), [])
 
     def test_a_part(self):
-        uses = {"base": [], "low": ["base"], "high": ["low"], "side": [], "some_tests": ["high", "low", "side"], "app": ["high"]}
+        uses = {"base": [], "low": ["base"], "high": ["low"], "side": [], "tests_some": ["high", "low", "side"], "app": ["high"]}
         self.assertEqual(part_of(uses, ["base"]), {"base"})
-        self.assertEqual(part_of(uses, ["low"]), {"base", "low", "high", "side", "some_tests"})
+        self.assertEqual(part_of(uses, ["low"]), {"base", "low", "high", "side", "tests_some"})
         self.assertEqual(part_of(uses, ["app"]), {"base", "low", "high", "app"})
 
     def run_command(self, *words, help="rt ci [--anew]"):
         """The status and the lines of the command in a small repository, in which each step says where it runs. `help`
         is the kit's."""
-        self.file("repository/crates.txt", "# The crates.\nlow: bytes\nhigh: low\nother_tests: other\nother:\nhigh_tests: high\n")
-        for name in ("low", "high", "other", "other_tests", "high_tests"):
+        self.file("repository/crates.txt", "# The crates.\nlow: bytes\nhigh: low\ntests_other: other\nother:\ntests_high: high\n")
+        for name in ("low", "high", "other", "tests_other", "tests_high"):
             self.file(f"repository/crates/{name}/src/lib.rt")
             self.file(f"repository/crates/{name}/out/made")
         for name in ("low", "high"):
@@ -194,13 +194,13 @@ class Steps(unittest.TestCase):
         self.assertIn("rt ci: low\nlow: bytes\n2 passed", said)
         self.assertIn("edits of low --after-ci\n", said)
         status, said = self.run_command("high", "--all", "--anew")
-        self.assertIn("rt ci --anew: high high_tests low\nlow: bytes\nhigh: low\nhigh_tests: high\n2 passed", said)
+        self.assertIn("rt ci --anew: high low tests_high\nlow: bytes\nhigh: low\ntests_high: high\n2 passed", said)
         self.assertIn("edits of high --after-ci --all --anew\n", said)
         status, said = self.run_command("high", "--anew", help="rt ci")
-        self.assertIn("rt ci: high high_tests low\n", said)
-        status, said = self.run_command("high_tests", "low")
+        self.assertIn("rt ci: high low tests_high\n", said)
+        status, said = self.run_command("tests_high", "low")
         self.assertIn("edits of low --after-ci\n", said)
-        self.assertNotIn("edits of", self.run_command("high_tests")[1])
+        self.assertNotIn("edits of", self.run_command("tests_high")[1])
         self.assertEqual(self.run_command("high", "none"), (2, "crates.txt names no crate none\n0 passed, 1 failed\n"))
 
     def test_all_crates_where_they_are(self):

@@ -36,7 +36,7 @@ def files_of_all_calls(file, name):
         for path in glob.glob(f"{TOP}/crates/*/{part}", recursive=True):
             text = text_of(os.path.relpath(path, TOP))
             count = sum(bool(re.search(rf"(?:::|\.){it}\b", text)) for it in variants)
-            if "_tests/" not in path and count >= len(variants) - 1:
+            if "/tests_" not in path and count >= len(variants) - 1:
                 found.append(os.path.relpath(path, f"{TOP}/crates"))
     return sorted(found)
 

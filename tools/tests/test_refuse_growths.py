@@ -131,9 +131,9 @@ class Sweeps(unittest.TestCase):
 
     def test_each_allocation_of_a_test(self):
         says = '[ "$REFUSED_ALLOCATION" -le 7 ] && printf ! >"/proc/self/fd/$REFUSED_TO"\n'
-        program = self.shell("txn_tests_tests", f'{says}printf "\\ntest result: ok\\n"')
+        program = self.shell("tests_world_tests", f'{says}printf "\\ntest result: ok\\n"')
         self.assertEqual(silently(sweep, Test(self.player, program, "one")), ((7, 0), ""))
-        program = self.shell("txn_tests_tests", f'{says}[ "$REFUSED_ALLOCATION" = 5 ] || printf "\\ntest result: ok\\n"')
+        program = self.shell("tests_world_tests", f'{says}[ "$REFUSED_ALLOCATION" = 5 ] || printf "\\ntest result: ok\\n"')
         self.assertEqual(silently(sweep, Test(self.player, program, "one"))[0], (7, 1))
 
     def test_a_program_that_does_not_end(self):
@@ -147,9 +147,9 @@ class Sweeps(unittest.TestCase):
             program = self.script().program
             self.assertEqual(silently(sweep_all, self.player, self.room, [program, program])[0], (24, 0))
             self.assertEqual(silently(sweep_all, self.player, self.room, [f"{self.room}/none"])[0], (0, 1))
-        program = self.shell("txn_tests_tests", 'printf "\\ntest result: ok\\n"')
+        program = self.shell("tests_world_tests", 'printf "\\ntest result: ok\\n"')
         found, said = silently(sweep_all, self.player, self.room, [program])
-        self.assertEqual((found, said), ((0, 0), "txn_tests_tests refused::a_refused_event_is_taken_again: 0 refused, 0 odd\n"))
+        self.assertEqual((found, said), ((0, 0), "tests_world_tests refused::a_refused_event_is_taken_again: 0 refused, 0 odd\n"))
 
     def test_the_library_refuses(self):
         try:

@@ -264,10 +264,12 @@ pub fn start<T: Clone, C: ObjectCodec<T>, E: EpochField<T>>(
             first(InitOp::start(alloc, layout, value).map(ViewOp::Init))
         }
         Call::View(ViewCall::Load) => Ok((Doing::View(ViewOp::Load(LoadOp::start(layout)?)), None)),
-        Call::View(ViewCall::Refresh(_)) => Ok((
-            Doing::View(ViewOp::Refresh(RefreshOp::start(layout)?)),
-            None,
-        )),
+        Call::View(ViewCall::Refresh(_)) => {
+            Ok((
+                Doing::View(ViewOp::Refresh(RefreshOp::start(layout)?)),
+                None,
+            ))
+        }
         Call::View(call) => match view {
             Some(view) => start_on(alloc, layout, epochs, call, view),
             None => Ok((ended(), Some(7))),

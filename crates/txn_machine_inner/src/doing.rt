@@ -102,14 +102,12 @@ fn start_other<T: Drop, C: ObjectCodec<T>>(
             PlainDoing::ReadUnchecked(ReadUncheckedOp::start(alloc, layout, MonotonicId::new(*id))?)
         }
         PlainCall::ReadSeen(id) => PlainDoing::ReadSeen(ReadSeenOp::start(MonotonicId::new(*id))),
-        PlainCall::ListIds(from, to) => PlainDoing::ListIds(ListOp::start(
-            alloc, layout, *from, *to,
-        )?),
-        PlainCall::Delete(id) => PlainDoing::Delete(DeleteOp::start(
-            alloc,
-            layout,
-            MonotonicId::new(*id),
-        )?),
+        PlainCall::ListIds(from, to) => {
+            PlainDoing::ListIds(ListOp::start(alloc, layout, *from, *to)?)
+        }
+        PlainCall::Delete(id) => {
+            PlainDoing::Delete(DeleteOp::start(alloc, layout, MonotonicId::new(*id))?)
+        }
         PlainCall::Check(id) => PlainDoing::Check(CheckOp::start(layout, MonotonicId::new(*id))?),
         PlainCall::Advance(id) => PlainDoing::Advance(AdvanceOp::start(MonotonicId::new(*id))),
     })
