@@ -70,7 +70,7 @@ class Pages(unittest.TestCase):
 
     def test_the_files_that_go_through_all_calls(self):
         plain, viewed = text_of("docs/CHANGING.md").split("\n## A call ")[1:]
-        for page, file, name in ((plain, "txn_history", "Call"), (viewed, "txn_view_history", "ViewCall")):
+        for page, file, name in ((plain, "txn_history", "PlainCall"), (viewed, "txn_history", "ViewCall")):
             listed = re.findall(r"`(\w+/(?:src|specs|proofs)/\S+)`", page)
             self.assertEqual(sorted(set(listed)), sorted(listed), "a file is listed twice")
             self.assertEqual(sorted(listed), files_of_all_calls(f"crates/{file}/src/event.rt", name))

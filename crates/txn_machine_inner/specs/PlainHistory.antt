@@ -107,8 +107,8 @@ module _ {T : Type 0} (decode : List ℕ → Option T) (get_epoch : T → ℕ) w
 module _ {C A T : Type 0} (decode : List ℕ → Option T) (get_epoch : T → ℕ) (failed : List ℕ) where
   -- the answer fits the call
   abbrev pub AnswerFits : List (RowOf C A) → ℕ → PlainCall T → PlainAnswer T → Type 0
-  AnswerFits before op call (answers.Refused number) = PlainRefuses before op call number ⊎ Fails decode get_epoch failed op number
-  AnswerFits before op call answer = PlainSucceeds before op call answer
+  AnswerFits before op call (answers.Refused number) = PlainRefuses decode get_epoch failed before op call number ⊎ Fails decode get_epoch failed op number
+  AnswerFits before op call answer = PlainSucceeds decode get_epoch failed before op call answer
 
 module _ {T : Type 0} (decode : List ℕ → Option T) (get_epoch : T → ℕ) (failed : List ℕ) where
   -- The one answer of a call that began, and it fits.

@@ -8,7 +8,7 @@ ghost use Rattle.txn_history.specs.declared.event.EventOf.TheVariants as events;
 ghost use Rattle.txn_machine_inner.specs.PlainHistory.{Opens, IsOneHistory};
 ghost use Rattle.txn_history.specs.Laws.{NeverFalls, KeepsAbove};
 ghost use Rattle.txn_machine_inner.specs.PlainLaws.{HasOneWriter};
-ghost use Rattle.txn_history.specs.Trace.{PlainRow};
+ghost use Rattle.txn_machine_inner.specs.PlainTrace.{PlainRow};
 
 /// The boundary never falls.
 pub fn boundary_never_falls<T: Drop>(_value: &T)
