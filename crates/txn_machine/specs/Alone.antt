@@ -25,7 +25,7 @@ module _ {T : Type 0} where
   IsReading (any.View (view_calls.HolderRefresh view)) = Unit {0}
   IsReading call = ⊥
 
-  -- the read that its operation makes, as an operation of the nine calls
+  -- the read that its operation makes, as an operation of plain calls
   abbrev pub read_of : Doing T → PlainDoing T
   read_of (does.Plain doing) = doing
   read_of (does.View (Load op)) = doings.Read op.read

@@ -1,5 +1,5 @@
 //! The law that every trace of a world obeys, whatever the events of all calls: it is one history, and views and claims fit
-//! it. What follows of that is in `txn_view_history`. And how each event adds its rows, and what stands beside them goes on.
+//! it. What follows of that is in `txn_history`. And how each event adds its rows, and what stands beside them goes on.
 ghost use Rattle.std.specs.Prelude.{◌≡◌, ◌≤◌, List, Some, ℕ};
 ghost use Rattle.txn_history.specs.Lists.{numbered};
 ghost use Rattle.txn_history.specs.History.{stored};
