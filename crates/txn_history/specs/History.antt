@@ -6,6 +6,7 @@ use Rattle.std.specs.List.{list_any}
 use Rattle.std.specs.Option.{option_map}
 use Rattle.std.specs.FinMap.{FinMap, empty, get, insert, remove}
 use Rattle.txn_store.specs.Paths.{Segments, path_cmp}
+use Rattle.txn_store.specs.Store.{Files}
 use Rattle.txn_store.specs.VersionName.{version_path}
 use Rattle.txn_store.specs.VersionOf.{version_of}
 use Rattle.txn_store.specs.declared.request.Request.{Request}
@@ -72,6 +73,10 @@ contents_after contents (requests.Put path bytes mode) = insert contents path by
 contents_after contents (requests.Get path known) = contents
 contents_after contents (requests.List prefix after limit) = contents
 contents_after contents (requests.Delete path) = remove contents path
+
+-- files with these contents, tokens aside
+abbrev pub HasContents : Files → Contents → Type 0
+HasContents files contents = (path : Segments) → option_map (λ got. got.bytes) (get files path) ≡ get contents path
 
 -- the number that a boundary file says, 0 where it is missing
 abbrev pub boundary_said : Option (List ℕ) → ℕ

@@ -6,9 +6,8 @@ use Rattle.txn_store.specs.declared.request.Request.{Request}
 use Rattle.txn_store.specs.declared.request.Reply.{Reply}
 use Rattle.txn_caches.specs.declared.caches.Caches.{Caches}
 use Rattle.txn_history.specs.Lists.{numbered}
-use Rattle.txn_history.specs.History.{Contents, stored}
+use Rattle.txn_history.specs.History.{Contents, stored, HasContents}
 use Rattle.txn_history.specs.Seen.{Store, Look}
-use Rattle.txn_machine_inner.specs.Machine.{HasContents}
 use Rattle.txn_machine_inner.proofs.Replies.{stood_replies, stood_looks, stood_range}
 use Rattle.txn_history.specs.Trace.{Row, Event, Told}
 use Rattle.txn_history.specs.Calls.{view_used}

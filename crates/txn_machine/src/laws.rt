@@ -2,9 +2,8 @@
 //! it. What follows of that is in `txn_history`. And how each event adds its rows, and what stands beside them goes on.
 ghost use Rattle.std.specs.Prelude.{◌≡◌, ◌≤◌, List, Some, ℕ};
 ghost use Rattle.txn_history.specs.Lists.{numbered};
-ghost use Rattle.txn_history.specs.History.{stored};
+ghost use Rattle.txn_history.specs.History.{stored, HasContents};
 ghost use Rattle.txn_history.specs.Added.{AddsRows};
-ghost use Rattle.txn_machine_inner.specs.Machine.{HasContents};
 ghost use Rattle.txn_history.specs.GoesOn.{GoesOn};
 ghost use Rattle.txn_history.specs.OneHistory.{IsOneHistory};
 ghost use Rattle.txn_history.specs.Laws.{HasOneClaimer};

@@ -26,13 +26,12 @@ use Rattle.txn_machine_inner.specs.PlainTrace.{PlainRow}
 use Rattle.txn_history.specs.declared.trace.RowOf.TheVariants.{Effect, Begun, Answered}
 use Rattle.txn_history.specs.Lists.{numbered}
 use Rattle.txn_history.specs.Names.{world_names, world_boundary}
-use Rattle.txn_history.specs.History.{Contents, Version, is_id, has_id, with_version, versions_of, newest, stored, boundary, boundary_said, erases, put_count}
+use Rattle.txn_history.specs.History.{Contents, Version, is_id, has_id, with_version, versions_of, newest, stored, boundary, boundary_said, erases, put_count, HasContents}
 use Rattle.txn_machine_inner.specs.PlainCalls.{tells}
 use Rattle.txn_machine_inner.specs.PlainHistory.{Opens, Appends, Recreates, Raises, Erases, VersionPut, BoundaryPut, VersionRemoved, Answers, Fits}
 use Rattle.txn_history.proofs.Lists.{get_more, get_last, any_true, any_more, any_last}
 use Rattle.txn_history.proofs.Rows.{versions_of-more, stored-more, boundary-same, newest_grows}
 use Rattle.txn_history.proofs.Apart.{tied_path, apart, created_is, raise_creates, raised_is, removed_is}
-use Rattle.txn_machine_inner.specs.Machine.{HasContents}
 use Rattle.txn_machine_inner.proofs.Stands.{AllGiven, IsVersionPath, AllVersions, OneKnown, TellsKnown, Frame, HistoryStands, FilesStand, KnowStands, bytes_at, create, remove_version, file_at, is_there}
 use Rattle.txn_history.proofs.More.{put_count-more}
 use Rattle.txn_machine_inner.proofs.Rows.{one_history-more}

@@ -10,11 +10,11 @@ use Rattle.txn_machine_inner.specs.PlainTrace.{PlainTold, PlainEvent}
 use Rattle.txn_history.specs.declared.event.ToldOf.TheVariants as told
 use Rattle.txn_history.specs.declared.event.EventOf.TheVariants as events
 use Rattle.txn_history.specs.declared.trace.RowOf.TheVariants.{Begun}
-use Rattle.txn_history.specs.History.{stored}
+use Rattle.txn_history.specs.History.{stored, HasContents}
 use Rattle.txn_history.specs.Calls.{begun_count}
 use Rattle.txn_machine_inner.specs.PlainHistory.{IsOneHistory}
 use Rattle.txn_history.specs.Added.{Tells, answer_row, effect_rows, IsEffectRow, AddsRows}
-use Rattle.txn_machine_inner.specs.Machine.{State, HasContents, opening, seen_of, effect_of, next_op, FailsFirst, Fails, Lands, Looks, Served, Begins, Takes, Runs, IsReached}
+use Rattle.txn_machine_inner.specs.Machine.{State, opening, seen_of, effect_of, next_op, FailsFirst, Fails, Lands, Looks, Served, Begins, Takes, Runs, IsReached}
 use Rattle.txn_machine_inner.proofs.Stands.{Stands}
 use Rattle.txn_machine_inner.proofs.EffectRows.{served_row, effect_empty, tells_answer, went_row, began_row}
 use Rattle.txn_machine_inner.proofs.Going.{seen_at}

@@ -56,7 +56,7 @@ use Rattle.txn_machine_inner.specs.PlainTrace.{PlainRow}
 use Rattle.txn_history.specs.declared.trace.RowOf.TheVariants.{Effect, Begun, Answered}
 use Rattle.txn_history.specs.Lists.{numbered}
 use Rattle.txn_history.specs.Names.{world_names, world_boundary}
-use Rattle.txn_history.specs.History.{Version, created, versions_of, newest, boundary, was_erased, stored, is_stored, put_count, epoch_at}
+use Rattle.txn_history.specs.History.{Version, created, versions_of, newest, boundary, was_erased, stored, is_stored, put_count, epoch_at, HasContents}
 use Rattle.txn_history.specs.Calls.{was_begun, was_answered, IsCall, begun_count, plain_tells_id, AtRow}
 use Rattle.txn_machine_inner.specs.PlainCalls.{tells}
 use Rattle.txn_history.specs.Facts.{base_on, Created, Entered, WasNewest}
@@ -66,7 +66,7 @@ use Rattle.txn_machine_inner.specs.declared.doing.PlainDoing.{PlainDoing}
 use Rattle.txn_machine_inner.specs.declared.doing.PlainDoing.TheVariants.{Write, WriteUnchecked, Read, ReadUnchecked, ReadSeen, ListIds, Delete, Check, Advance, Ended}
 use Rattle.txn_machine_inner.specs.declared.doing.PlainOperation.{PlainOperation}
 use Rattle.txn_machine_inner.specs.Doing.{Next, InRange, ids_of}
-use Rattle.txn_machine_inner.specs.Machine.{State, HasContents}
+use Rattle.txn_machine_inner.specs.Machine.{State}
 
 -- requests
 

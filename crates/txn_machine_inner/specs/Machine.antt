@@ -1,8 +1,6 @@
--- The world's step, over the store's contract.
+-- The step where clients make plain calls, over the store's contract.
 use Rattle.std.specs.Prelude.{◌≡◌, ℕ, List, [], ◌∷◌, ◌++◌, ◌+◌, ◌-◌, ◌^◌, ◌≤◌, ◌==◌, Bool, true, false, if◌then◌else◌, Option, Some, None, Result, Ok, Err, length, slice_set, is_some, is_ok, map, replicate}
-use Rattle.std.specs.Option.{option_map}
-use Rattle.std.specs.FinMap.{empty, get}
-use Rattle.txn_store.specs.Paths.{Segments}
+use Rattle.std.specs.FinMap.{empty}
 use Rattle.txn_store.specs.Store.{Files, State as StoreState}
 use Rattle.txn_store.specs.Requests.{Serves}
 use Rattle.txn_store.specs.declared.request.Request.{Request}
@@ -21,7 +19,6 @@ use Rattle.txn_history.specs.declared.event.EventFault.{EventFault}
 use Rattle.txn_history.specs.declared.event.EventFault.TheVariants as faults
 use Rattle.txn_history.specs.declared.trace.RowOf.TheVariants.{Begun}
 use Rattle.txn_history.specs.Lists.{numbered}
-use Rattle.txn_history.specs.History.{Contents}
 use Rattle.txn_history.specs.Seen.{Ask, Store, Look, Operation as SeenOperation, Seen}
 use Rattle.txn_history.specs.GoesOn.{left_loose, all_left_loose}
 use Rattle.txn_machine_inner.specs.PlainAllowed.{fault_of}
@@ -73,10 +70,6 @@ may_change files (requests.Delete path) = if is_some (get files path) then Some 
 -- the request that changed the store, by the files before it and its reply
 abbrev pub effect_of : Files → Request → Reply → Option Request
 effect_of files request reply = if took reply then may_change files request else None
-
--- files with these contents, tokens aside
-abbrev pub HasContents : Files → Contents → Type 0
-HasContents files contents = (path : Segments) → option_map (λ got. got.bytes) (get files path) ≡ get contents path
 
 module _ {T : Type 0} where
   -- a world in which nothing has happened

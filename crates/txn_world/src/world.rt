@@ -1,7 +1,7 @@
 //! Clients over one store, one event at a time.
 ghost use Rattle.std.specs.Prelude.{◌≡◌, ◌≤◌, map, length, IfOk, OnErr, Some};
 ghost use Rattle.std.specs.Option.{option_copied, ForSome};
-ghost use Rattle.txn_history.specs.History.{history, stored, boundary, AreErased};
+ghost use Rattle.txn_history.specs.History.{history, stored, boundary, AreErased, HasContents};
 ghost use Rattle.txn_history.specs.Seen.{asks_of, view_of};
 ghost use Rattle.txn_history.specs.Added.{AddsRows};
 ghost use Rattle.txn_history.specs.OneHistory.{IsOneHistory};
@@ -11,7 +11,7 @@ ghost use Rattle.txn_history.specs.Allowed.{is_busy, fault_of};
 ghost use Rattle.txn_history.specs.GoesOn.{GoesOn};
 ghost use Rattle.txn_machine_inner.specs.Doing.{asks_as};
 ghost use Rattle.txn_types.specs.Clones.{IsExactClone};
-ghost use Rattle.txn_machine_inner.specs.Machine.{HasContents, fault_met};
+ghost use Rattle.txn_machine_inner.specs.Machine.{fault_met};
 ghost use Rattle.txn_machine.specs.Machine.{opening, seen_calls, seen_views, seen_of, next_event, Takes, RunsPast};
 
 use crate::tables::Tables;
