@@ -163,7 +163,7 @@ checked_next op (check, Goes) write can = (write, can)
 checked_next op (check, Done (Ok accepted)) write can = (write, can)
 checked_next op (check, Done (Err number)) write can = (write, can)
 
-write_at_next : (step : WriteStep) (op : WriteOp) (caches : Caches) (reply : Option Reply) → op.step ≡ step → CanWriteAt step op.write → CanWriteAt op.step op.write → CanCheck op.check → Goes ≡ (write_turned_at step op caches reply).1 → CanWriteChecked (write_turned_at step op caches reply).0
+pub write_at_next : (step : WriteStep) (op : WriteOp) (caches : Caches) (reply : Option Reply) → op.step ≡ step → CanWriteAt step op.write → CanWriteAt op.step op.write → CanCheck op.check → Goes ≡ (write_turned_at step op caches reply).1 → CanWriteChecked (write_turned_at step op caches reply).0
 write_at_next writes.Writes op caches reply is can same check goes = written_next op (unchecked_turned op.write reply) is (λ on. write_next op.write reply can on) check goes
 write_at_next writes.Checks op caches reply is can same check goes = checked_next op (check_turned op.check caches reply) same (check_next op.check caches reply check)
 
@@ -177,7 +177,7 @@ delete_checks_next op (check, Goes) can removal = (can, removal)
 delete_checks_next op (check, Done (Ok accepted)) can removal = (can, removal)
 delete_checks_next op (check, Done (Err number)) can removal = either_next CanDelete (number == 5) _ _ (can, removal) (can, removal)
 
-delete_at_next : (step : DeleteStep) (op : DeleteOp) (caches : Caches) (reply : Option Reply) → CanDelete op → Goes ≡ (deletes_of.delete_turned_at step op caches reply).1 → CanDelete (deletes_of.delete_turned_at step op caches reply).0
+pub delete_at_next : (step : DeleteStep) (op : DeleteOp) (caches : Caches) (reply : Option Reply) → CanDelete op → Goes ≡ (deletes_of.delete_turned_at step op caches reply).1 → CanDelete (deletes_of.delete_turned_at step op caches reply).0
 delete_at_next deletes.Checks op caches reply can goes = delete_checks_next op (check_turned op.check caches reply) (check_next op.check caches reply can.0) can.1
 delete_at_next deletes.Removes op caches reply can goes = (can.0, removal_next op.removal.step op.removal reply refl can.1 goes)
 

@@ -86,7 +86,7 @@ module _ (names : Names) (page : ℕ) (room : 1 ≤ page) where
   after_next op metas (Some after) can = room
   after_next op metas None can = can
 
-  list_next : (op : ListOp) (reply : Option Reply) → CanList op.request → CanList (listing_turned names page op reply).0.request
+  pub list_next : (op : ListOp) (reply : Option Reply) → CanList op.request → CanList (listing_turned names page op reply).0.request
   list_next op (Some (replies.List (Ok told))) can = after_next op told.metas (next_after told) can
   list_next op (Some (replies.List (Err e))) can = can
   list_next op (Some (replies.Put answer)) can = can

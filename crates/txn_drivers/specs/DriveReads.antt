@@ -60,7 +60,7 @@ module _ {T : Type 0} (names : Names) (decode : List ℕ → Option T) where
   seen_got_next op id (Err errors.NoMemory) can = can
   seen_got_next op id (Err errors.TokensExhausted) can = can
 
-  seen_next : (op : ReadSeenOp T) (versions : List Cached) (reply : Option Reply) → CanReadSeen op → Goes ≡ (of_seen.seen_turned names decode op versions reply).1 → CanReadSeen (of_seen.seen_turned names decode op versions reply).0
+  pub seen_next : (op : ReadSeenOp T) (versions : List Cached) (reply : Option Reply) → CanReadSeen op → Goes ≡ (of_seen.seen_turned names decode op versions reply).1 → CanReadSeen (of_seen.seen_turned names decode op versions reply).0
   seen_next (seen.Looks id) versions reply can goes = seen_looked_next (seen.Looks id) id (held id versions) can
   seen_next (seen.Gets id request) versions (Some (replies.Get answer)) can goes = seen_got_next (seen.Gets id request) id answer can
   seen_next (seen.Gets id request) versions (Some (replies.Put answer)) can goes = can
@@ -176,7 +176,7 @@ module _ {T : Type 0} (names : Names) (page : ℕ) (room : 1 ≤ page) (decode :
   checks_next path id value (check, Done (Ok accepted)) can goes = absurd (cc)
   checks_next path id value (check, Done (Err number)) can goes = either_next CanRead (number == 5) _ _ (tt, tt) can
 
-  read_next : (path : Segments) (op : ReadOp T) (caches : Caches) (reply : Option Reply) → CanRead op → Goes ≡ (of_read.read_turned names path page decode op caches reply).1 → CanRead (of_read.read_turned names path page decode op caches reply).0
+  pub read_next : (path : Segments) (op : ReadOp T) (caches : Caches) (reply : Option Reply) → CanRead op → Goes ≡ (of_read.read_turned names path page decode op caches reply).1 → CanRead (of_read.read_turned names path page decode op caches reply).0
   read_next path (reads.Reads op boundary) caches reply can goes = reads_next boundary (of_latest.latest_turned names page decode op caches.latest reply) (λ on. latest_next op caches.latest reply can.0 on) can.1 goes
   read_next path (reads.Checks id value check) caches reply can goes = checks_next path id value (check_turned check caches reply) (check_next check caches reply can) goes
   read_next path reads.Ended caches reply can goes = absurd can

@@ -20,7 +20,7 @@ module _ {C A : Type 0} where
   AreNumbered rows = (k op : ℕ) (call : C) → slice_get rows k ≡ Some (Begun op call) → op ≡ begun_count (take k rows) + 1
 
   -- an operation begins once
-  before_again : (rows : List (RowOf C A)) → AreNumbered rows → (j k op : ℕ) (call other : C) → slice_get rows j ≡ Some (Begun op call) → slice_get rows k ≡ Some (Begun op other) → j < k → ⊥
+  pub before_again : (rows : List (RowOf C A)) → AreNumbered rows → (j k op : ℕ) (call other : C) → slice_get rows j ≡ Some (Begun op call) → slice_get rows k ≡ Some (Begun op other) → j < k → ⊥
   before_again rows numbers j k op call other e e' lt =
       let row : RowOf C A = Begun op call in
       let next : take (suc j) rows ≡ take j rows ++ row ∷ [] = front_more rows j row (slice_get_within rows j row e) (get_or_from_slice_get rows j row row e) in
