@@ -10,7 +10,7 @@ ghost use Rattle.txn_threads.specs.Kept.{one_more, AreCounts, AreFirst, AreZeros
 use std::alloc::{AllocError, Global};
 use std::marker::Model;
 use txn_caches::ask::Ask;
-use txn_history::event::{Event, EventFault, Told, try_clone_event};
+use txn_history::event::{Event, EventFault, Told};
 use txn_types::codec::ObjectCodec;
 use txn_types::epoch::EpochField;
 use txn_types::room::push_within;
