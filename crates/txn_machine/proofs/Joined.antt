@@ -37,7 +37,7 @@ use Rattle.txn_machine.proofs.Matched.{fine_call, Matched}
 
 -- an operation of the machine of the nine calls
 abbrev pub Fine : Type 0 → Type 0
-Fine T = machine_operation.Operation T
+Fine T = machine_operation.PlainOperation T
 
 module _ {T : Type 0} where
   -- what the layer says of an operation that runs

@@ -149,7 +149,7 @@ module _ {T : Type 0} (encode : T → List ℕ) (decode : List ℕ → Option T)
     abbrev own : Operation T
     own = m.operation
 
-    abbrev fine_own : machine_operation.Operation T
+    abbrev fine_own : machine_operation.PlainOperation T
     fine_own = as_fine own.client (doings.Read read)
 
     -- the operation that acts is this one
@@ -169,7 +169,7 @@ module _ {T : Type 0} (encode : T → List ℕ) (decode : List ℕ → Option T)
           operation = doing_next o (whole next);
           there = ap (λ (os : List (Operation T)). numbered os op) operations ∙ numbered_here old.operations op (doing_next o (whole next)) o found;
           doing = refl;
-          fine = ap (λ (os : List (machine_operation.Operation T)). numbered os n) fine ∙ (numbered_here f.operations n (as_fine own.client (doings.Read next)) fine_own m.fine ∙ ap (λ (x : Operation T). Some (as_fine x.client (doings.Read next))) (sym same));
+          fine = ap (λ (os : List (machine_operation.PlainOperation T)). numbered os n) fine ∙ (numbered_here f.operations n (as_fine own.client (doings.Read next)) fine_own m.fine ∙ ap (λ (x : Operation T). Some (as_fine x.client (doings.Read next))) (sym same));
           caches = fine_caches ∙ (ap (λ (cs : List Caches). set cs (own.client - 1) (read_left read caches Goes)) m.caches ∙ (ap (λ (x : Operation T). set old.caches (x.client - 1) (read_left read caches Goes)) (sym same) ∙ sym new_caches));
           store = store;
           page = fine_page ∙ (m.page ∙ sym page);
