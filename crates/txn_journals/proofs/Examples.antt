@@ -354,7 +354,7 @@ answers_in (Answered op answer ∷ rows) = Answered op answer ∷ answers_in row
 answers_in (Begun op call ∷ rows) = answers_in rows
 answers_in (Effect op request ∷ rows) = answers_in rows
 
-abbrev plain : ℕ → Rattle.txn_history.specs.declared.event.PlainAnswer.Answer ℕ → Row ℕ
+abbrev plain : ℕ → Rattle.txn_history.specs.declared.event.PlainAnswer.PlainAnswer ℕ → Row ℕ
 plain op answer = Answered op (answers.Plain answer)
 
 pub found : answers_in (trace_of m14) ≡ plain 1 (plain_answers.Value (Some 7)) ∷ plain 2 (plain_answers.Wrote 1) ∷ plain 3 (plain_answers.Read (Some (1, 7))) ∷ []
