@@ -287,6 +287,20 @@ def odd_files(program, root, _seconds):
     return ["a fifo at a version's name is a fault, and nothing hangs"]
 
 
+def benches(program, root, _seconds):
+    """Processes that add by the store's calls alone leave their sum, in as many versions without a gap."""
+    it, times, ended = Object(program, root, "benched"), COUNTS // 2, []
+    together([lambda: ended.append(it.run("bench", str(times), recorded=False)[0])] * 4)
+    expect(ended == [0] * 4, f"bench: statuses {ended}")
+    names = sorted(name for name in os.listdir(f"{root}/benched") if name.endswith(".val"))
+    expect(names == [f"{id:020}.val" for id in range(1, 4 * times + 1)], f"bench leaves {len(names)} versions")
+    with open(f"{root}/benched/{names[-1]}", encoding="utf-8") as file:
+        expect(file.read() == f"0:{4 * times}", "the last version does not say the sum")
+    status, said = it.run("bench", "--list", "2", recorded=False)
+    expect(status == 0 and f" last {4 * times} " in said, f"bench --list: status {status}: {said.strip()}")
+    return [f"4 processes add {times} each by the store's calls alone, with no gap", "all versions are listed in turn"]
+
+
 def script_of(an_object):
     """Three clients: one makes the object, one updates it, raises its boundary and deletes, and one reads it then."""
     an_object.told("init", "0")
@@ -383,7 +397,7 @@ def main(words, usage):
     passed = failed = 0
     for program in given.programs:
         program = os.path.abspath(program)
-        for check in (counts, kills, claims, collections, odd_files, tampering, recordings):
+        for check in (counts, kills, claims, collections, odd_files, benches, tampering, recordings):
             root = tempfile.mkdtemp(prefix="try-folder-")
             try:
                 for line in check(program, root, given.seconds):

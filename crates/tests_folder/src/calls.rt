@@ -1,16 +1,7 @@
 //! How many calls of the system each call takes, and so which of them sync a folder, and what a reader may do.
-//!
-//! A line of these tables begins with how many calls of the system that name a file or a folder its call takes, or with
-//! `other`, where another store in the folder makes it.
 
-use crate::failing::Failing;
-use crate::steps::{call_of, folder_of, played, store_of, told};
-use std::alloc::Global;
-use std::cell::Cell;
-use std::io::ErrorKind;
+use crate::scenes::{Block, play_scene};
 use std::test::Fail;
-use std::{fs, io};
-use txn_folder::store::FolderStore;
 
 /// With no sync.
 const FAST: &str = "1 delete 1 = deleted
@@ -101,82 +92,24 @@ delete 1 = failed
 delete 2 = deleted
 ";
 
-/// The system, whose calls are counted down.
-fn counting<'a>(rt: &'a HostRuntime, left: &'a Cell<u64>, writes: bool) -> Failing<'a> {
-    Failing {
-        rt,
-        left,
-        after: false,
-        kind: ErrorKind::Other,
-        writes,
-    }
-}
-
-/// A line, with how many calls of the system it takes now and what it is answered.
-fn row<'a>(
-    alloc: Global,
-    own: &mut FolderStore<Failing<'a>>,
-    other: &mut FolderStore<HostRuntime>,
-    left: &Cell<u64>,
-    line: &str,
-) -> io::Result<String> {
-    let (wanted, call) = call_of(line).split_once(' ').unwrap_or(("", ""));
-    left.set(u64::MAX);
-    if wanted == "other" {
-        let told = told(alloc, other, call)?;
-        return Ok(format!(in alloc; "other {told}\n")?);
-    }
-    let told = told(alloc, own, call)?;
-    let took = u64::MAX.wrapping_sub(left.get());
-    Ok(format!(in alloc; "{took} {told}\n")?)
-}
-
-/// The rows of a table in a folder.
-fn rows(rt: &HostRuntime, root: &str, syncs: bool, table: &str) -> io::Result<String> {
-    let left = Cell::new(u64::MAX);
-    let mut own = store_of(counting(rt, &left, true), root, syncs)?;
-    let mut other = store_of(rt.clone()?, root, false)?;
-    let mut text = String::new(rt.alloc());
-    for line in table.lines() {
-        let row = row(rt.alloc(), &mut own, &mut other, &left, line)?;
-        text.push_str(row.as_str())?;
-    }
-    Ok(text)
-}
-
-/// The rows of a table in a folder of its own.
-fn counted(rt: &HostRuntime, syncs: bool, table: &str) -> io::Result<String> {
-    let root = folder_of(rt, "counted")?;
-    let rows = rows(rt, root.as_str(), syncs, table)?;
-    fs::remove_dir_all(rt, root.as_str())?;
-    Ok(rows)
-}
+/// One who may not write, before the lock is there and after it.
+const READERS: &[Block] = &[
+    ("synced", PUT),
+    ("reader", UNLOCKED),
+    ("synced", LOCKED),
+    ("reader", READ),
+];
 
 #[test]
 fn calls_of_the_system_are_counted(rt: HostRuntime) -> Result<(), Fail> {
-    assert_eq!(rt; counted(&rt, false, FAST)?.as_str(), FAST);
-    assert_eq!(rt; counted(&rt, true, MADE)?.as_str(), MADE);
-    assert_eq!(rt; counted(&rt, true, GONE)?.as_str(), GONE);
-    assert_eq!(rt; counted(&rt, true, TOLD_BOUNDARY)?.as_str(), TOLD_BOUNDARY);
-    assert_eq!(rt; counted(&rt, true, TOLD_VERSIONS)?.as_str(), TOLD_VERSIONS);
-    Ok(())
-}
-
-/// What one is answered who may write, or may not.
-fn played_by(rt: &HostRuntime, root: &str, writes: bool, table: &str) -> io::Result<String> {
-    let left = Cell::new(u64::MAX);
-    let mut store = store_of(counting(rt, &left, writes), root, true)?;
-    played(rt.alloc(), &mut store, table)
+    play_scene(&rt, &[("fast", FAST)])?;
+    play_scene(&rt, &[("synced", MADE)])?;
+    play_scene(&rt, &[("synced", GONE)])?;
+    play_scene(&rt, &[("synced", TOLD_BOUNDARY)])?;
+    play_scene(&rt, &[("synced", TOLD_VERSIONS)])
 }
 
 #[test]
 fn readers_need_no_right_to_write(rt: HostRuntime) -> Result<(), Fail> {
-    let root = folder_of(&rt, "read")?;
-    let root = root.as_str();
-    assert_eq!(rt; played_by(&rt, root, true, PUT)?.as_str(), PUT);
-    assert_eq!(rt; played_by(&rt, root, false, UNLOCKED)?.as_str(), UNLOCKED);
-    assert_eq!(rt; played_by(&rt, root, true, LOCKED)?.as_str(), LOCKED);
-    assert_eq!(rt; played_by(&rt, root, false, READ)?.as_str(), READ);
-    fs::remove_dir_all(&rt, root)?;
-    Ok(())
+    play_scene(&rt, READERS)
 }

@@ -1,7 +1,9 @@
 //! Examinations of folders.
 
-use crate::failing::Failing;
+use crate::failing::{Failing, never_failing};
+use crate::scenes::verdict;
 use crate::steps::folder_of;
+use std::alloc::AllocError;
 use std::cell::Cell;
 use std::io::ErrorKind;
 use std::test::Fail;
@@ -43,37 +45,44 @@ fn count(rt: &HostRuntime, folder: &str) -> usize {
     }
 }
 
-/// Which check fails first.
-fn verdict(rt: &HostRuntime, report: &Report) -> io::Result<String> {
-    match report.first_failed() {
-        Some(check) => Ok(format!(in rt.alloc(); "first fails: {check}")?),
-        None => Ok(String::from_str(rt.alloc(), "it serves")?),
-    }
+/// Writes which check fails first.
+fn write_verdict(rt: &HostRuntime, report: &Report, text: &mut String) -> Result<(), AllocError> {
+    let Some(check) = report.first_failed() else {
+        return text.push_str("it serves");
+    };
+    let words = format!(in rt.alloc(); "first fails: {check}")?;
+    text.push_str(words.as_str())
 }
 
-/// What is reported of a folder where this call of the system fails so, which check fails first, and how many names are left.
-fn examined(rt: &HostRuntime, folder: &str, nth: u64, kind: ErrorKind) -> io::Result<String> {
+/// Writes a report, and which check fails first.
+fn write_report(rt: &HostRuntime, report: &Report, text: &mut String) -> Result<(), AllocError> {
+    let lines = format!(in rt.alloc(); "{report}")?;
+    text.push_str(lines.as_str())?;
+    write_verdict(rt, report, text)
+}
+
+/// Writes what is reported of a folder where this call of the system fails so, and which check fails first.
+fn examined(
+    rt: &HostRuntime,
+    folder: &str,
+    nth: u64,
+    kind: ErrorKind,
+    text: &mut String,
+) -> Result<(), AllocError> {
     let left = Cell::new(nth);
     let failing = Failing {
-        rt,
-        left: &left,
-        after: false,
         kind,
-        writes: true,
+        ..never_failing(rt, &left)
     };
     let report = examine(&failing, rt.alloc(), folder)?;
-    let verdict = verdict(rt, &report)?;
-    let names = count(rt, folder);
-    Ok(format!(in rt.alloc(); "{report}{verdict}, and {names} names are left")?)
+    write_report(rt, &report, text)
 }
 
-/// The same of a folder of its own.
-fn examined_alone(rt: &HostRuntime, nth: u64, kind: ErrorKind) -> io::Result<String> {
-    let root = folder_of(rt, "doctor")?;
-    fs::create_dir(rt, root.as_str())?;
-    let told = examined(rt, root.as_str(), nth, kind)?;
-    fs::remove_dir_all(rt, root.as_str())?;
-    Ok(told)
+/// Writes how many names are left in a folder.
+fn write_left(rt: &HostRuntime, folder: &str, text: &mut String) -> Result<(), AllocError> {
+    let names = count(rt, folder);
+    let words = format!(in rt.alloc(); ", and {names} names are left")?;
+    text.push_str(words.as_str())
 }
 
 /// The last line of a text.
@@ -84,31 +93,69 @@ fn last_line(text: &str) -> &str {
     }
 }
 
+/// Writes what is reported of a folder where this call of the system fails so, unless that is what is wanted, whole or its last
+/// line.
+fn try_folder(
+    rt: &HostRuntime,
+    folder: &str,
+    nth: u64,
+    kind: ErrorKind,
+    wanted: &str,
+    wrong: &mut String,
+) -> Result<(), AllocError> {
+    let mut text = String::new(rt.alloc());
+    examined(rt, folder, nth, kind, &mut text)?;
+    write_left(rt, folder, &mut text)?;
+    let text = text.as_str();
+    if text != wanted && last_line(text) != wanted {
+        wrong.push_str(text)?;
+    }
+    Ok(())
+}
+
+/// The same of a folder of its own.
+fn try_alone(
+    rt: &HostRuntime,
+    nth: u64,
+    kind: ErrorKind,
+    wanted: &str,
+    wrong: &mut String,
+) -> io::Result<()> {
+    let root = folder_of(rt, "doctor")?;
+    fs::create_dir(rt, root.as_str())?;
+    let tried = try_folder(rt, root.as_str(), nth, kind, wanted, wrong);
+    fs::remove_dir_all(rt, root.as_str())?;
+    Ok(tried?)
+}
+
+/// Examines a folder that serves, one in which linking fails, and one that is missing.
+fn try_folders(rt: &HostRuntime, wrong: &mut String) -> io::Result<()> {
+    let kind = ErrorKind::Other;
+    try_alone(rt, NONE, kind, SERVES, wrong)?;
+    let links = "first fails: links a file to a second name, and 0 names are left";
+    try_alone(rt, LINKS, kind, links, wrong)?;
+    let keeps = "first fails: keeps a file and its time to the nanosecond, and 0 names are left";
+    try_folder(rt, "no such folder", NONE, kind, keeps, wrong)?;
+    Ok(())
+}
+
+/// Examines a folder that is not synced, where the file system says that it has no such syncs, and where it does not.
+fn try_unsynced(rt: &HostRuntime, wrong: &mut String) -> io::Result<()> {
+    try_alone(rt, OPENS_FOLDER, ErrorKind::Unsupported, UNSYNCED, wrong)?;
+    let syncs = "first fails: syncs files and folders, and 0 names are left";
+    try_alone(rt, OPENS_FOLDER, ErrorKind::Other, syncs, wrong)
+}
+
 #[test]
 fn folders_are_examined(rt: HostRuntime) -> Result<(), Fail> {
-    let told = examined_alone(&rt, NONE, ErrorKind::Other)?;
-    assert_eq!(rt; told.as_str(), SERVES);
-    let told = examined_alone(&rt, LINKS, ErrorKind::Other)?;
-    assert_eq!(rt;
-        last_line(told.as_str()),
-        "first fails: links a file to a second name, and 0 names are left"
-    );
-    let told = examined(&rt, "no such folder", NONE, ErrorKind::Other)?;
-    assert_eq!(rt;
-        last_line(told.as_str()),
-        "first fails: keeps a file and its time to the nanosecond, and 0 names are left"
-    );
-    Ok(())
+    let mut wrong = String::new(rt.alloc());
+    let done = try_folders(&rt, &mut wrong);
+    verdict(done, wrong.as_str())
 }
 
 #[test]
 fn folders_that_are_not_synced_are_told(rt: HostRuntime) -> Result<(), Fail> {
-    let told = examined_alone(&rt, OPENS_FOLDER, ErrorKind::Unsupported)?;
-    assert_eq!(rt; told.as_str(), UNSYNCED);
-    let told = examined_alone(&rt, OPENS_FOLDER, ErrorKind::Other)?;
-    assert_eq!(rt;
-        last_line(told.as_str()),
-        "first fails: syncs files and folders, and 0 names are left"
-    );
-    Ok(())
+    let mut wrong = String::new(rt.alloc());
+    let done = try_unsynced(&rt, &mut wrong);
+    verdict(done, wrong.as_str())
 }

@@ -1,7 +1,9 @@
 //! Values of any bytes: their bytes, their text, and their epoch.
 
+use crate::scenes::verdict;
 use bytes::Bytes;
 use std::alloc::{AllocError, Global};
+use std::io;
 use std::test::Fail;
 use txn_entries::entry::{Entry, EntryCodec, EntryEpoch};
 use txn_entries::text::{decode, encode};
@@ -36,8 +38,40 @@ const REFUSED: &[&str] = &[
     "18446744073709551616:a",
 ];
 
-/// Whether an entry is written and read as that text, and as its bytes, and keeps its epoch.
-fn is_written(
+fn is_written(alloc: Global, entry: &Entry, text: &str) -> Result<bool, AllocError> {
+    let written = encode(alloc, entry)?;
+    Ok(written.as_str() == text)
+}
+
+fn is_shown(alloc: Global, entry: &Entry, text: &str) -> Result<bool, AllocError> {
+    let shown = format!(in alloc; "{entry}")?;
+    Ok(shown.as_str() == text)
+}
+
+fn is_read(alloc: Global, entry: &Entry, text: &str) -> Result<bool, AllocError> {
+    let read = decode(alloc, text)?;
+    Ok(matches!(&read, Some(read) if *read == *entry))
+}
+
+/// Whether an entry is read from its bytes.
+fn is_kept(alloc: Global, entry: &Entry) -> Result<bool, AllocError> {
+    let bytes = EntryCodec.encode(alloc, entry)?;
+    let kept = EntryCodec.decode(alloc, &bytes);
+    Ok(matches!(&kept, Ok(kept) if *kept == *entry))
+}
+
+/// Whether an entry is written and read as that text, and as its bytes.
+fn has_text(alloc: Global, entry: &Entry, text: &str) -> Result<bool, AllocError> {
+    Ok(
+        is_written(alloc, entry, text)?
+            && is_shown(alloc, entry, text)?
+            && is_read(alloc, entry, text)?
+            && is_kept(alloc, entry)?,
+    )
+}
+
+/// Whether an entry that was given this epoch and payload has both, and that text.
+fn has_all(
     alloc: Global,
     epoch: u64,
     payload: &'static [u8],
@@ -46,45 +80,31 @@ fn is_written(
     let payload = Bytes::from_static(payload);
     let mut entry = Entry { epoch: 5, payload };
     EntryEpoch.set_epoch(&mut entry, epoch);
-    let written = encode(alloc, &entry)?;
-    let shown = format!(in alloc; "{entry}")?;
-    let read = decode(alloc, text)?;
-    let bytes = EntryCodec.encode(alloc, &entry)?;
-    let kept = EntryCodec.decode(alloc, &bytes);
-    Ok(
-        written.as_str() == text
-            && shown.as_str() == text
-            && matches!(&read, Some(read) if *read == entry)
-            && matches!(&kept, Ok(kept) if *kept == entry)
-            && EntryEpoch.get_epoch(&entry) == epoch,
-    )
+    let has_epoch = EntryEpoch.get_epoch(&entry) == epoch;
+    let has_text = has_text(alloc, &entry, text);
+    Ok(has_text? && has_epoch)
 }
 
-/// The first text of an entry that is written or read otherwise.
-fn first_other(alloc: Global) -> Result<Option<&'static str>, AllocError> {
+/// Writes the texts of entries that are written or read otherwise, and those that are read where none is to be.
+fn try_texts(alloc: Global, wrong: &mut String) -> io::Result<()> {
     for (epoch, payload, text) in ENTRIES {
-        if !is_written(alloc, *epoch, *payload, *text)? {
-            return Ok(Some(*text));
+        if !has_all(alloc, *epoch, *payload, *text)? {
+            wrong.push_str("this is written or read otherwise: ")?;
+            wrong.push_str(*text)?;
         }
     }
-    Ok(None)
-}
-
-/// The first of the texts that is read, where none is to be.
-fn first_read(alloc: Global) -> Result<Option<&'static str>, AllocError> {
     for text in REFUSED {
         if decode(alloc, *text)?.is_some() {
-            return Ok(Some(*text));
+            wrong.push_str("this is read: ")?;
+            wrong.push_str(*text)?;
         }
     }
-    Ok(None)
+    Ok(())
 }
 
 #[test]
 fn entries_have_one_text(rt: HostRuntime) -> Result<(), Fail> {
-    let other = first_other(rt.alloc())?;
-    let read = first_read(rt.alloc())?;
-    assert!(rt; other.is_none(), "{other:?} is written otherwise");
-    assert!(rt; read.is_none(), "{read:?} is read");
-    Ok(())
+    let mut wrong = String::new(rt.alloc());
+    let done = try_texts(rt.alloc(), &mut wrong);
+    verdict(done, wrong.as_str())
 }

@@ -15,4 +15,6 @@ mod failures;
 #[cfg(test)]
 mod folders;
 #[cfg(test)]
+mod scenes;
+#[cfg(test)]
 mod steps;

@@ -8,10 +8,19 @@ use txn_store::request::{Reply, Request};
 use txn_store::store::{PutMode, StoreError, Token};
 
 /// The boundaries that were written, each with the call that wrote it, and the boundary that each token is of.
-#[derive(Drop)]
 pub struct Boundaries {
     pub writers: BTreeMap<u64, usize>,
     pub of_token: HashMap<u64, u64>,
+}
+
+impl Drop for Boundaries {
+    /// Drops both: here, so that no function that owns them, and no crate above, has to prove how each is dropped.
+    fn drop(self) {
+        let Boundaries {
+            writers: _,
+            of_token: _,
+        } = self;
+    }
 }
 
 /// The token and the boundary that a get of the boundary file found.
@@ -42,7 +51,7 @@ fn creates(call: &Asked<'_>) -> bool {
 }
 
 /// Whether a put was refused with this error.
-fn was_refused(call: &Asked<'_>, error: StoreError) -> bool {
+pub(crate) fn was_refused(call: &Asked<'_>, error: StoreError) -> bool {
     match call.reply {
         Some(Reply::Put(Err(why))) => *why == error,
         _ => false,
@@ -161,6 +170,22 @@ impl Boundaries {
     }
 }
 
+impl Boundaries {
+    /// Notes what all calls show.
+    fn find(&mut self, calls: &[Asked<'_>], fates: &mut Vec<Fate>) -> Result<(), AllocError> {
+        for place in 0..calls.len() {
+            self.note(place, &calls[place])?;
+        }
+        for call in calls {
+            self.land_read(calls, fates, call)?;
+        }
+        for call in calls {
+            self.land_refused(calls, fates, call)?;
+        }
+        Ok(())
+    }
+}
+
 /// Who wrote which boundary.
 pub(crate) fn written(
     alloc: Global,
@@ -171,14 +196,8 @@ pub(crate) fn written(
         writers: BTreeMap::new(alloc),
         of_token: HashMap::new(alloc),
     };
-    for place in 0..calls.len() {
-        boundaries.note(place, &calls[place])?;
+    match boundaries.find(calls, fates) {
+        Ok(()) => Ok(boundaries),
+        Err(error) => Err(error),
     }
-    for call in calls {
-        boundaries.land_read(calls, fates, call)?;
-    }
-    for call in calls {
-        boundaries.land_refused(calls, fates, call)?;
-    }
-    Ok(boundaries)
 }

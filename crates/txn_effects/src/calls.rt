@@ -78,6 +78,31 @@ fn reply_after<T>(rows: &[Row<T>], row: usize, clock: Clock) -> (u64, Option<&Re
     }
 }
 
+/// The call of a row, where it asks for one, which comes after that of this place.
+fn call_at<'a, T>(
+    recording: usize,
+    rows: &'a [Row<T>],
+    row: usize,
+    clock: Clock,
+    before: Option<usize>,
+) -> Option<Asked<'a>> {
+    match rows.get(row) {
+        Some(Row::Ask(_, from, request)) => {
+            let (until, reply) = reply_after(rows, row, clock);
+            Some(Asked {
+                recording,
+                row,
+                from: clock.earliest(*from),
+                until,
+                request,
+                reply,
+                before,
+            })
+        }
+        _ => None,
+    }
+}
+
 /// Adds the calls of one recording.
 fn add_calls<'a, T>(
     calls: &mut Vec<Asked<'a>>,
@@ -87,21 +112,11 @@ fn add_calls<'a, T>(
 ) -> Result<(), AllocError> {
     let mut before = None;
     for row in 0..rows.len() {
-        if let Row::Ask(_, from, request) = &rows[row] {
-            let (until, reply) = reply_after(rows, row, clock);
-            let place = calls.len();
-            calls.push(Asked {
-                recording,
-                row,
-                from: clock.earliest(*from),
-                until,
-                request,
-                reply,
-                before,
-            })?;
-            if reply.is_some() {
-                before = Some(place);
+        if let Some(call) = call_at(recording, rows, row, clock, before) {
+            if call.is_answered() {
+                before = Some(calls.len());
             }
+            calls.push(call)?;
         }
     }
     Ok(())

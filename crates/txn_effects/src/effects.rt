@@ -10,7 +10,6 @@ use std::alloc::{AllocError, Global};
 use txn_recorded::row::Row;
 
 /// What became of the calls of recordings.
-#[derive(Drop)]
 pub struct Effects<'a> {
     pub calls: Vec<Asked<'a>>,
     /// What became of each call.
@@ -19,6 +18,19 @@ pub struct Effects<'a> {
     pub lives: Lives,
     /// The deletes that were answered and removed nothing.
     pub idle: Vec<Concern>,
+}
+
+impl<'a> Drop for Effects<'a> {
+    /// Drops all of it: here, so that no crate above has to prove how each part is dropped.
+    fn drop(self) {
+        let Effects {
+            calls: _,
+            fates: _,
+            boundaries: _,
+            lives: _,
+            idle: _,
+        } = self;
+    }
 }
 
 /// What became of the calls in these recordings, each a list of rows, whose times are of these clocks, one for each recording;
@@ -31,10 +43,7 @@ pub fn effects_of<'a, T>(
 ) -> Result<Effects<'a>, AllocError> {
     let calls = calls(alloc, recordings, clocks)?;
     let mut fates = fates(alloc, calls.as_slice())?;
-    let boundaries = written(alloc, calls.as_slice(), &mut fates)?;
-    let mut lives = lived(alloc, calls.as_slice(), &mut fates)?;
-    let margin = margin_of(clocks);
-    let idle = remove(alloc, calls.as_slice(), margin, &mut fates, &mut lives)?;
+    let (boundaries, lives, idle) = shown(alloc, calls.as_slice(), margin_of(clocks), &mut fates)?;
     Ok(Effects {
         calls,
         fates,
@@ -42,4 +51,17 @@ pub fn effects_of<'a, T>(
         lives,
         idle,
     })
+}
+
+/// The boundaries, the lives and the idle deletes that these calls show, and what became of each call.
+fn shown(
+    alloc: Global,
+    calls: &[Asked<'_>],
+    margin: u64,
+    fates: &mut Vec<Fate>,
+) -> Result<(Boundaries, Lives, Vec<Concern>), AllocError> {
+    let boundaries = written(alloc, calls, fates)?;
+    let mut lives = lived(alloc, calls, fates)?;
+    let idle = remove(alloc, calls, margin, fates, &mut lives)?;
+    Ok((boundaries, lives, idle))
 }

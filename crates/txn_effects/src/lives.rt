@@ -1,12 +1,14 @@
 //! The lives of versions: each from the put that makes it to the delete that removes it.
 
+use crate::boundaries::was_refused;
 use crate::calls::{Asked, version_of};
 use crate::landings::{Fate, has_place, land};
 use bytes::Bytes;
 use std::alloc::{AllocError, Global};
 use std::collections::HashMap;
+use txn_store::page::Page;
 use txn_store::request::{Reply, Request};
-use txn_store::store::StoreError;
+use txn_store::store::{StoreError, Token};
 
 /// One life of a version.
 #[derive(Clone, Copy)]
@@ -33,11 +35,20 @@ impl Life {
 }
 
 /// All lives, those of one version side by side, in the order in which they stood.
-#[derive(Drop)]
 pub struct Lives {
     pub lives: Vec<Life>,
     /// Which life has a token.
     pub of_token: HashMap<u64, usize>,
+}
+
+impl Drop for Lives {
+    /// Drops both: here, so that no function that owns them, and no crate above, has to prove how each is dropped.
+    fn drop(self) {
+        let Lives {
+            lives: _,
+            of_token: _,
+        } = self;
+    }
 }
 
 /// A version that a call saw, with its token, and its bytes where it told them.
@@ -51,36 +62,56 @@ struct Sight<'a> {
     until: u64,
 }
 
+/// Adds that a call saw a version, where the file was one, with this token and these bytes.
+fn add_sight<'a>(
+    sights: &mut Vec<Sight<'a>>,
+    call: &Asked<'a>,
+    id: Option<u64>,
+    token: Token,
+    bytes: Option<&'a Bytes>,
+) -> Result<(), AllocError> {
+    if let Some(id) = id {
+        sights.push(Sight {
+            id,
+            token: token.number(),
+            bytes,
+            at: call.from,
+            until: call.until,
+        })?;
+    }
+    Ok(())
+}
+
+/// Adds what one call saw in a page.
+fn add_page<'a>(
+    sights: &mut Vec<Sight<'a>>,
+    call: &Asked<'a>,
+    page: &Page,
+) -> Result<(), AllocError> {
+    for meta in page.metas.as_slice() {
+        add_sight(sights, call, version_of(&meta.location), meta.token, None)?;
+    }
+    Ok(())
+}
+
 /// Adds what one call saw.
 fn add_sights<'a>(sights: &mut Vec<Sight<'a>>, call: &Asked<'a>) -> Result<(), AllocError> {
     match (call.request, call.reply) {
         (Request::Get { path, .. }, Some(Reply::Get(Ok(got)))) => {
-            if let Some(id) = version_of(path) {
-                sights.push(Sight {
-                    id,
-                    token: got.token.number(),
-                    bytes: Some(&got.bytes),
-                    at: call.from,
-                    until: call.until,
-                })?;
-            }
+            add_sight(sights, call, version_of(path), got.token, Some(&got.bytes))
         }
-        (_, Some(Reply::List(Ok(page)))) => {
-            for meta in page.metas.as_slice() {
-                if let Some(id) = version_of(&meta.location) {
-                    sights.push(Sight {
-                        id,
-                        token: meta.token.number(),
-                        bytes: None,
-                        at: call.from,
-                        until: call.until,
-                    })?;
-                }
-            }
-        }
-        _ => {}
+        (_, Some(Reply::List(Ok(page)))) => add_page(sights, call, page),
+        _ => Ok(()),
     }
-    Ok(())
+}
+
+/// The version that a call was to create, and that stood already.
+fn taken_for(call: &Asked<'_>) -> Option<u64> {
+    if was_refused(call, StoreError::AlreadyExists) {
+        call.creates()
+    } else {
+        None
+    }
 }
 
 /// Whether a call may have made what was seen.
@@ -99,12 +130,12 @@ fn may_make(call: &Asked<'_>, id: u64, bytes: Option<&Bytes>) -> bool {
 fn loose_maker(
     calls: &[Asked<'_>],
     fates: &[Fate],
-    loose: &[usize],
+    loose: &[(u64, usize)],
     id: u64,
     bytes: Option<&Bytes>,
     until: u64,
 ) -> Option<usize> {
-    for place in loose {
+    for (_, place) in loose {
         if let Some(call) = calls.get(*place) {
             let in_time = call.from <= until;
             if in_time && !has_place(fates, *place) && may_make(call, id, bytes) {
@@ -115,20 +146,22 @@ fn loose_maker(
     None
 }
 
-/// The creates of versions whose reply nobody saw, in the order in which they were asked.
-fn loose_creates(alloc: Global, calls: &[Asked<'_>]) -> Result<Vec<usize>, AllocError> {
-    let mut asked = Vec::new(alloc);
+/// Adds the creates of versions whose reply nobody saw, each with when it was asked.
+fn add_loose(calls: &[Asked<'_>], asked: &mut Vec<(u64, usize)>) -> Result<(), AllocError> {
     for place in 0..calls.len() {
         if !calls[place].is_answered() && calls[place].creates().is_some() {
             asked.push((calls[place].from, place))?;
         }
     }
+    Ok(())
+}
+
+/// The creates of versions whose reply nobody saw, in the order in which they were asked.
+fn loose_creates(alloc: Global, calls: &[Asked<'_>]) -> Result<Vec<(u64, usize)>, AllocError> {
+    let mut asked = Vec::new(alloc);
+    add_loose(calls, &mut asked)?;
     asked.sort_unstable();
-    let mut loose = Vec::with_capacity(alloc, asked.len())?;
-    for (_, place) in asked.as_slice() {
-        loose.push(*place)?;
-    }
-    Ok(loose)
+    Ok(asked)
 }
 
 impl Lives {
@@ -164,7 +197,7 @@ impl Lives {
         &mut self,
         calls: &[Asked<'_>],
         fates: &mut Vec<Fate>,
-        loose: &[usize],
+        loose: &[(u64, usize)],
         sights: &[Sight<'_>],
     ) -> Result<(), AllocError> {
         for sight in sights {
@@ -191,24 +224,34 @@ impl Lives {
         &mut self,
         calls: &[Asked<'_>],
         fates: &mut Vec<Fate>,
-        loose: &[usize],
+        loose: &[(u64, usize)],
         ids: &mut HashMap<u64, ()>,
     ) -> Result<(), AllocError> {
         for call in calls {
-            if let (Some(id), Some(Reply::Put(Err(StoreError::AlreadyExists)))) = (
-                call.creates(),
-                call.reply,
-            ) {
-                if !ids.contains_key(&id) {
-                    let until = call.until;
-                    let maker = loose_maker(calls, fates.as_slice(), loose, id, None, until);
-                    if let Some(place) = maker {
-                        land(fates, place, None);
-                        self.add(calls, id, None, place)?;
-                        ids.insert(id, ())?;
-                    }
-                }
+            if let Some(id) = taken_for(call) {
+                self.land_taken_id(calls, fates, loose, ids, id, call.until)?;
             }
+        }
+        Ok(())
+    }
+
+    /// A version that stood in the way by a time, and that no call is known to have made, a loose one made.
+    fn land_taken_id(
+        &mut self,
+        calls: &[Asked<'_>],
+        fates: &mut Vec<Fate>,
+        loose: &[(u64, usize)],
+        ids: &mut HashMap<u64, ()>,
+        id: u64,
+        until: u64,
+    ) -> Result<(), AllocError> {
+        if ids.contains_key(&id) {
+            return Ok(());
+        }
+        if let Some(place) = loose_maker(calls, fates.as_slice(), loose, id, None, until) {
+            land(fates, place, None);
+            self.add(calls, id, None, place)?;
+            ids.insert(id, ())?;
         }
         Ok(())
     }
@@ -234,6 +277,57 @@ impl Lives {
                 }
             }
         }
+    }
+
+    /// Adds the lives that a call was told to have made.
+    fn add_made(&mut self, calls: &[Asked<'_>]) -> Result<(), AllocError> {
+        for place in 0..calls.len() {
+            if let (Some(id), Some(token)) = (calls[place].creates(), calls[place].given()) {
+                self.add(calls, id, Some(token), place)?;
+            }
+        }
+        Ok(())
+    }
+
+    /// Adds the lives that loose calls made: of what was seen, and then of what stood in the way.
+    fn land(
+        &mut self,
+        alloc: Global,
+        calls: &[Asked<'_>],
+        fates: &mut Vec<Fate>,
+        loose: &[(u64, usize)],
+        sights: &[Sight<'_>],
+    ) -> Result<(), AllocError> {
+        self.land_seen(calls, fates, loose, sights)?;
+        let mut ids = ids_of(alloc, self.lives.as_slice())?;
+        self.land_taken(calls, fates, loose, &mut ids)
+    }
+
+    /// Adds the lives that loose calls made, by what all calls saw, and notes when each life was seen last.
+    fn land_loose(
+        &mut self,
+        alloc: Global,
+        calls: &[Asked<'_>],
+        fates: &mut Vec<Fate>,
+        sights: &[Sight<'_>],
+    ) -> Result<(), AllocError> {
+        let loose = loose_creates(alloc, calls)?;
+        let landed = self.land(alloc, calls, fates, loose.as_slice(), sights);
+        self.note_sights(sights);
+        landed
+    }
+
+    /// Adds all lives.
+    fn find(
+        &mut self,
+        alloc: Global,
+        calls: &[Asked<'_>],
+        fates: &mut Vec<Fate>,
+    ) -> Result<(), AllocError> {
+        self.add_made(calls)?;
+        let sights = sights(alloc, calls)?;
+        self.land_loose(alloc, calls, fates, sights.as_slice())?;
+        self.arrange()
     }
 
     /// Where the lives of a version begin, and where they end.
@@ -293,17 +387,8 @@ pub(crate) fn lived(
         lives: Vec::new(alloc),
         of_token: HashMap::new(alloc),
     };
-    for place in 0..calls.len() {
-        if let (Some(id), Some(token)) = (calls[place].creates(), calls[place].given()) {
-            lives.add(calls, id, Some(token), place)?;
-        }
+    match lives.find(alloc, calls, fates) {
+        Ok(()) => Ok(lives),
+        Err(error) => Err(error),
     }
-    let loose = loose_creates(alloc, calls)?;
-    let sights = sights(alloc, calls)?;
-    lives.land_seen(calls, fates, loose.as_slice(), sights.as_slice())?;
-    let mut ids = ids_of(alloc, lives.lives.as_slice())?;
-    lives.land_taken(calls, fates, loose.as_slice(), &mut ids)?;
-    lives.note_sights(sights.as_slice());
-    lives.arrange()?;
-    Ok(lives)
 }

@@ -273,12 +273,23 @@ pub(crate) fn remove(
         listings: extents(alloc, calls)?,
         margin,
     };
+    remove_by(alloc, calls, fates, lives, &absences)
+}
+
+/// The same by what calls show that did not see a version.
+fn remove_by(
+    alloc: Global,
+    calls: &[Asked<'_>],
+    fates: &mut Vec<Fate>,
+    lives: &mut Lives,
+    absences: &Absences,
+) -> Result<Vec<Concern>, AllocError> {
     let mut deletes = Deletes {
         all: all_deletes(alloc, calls)?,
         taken: vec![in alloc; false; calls.len()]?,
     };
     for place in 0..lives.lives.len() {
-        deletes.end_life(calls, fates, lives, &absences, place);
+        deletes.end_life(calls, fates, lives, absences, place);
     }
     deletes.idle(alloc, fates.as_slice())
 }

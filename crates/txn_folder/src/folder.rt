@@ -14,7 +14,6 @@ use txn_store::version_names::is_suffix;
 /// The files of one object below a root: version n is `<root>/<name>/<n in 20 digits>.<suffix>`, and the boundary is
 /// `<root>/gc/<name>.boundary`. A name that goes on with a `#` after one of these is a temporary file's or a lock's; no
 /// version and no boundary has one. A clause sees the root, the name and the suffix.
-#[derive(Drop)]
 pub struct Folder {
     root: String,
     name: String,
@@ -22,6 +21,20 @@ pub struct Folder {
     versions: String,
     gc: String,
     boundary: String,
+}
+
+impl Drop for Folder {
+    /// Drops the names: here, so that no crate above has to prove how each is dropped.
+    fn drop(self) {
+        let Folder {
+            root: _,
+            name: _,
+            suffix: _,
+            versions: _,
+            gc: _,
+            boundary: _,
+        } = self;
+    }
 }
 
 impl Model for Folder {

@@ -21,12 +21,23 @@ use txn_store::store::{Got, PutMode, StoreError, Token};
 use txn_store::version_names::VersionNames;
 
 /// The files of one object in a folder, under the names that requests have for them.
-#[derive(Drop)]
 pub struct FolderStore<R: Files + Drop> {
     names: VersionNames,
     boundary: Path,
     disk: Disk<R>,
     fault: Option<Fault>,
+}
+
+impl<R: Files + Drop> Drop for FolderStore<R> {
+    /// Drops all that the store keeps: here, so that no crate above has to prove how each part is dropped.
+    fn drop(self) {
+        let FolderStore {
+            names: _,
+            boundary: _,
+            disk: _,
+            fault: _,
+        } = self;
+    }
 }
 
 /// The halt of a call whose path is none of the object's.

@@ -5,10 +5,19 @@ use std::cmp::Reverse;
 use std::collections::BinaryHeap;
 
 /// Nodes, each with what comes after it, and how many nodes it still waits for.
-#[derive(Drop)]
 pub(crate) struct Graph {
     after: Vec<Vec<usize>>,
     waits: Vec<u64>,
+}
+
+/// Nodes that wait for none, that of the least key first.
+type Ready = BinaryHeap<Reverse<(u64, usize)>>;
+
+impl Drop for Graph {
+    /// Drops both: here, so that no function that owns a graph has to prove how each is dropped.
+    fn drop(self) {
+        let Graph { after: _, waits: _ } = self;
+    }
 }
 
 impl Graph {
@@ -71,31 +80,61 @@ impl Graph {
         }
     }
 
-    /// The nodes in an order: of those that wait for none, that of the least key first. Those that wait in a circle, or behind
-    /// one, are not told.
-    pub fn sort(&mut self, alloc: Global, keys: &[u64]) -> Result<Vec<usize>, AllocError> {
-        let mut ready = BinaryHeap::new(alloc);
+    /// Adds the nodes that wait for none.
+    fn add_ready(&self, keys: &[u64], ready: &mut Ready) -> Result<(), AllocError> {
         for node in 0..keys.len() {
             if !self.is_waiting(node) {
                 ready.push(Reverse((keys[node], node)))?;
             }
         }
-        let mut order = Vec::with_capacity(alloc, keys.len())?;
-        for _ in 0..keys.len() {
-            let Some(Reverse((_, node))) = ready.pop() else {
-                return Ok(order);
-            };
-            order.push(node)?;
-            for number in 0..self.count(node) {
-                if let Some(next) = self.next(node, number) {
-                    if self.release(next) {
-                        let key = keys.get(next).copied().unwrap_or(0);
-                        ready.push(Reverse((key, next)))?;
-                    }
+        Ok(())
+    }
+
+    /// Adds the nodes that waited for a node, and wait for no other.
+    fn release_after(
+        &mut self,
+        keys: &[u64],
+        node: usize,
+        ready: &mut Ready,
+    ) -> Result<(), AllocError> {
+        for number in 0..self.count(node) {
+            if let Some(next) = self.next(node, number) {
+                if self.release(next) {
+                    let key = keys.get(next).copied().unwrap_or(0);
+                    ready.push(Reverse((key, next)))?;
                 }
             }
         }
-        Ok(order)
+        Ok(())
+    }
+
+    /// Takes the nodes in turn, until none is left that waits for none.
+    fn take_all(
+        &mut self,
+        keys: &[u64],
+        ready: &mut Ready,
+        order: &mut Vec<usize>,
+    ) -> Result<(), AllocError> {
+        for _ in 0..keys.len() {
+            let Some(Reverse((_, node))) = ready.pop() else {
+                return Ok(());
+            };
+            order.push(node)?;
+            self.release_after(keys, node, ready)?;
+        }
+        Ok(())
+    }
+
+    /// The nodes in an order: of those that wait for none, that of the least key first. Those that wait in a circle, or behind
+    /// one, are not told.
+    pub fn sort(&mut self, alloc: Global, keys: &[u64]) -> Result<Vec<usize>, AllocError> {
+        let mut ready = BinaryHeap::new(alloc);
+        self.add_ready(keys, &mut ready)?;
+        let mut order = Vec::with_capacity(alloc, keys.len())?;
+        match self.take_all(keys, &mut ready, &mut order) {
+            Ok(()) => Ok(order),
+            Err(error) => Err(error),
+        }
     }
 
     /// For each node that waits, after a sort, one that it waits for.
@@ -116,26 +155,36 @@ impl Graph {
         Ok(befores)
     }
 
+    /// Adds the nodes of a circle that this node leads back into, from behind.
+    fn add_circle(
+        &self,
+        befores: &[Option<usize>],
+        first: usize,
+        circle: &mut Vec<usize>,
+    ) -> Result<(), AllocError> {
+        let mut at = first;
+        for _ in 0..self.waits.len() {
+            at = before(befores, at);
+        }
+        let start = at;
+        for _ in 0..self.waits.len() {
+            circle.push(at)?;
+            at = before(befores, at);
+            if at == start {
+                circle.reverse();
+                return Ok(());
+            }
+        }
+        Ok(())
+    }
+
     /// The nodes of a circle, after a sort that did not tell all: each comes before the one behind it, and the last before the
     /// first.
     pub fn circle(&self, alloc: Global) -> Result<Vec<usize>, AllocError> {
         let befores = self.befores(alloc)?;
         let mut circle = Vec::new(alloc);
-        let Some(first) = (0..self.waits.len()).find(|node| self.is_waiting(*node)) else {
-            return Ok(circle);
-        };
-        let mut at = first;
-        for _ in 0..self.waits.len() {
-            at = before(befores.as_slice(), at);
-        }
-        let start = at;
-        for _ in 0..self.waits.len() {
-            circle.push(at)?;
-            at = before(befores.as_slice(), at);
-            if at == start {
-                circle.reverse();
-                return Ok(circle);
-            }
+        if let Some(first) = (0..self.waits.len()).find(|node| self.is_waiting(*node)) {
+            self.add_circle(befores.as_slice(), first, &mut circle)?;
         }
         Ok(circle)
     }

@@ -101,65 +101,123 @@ fn landing(request: &Request, token: Option<u64>, greatest: u64) -> (Reply, u64)
     }
 }
 
+/// The place of a call in the order, where it has one, and the greatest token then.
+fn place_of(effects: &Effects<'_>, node: usize, greatest: u64) -> (Option<Placed>, u64) {
+    let Some(asked) = effects.calls.get(node) else {
+        return (None, greatest);
+    };
+    let call = CallPlace {
+        recording: asked.recording,
+        row: asked.row,
+    };
+    match fate_of(effects.fates.as_slice(), node) {
+        Fate::Answered => (Some(Placed { call, landed: None }), greatest),
+        Fate::Unknown => (None, greatest),
+        Fate::Landed(token) => {
+            let (reply, now) = landing(asked.request, token, greatest);
+            let landed = Some(reply);
+            (Some(Placed { call, landed }), now)
+        }
+    }
+}
+
+/// Adds the calls that have a place, in the order of their nodes.
+fn add_in_order(
+    effects: &Effects<'_>,
+    nodes: &[usize],
+    order: &mut Vec<Placed>,
+) -> Result<(), AllocError> {
+    let mut greatest = greatest_token(&effects.lives, &effects.boundaries);
+    for node in nodes {
+        let (placed, now) = place_of(effects, *node, greatest);
+        greatest = now;
+        if let Some(placed) = placed {
+            order.push(placed)?;
+        }
+    }
+    Ok(())
+}
+
 /// The calls that have a place, in the order of their nodes.
 fn in_order(
     alloc: Global,
     effects: &Effects<'_>,
     nodes: &[usize],
 ) -> Result<Vec<Placed>, AllocError> {
-    let mut greatest = greatest_token(&effects.lives, &effects.boundaries);
     let mut order = Vec::new(alloc);
-    for node in nodes {
-        if let Some(asked) = effects.calls.get(*node) {
-            let call = CallPlace {
-                recording: asked.recording,
-                row: asked.row,
-            };
-            match fate_of(effects.fates.as_slice(), *node) {
-                Fate::Answered => order.push(Placed { call, landed: None })?,
-                Fate::Unknown => {}
-                Fate::Landed(token) => {
-                    let (reply, now) = landing(asked.request, token, greatest);
-                    greatest = now;
-                    order.push(Placed {
-                        call,
-                        landed: Some(reply),
-                    })?;
-                }
-            }
-        }
+    match add_in_order(effects, nodes, &mut order) {
+        Ok(()) => Ok(order),
+        Err(error) => Err(error),
     }
-    Ok(order)
 }
 
-/// What came before what, by the replies and by these times, which are nodes behind the calls.
-fn linked(alloc: Global, effects: &Effects<'_>, times: &[u64]) -> Result<Graph, AllocError> {
-    let calls = effects.calls.as_slice();
-    let fates = effects.fates.as_slice();
-    let mut graph = Graph::new(alloc, calls.len().saturating_add(times.len()))?;
+/// Notes what came before what, by the replies, where these boundaries were written.
+fn link_replies(
+    alloc: Global,
+    effects: &Effects<'_>,
+    raised: &[(u64, usize)],
+    graph: &mut Graph,
+) -> Result<(), AllocError> {
     let precedence = Precedence {
-        calls,
-        fates,
+        calls: effects.calls.as_slice(),
+        fates: effects.fates.as_slice(),
         lives: &effects.lives,
-        raised: raised(alloc, &effects.boundaries)?,
+        raised,
         boundaries: &effects.boundaries,
     };
-    precedence.link(alloc, &mut graph, effects.idle.as_slice())?;
-    link_times(&mut graph, calls, fates, times)?;
-    Ok(graph)
+    precedence.link(alloc, graph, effects.idle.as_slice())
+}
+
+/// Notes what came before what, by the replies and by these times, which are nodes behind the calls.
+fn link(
+    alloc: Global,
+    effects: &Effects<'_>,
+    times: &[u64],
+    graph: &mut Graph,
+) -> Result<(), AllocError> {
+    let raised = raised(alloc, &effects.boundaries)?;
+    link_replies(alloc, effects, raised.as_slice(), graph)?;
+    link_times(
+        graph,
+        effects.calls.as_slice(),
+        effects.fates.as_slice(),
+        times,
+    )
+}
+
+/// The nodes of calls and of times in an order, where none waits for itself.
+fn sorted(
+    alloc: Global,
+    effects: &Effects<'_>,
+    times: usize,
+    graph: &mut Graph,
+) -> Result<Vec<usize>, OrderFault> {
+    let calls = effects.calls.as_slice();
+    let keys = keys(alloc, calls, times)?;
+    let nodes = graph.sort(alloc, keys.as_slice())?;
+    if nodes.len() < keys.len() {
+        return Err(circle(alloc, graph, calls)?);
+    }
+    Ok(nodes)
+}
+
+/// An order of calls of which this became, whose times are these.
+fn ordered_at(
+    alloc: Global,
+    effects: &Effects<'_>,
+    times: &[u64],
+) -> Result<Vec<Placed>, OrderFault> {
+    let nodes = effects.calls.len().saturating_add(times.len());
+    let mut graph = Graph::new(alloc, nodes)?;
+    link(alloc, effects, times, &mut graph)?;
+    let nodes = sorted(alloc, effects, times.len(), &mut graph)?;
+    Ok(in_order(alloc, effects, nodes.as_slice())?)
 }
 
 /// An order of calls of which this became.
 fn ordered(alloc: Global, effects: &Effects<'_>) -> Result<Vec<Placed>, OrderFault> {
-    let calls = effects.calls.as_slice();
-    let times = times(alloc, calls, effects.fates.as_slice())?;
-    let mut graph = linked(alloc, effects, times.as_slice())?;
-    let keys = keys(alloc, calls, times.len())?;
-    let nodes = graph.sort(alloc, keys.as_slice())?;
-    if nodes.len() < keys.len() {
-        return Err(circle(alloc, &graph, calls)?);
-    }
-    Ok(in_order(alloc, effects, nodes.as_slice())?)
+    let times = times(alloc, effects.calls.as_slice(), effects.fates.as_slice())?;
+    ordered_at(alloc, effects, times.as_slice())
 }
 
 /// An order of the calls in these recordings, each a list of rows, by what the replies show and by the times, which are of these

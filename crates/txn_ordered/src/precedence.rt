@@ -1,7 +1,7 @@
 //! Which call came before which, by what the replies show.
 
 use crate::graph::Graph;
-use crate::standing::Standing;
+use crate::standing::{Missing, Standing};
 use std::alloc::{AllocError, Global};
 use txn_effects::boundaries::Boundaries;
 use txn_effects::calls::{Asked, Name, name_of, number_in, version_of};
@@ -14,13 +14,13 @@ use txn_store::request::{Reply, Request};
 use txn_store::store::{PutMode, StoreError, Token};
 
 /// What the edges are made of.
-#[derive(Drop)]
+#[derive(Clone, Copy)]
 pub(crate) struct Precedence<'a> {
     pub calls: &'a [Asked<'a>],
     pub fates: &'a [Fate],
     pub lives: &'a Lives,
     /// The boundaries that were written, ascending, each with its call.
-    pub raised: Vec<(u64, usize)>,
+    pub raised: &'a [(u64, usize)],
     pub boundaries: &'a Boundaries,
 }
 
@@ -44,7 +44,7 @@ impl<'a> Precedence<'a> {
 
     /// The call that wrote the boundary after this one.
     fn writer_after(&self, number: u64) -> Option<usize> {
-        let raised = self.raised.as_slice();
+        let raised = self.raised;
         let place = raised.partition_point(|raised| raised.0 <= number);
         match raised.get(place) {
             Some((_, call)) => Some(*call),
@@ -64,7 +64,7 @@ impl<'a> Precedence<'a> {
 
     /// The call that wrote the first boundary.
     fn first_writer(&self) -> Option<usize> {
-        match self.raised.as_slice().first() {
+        match self.raised.first() {
             Some((_, call)) => Some(*call),
             None => None,
         }
@@ -81,7 +81,7 @@ impl<'a> Precedence<'a> {
     /// The boundaries rise.
     fn rises(&self, graph: &mut Graph) -> Result<(), AllocError> {
         let mut last = None;
-        for (_, call) in self.raised.as_slice() {
+        for (_, call) in self.raised {
             graph.edge(last, Some(*call))?;
             last = Some(*call);
         }
@@ -341,33 +341,74 @@ impl<'a> Precedence<'a> {
             return Ok(());
         };
         let mut told = Vec::new(alloc);
+        self.tell(graph, at, page, &mut told)?;
+        let missing = standing.left_out(alloc, low, told.as_slice(), page.more)?;
+        self.all_absent(graph, at, call, missing.as_slice())?;
+        self.goes_on(graph, at, page)
+    }
+
+    /// What the files of a page show, whose versions are added.
+    fn tell(
+        &self,
+        graph: &mut Graph,
+        at: usize,
+        page: &Page,
+        told: &mut Vec<u64>,
+    ) -> Result<(), AllocError> {
         for meta in page.metas.as_slice() {
             if let Some(id) = version_of(&meta.location) {
                 self.saw(graph, at, self.lives.with_token(meta.token.number()))?;
                 told.push(id)?;
             }
         }
-        let missing = standing.left_out(alloc, low, told.as_slice(), page.more)?;
-        for (id, below) in missing.as_slice() {
+        Ok(())
+    }
+
+    /// What the versions show that a listing left out.
+    fn all_absent(
+        &self,
+        graph: &mut Graph,
+        at: usize,
+        call: &Asked<'_>,
+        missing: &[Missing],
+    ) -> Result<(), AllocError> {
+        for (id, below) in missing {
             self.absent(graph, at, call, *id, *below)?;
         }
-        self.goes_on(graph, at, page)
+        Ok(())
     }
 
     /// What all listings show.
     fn listings(&self, alloc: Global, graph: &mut Graph) -> Result<(), AllocError> {
         let mut asked = Vec::new(alloc);
+        self.add_listings(&mut asked)?;
+        asked.sort_unstable();
+        let mut standing = Standing::new(alloc, self.calls, self.lives)?;
+        self.list_all(alloc, graph, asked.as_slice(), &mut standing)
+    }
+
+    /// Adds the listings, each with when it was asked.
+    fn add_listings(&self, asked: &mut Vec<(u64, usize)>) -> Result<(), AllocError> {
         for at in 0..self.calls.len() {
             if self.calls[at].lists().is_some() {
                 asked.push((self.calls[at].from, at))?;
             }
         }
-        asked.sort_unstable();
-        let mut standing = Standing::new(alloc, self.calls, self.lives)?;
-        for (_, at) in asked.as_slice() {
+        Ok(())
+    }
+
+    /// What these listings show, in the order in which they were asked.
+    fn list_all(
+        &self,
+        alloc: Global,
+        graph: &mut Graph,
+        asked: &[(u64, usize)],
+        standing: &mut Standing,
+    ) -> Result<(), AllocError> {
+        for (_, at) in asked {
             if let Some(call) = self.calls.get(*at) {
                 standing.move_to(call)?;
-                self.list(alloc, graph, *at, call, &standing)?;
+                self.list(alloc, graph, *at, call, standing)?;
             }
         }
         Ok(())

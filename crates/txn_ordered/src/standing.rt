@@ -11,7 +11,6 @@ pub(crate) type Missing = (u64, bool);
 /// The versions that may have stood while a call was made, as calls are gone through in the order in which they were asked. Of
 /// each a life began before the call's reply was there, and had not ended when the call was asked. What stood at other times
 /// came before or after the call by the times alone.
-#[derive(Drop)]
 pub(crate) struct Standing {
     /// When each life began at the earliest, and its version.
     begins: Vec<(u64, u64)>,
@@ -25,28 +24,48 @@ pub(crate) struct Standing {
     lives: BTreeMap<u64, u64>,
 }
 
+impl Drop for Standing {
+    /// Drops all of it: here, so that no function that owns it has to prove how each part is dropped.
+    fn drop(self) {
+        let Standing {
+            begins: _,
+            begun: _,
+            ends: _,
+            ended: _,
+            lives: _,
+        } = self;
+    }
+}
+
 impl Standing {
     /// Before the first call.
     pub fn new(alloc: Global, calls: &[Asked<'_>], lives: &Lives) -> Result<Standing, AllocError> {
-        let mut begins = Vec::new(alloc);
-        let mut ends = Vec::new(alloc);
+        let mut standing = Standing {
+            begins: Vec::new(alloc),
+            begun: 0,
+            ends: Vec::new(alloc),
+            ended: 0,
+            lives: BTreeMap::new(alloc),
+        };
+        match standing.note(calls, lives) {
+            Ok(()) => Ok(standing),
+            Err(error) => Err(error),
+        }
+    }
+
+    /// Notes when lives began and ended.
+    fn note(&mut self, calls: &[Asked<'_>], lives: &Lives) -> Result<(), AllocError> {
         for life in lives.lives.as_slice() {
-            begins.push((life.from, life.id))?;
+            self.begins.push((life.from, life.id))?;
             if let Some(removed) = life.removed_by {
                 if let Some(call) = calls.get(removed) {
-                    ends.push((call.until, life.id))?;
+                    self.ends.push((call.until, life.id))?;
                 }
             }
         }
-        begins.sort_unstable();
-        ends.sort_unstable();
-        Ok(Standing {
-            begins,
-            begun: 0,
-            ends,
-            ended: 0,
-            lives: BTreeMap::new(alloc),
-        })
+        self.begins.sort_unstable();
+        self.ends.sort_unstable();
+        Ok(())
     }
 
     /// One more life of a version may stand.

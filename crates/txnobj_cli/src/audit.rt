@@ -29,8 +29,18 @@ const NO_SOURCE: &str = "the row before does not say of which object the recordi
 
 const OTHER_OBJECT: &str = "this recording is of another object than the first";
 
+/// What is known of a clock that a recording names.
+#[derive(Clone, Copy)]
+enum Clocked {
+    /// It is named first.
+    New,
+    /// It was named before; this is added to its times.
+    Known(u64),
+    /// It is of a recording of another object than the first.
+    OfAnother,
+}
+
 /// What files of recordings have.
-#[derive(Drop)]
 struct Recordings {
     rows: Vec<Vec<Row<Entry>>>,
     /// The file of each, by its place among the arguments from 0, and the line of its first row, from 1.
@@ -41,6 +51,19 @@ struct Recordings {
     clocks: Vec<Source>,
     /// What is added to the times of the recording that comes next, where that was said.
     next: Option<u64>,
+}
+
+impl Drop for Recordings {
+    /// Drops all that was read: here, so that no function that owns it has to prove how each part is dropped.
+    fn drop(self) {
+        let Recordings {
+            rows: _,
+            places: _,
+            aheads: _,
+            clocks: _,
+            next: _,
+        } = self;
+    }
 }
 
 /// How many of these bytes are whole lines: those up to the last line feed.
@@ -62,6 +85,26 @@ fn text_of(rt: &HostRuntime, path: &str) -> Result<String, Halt> {
     }
 }
 
+/// Why a row is not added: its recording did not begin.
+fn passed_over(
+    row: Row<Entry>,
+    begun: Result<bool, AllocError>,
+) -> Result<Option<&'static str>, AllocError> {
+    drop(row);
+    match begun {
+        Ok(_) => Ok(Some(NO_SOURCE)),
+        Err(error) => Err(error),
+    }
+}
+
+/// What is wrong with a line that is not read.
+fn not_taken(fault: TextFault) -> Result<Option<&'static str>, AllocError> {
+    match fault {
+        TextFault::NoMemory => Err(AllocError),
+        TextFault::BadRow => Ok(Some(NO_ROW)),
+    }
+}
+
 impl Recordings {
     /// Before the first file.
     fn new(alloc: Global) -> Recordings {
@@ -74,22 +117,54 @@ impl Recordings {
         }
     }
 
-    /// Notes of what the next recording is: what is wrong with that, if anything.
-    fn add_source(&mut self, source: Source) -> Result<Option<&'static str>, AllocError> {
-        let mut known = None;
+    /// What is known of a clock: what is added to its times, where it was named before.
+    fn known(&self, source: &Source) -> Clocked {
+        let mut known = Clocked::New;
         for clock in self.clocks.as_slice() {
             if clock.object.as_str() != source.object.as_str() {
-                return Ok(Some(OTHER_OBJECT));
+                return Clocked::OfAnother;
             }
             if clock.clock.as_str() == source.clock.as_str() {
-                known = Some(clock.ahead);
+                known = Clocked::Known(clock.ahead);
             }
         }
-        self.next = Some(known.unwrap_or(source.ahead));
-        if known.is_none() {
-            self.clocks.push(source)?;
+        known
+    }
+
+    /// Notes of what the next recording is: what is wrong with that, if anything.
+    fn add_source(&mut self, source: Source) -> Result<Option<&'static str>, AllocError> {
+        match self.known(&source) {
+            Clocked::OfAnother => return Ok(Some(OTHER_OBJECT)),
+            Clocked::Known(ahead) => self.next = Some(ahead),
+            Clocked::New => {
+                self.next = Some(source.ahead);
+                self.clocks.push(source)?;
+            }
         }
         Ok(None)
+    }
+
+    /// Begins a recording, where its source was noted. Whether it was.
+    fn begin(&mut self, alloc: Global, place: (usize, usize)) -> Result<bool, AllocError> {
+        let Some(ahead) = self.next else {
+            return Ok(false);
+        };
+        self.next = None;
+        self.rows.push(Vec::new(alloc))?;
+        self.places.push(place)?;
+        self.aheads.push(ahead)?;
+        Ok(true)
+    }
+
+    /// Adds a row to the last recording: what is wrong with that, if anything.
+    fn push_row(&mut self, row: Row<Entry>) -> Result<Option<&'static str>, AllocError> {
+        match self.rows.last_mut() {
+            None => passed_over(row, Ok(false)),
+            Some(rows) => {
+                rows.push(row)?;
+                Ok(None)
+            }
+        }
     }
 
     /// Adds a row: to a new recording where it names a client, else to the last one. What is wrong with that, if anything.
@@ -99,21 +174,13 @@ impl Recordings {
         place: (usize, usize),
         row: Row<Entry>,
     ) -> Result<Option<&'static str>, AllocError> {
-        if matches!(row, Row::Client(_, _)) {
-            let Some(ahead) = self.next else {
-                return Ok(Some(NO_SOURCE));
-            };
-            self.next = None;
-            self.rows.push(Vec::new(alloc))?;
-            self.places.push(place)?;
-            self.aheads.push(ahead)?;
-        }
-        match self.rows.last_mut() {
-            None => Ok(Some(NO_SOURCE)),
-            Some(rows) => {
-                rows.push(row)?;
-                Ok(None)
-            }
+        let begun = match &row {
+            Row::Client(_, _) => self.begin(alloc, place),
+            _ => Ok(true),
+        };
+        match begun {
+            Ok(true) => self.push_row(row),
+            begun => passed_over(row, begun),
         }
     }
 
@@ -124,20 +191,15 @@ impl Recordings {
         place: (usize, usize),
         words: &str,
     ) -> Result<Option<&'static str>, AllocError> {
-        let added = if words.starts_with("of ") {
-            match read_source(alloc, words) {
-                Ok(source) => return self.add_source(source),
-                Err(fault) => fault,
-            }
-        } else {
-            match read_row(alloc, words) {
-                Ok(row) => return self.add_row(alloc, place, row),
-                Err(fault) => fault,
-            }
-        };
-        match added {
-            TextFault::NoMemory => Err(AllocError),
-            TextFault::BadRow => Ok(Some(NO_ROW)),
+        if words.starts_with("of ") {
+            return match read_source(alloc, words) {
+                Ok(source) => self.add_source(source),
+                Err(fault) => not_taken(fault),
+            };
+        }
+        match read_row(alloc, words) {
+            Ok(row) => self.add_row(alloc, place, row),
+            Err(fault) => not_taken(fault),
         }
     }
 
@@ -179,13 +241,23 @@ impl Recordings {
 /// Adds the recordings of these files. Whether all lines are taken: the first that is not is told.
 fn are_added(rt: &HostRuntime, files: &[&str], recordings: &mut Recordings) -> Result<bool, Halt> {
     for (place, file) in files.iter().enumerate() {
-        let text = text_of(rt, file)?;
-        if let Some((line, wrong)) = recordings.add_file(rt.alloc(), place, text.as_str())? {
+        if let Some((line, wrong)) = file_added(rt, place, file, recordings)? {
             println!(rt; "not one history: {file}, line {line}: {wrong}")?;
             return Ok(false);
         }
     }
     Ok(true)
+}
+
+/// Adds the recordings of a file: the first line that is not taken, from 1, and what is wrong with it.
+fn file_added(
+    rt: &HostRuntime,
+    place: usize,
+    file: &str,
+    recordings: &mut Recordings,
+) -> Result<Option<(usize, &'static str)>, Halt> {
+    let text = text_of(rt, file)?;
+    Ok(recordings.add_file(rt.alloc(), place, text.as_str())?)
 }
 
 /// Adds the recordings of these files, and says whether they are one history: the status.
@@ -354,18 +426,24 @@ fn with_row(left: Left, names: &VersionNames, row: &LogRow) -> Left {
     }
 }
 
-fn one_history(
-    rt: &HostRuntime,
-    found: &OneHistory<Entry, EntryCodec, EntryEpoch>,
-) -> Result<u8, Halt> {
-    let layout: Layout<EntryCodec> = world_layout(rt.alloc(), EntryCodec, 1)?;
+/// What a log leaves.
+fn left_by(alloc: Global, log: &[LogRow]) -> Result<Left, AllocError> {
+    let layout: Layout<EntryCodec> = world_layout(alloc, EntryCodec, 1)?;
     let mut left = Left {
         entries: 0,
         boundary: 0,
     };
-    for row in found.log.log() {
+    for row in log {
         left = with_row(left, &layout.names, row);
     }
+    Ok(left)
+}
+
+fn one_history(
+    rt: &HostRuntime,
+    found: &OneHistory<Entry, EntryCodec, EntryEpoch>,
+) -> Result<u8, Halt> {
+    let left = left_by(rt.alloc(), found.log.log())?;
     let entries = left.entries;
     let boundary = left.boundary;
     let clients = found.diaries.len();

@@ -2,6 +2,7 @@
 #![tactic(auto)]
 
 mod audit;
+mod bench;
 mod ending;
 mod recording;
 mod run;

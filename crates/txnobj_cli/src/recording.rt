@@ -27,24 +27,24 @@ pub struct Recording {
 }
 
 /// Whether a file ends with a line feed, or is empty.
-fn is_whole(rt: &HostRuntime, path: &str) -> io::Result<bool> {
-    let mut file = fs::open(rt, path)?;
+fn ends_whole(file: &mut File, last: &mut Vec<u8>) -> io::Result<bool> {
     if file.metadata()?.len() == 0 {
         return Ok(true);
     }
     file.seek(SeekFrom::End(-1))?;
-    let mut last = Vec::new(rt.alloc());
-    file.read_to_end(&mut last)?;
+    file.read_to_end(last)?;
     Ok(last.as_slice() == b"\n".as_slice())
 }
 
-/// Opens a recording, of which this process alone writes, and takes off a row that was cut off as a client was killed.
-fn opened(rt: &HostRuntime, path: &str) -> Result<File, Halt> {
-    let mut options = OpenOptions::new();
-    let file = match options.append(true).create(true).open(rt, path) {
-        Ok(file) => file,
-        Err(error) => return Err(at_file(rt.alloc(), path, &error)),
-    };
+/// The same of a file of this name.
+fn is_whole(rt: &HostRuntime, path: &str) -> io::Result<bool> {
+    let mut last = Vec::new(rt.alloc());
+    let mut file = fs::open(rt, path)?;
+    ends_whole(&mut file, &mut last)
+}
+
+/// Locks a recording, of which this process alone writes, and takes off a row that was cut off as a client was killed.
+fn begin_on(rt: &HostRuntime, path: &str, file: &File) -> Result<(), Halt> {
     match file.try_lock() {
         Ok(()) => {}
         Err(TryLockError::WouldBlock) => {
@@ -56,7 +56,20 @@ fn opened(rt: &HostRuntime, path: &str) -> Result<File, Halt> {
         let bytes = bytes_in(rt, path)?;
         file.set_len(whole_lines(bytes.as_slice()) as u64)?;
     }
-    Ok(file)
+    Ok(())
+}
+
+/// Opens a recording, of which this process alone writes, and takes off a row that was cut off as a client was killed.
+fn opened(rt: &HostRuntime, path: &str) -> Result<File, Halt> {
+    let mut options = OpenOptions::new();
+    let file = match options.append(true).create(true).open(rt, path) {
+        Ok(file) => file,
+        Err(error) => return Err(at_file(rt.alloc(), path, &error)),
+    };
+    match begin_on(rt, path, &file) {
+        Ok(()) => Ok(file),
+        Err(halt) => Err(halt),
+    }
 }
 
 /// The nanoseconds of a time, the greatest number where there are more.
@@ -85,6 +98,28 @@ fn clock_name(rt: &HostRuntime, client: u64) -> Result<String, Halt> {
     }
 }
 
+/// Adds the row of a client, and its page, behind the row of a source.
+fn add_client(alloc: Global, rows: &mut String, client: (u64, u64)) -> Result<(), AllocError> {
+    let row = client_row(alloc, client.0, client.1)?;
+    rows.push('\n')?;
+    rows.push_str(row.as_str())
+}
+
+/// The rows that stand before all others.
+fn first_rows(
+    alloc: Global,
+    object: &str,
+    clock: &str,
+    ahead: u64,
+    client: (u64, u64),
+) -> Result<String, AllocError> {
+    let mut rows = source_row(alloc, object, clock, ahead)?;
+    match add_client(alloc, &mut rows, client) {
+        Ok(()) => Ok(rows),
+        Err(error) => Err(error),
+    }
+}
+
 impl Recording {
     /// A recording of this client of an object, of which the first rows say it.
     pub fn new(
@@ -107,15 +142,11 @@ impl Recording {
 
     /// Adds the rows that stand before all others, by one write.
     fn begin(&mut self, object: &str, client: u64, page: u64) -> Result<(), Halt> {
-        let alloc = self.alloc();
-        let clock = clock_name(&self.rt, client)?;
         let since = nanos_of(self.rt.since_1970()?);
         let ahead = since.saturating_sub(self.now()?);
-        let mut rows = source_row(alloc, object, clock.as_str(), ahead)?;
-        let client = client_row(alloc, client, page)?;
-        rows.push('\n')?;
-        rows.push_str(client.as_str())?;
-        self.add(Ok(rows))?;
+        let clock = clock_name(&self.rt, client)?;
+        let rows = first_rows(self.alloc(), object, clock.as_str(), ahead, (client, page));
+        self.add(rows)?;
         Ok(())
     }
 

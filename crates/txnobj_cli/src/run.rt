@@ -1,6 +1,7 @@
 //! The commands.
 
 use crate::audit::audit;
+use crate::bench::bench;
 use crate::ending::{Halt, NOTHING};
 use crate::session::{Session, Version, store_of};
 use crate::values::bytes_of;
@@ -8,8 +9,8 @@ use std::io::Write;
 use std::rt::Clock;
 use std::time::{Duration, SystemTime};
 use txn_entries::entry::Entry;
-use txn_files::doctor::examine;
-use txn_history::event::Call;
+use txn_files::doctor::{Report, examine};
+use txn_history::event::{Answer, Call};
 use txn_lines::printed::Answered;
 use txn_lines::text_form::TextForm;
 use txnobj_words::options::{Command, Options, Source};
@@ -30,6 +31,7 @@ pub fn run(rt: &HostRuntime, options: &Options<'_>) -> Result<u8, Halt> {
         } => audit(rt, diaries.as_slice(), *clock_error),
         Command::Doctor => doctor(rt, options),
         Command::Clean(seconds) => clean(rt, options, *seconds),
+        Command::Bench { times, lists } => bench(rt, options, *times, *lists),
         Command::Shell => shell(rt, &mut Session::open(rt, options)?),
         Command::Watch { after, seconds } => watch(rt, options, *after, *seconds),
         _ => once(rt, &mut Session::open(rt, options)?, &options.command),
@@ -47,8 +49,7 @@ fn once(rt: &HostRuntime, session: &mut Session, command: &Command<'_>) -> Resul
         Command::Put { value, base, epoch } => put(rt, session, *value, *base, *epoch),
         Command::Claim { epoch } => {
             let (id, epoch) = session.claim(*epoch)?;
-            println!(rt; "{id} {epoch}")?;
-            Ok(0)
+            say_two(rt, id, epoch)
         }
         Command::List => list(rt, session),
         Command::History => history(rt, session),
@@ -70,11 +71,14 @@ fn say_number(rt: &HostRuntime, number: u64) -> Result<u8, Halt> {
     Ok(0)
 }
 
-fn say_version(rt: &HostRuntime, version: &Version) -> Result<u8, Halt> {
-    let id = version.id;
-    let epoch = version.entry.epoch;
+/// Prints an id and an epoch.
+fn say_two(rt: &HostRuntime, id: u64, epoch: u64) -> Result<u8, Halt> {
     println!(rt; "{id} {epoch}")?;
     Ok(0)
+}
+
+fn say_version(rt: &HostRuntime, version: &Version) -> Result<u8, Halt> {
+    say_two(rt, version.id, version.entry.epoch)
 }
 
 fn get(rt: &HostRuntime, session: &mut Session, id: bool) -> Result<u8, Halt> {
@@ -101,21 +105,41 @@ fn put(
     say_number(rt, id)
 }
 
+fn say_numbers(rt: &HostRuntime, numbers: &[u64]) -> Result<u8, Halt> {
+    for number in numbers {
+        say_number(rt, *number)?;
+    }
+    Ok(0)
+}
+
 fn list(rt: &HostRuntime, session: &mut Session) -> Result<u8, Halt> {
-    for id in session.ids()?.as_slice() {
-        println!(rt; "{id}")?;
+    let ids = session.ids()?;
+    say_numbers(rt, ids.as_slice())
+}
+
+fn say_entry(rt: &HostRuntime, id: u64, entry: &Entry) -> Result<u8, Halt> {
+    println!(rt; "{id} {entry}")?;
+    Ok(0)
+}
+
+/// Prints a stored version, where it still stands.
+fn say_stored(rt: &HostRuntime, session: &mut Session, id: u64) -> Result<u8, Halt> {
+    match session.entry(id)? {
+        Some(entry) => say_entry(rt, id, &entry),
+        None => Ok(0),
+    }
+}
+
+fn say_all(rt: &HostRuntime, session: &mut Session, ids: &[u64]) -> Result<u8, Halt> {
+    for id in ids {
+        say_stored(rt, session, *id)?;
     }
     Ok(0)
 }
 
 fn history(rt: &HostRuntime, session: &mut Session) -> Result<u8, Halt> {
     let ids = session.ids()?;
-    for id in ids.as_slice() {
-        if let Some(entry) = session.entry(*id)? {
-            println!(rt; "{id} {entry}")?;
-        }
-    }
-    Ok(0)
+    say_all(rt, session, ids.as_slice())
 }
 
 /// Whether so many seconds have passed.
@@ -127,6 +151,14 @@ fn have_passed(rt: &HostRuntime, began: Duration, seconds: u64) -> Result<bool, 
     })
 }
 
+/// Looks for a version above this id: the status, where there is one.
+fn seen(rt: &HostRuntime, session: &mut Session, after: u64) -> Result<Option<u8>, Halt> {
+    match session.read()? {
+        Some(newest) if after < newest.id => Ok(Some(say_version(rt, &newest)?)),
+        _ => Ok(None),
+    }
+}
+
 /// Looks so often for a version above this id: the status, once there is one, or the time has passed.
 fn look(
     rt: &HostRuntime,
@@ -136,10 +168,8 @@ fn look(
     looks: u64,
 ) -> Result<Option<u8>, Halt> {
     for _ in 0..looks {
-        if let Some(newest) = session.read()? {
-            if after < newest.id {
-                return Ok(Some(say_version(rt, &newest)?));
-            }
+        if let Some(status) = seen(rt, session, after)? {
+            return Ok(Some(status));
         }
         if have_passed(rt, until.0, until.1)? {
             return Ok(Some(NOTHING));
@@ -176,26 +206,36 @@ fn watch(rt: &HostRuntime, options: &Options<'_>, after: u64, seconds: u64) -> R
     Ok(NOTHING)
 }
 
+/// Makes the call of a line, and prints its answer.
+fn take_line(rt: &HostRuntime, session: &mut Session, line: &str) -> Result<(), Halt> {
+    match Call::<Entry>::read_text(rt.alloc(), line)? {
+        Some(call) => make(rt, session, call),
+        None => {
+            println!(rt; "bad call")?;
+            Ok(())
+        }
+    }
+}
+
 /// Makes the call of each line, and prints its answer.
 fn shell(rt: &HostRuntime, session: &mut Session) -> Result<u8, Halt> {
     for line in rt.lines(rt.alloc()) {
         let line = line?;
-        match Call::<Entry>::read_text(rt.alloc(), line.as_str())? {
-            None => println!(rt; "bad call")?,
-            Some(call) => make(rt, session, call)?,
-        }
+        take_line(rt, session, line.as_str())?;
     }
     Ok(0)
+}
+
+fn say_answer(rt: &HostRuntime, answer: &Answer<Entry>) -> Result<(), Halt> {
+    let answered = Answered(answer);
+    println!(rt; "{answered}")?;
+    Ok(())
 }
 
 /// Makes a call, and prints its answer, or why it has none.
 fn make(rt: &HostRuntime, session: &mut Session, call: Call<Entry>) -> Result<(), Halt> {
     match session.call(call) {
-        Ok(answer) => {
-            let answered = Answered(&answer);
-            println!(rt; "{answered}")?;
-            Ok(())
-        }
+        Ok(answer) => say_answer(rt, &answer),
         Err(halt) => say_halt(rt, halt),
     }
 }
@@ -220,6 +260,11 @@ fn doctor(rt: &HostRuntime, options: &Options<'_>) -> Result<u8, Halt> {
         return Err(Halt::Words("this wants --root DIR before the command"));
     };
     let report = examine(rt, rt.alloc(), root)?;
+    say_report(rt, &report)
+}
+
+/// Prints a report, and says whether the folder serves: the status.
+fn say_report(rt: &HostRuntime, report: &Report) -> Result<u8, Halt> {
     print!(rt; "{report}")?;
     match report.first_failed() {
         None => Ok(0),

@@ -1,4 +1,5 @@
 //! One client of one object in a folder.
+ghost use Rattle.std.specs.Prelude.{◌≤◌, IfOk};
 
 use crate::ending::Halt;
 use crate::recording::{Recording, nanos_of};
@@ -24,7 +25,7 @@ const STEPS: u64 = 100_000;
 /// How often an update is made again after a conflict.
 const ATTEMPTS: u64 = 10_000;
 /// How many files a page of a listing has at most.
-const PAGE: u64 = 1_000;
+pub const PAGE: u64 = 1_000;
 
 /// The store of a folder, as what a client calls.
 #[derive(Drop)]
@@ -53,7 +54,7 @@ pub struct Version {
 /// A client of one object.
 #[derive(Drop)]
 pub struct Session {
-    rt: HostRuntime,
+    alloc: Global,
     client: Client<Entry, EntryCodec, EntryEpoch, Shared, Recording>,
 }
 
@@ -85,6 +86,26 @@ fn number_of(rt: &HostRuntime) -> Result<u64, Halt> {
     Ok(nanos_of(rt.since_1970()?).max(1))
 }
 
+/// The client's number, at least 1.
+fn client_of(rt: &HostRuntime, options: &Options<'_>) -> Result<u64, Halt>
+    ensures { IfOk result (λ number. 1 ≤ number) }
+{
+    let number = match options.client {
+        Some(number) => number,
+        None => number_of(rt)?,
+    };
+    if number == 0 {
+        return Err(Halt::Words("a client's number is at least 1"));
+    }
+    Ok(number)
+}
+
+/// The recording of a client.
+fn recording_of(rt: &HostRuntime, options: &Options<'_>, client: u64) -> Result<Recording, Halt> {
+    let object = object_of(rt.alloc(), options)?;
+    Recording::new(rt.clone()?, options.diary, object.as_str(), client, PAGE)
+}
+
 /// The store of the object that the options name.
 pub fn store_of(rt: &HostRuntime, options: &Options<'_>) -> Result<FolderStore<HostRuntime>, Halt> {
     let alloc = rt.alloc();
@@ -104,15 +125,8 @@ impl Session {
     pub fn open(rt: &HostRuntime, options: &Options<'_>) -> Result<Session, Halt> {
         let alloc = rt.alloc();
         let store = store_of(rt, options)?;
-        let number = match options.client {
-            Some(number) => number,
-            None => number_of(rt)?,
-        };
-        if number == 0 {
-            return Err(Halt::Words("a client's number is at least 1"));
-        }
-        let object = object_of(alloc, options)?;
-        let recording = Recording::new(rt.clone()?, options.diary, object.as_str(), number, PAGE)?;
+        let number = client_of(rt, options)?;
+        let recording = recording_of(rt, options, number)?;
         let client = Client::new(
             alloc,
             number,
@@ -122,25 +136,21 @@ impl Session {
             Shared(store),
             recording,
         )?;
-        Ok(Session {
-            rt: rt.clone()?,
-            client,
-        })
+        Ok(Session { alloc, client })
     }
 
     /// Makes a call.
     pub fn call(&mut self, call: Call<Entry>) -> Result<Answer<Entry>, Halt> {
-        let answer = self.client.call(call, STEPS)?;
-        if matches!(&answer, Answer::Plain(PlainAnswer::Refused(2))) {
-            return Err(self.store_failed());
+        match self.client.call(call, STEPS)? {
+            Answer::Plain(PlainAnswer::Refused(2)) => Err(self.store_failed()),
+            answer => Ok(answer),
         }
-        Ok(answer)
     }
 
     /// Why the last store call failed.
     fn store_failed(&self) -> Halt {
         match self.client.store().0.fault() {
-            Some(fault) => match format!(in self.rt.alloc(); "{fault}") {
+            Some(fault) => match format!(in self.alloc; "{fault}") {
                 Ok(words) => Halt::Store(words),
                 Err(_) => Halt::NoMemory,
             },
@@ -163,33 +173,35 @@ impl Session {
     pub fn read(&mut self) -> Result<Option<Version>, Halt> {
         match self.call(Call::Plain(PlainCall::Read))? {
             Answer::Plain(PlainAnswer::Read(read)) => Ok(version_of(read)),
-            other => Err(refused(&other)),
+            other => Err(refused(other)),
         }
     }
 
     /// Writes the first version, in epoch 0: its id.
     pub fn init(&mut self, payload: Bytes) -> Result<u64, Halt> {
         let entry = Entry { epoch: 0, payload };
-        let answer = self.call(Call::View(ViewCall::Init(entry)))?;
-        id_in(&answer)
+        id_in(self.call(Call::View(ViewCall::Init(entry)))?)
+    }
+
+    /// A view of the newest version, if it is this one and no greater epoch stands, and its epoch.
+    fn view_on(&mut self, base: u64, epoch: Option<u64>) -> Result<(u64, u64), Halt> {
+        let (view, newest) = self.load()?;
+        let now = newest.entry.epoch;
+        match fenced(epoch, now) {
+            Some(halt) => Err(halt),
+            None if newest.id == base => Ok((view, now)),
+            None => Err(Halt::Refused(5)),
+        }
     }
 
     /// Writes a version on this one, if it is the newest, in its epoch: its id.
     pub fn put_on(&mut self, base: u64, epoch: Option<u64>, payload: Bytes) -> Result<u64, Halt> {
-        let (view, newest) = self.load()?;
-        let now = newest.entry.epoch;
-        if let Some(halt) = fenced(epoch, now) {
-            return Err(halt);
-        }
-        if newest.id != base {
-            return Err(Halt::Refused(5));
-        }
+        let (view, now) = self.view_on(base, epoch)?;
         let entry = Entry {
             epoch: now,
             payload,
         };
-        let answer = self.call(Call::View(ViewCall::Update(view, entry)))?;
-        id_in(&answer)
+        id_in(self.call(Call::View(ViewCall::Update(view, entry)))?)
     }
 
     /// Writes a version on the newest, in its epoch, again after each conflict: its id. A holder's is of its own epoch.
@@ -206,11 +218,11 @@ impl Session {
         let applied = self
             .client
             .maybe_apply_update(viewed, ATTEMPTS, STEPS, &candidate)?;
-        self.applied(epoch, &applied)
+        self.applied(epoch, applied)
     }
 
     /// The id of what was written, or why nothing was.
-    fn applied(&mut self, epoch: Option<u64>, applied: &Applied<Entry>) -> Result<u64, Halt> {
+    fn applied(&mut self, epoch: Option<u64>, applied: Applied<Entry>) -> Result<u64, Halt> {
         match applied {
             Applied::Written(viewed) => Ok(viewed.id),
             Applied::Unchanged => {
@@ -230,9 +242,8 @@ impl Session {
             None => ViewCall::Claim(view),
             Some(epoch) => ViewCall::ClaimAt(view, epoch),
         };
-        let answer = self.call(Call::View(call))?;
-        match &answer {
-            Answer::Held(_, id, _, epoch) => Ok((*id, *epoch)),
+        match self.call(Call::View(call))? {
+            Answer::Held(_, id, _, epoch) => Ok((id, epoch)),
             other => Err(refused(other)),
         }
     }
@@ -242,7 +253,7 @@ impl Session {
         let call = PlainCall::ListIds(Bound::Unbounded, Bound::Unbounded);
         match self.call(Call::Plain(call))? {
             Answer::Plain(PlainAnswer::Ids(ids)) => Ok(ids),
-            other => Err(refused(&other)),
+            other => Err(refused(other)),
         }
     }
 
@@ -250,14 +261,13 @@ impl Session {
     pub fn entry(&mut self, id: u64) -> Result<Option<Entry>, Halt> {
         match self.call(Call::Plain(PlainCall::ReadUnchecked(id)))? {
             Answer::Plain(PlainAnswer::Value(entry)) => Ok(entry),
-            other => Err(refused(&other)),
+            other => Err(refused(other)),
         }
     }
 
     /// Makes a call that is answered as done.
     fn done(&mut self, call: PlainCall<Entry>) -> Result<(), Halt> {
-        let answer = self.call(Call::Plain(call))?;
-        match &answer {
+        match self.call(Call::Plain(call))? {
             Answer::Plain(PlainAnswer::Done) => Ok(()),
             other => Err(refused(other)),
         }
@@ -274,24 +284,35 @@ impl Session {
         self.done(PlainCall::Delete(id))
     }
 
-    /// Removes all versions below the newest: how many.
-    pub fn collect(&mut self) -> Result<u64, Halt> {
-        let Some(newest) = self.read()? else {
-            return Ok(0);
-        };
-        if newest.id == 1 {
-            return Ok(0);
+    /// The id of the newest version, 0 where there is none.
+    fn newest_id(&mut self) -> Result<u64, Halt> {
+        match self.read()? {
+            Some(newest) => Ok(newest.id),
+            None => Ok(0),
         }
-        self.done(PlainCall::Advance(newest.id.saturating_sub(1)))?;
-        let ids = self.ids()?;
+    }
+
+    /// Removes those of these versions that are below one: how many.
+    fn remove_below(&mut self, newest: u64, ids: &[u64]) -> Result<u64, Halt> {
         let mut removed: u64 = 0;
-        for id in ids.as_slice() {
-            if *id < newest.id {
+        for id in ids {
+            if *id < newest {
                 self.delete(*id)?;
                 removed = removed.saturating_add(1);
             }
         }
         Ok(removed)
+    }
+
+    /// Removes all versions below the newest: how many.
+    pub fn collect(&mut self) -> Result<u64, Halt> {
+        let newest = self.newest_id()?;
+        if newest <= 1 {
+            return Ok(0);
+        }
+        self.done(PlainCall::Advance(newest.saturating_sub(1)))?;
+        let ids = self.ids()?;
+        self.remove_below(newest, ids.as_slice())
     }
 }
 
@@ -307,21 +328,21 @@ fn version_of(read: Option<(u64, Entry)>) -> Option<Version> {
 fn version_in(answer: Answer<Entry>) -> Result<(u64, Version), Halt> {
     match answer {
         Answer::View(view, id, entry) => Ok((view, Version { id, entry })),
-        other => Err(refused(&other)),
+        other => Err(refused(other)),
     }
 }
 
 /// The id of the version of the view that a call is answered with.
-fn id_in(answer: &Answer<Entry>) -> Result<u64, Halt> {
+fn id_in(answer: Answer<Entry>) -> Result<u64, Halt> {
     match answer {
-        Answer::View(_, id, _) => Ok(*id),
+        Answer::View(_, id, _) => Ok(id),
         other => Err(refused(other)),
     }
 }
 
 /// What the answer of a call says that was not answered as it wants.
-fn refused(answer: &Answer<Entry>) -> Halt {
-    match answer {
+fn refused(answer: Answer<Entry>) -> Halt {
+    match &answer {
         Answer::Plain(PlainAnswer::Refused(number)) => Halt::Refused(*number),
         _ => Halt::Words("the answer is of another call"),
     }

@@ -53,6 +53,11 @@ pub enum Command<'a> {
     Doctor,
     /// Removes temporary files that are older than so many seconds.
     Clean(u64),
+    /// Times so many additions of one to a number, or so many listings.
+    Bench {
+        times: u64,
+        lists: bool,
+    },
     /// Audits recordings.
     Audit {
         diaries: Vec<&'a str>,
@@ -259,6 +264,15 @@ const COMMANDS: &[Row] = &[
         &[("SECONDS", Kind::Count, "", "Only those that are older")],
     ),
     (
+        "bench",
+        "Add one to a number again and again, by the store's calls alone; print how long each took",
+        "Example: txnobj --root /dev/shm/bench --name number --no-sync bench 10000",
+        &[
+            ("TIMES", Kind::Count, "", "How often"),
+            ("list", Kind::Flag, "", "List all versions, and add nothing"),
+        ],
+    ),
+    (
         "audit",
         "Hold recordings of clients against each other: whether they are one history",
         "Example: txnobj audit a.diary b.diary",
@@ -382,6 +396,10 @@ fn command_of<'a>(name: &str, found: &ArgMatches<'a>) -> Option<Command<'a>> {
         "shell" => Command::Shell,
         "doctor" => Command::Doctor,
         "clean" => Command::Clean(number_in(found, "SECONDS")),
+        "bench" => Command::Bench {
+            times: number_in(found, "TIMES"),
+            lists: found.get_flag("list"),
+        },
         _ => return None,
     })
 }

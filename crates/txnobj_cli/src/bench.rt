@@ -1,0 +1,265 @@
+//! What calls of the store in a folder take: one is added to a number again and again, or its versions are listed, by the
+//! store's calls alone.
+
+use crate::ending::Halt;
+use crate::recording::nanos_of;
+use crate::session::{PAGE, store_of};
+use bytes::Bytes;
+use std::alloc::{AllocError, Global};
+use std::rt::Clock;
+use std::str;
+use txn_clients::layout::world_layout;
+use txn_entries::entry::EntryCodec;
+use txn_folder::store::FolderStore;
+use txn_store::request::{Reply, Request};
+use txn_store::store::{PutMode, StoreError};
+use txn_types::boundary::read_boundary;
+use txn_types::layout::Layout;
+use txnobj_words::options::Options;
+
+/// A number whose versions are kept in a folder, as one client knows it.
+#[derive(Clone, Copy)]
+struct Number {
+    id: u64,
+    value: u64,
+    /// How often another was first.
+    conflicts: u64,
+}
+
+/// What a reply tells.
+#[derive(Clone, Copy)]
+enum Told {
+    /// A file was put.
+    Put,
+    /// A file has the name already.
+    Taken,
+    /// A file says this number, after an epoch.
+    Says(u64),
+    /// A file says no such number.
+    Other,
+    /// There is no file.
+    Missing,
+    /// There are so many files.
+    Listed(u64),
+    /// The call failed, or memory lacked.
+    Failed,
+}
+
+/// Why no more calls are made.
+#[derive(Clone, Copy)]
+enum Stopped {
+    /// A call failed, or memory lacked.
+    Failed,
+    /// A version says no number.
+    NoNumber,
+}
+
+/// The calls on a number, over the store that is lent.
+#[derive(Drop)]
+struct Calls<'a> {
+    alloc: Global,
+    layout: &'a Layout<EntryCodec>,
+    store: &'a mut FolderStore<HostRuntime>,
+}
+
+/// The number of a version's bytes: an epoch, a colon and the number.
+fn value_of(bytes: &[u8]) -> Option<u64> {
+    let (_, payload) = str::from_utf8(bytes).ok()?.split_once(':')?;
+    read_boundary(payload.as_bytes())
+}
+
+fn told_bytes(bytes: &[u8]) -> Told {
+    match value_of(bytes) {
+        Some(value) => Told::Says(value),
+        None => Told::Other,
+    }
+}
+
+fn told_by(reply: &Reply) -> Told {
+    match reply {
+        Reply::Put(Ok(_)) => Told::Put,
+        Reply::Put(Err(StoreError::AlreadyExists)) => Told::Taken,
+        Reply::Get(Ok(got)) => told_bytes(got.bytes.as_slice()),
+        Reply::Get(Err(StoreError::NotFound)) => Told::Missing,
+        Reply::List(Ok(page)) => Told::Listed(page.metas.as_slice().len() as u64),
+        _ => Told::Failed,
+    }
+}
+
+/// The bytes of a version that says a number.
+fn bytes_of(alloc: Global, value: u64) -> Result<Bytes, AllocError> {
+    Bytes::from_string(format!(in alloc; "0:{value}")?)
+}
+
+impl Calls<'_> {
+    /// What the call of a request is answered.
+    fn serve(&mut self, request: Result<Request, AllocError>) -> Told {
+        match request {
+            Ok(request) => told_by(&self.store.serve(self.alloc, &request)),
+            Err(AllocError) => Told::Failed,
+        }
+    }
+
+    fn get_of(&self, id: u64) -> Result<Request, AllocError> {
+        Ok(Request::Get {
+            path: self.layout.names.path_for(self.alloc, id)?,
+            if_none_match: None,
+        })
+    }
+
+    fn get_of_boundary(&self) -> Result<Request, AllocError> {
+        Ok(Request::Get {
+            path: self.layout.boundary.try_clone()?,
+            if_none_match: None,
+        })
+    }
+
+    fn put_of(&self, id: u64, value: u64) -> Result<Request, AllocError> {
+        Ok(Request::Put {
+            path: self.layout.names.path_for(self.alloc, id)?,
+            bytes: bytes_of(self.alloc, value)?,
+            mode: PutMode::Create,
+        })
+    }
+
+    fn list_of(&self) -> Result<Request, AllocError> {
+        Ok(Request::List {
+            prefix: self.layout.names.dir().try_clone()?,
+            after: None,
+            limit: u64::MAX,
+        })
+    }
+
+    /// Goes on to the newest version.
+    fn catch_up(&mut self, number: &mut Number) -> Result<(), Stopped> {
+        for next in number.id.saturating_add(1)..u64::MAX {
+            let request = self.get_of(next);
+            match self.serve(request) {
+                Told::Says(value) => {
+                    number.id = next;
+                    number.value = value;
+                }
+                Told::Missing => return Ok(()),
+                Told::Other => return Err(Stopped::NoNumber),
+                _ => return Err(Stopped::Failed),
+            }
+        }
+        Ok(())
+    }
+
+    /// Looks for the boundary, as a checked write does.
+    fn check(&mut self) -> Result<(), Stopped> {
+        let request = self.get_of_boundary();
+        match self.serve(request) {
+            Told::Says(_) | Told::Other | Told::Missing => Ok(()),
+            _ => Err(Stopped::Failed),
+        }
+    }
+
+    /// Whether the next version was made.
+    fn put(&mut self, number: &mut Number) -> Result<bool, Stopped> {
+        let id = number.id.saturating_add(1);
+        let value = number.value.wrapping_add(1);
+        let request = self.put_of(id, value);
+        match self.serve(request) {
+            Told::Put => {
+                number.id = id;
+                number.value = value;
+                Ok(true)
+            }
+            Told::Taken => Ok(false),
+            _ => Err(Stopped::Failed),
+        }
+    }
+
+    /// Adds one.
+    fn add(&mut self, number: &mut Number) -> Result<(), Stopped> {
+        for _ in 0..u64::MAX {
+            if self.put(number)? {
+                return self.check();
+            }
+            number.conflicts = number.conflicts.saturating_add(1);
+            self.catch_up(number)?;
+        }
+        Ok(())
+    }
+
+    /// Lists all versions, and knows how many there are.
+    fn list(&mut self, number: &mut Number) -> Result<(), Stopped> {
+        let request = self.list_of();
+        match self.serve(request) {
+            Told::Listed(count) => {
+                number.id = count;
+                Ok(())
+            }
+            _ => Err(Stopped::Failed),
+        }
+    }
+
+    /// Lists all versions so many times, or adds one so many times.
+    fn repeat(&mut self, number: &mut Number, times: u64, lists: bool) -> Result<(), Stopped> {
+        if !lists {
+            self.catch_up(number)?;
+        }
+        for _ in 0..times {
+            if lists {
+                self.list(number)?;
+            } else {
+                self.add(number)?;
+            }
+        }
+        Ok(())
+    }
+
+    /// Why no more calls are made, as the program says it.
+    fn halt_of(&self, stopped: Stopped) -> Halt {
+        match (stopped, self.store.fault()) {
+            (Stopped::NoNumber, _) => Halt::Words("a version of this object says no number"),
+            (Stopped::Failed, Some(fault)) => match format!(in self.alloc; "{fault}") {
+                Ok(words) => Halt::Store(words),
+                Err(_) => Halt::NoMemory,
+            },
+            (Stopped::Failed, None) => Halt::NoMemory,
+        }
+    }
+}
+
+/// Says what was done, how long each took, and where the number stands.
+fn say(rt: &HostRuntime, number: Number, times: u64, nanos: u64) -> Result<u8, Halt> {
+    let each = nanos.checked_div(times).unwrap_or(0);
+    let conflicts = number.conflicts;
+    let id = number.id;
+    let value = number.value;
+    println!(rt;
+        "times {times} nanoseconds each {each} conflicts {conflicts} last {id} value {value}"
+    )?;
+    Ok(0)
+}
+
+/// Makes the calls, and says how long each took.
+fn timed(rt: &HostRuntime, calls: &mut Calls<'_>, times: u64, lists: bool) -> Result<u8, Halt> {
+    let mut number = Number {
+        id: 0,
+        value: 0,
+        conflicts: 0,
+    };
+    let before = nanos_of(rt.monotonic()?);
+    let done = calls.repeat(&mut number, times, lists);
+    let after = nanos_of(rt.monotonic()?);
+    match done {
+        Ok(()) => say(rt, number, times, after.saturating_sub(before)),
+        Err(stopped) => Err(calls.halt_of(stopped)),
+    }
+}
+
+/// Adds one to the number that the options name so many times, or lists its versions so many times, and says how long each took.
+pub fn bench(rt: &HostRuntime, options: &Options<'_>, times: u64, lists: bool) -> Result<u8, Halt> {
+    let mut store = store_of(rt, options)?;
+    let layout: Layout<EntryCodec> = world_layout(rt.alloc(), EntryCodec, PAGE)?;
+    let mut calls = Calls {
+        alloc: rt.alloc(),
+        layout: &layout,
+        store: &mut store,
+    };
+    timed(rt, &mut calls, times, lists)
+}
