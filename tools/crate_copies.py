@@ -3,7 +3,9 @@
 The first copy of a crate, in which `rt` proves it without edits, has the libraries below it beside it, since `rt` lets
 only one run at a time work in a crate or in a library that it uses. It takes what earlier checks of the checkout kept,
 and leaves the checkout as it is. The checks of edited texts run `rattle` itself, which is told where those libraries
-lie, and to prove the edited functions and what they call alone."""
+lie, and to prove the edited functions and what they call alone. Where no check of the crate left work that it can take, it
+is given the edited crate by its source, as a library of a crate that has nothing: for functions of the crate itself that it
+refuses it prints files of answers to write, for which the prover runs once more."""
 from __future__ import annotations
 
 import fcntl
@@ -15,6 +17,8 @@ import subprocess
 import threading
 
 PARTS = ("src", "specs", "proofs")
+# The folder of a copy that has the crate with nothing, and what the file of that says.
+USER, NOTHING = "user", "//! Nothing of its own.\n"
 # What `rattle` says where a name fits no function, or several.
 UNKNOWN = re.compile(r"^rattle: error: (?:`[^`]+` has no function|several functions are named) `([^`]+)`", re.M)
 
@@ -176,12 +180,23 @@ class Copies:
         self.copy_parts(source, copy, [*PARTS, *kept])
         return copy
 
-    def words_of_check(self, copy, libraries):
-        """The command that checks a copy over these folders of the crates below it, and keeps its work there."""
+    def words_of_crate(self, copy, is_library):
+        """The words that name the crate of a copy: by itself, or as a library that another uses, unless it is a program."""
+        is_program = os.path.isfile(f"{copy}/src/main.rt")
+        if is_program or not is_library:
+            return ["--crate-name", self.name, "src/main.rt" if is_program else "src/lib.rt"]
+        user = f"{os.path.dirname(os.path.dirname(copy))}/{USER}/src/lib.rt"
+        os.makedirs(os.path.dirname(user), exist_ok=True)
+        with open(user, "w", encoding="utf-8") as file:
+            file.write(NOTHING)
+        return ["--crate-name", f"{USER}_of_{self.name}", user, "--lib", f"{self.name}=src/lib.rt"]
+
+    def words_of_check(self, copy, libraries, is_library, keeps):
+        """The command that checks a copy over these folders of the crates below it, by itself or as a library, and which
+        `keeps` its work there or not."""
         kit, at = self.commands.kit, {name: rlib_in(libraries[name]) for name in self.below}
         listed = libraries_listed(self.root)[self.name]
-        root = "src/main.rt" if os.path.isfile(f"{copy}/src/main.rt") else "src/lib.rt"
-        words = ["rattle", "check", "--crate-name", self.name, root]
+        words = ["rattle", "check", *self.words_of_crate(copy, is_library)]
         for name in ["std", *(it for it in listed if it not in at)]:
             words += ["--extern", f"{name}={kit}/rlibs/{name}.rlib"]
         words += ["-L", f"dependency={kit}/rlibs"]
@@ -190,16 +205,17 @@ class Copies:
         for path in at.values():
             words += ["-L", f"dependency={os.path.dirname(path)}"]
         words += ["--antt-project", f"{kit}/rattle/logic/antt-project.json", "--logic-built", f"{kit}/logic_built"]
-        return [*words, "--jobs", "1", "--incremental", "out/incremental"]
+        return [*words, "--jobs", "1", *["--incremental", "out/incremental"] * keeps]
 
-    def check_in(self, copy, libraries, changed, only):
+    def check_in(self, copy, libraries, is_library, keeps, changed, only):
         """The log of a check of a copy with these texts in place of the crate's own. `only` has for each function to
         prove the names to try for it, one after the other where `rattle` knows no such function; with none left, or
-        with no function, the whole crate is checked."""
+        with no function, the whole crate is checked. Where it `keeps` its work it takes what earlier checks kept in the
+        copy, if they were of the crate by itself as this one is, or as a library as this one is."""
         for path, text in {**self.texts, **changed}.items():
             with open(f"{copy}/{path}", "w", encoding="utf-8") as file:
                 file.write(text)
-        words, only = self.words_of_check(copy, libraries), [list(names) for names in only]
+        words, only = self.words_of_check(copy, libraries, is_library, keeps), [list(names) for names in only]
         while True:
             asked = sorted({names[0] for names in only}) if all(only) else []
             said = self.run(copy, [*words, *(word for it in asked for word in ("--only", it))])[1]

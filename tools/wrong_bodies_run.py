@@ -203,7 +203,9 @@ class Run:
             copy = copies.free.pop() if copies.free else None
         kept = () if self.is_after_ci else ("out/incremental",)
         copy = copy or copies.new_of_parts(self.folders[crate.name], kept)
-        check = functools.partial(copies.check_in, copy, self.folders)
+        # (what one check keeps takes seconds, and is of use to another alone)
+        keeps = not self.is_after_ci or len(crate.batches) > 1 or crate.rounds > 0
+        check = functools.partial(copies.check_in, copy, self.folders, self.is_after_ci, keeps)
         trial = Trial(crate.name, copies.texts, check)
         outcomes, rest = trial.together(batch)
         with copies.lock:

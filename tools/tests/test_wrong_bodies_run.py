@@ -16,7 +16,8 @@ import wrong_bodies_run  # noqa: E402
 
 # It refuses first where src/ has WRONG_first, and so the others, but lets those wait that CALL_second where it refuses
 # second. It refuses a text with UNREAD before all, and knows no function by a name that --only gives where it has NAMELESS.
-# As `rt` it makes a library, and as `rattle` it wants the one that it is told of.
+# As `rt` it makes a library, and as `rattle` it wants the one that it is told of, and the crate by itself, or by its source
+# as a library of one with nothing.
 CHECK = """\
 #!/bin/sh
 [ "$1" = doc ] && echo "$KIT/START-HERE.md" && exit 0
@@ -28,6 +29,14 @@ if [ "$(basename "$0")" = rattle ]; then
   case "$*" in *"--extern std=$KIT/rlibs/std.rlib"*) ;; *) exit 2 ;; esac
   for it in "$@"; do case "$it" in low=*) [ -e "${it#low=}" ] || exit 2 ;; esac; done
   case "$name $*" in high*--extern\\ low=*|low*) ;; *) exit 2 ;; esac
+  case "$*" in
+    *"--crate-name $name src/main.rt"*) form=program ;;
+    *"--crate-name $name src/lib.rt"*) form=itself ;;
+    *"--crate-name user_of_$name $4 --lib $name=src/lib.rt"*) form=library && grep -qx "//! Nothing of its own." "$4" || exit 2 ;;
+    *) exit 2 ;;
+  esac
+  case "$*" in *"--incremental out/incremental"*) form="$form keeps" ;; esac
+  echo "$form" >> "$CALLS.forms"
   grep -q NAMELESS src/lib.rt && case "$*" in *"--only first"*)
     echo "rattle: error: \\`$name\\` has no function \\`first\\`: help: write the name" && exit 2 ;;
   esac
@@ -111,6 +120,25 @@ class Runs(unittest.TestCase):
         status, last, said, calls = self.run_command("--after-ci")
         self.assertEqual((status, last), (0, "4 passed, 0 failed"))
         self.assertEqual(sorted(calls), ["high rattle check", "low rattle check"])
+
+    def forms(self, *words):
+        """How each check of `low` is given its crate, and whether it keeps its work."""
+        self.file("calls.forms", "")
+        self.assertEqual(self.run_command("low", *words)[0], 0)
+        with open(f"{self.room}/calls.forms", encoding="utf-8") as file:
+            return file.read().split("\n")[:-1]
+
+    def test_after_ci_a_crate_is_a_library_and_work_is_kept_for_another_check_alone(self):
+        self.file("repository/crates/low/out/rlib/low.rlib", "")
+        self.assertEqual(self.forms(), ["itself keeps"])
+        self.assertEqual(self.forms("--after-ci"), ["library"])
+        self.edit("low", "again", "    1", "    WRONG_first again")
+        self.assertEqual(self.forms("--after-ci"), ["library keeps"] * 2)
+
+    def test_a_program_is_checked_by_itself(self):
+        self.file("repository/crates/low/src/main.rt", SOURCE)
+        self.file("repository/crates/low/out/rlib/low.rlib", "")
+        self.assertEqual((self.forms(), self.forms("--after-ci")), (["program keeps"], ["program"]))
 
     def test_after_ci_a_crate_has_one_copy(self):
         self.file("repository/crates/low/out/rlib/low.rlib", "")

@@ -71,7 +71,10 @@ pub fn check_boundary<S: ObjectStore>(
     'steps: loop {
         match check_step(alloc, cached, store, &mut op) {
             Turned::Goes => {}
-            Turned::Done(answer) => return answer,
+            Turned::Done(answer) => {
+                drop(op);
+                return answer;
+            }
         }
     }
 }
@@ -153,5 +156,7 @@ pub fn advance_boundary<S: ObjectStore>(
         return Ok(());
     }
     let mut op = BoundaryAdvance::start(target);
-    run_advance(alloc, path, cached, store, target, turns, &mut op)
+    let advanced = run_advance(alloc, path, cached, store, target, turns, &mut op);
+    drop(op);
+    advanced
 }

@@ -110,5 +110,8 @@ pub fn read_latest<T: Drop, C: ObjectCodec<T>, S: ObjectStore>(
     ensures { Ended layout.now.names layout.now.page (C.decoded layout.now.codec) (S.state store.old) (S.state store.new) turns.old turns.new latest.old latest.new result }
 {
     first_held(latest);
-    run(alloc, layout, latest, store, turns, &mut LatestOp::start())
+    let mut op = LatestOp::start();
+    let answer = run(alloc, layout, latest, store, turns, &mut op);
+    drop(op);
+    answer
 }

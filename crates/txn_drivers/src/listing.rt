@@ -57,7 +57,10 @@ pub fn list_versions<T, C: ObjectCodec<T>, S: ObjectStore>(
     'steps: loop {
         match list_step(alloc, layout, store, &mut op) {
             Turned::Goes => {}
-            Turned::Done(answer) => return answer,
+            Turned::Done(answer) => {
+                drop(op);
+                return answer;
+            }
         }
     }
 }

@@ -51,15 +51,23 @@ impl<T: Drop> ReadOp<T> {
         }
     }
 
+    /// It is this next. It takes no memory.
+    fn go_to(&mut self, next: ReadOp<T>)
+        ensures { self.new ≡ next }
+    {
+        drop(mem::replace(self, next));
+    }
+
     /// It found this version, and checks its id. It takes no memory.
     fn choose(&mut self, id: MonotonicId, value: T)
         requires { IsReading self.old }
         ensures { self.new ≡ read_chosen self.old id value }
     {
-        let ReadOp::Reads(_, boundary) = mem::replace(self, ReadOp::Ended) else {
+        let ReadOp::Reads(latest, boundary) = mem::replace(self, ReadOp::Ended) else {
             unreachable!()
         };
-        *self = ReadOp::Checks(id, value, CheckOp::of_read(id, boundary));
+        drop(latest);
+        self.go_to(ReadOp::Checks(id, value, CheckOp::of_read(id, boundary)));
     }
 
     /// The check accepted the version that it found, which it answers. It takes no memory.
@@ -123,7 +131,7 @@ impl<T: Drop> ReadOp<T> {
     {
         match ReadOp::start(layout) {
             Ok(next) => {
-                *self = next;
+                self.go_to(next);
                 Turned::Goes
             }
             Err(error) => Turned::Done(Err(error.into())),

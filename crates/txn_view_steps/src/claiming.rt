@@ -56,7 +56,13 @@ fn enter<T: Clone, C: ObjectCodec<T>, X: EpochField<T>>(
 {
     epochs.set_epoch(&mut value, epoch);
     let write = WriteOp::start(alloc, layout, Some(id), &value)?;
-    Ok(Claiming::Writes(write, Copies::of(value)?, epoch))
+    match Copies::of(value) {
+        Ok(copies) => Ok(Claiming::Writes(write, copies, epoch)),
+        Err(error) => {
+            drop(write);
+            Err(error.into())
+        }
+    }
 }
 
 /// An attempt of a claim on this version: it writes its value with the epoch that the claim sets there.

@@ -1,5 +1,5 @@
 //! A write of a value that a view then shows.
-ghost use Rattle.std.specs.Prelude.{◌≡◌, ◌<◌, ◌^◌, ◌-◌, Some, OnOk};
+ghost use Rattle.std.specs.Prelude.{◌≡◌, ◌<◌, ◌^◌, ◌-◌, Some, IfOk, OnOk};
 ghost use Rattle.txn_types.specs.Clones.{IsExactClone};
 ghost use Rattle.txn_types.specs.Numbers.{number_of};
 ghost use Rattle.txn_caches.specs.Steps.{by_number, turned_by_number, TellsErrorOf};
@@ -9,7 +9,7 @@ ghost use Rattle.txn_view_steps.specs.Entries.{entry_started, entry_asked, entry
 
 use crate::copies::Copies;
 use crate::outcome::{Outcome, ViewAnswer};
-use std::alloc::Global;
+use std::alloc::{AllocError, Global};
 use std::mem;
 use txn_caches::ask::Ask;
 use txn_caches::caches::Caches;
@@ -31,6 +31,14 @@ pub enum EntryOp<T> {
     Ended,
 }
 
+/// Copies of a value. They ask that a clone is the same value. The only error is want of memory.
+fn copies_of<T: Clone>(value: &T) -> Result<Copies<T>, AllocError>
+    requires { IsExactClone T.is_clone }
+    ensures { IfOk result (λ copies. copies ≡ value.now) }
+{
+    Copies::of(value.clone()?)
+}
+
 impl<T: Clone> EntryOp<T> {
     /// A write of the value directly on the version of this id, or as the first version where there is none. A base of the
     /// greatest u64 is `IdExhausted`; the other error is `NoMemory`. It asks that a clone is the same value.
@@ -46,7 +54,14 @@ impl<T: Clone> EntryOp<T> {
         ensures reads_back { OnOk result (C.decoded layout.now.codec (C.encoded layout.now.codec value.now) ≡ Some value.now) }
     {
         let write = WriteOp::start(alloc, layout, base, value)?;
-        Ok(EntryOp::Writes(write, Copies::of(value.clone()?)?))
+        match copies_of(value) {
+            Ok(copies) => Ok(EntryOp::Writes(write, copies)),
+            // By a call: at the end of the body, the proof would follow each state that may be dropped there.
+            Err(error) => {
+                drop(write);
+                Err(error.into())
+            }
+        }
     }
 }
 
