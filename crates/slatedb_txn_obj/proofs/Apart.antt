@@ -7,6 +7,7 @@ use Rattle.txn_store.specs.Digits.{padded}
 use Rattle.txn_store.specs.VersionName.{version_path}
 use Rattle.txn_store.proofs.DigitLemmas.{length_padded, padded_digits}
 use Rattle.txn_types.specs.BoundaryText.{boundary_path}
+use Rattle.txn_types.specs.declared.layout.Layout.{Layout}
 use Rattle.slatedb_txn_obj.specs.Whole.{Protocol}
 
 -- what two paths below one root end in
@@ -31,8 +32,9 @@ boundary-apart root folder suffix n small e =
     no_letter (padded n) (46 ∷ suffix) (length_padded n small) (padded_digits n small) (name ∙ ap (λ f. f ++ codes ".boundary") at)
 
 -- so is that of a new protocol
-pub new-apart : {C B E : Type 0} (path : B → Segments) (root : Segments) (folder suffix : List ℕ) (file : Segments) (codec : C) (page : ℕ) (boundary : B) → path boundary ≡ boundary_path root folder → (result : Result (Protocol C B) E)
-    → IfOk result (λ p. p ≡ record { layout = record { names = record { dir = root ++ folder ∷ []; suffix = suffix }; boundary = file; codec = codec; page = page }; latest = []; boundary = boundary })
+pub new-apart : {C B E : Type 0} (path : B → Segments) (Known : B → Type 0) (root : Segments) (folder suffix : List ℕ) (codec : C) (page : ℕ) (layout : Layout C) → layout ≡ record { names = record { dir = root ++ folder ∷ []; suffix = suffix }; boundary = boundary_path root folder; codec = codec; page = page }
+    → (result : Result (Protocol C B) E) → IfOk result (λ p. p.layout ≡ layout) → IfOk result (λ p. (path p.boundary ≡ layout.boundary) × Known p.boundary)
     → IfOk result (λ p. (n : ℕ) → n < 2 ^ 64 → version_path p.layout.names n ≡ path p.boundary → ⊥)
-new-apart path root folder suffix file codec page boundary same (Ok p) is = rw is (λ n small e. boundary-apart root folder suffix n small (e ∙ same))
-new-apart path root folder suffix file codec page boundary same (Err error) is = tt
+new-apart {C} path Known root folder suffix codec page layout laid (Ok p) same at =
+    λ n small e. boundary-apart root folder suffix n small (sym (ap (λ (l : Layout C). version_path l.names n) (same ∙ laid)) ∙ (e ∙ (at.0 ∙ ap (λ (l : Layout C). l.boundary) laid)))
+new-apart path Known root folder suffix codec page layout laid (Err error) same at = tt

@@ -6,11 +6,11 @@ ghost use Rattle.txn_caches.specs.Boundaries.{refused_by, decided};
 
 use crate::ask::Ask;
 use crate::boundary_read::{BoundaryRead, Known};
-use crate::caches::{CachedBoundary, Caches};
+use crate::caches::{CachedBoundary, Caches, token_of};
 use crate::turned::Turned;
 use std::alloc::AllocError;
 use txn_store::path::Path;
-use txn_store::request::Reply;
+use txn_store::request::{Reply, Request};
 use txn_types::error::TransactionalObjectError;
 use txn_types::id::MonotonicId;
 use txn_types::layout::Layout;
@@ -58,7 +58,8 @@ fn is_refused(id: MonotonicId, cached: &Option<CachedBoundary>) -> bool
 
 impl BoundaryCheck {
     ghost use Rattle.std.specs.Prelude.{IfOk};
-    ghost use Rattle.txn_caches.specs.BoundaryChecks.{boundary_check_started, boundary_check_asked, boundary_check_turned, boundary_check_cached, IsBoundaryCheckReply};
+    ghost use Rattle.txn_caches.specs.BoundaryReads.{boundary_getting};
+    ghost use Rattle.txn_caches.specs.BoundaryChecks.{reads_by, boundary_check_started, boundary_check_asked, boundary_check_turned, boundary_check_cached, IsBoundaryCheckReply};
 
     /// A check of this id against the boundary file of this path, which begins with a look. The only error is want of
     /// memory.
@@ -69,6 +70,25 @@ impl BoundaryCheck {
             id,
             step: BoundaryStep::Looks,
             read: BoundaryRead::start(path)?,
+        })
+    }
+
+    /// The same check where its looks are made, and this boundary is cached, which does not refuse the id: it asks for the
+    /// file. The only error is want of memory.
+    pub fn asking(
+        path: &Path,
+        id: MonotonicId,
+        cached: &Option<CachedBoundary>,
+    ) -> Result<BoundaryCheck, AllocError>
+        ensures { IfOk result (λ op. op ≡ reads_by (boundary_check_started path.now id) (boundary_getting (BoundaryRead.Looks path.now) cached.now)) }
+    {
+        Ok(BoundaryCheck {
+            id,
+            step: BoundaryStep::Reads,
+            read: BoundaryRead::Gets(Request::Get {
+                path: path.try_clone()?,
+                if_none_match: token_of(cached),
+            }),
         })
     }
 

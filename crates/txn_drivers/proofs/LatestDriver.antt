@@ -1,5 +1,5 @@
 -- A read of the newest version, driven: the loop.
-use Rattle.std.proofs.Common.{◌≡◌, ◌⊎◌, ℕ, ◌+◌, ◌*◌, ◌<◌, ◌≤◌, ◌^◌, ◌&&◌, Bool, true, false, List, length, Option, Some, IfSome, Result, Ok, Err, IfOk, IfErr, IsErrOf, refl, sym, ap, subst, ◌∙◌, inl, inr, arith}
+use Rattle.std.proofs.Common.{◌≡◌, ◌⊎◌, ℕ, ◌+◌, ◌*◌, ◌<◌, ◌≤◌, ◌^◌, ◌&&◌, Bool, true, false, List, length, Option, Some, IfSome, Result, Ok, Err, IfOk, IfErr, IsErrOf, refl, sym, ap, subst, ◌∙◌, inl, inr, arith, None}
 use Rattle.std.proofs.Math.Nat.{lt_of_mul-lt-mul_right}
 use Rattle.std.proofs.lemmas.List.{length-append}
 use Rattle.txn_store.specs.VersionName.{Names}
@@ -22,7 +22,7 @@ use Rattle.txn_drivers.specs.Calls.{one_if, SpendsTurns, HasStoreCause, HasCause
 use Rattle.txn_drivers.specs.Standing.{FilesStand, WindowFits}
 use Rattle.txn_drivers.specs.LatestReads.{HasPages, HasGrown, IsRefused, HasToList, IsAnswer, AnswersOf, Ended as ReadEnded}
 use Rattle.txn_drivers.specs.PageCount.{files_below}
-use Rattle.txn_drivers.specs.LatestRuns.{is_listing, steps_left, calls_left, IsFormed, Pays, IsStep, Listing, Holds, HasSpent, Running}
+use Rattle.txn_drivers.specs.LatestRuns.{is_listing, Begins, steps_left, calls_left, IsFormed, Pays, IsStep, Listing, Holds, HasSpent, Running}
 use Rattle.txn_drivers.proofs.LatestWindows.{grown_none, grown_kept, grown_every}
 use Rattle.txn_drivers.proofs.LatestSteps.{Leaves}
 use Rattle.txn_drivers.proofs.LatestTurns.{NumberCause, calls_of, Fails}
@@ -323,3 +323,12 @@ begins names page decode store turns first op ascending small is = rw is (record
   grown = grown_none names store.files first;
   holds = (refl, refl, refl, refl);
 })
+
+-- or with what its first look led to
+looked_on : {T : Type 0} (names : Names) (page : ℕ) (decode : List ℕ → Option T) (store : State) (first : List Cached) (op : LatestOp T) → (op, Goes) ≡ latest_turned names page decode Looks first None → IsStep names page decode store store first first Looks op Goes
+looked_on names page decode store first op is = record { reply = None; replied = refl; lacks = false; turned = is; left = refl; store_error = tt }
+
+pub begun : {T : Type 0} (names : Names) (page : ℕ) (room : 1 ≤ page) (decode : List ℕ → Option T) (store : State) (turns : ℕ) (first : List Cached) (op : LatestOp T) → Ascends first → IfSome (greatest_held first) (λ version. version.id < 2 ^ 64) → Begins names page decode first op → Running names page decode store store turns turns first first false op
+begun names page room decode store turns first op ascending small (inl is) = begins names page decode store turns first op ascending small is
+begun names page room decode store turns first op ascending small (inr is) =
+    goes_on names page room decode store store turns turns first first false Looks (begins names page decode store turns first Looks ascending small refl) store turns first false op (omega arith, refl) (looked_on names page decode store first op is)

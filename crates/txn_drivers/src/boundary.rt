@@ -67,7 +67,7 @@ pub fn check_boundary<S: ObjectStore>(
     if is_reached(id, cached) {
         return Err(TransactionalObjectError::ObjectVersionExists);
     }
-    let mut op = BoundaryCheck::start(path, id)?;
+    let mut op = BoundaryCheck::asking(path, id, cached)?;
     'steps: loop {
         match check_step(alloc, cached, store, &mut op) {
             Turned::Goes => {}

@@ -2,7 +2,7 @@
 ghost use Rattle.std.specs.Prelude.{◌≡◌, ◌^◌, ◌<◌, ◌≤◌, IfSome};
 ghost use Rattle.txn_caches.specs.Windows.{Ascends, greatest_held};
 ghost use Rattle.txn_drivers.specs.LatestReads.{Ended};
-ghost use Rattle.txn_drivers.specs.LatestRuns.{is_listing, IsFormed, IsStep, Pays};
+ghost use Rattle.txn_drivers.specs.LatestRuns.{is_listing, Begins, IsFormed, IsStep, Pays};
 
 use crate::replies::reply_to;
 use crate::turns::Turns;
@@ -63,7 +63,7 @@ fn first_held(latest: &Window)
     }
 }
 
-/// Runs a read that has not begun, to its end.
+/// Runs a read, from its first look or from what that led to, to its end.
 fn run<T: Drop, C: ObjectCodec<T>, S: ObjectStore>(
     alloc: Global,
     layout: &Layout<C>,
@@ -75,7 +75,7 @@ fn run<T: Drop, C: ObjectCodec<T>, S: ObjectStore>(
     requires page { 1 ≤ layout.now.page }
     requires ascends { Ascends latest.old }
     requires small { IfSome (greatest_held latest.old) (λ version. version.id < 2 ^ 64) }
-    requires looks { op.old ≡ LatestOp.Looks }
+    requires begins { Begins layout.now.names layout.now.page (C.decoded layout.now.codec) latest.old op.old }
     ensures { Ended layout.now.names layout.now.page (C.decoded layout.now.codec) (S.state store.old) (S.state store.new) turns.old turns.new latest.old latest.new result }
 {
     let mut listed = false;
@@ -110,8 +110,17 @@ pub fn read_latest<T: Drop, C: ObjectCodec<T>, S: ObjectStore>(
     ensures { Ended layout.now.names layout.now.page (C.decoded layout.now.codec) (S.state store.old) (S.state store.new) turns.old turns.new latest.old latest.new result }
 {
     first_held(latest);
-    let mut op = LatestOp::start();
-    let answer = run(alloc, layout, latest, store, turns, &mut op);
-    drop(op);
-    answer
+    match LatestOp::probing(alloc, layout, latest)? {
+        Some(mut op) => {
+            let answer = run(alloc, layout, latest, store, turns, &mut op);
+            drop(op);
+            answer
+        }
+        None => {
+            let mut op = LatestOp::start();
+            let answer = run(alloc, layout, latest, store, turns, &mut op);
+            drop(op);
+            answer
+        }
+    }
 }

@@ -356,7 +356,7 @@ fn after_get<T: Drop, C: ObjectCodec<T>>(
 }
 
 impl<T: Drop> LatestOp<T> {
-    ghost use Rattle.std.specs.Prelude.{List};
+    ghost use Rattle.std.specs.Prelude.{ℕ, List, Option, IfSome};
     ghost use Rattle.txn_caches.specs.declared.caches.Cached.{Cached};
     ghost use Rattle.txn_steps.specs.Latest.{latest_asked, latest_turned, latest_left, is_keeping, IsLatestReply, InRange};
 
@@ -365,6 +365,24 @@ impl<T: Drop> LatestOp<T> {
         ensures { result ≡ LatestOp.Looks }
     {
         LatestOp::Looks
+    }
+
+    /// The read after its first look, where that finds a version that may have a successor, for which it asks. The only
+    /// error is want of memory.
+    pub fn probing<C>(
+        alloc: Global,
+        layout: &Layout<C>,
+        latest: &Window,
+    ) -> Result<Option<LatestOp<T>>, AllocError>
+        ensures { IfOk result (λ begun. IfSome begun (λ op. (decode : List ℕ → Option T) → (op, Turned.Goes) ≡ latest_turned layout.now.names layout.now.page decode LatestOp.Looks latest.now None)) }
+    {
+        match latest.greatest() {
+            Some(cached) if !cached.id.is(u64::MAX) => {
+                let hand = cached.try_clone()?;
+                Ok(Some(probe(alloc, &layout.names, hand, 0)?))
+            }
+            _ => Ok(None),
+        }
     }
 
     /// What it asks for. It takes no memory.

@@ -1,11 +1,12 @@
 -- A search over sorted files, and what stands before and behind its place.
-use Rattle.std.proofs.Common.{◌≡◌, ◌≢◌, ℕ, zero, suc, ◌+◌, ◌-◌, ◌/◌, ◌≤◌, ◌<◌, Bool, true, false, cond, not, ◌&&◌, T, List, [], ◌∷◌, length, take, drop, slice_get, slice_index_or, Some, ◌⊎◌, inl, inr, refl, sym, ap, subst, ◌∙◌, arith}
+use Rattle.std.proofs.Common.{◌≡◌, ◌≢◌, ℕ, zero, suc, ◌+◌, ◌-◌, ◌*◌, ◌^◌, ◌/◌, ◌≤◌, ◌<◌, Bool, true, false, cond, not, ◌&&◌, T, List, [], ◌∷◌, length, take, drop, slice_get, slice_index_or, Some, ◌⊎◌, inl, inr, refl, sym, ap, subst, ◌∙◌, arith}
 use Rattle.std.specs.FinMap.{FinMap, from_sorted, is_sorted, entries, entries-from_sorted}
 use Rattle.std.specs.FinMap.Entries.{below_all}
 use Rattle.std.specs.Ordering.{is_lt, ordering_reverse}
 use Rattle.std.specs.declared.cmp.Ordering.{Ordering}
 use Rattle.std.specs.declared.cmp.Ordering.TheVariants.{Less, Equal, Greater}
 use Rattle.std.proofs.lemmas.Int.Digits.{length-digits_of_step}
+use Rattle.std.proofs.Math.Pow.{suc_ones}
 use Rattle.txn_store.specs.Paths.{Segments, path_cmp, is_below}
 use Rattle.txn_store.specs.Memory.{binary_digits}
 use Rattle.txn_store.specs.Sorted.{side, AllAt, StandsAt, StandsBetween}
@@ -143,8 +144,11 @@ pub record Narrows (mark : Mark) (asked : Segments) (es : Entries) (low high : �
   pub before : AllAt mark asked Less (take low es)
   pub behind : AllAt mark asked Greater (drop high es)
 
-abbrev pub IsFew : Entries → ℕ → ℕ → ℕ → ℕ → Type 0
-IsFew es first compared low high = compared + binary_digits (high - low) ≤ first + binary_digits (length es)
+-- so many may stand on each side of the next that is compared, if any is left
+pub record IsFew (es : Entries) (first compared low high most : ℕ) : Type 0 where
+  pub now : compared ≤ first + binary_digits (length es)
+  pub covers : low < high → high - low ≤ 2 * most + 1
+  pub later : low < high → compared + binary_digits most + 1 ≤ first + binary_digits (length es)
 
 all_dropped : (mark : Mark) (asked : Segments) (es : Entries) → AllAt mark asked Greater (drop (length es) es)
 all_dropped mark asked [] = tt
@@ -153,33 +157,33 @@ all_dropped mark asked (e ∷ es) = all_dropped mark asked es
 pub narrows_all : (mark : Mark) (asked : Segments) (es : Entries) (n : ℕ) → n ≡ length es → Narrows mark asked es 0 n
 narrows_all mark asked es n is = rw is (record { rising = omega arith; within = omega arith; before = tt; behind = all_dropped mark asked es })
 
-module _ (mark : Mark) (asked : Segments) (es : Entries) (low high : ℕ) (e : Segments × Got) (sorted : T (is_sorted path_cmp es)) (n : Narrows mark asked es low high) (some : low < high) (is : e ≡ slice_index_or es (low + (high - low) / 2) e) where
-  within_files : low + (high - low) / 2 < length es
+module _ (mark : Mark) (asked : Segments) (es : Entries) (low high middle : ℕ) (e : Segments × Got) (sorted : T (is_sorted path_cmp es)) (n : Narrows mark asked es low high) (up : low ≤ middle) (some : middle < high) (is : e ≡ slice_index_or es middle e) where
+  within_files : middle < length es
   within_files = let most = n.within in omega (arith, some, most)
 
-  pub narrows_up : side mark asked e.0 ≡ Less → Narrows mark asked es (low + (high - low) / 2 + 1) high
+  pub narrows_up : side mark asked e.0 ≡ Less → Narrows mark asked es (middle + 1) high
   narrows_up less = record {
     rising = omega (arith, some);
     within = n.within;
-    before = let next : low + (high - low) / 2 + 1 ≡ suc (low + (high - low) / 2) = omega arith in subst (λ (k : ℕ). AllAt mark asked Less (take k es)) (sym next) (through mark asked es (low + (high - low) / 2) e (rises mark asked es sorted) within_files is less);
+    before = let next : middle + 1 ≡ suc middle = omega arith in subst (λ (k : ℕ). AllAt mark asked Less (take k es)) (sym next) (through mark asked es middle e (rises mark asked es sorted) within_files is less);
     behind = n.behind;
   }
 
-  pub narrows_down : side mark asked e.0 ≡ Greater → Narrows mark asked es low (low + (high - low) / 2)
+  pub narrows_down : side mark asked e.0 ≡ Greater → Narrows mark asked es low middle
   narrows_down greater = record {
     rising = omega arith;
     within = let most = n.within in omega (arith, some, most);
     before = n.before;
-    behind = from mark asked es (low + (high - low) / 2) e (rises mark asked es sorted) within_files is greater;
+    behind = from mark asked es middle e (rises mark asked es sorted) within_files is greater;
   }
 
-  pub stands_at : side mark asked e.0 ≡ Equal → StandsAt mark asked es (low + (high - low) / 2)
+  pub stands_at : side mark asked e.0 ≡ Equal → StandsAt mark asked es middle
   stands_at equal = record {
     entry = e;
-    there = entry_there mark asked es (low + (high - low) / 2) e within_files is;
+    there = entry_there mark asked es middle e within_files is;
     equal = equal;
-    before = before mark asked es (low + (high - low) / 2) e (rises mark asked es sorted) within_files is (λ h. cc);
-    behind = behind mark asked es (low + (high - low) / 2) e (rises mark asked es sorted) within_files is (λ h. cc);
+    before = before mark asked es middle e (rises mark asked es sorted) within_files is (λ h. cc);
+    behind = behind mark asked es middle e (rises mark asked es sorted) within_files is (λ h. cc);
   }
 
 pub stands_between : (mark : Mark) (asked : Segments) (es : Entries) (low high : ℕ) → Narrows mark asked es low high → high ≤ low → StandsBetween mark asked es low
@@ -188,16 +192,32 @@ stands_between mark asked es low high n none =
     let same : high ≡ low = omega (arith, up, none) in
     record { within = rw (← same) n.within; before = n.before; behind = subst (λ (k : ℕ). AllAt mark asked Greater (drop k es)) same n.behind }
 
--- one path was compared, and at most half of the others are left
-pub few_more : (es : Entries) (first was compared low high low' high' : ℕ) → IsFew es first was low high → low < high → compared ≤ was + 1 → high' - low' ≤ (high - low) / 2 → IsFew es first compared low' high'
-few_more es first was compared low high low' high' few some one half =
-    let less = half_digits (high' - low') (high - low) (omega (arith, some)) half in
-    omega (arith, few, one, less)
+-- one path was compared, and no more than might stand on a side are left
+pub few_more : (es : Entries) (first was compared low high most low' high' : ℕ) → IsFew es first was low high most → low < high → compared ≤ was + 1 → high' - low' ≤ most → IsFew es first compared low' high' (most / 2)
+few_more es first was compared low high most low' high' few some one left = record {
+  now = let before = few.later some in omega (arith, before, one);
+  covers = λ more. omega (arith, left);
+  later = λ more. let before = few.later some in let less = half_digits (most / 2) most (omega (arith, left, more)) (omega arith) in omega (arith, before, less, one);
+}
 
-pub few_at_last : (es : Entries) (first was compared low high : ℕ) → IsFew es first was low high → low < high → compared ≤ was + 1 → compared ≤ first + binary_digits (length es)
-few_at_last es first was compared low high few some one =
-    let less = half_digits 0 (high - low) (omega (arith, some)) (omega arith) in
-    omega (arith, few, one, less)
+pub few_at_last : (es : Entries) (first was compared low high most : ℕ) → IsFew es first was low high most → low < high → compared ≤ was + 1 → compared ≤ first + binary_digits (length es)
+few_at_last es first was compared low high most few some one = let before = few.later some in omega (arith, before, one)
 
-pub few_at_first : (es : Entries) (first high : ℕ) → high ≡ length es → IsFew es first first 0 high
-few_at_first es first high is = let less = fewer_digits (high - 0) (length es) (omega (arith, is)) in omega (arith, less)
+pub few_at_first : (es : Entries) (first high most : ℕ) → high ≡ length es → high ≤ 2 * most + 1 → (0 < high → binary_digits most + 1 ≤ binary_digits high) → IsFew es first first 0 high most
+few_at_first es first high most is covers less = record {
+  now = omega arith;
+  covers = λ more. omega (arith, covers);
+  later = λ more. let here = less more in let same : binary_digits high ≡ binary_digits (length es) = ap binary_digits is in omega (arith, here, same);
+}
+
+-- a power of two has one binary digit more than its exponent
+pub digits_of_power : (j n : ℕ) → 2 ^ j ≤ n → j + 1 ≤ binary_digits n
+digits_of_power zero n le = let step = length-digits_of_step 2 n (omega arith) (omega (arith, le)) in omega (arith, step)
+digits_of_power (suc j) n le =
+    let twice : 2 ^ suc j ≡ 2 * 2 ^ j = omega arith in
+    let half : 2 ^ j ≤ n / 2 = omega (arith, le, twice) in
+    let rest = digits_of_power j (n / 2) half in
+    let positive = suc_ones j in
+    let some : 0 < n = omega (arith, half, positive) in
+    let step = length-digits_of_step 2 n (omega arith) some in
+    omega (arith, rest, step)

@@ -1,5 +1,5 @@
 //! Files in the order of their paths, found by binary search.
-ghost use Rattle.std.specs.Prelude.{◌≡◌, ◌≤◌, ◌<◌, ◌+◌, ◌-◌, ◌^◌, map, length, take, drop, IfOk, OnOk, OnErr};
+ghost use Rattle.std.specs.Prelude.{◌≡◌, ◌≤◌, ◌<◌, ◌+◌, ◌-◌, ◌*◌, ◌^◌, map, length, take, drop, IfOk, OnOk, OnErr};
 ghost use Rattle.std.specs.Option.{option_copied};
 ghost use Rattle.std.specs.FinMap as finmap;
 ghost use Rattle.txn_store.specs.CallCounts.{one_more};
@@ -48,6 +48,29 @@ fn further<'a>(prefix: &'a Path, after: Option<&'a Path>) -> &'a Path
     }
 }
 
+/// How many of so many entries may stand on one side of the first that a search compares: one less than a power of two.
+fn most_on_a_side(count: usize) -> usize
+    ensures covers { count ≤ 2 * result + 1 }
+    ensures few { 0 < count → binary_digits result + 1 ≤ binary_digits count }
+{
+    if count == 0 {
+        return 0;
+    }
+    2usize.pow(count.ilog2()) - 1
+}
+
+/// The index of the next entry that a search compares, where so many may stand on one side of it: as far behind as that
+/// allows.
+fn compared_next(low: usize, high: usize, most: usize) -> usize
+    requires { low < high }
+    ensures rising { low ≤ result }
+    ensures within { result < high }
+    ensures before { result - low ≤ most }
+    ensures behind { high - low ≤ 2 * most + 1 → high - (result + 1) ≤ most }
+{
+    low + most.min(high - low - 1)
+}
+
 /// An index among sorted files: `Ok` where a path stands, `Err` where it would.
 pub type Place = Result<usize, usize>;
 
@@ -84,7 +107,9 @@ impl SortedFiles {
         }
     }
 
-    /// Where a mark stands among the files. It compares as many of their paths as their number has binary digits, at most.
+    /// Where a mark stands among the files. It compares as many of their paths as their number has binary digits, at most, and
+    /// far fewer near their end, where versions are put: it asks for the path behind which so few are left that as many as
+    /// may be stand before it.
     fn search(&self, mark: Mark, asked: &Path, compared: &mut u64) -> Place
         ensures place { IsPlace mark asked.now (finmap.entries self.now) result }
         // There is an index after it.
@@ -93,8 +118,10 @@ impl SortedFiles {
     {
         let mut low = 0;
         let mut high = self.entries.len();
+        let mut most = most_on_a_side(high);
         while low < high {
-            let middle = low + (high - low) / 2;
+            let middle = compared_next(low, high, most);
+            most /= 2;
             match compare(compared, &self.entries[middle].0, mark, asked) {
                 Ordering::Less => low = middle + 1,
                 Ordering::Equal => return Ok(middle),

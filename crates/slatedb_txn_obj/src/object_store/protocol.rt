@@ -19,7 +19,6 @@ use txn_drivers::versions::{number_fits, read_seen, read_version};
 use txn_drivers::writing::write_version;
 use txn_store::path::{Path, PathFault};
 use txn_store::store::ObjectStore;
-use txn_store::version_names::is_suffix;
 use txn_types::codec::ObjectCodec;
 use txn_types::error::TransactionalObjectError;
 use txn_types::id::MonotonicId;
@@ -67,19 +66,35 @@ impl<T, C: Drop> ObjectStoreSequencedStorageProtocol<T, C, ObjectStoreBoundaryOb
         ensures apart { IfOk result (λ p. (n : ℕ) → n < 2 ^ 64 → version_path p.layout.names n ≡ p.boundary.path → ⊥) }
         ensures bad_segment { IsErrOf result PathFault.BadSegment ↔ ((not (is_plain subdir.now) || not (is_suffix file_suffix.now)) ≡ true) }
     {
-        // The suffix is tested first, so that a folder's name is refused by one of the two alone.
-        if !is_suffix(file_suffix) {
-            return Err(PathFault::BadSegment);
-        }
-        let boundary = ObjectStoreBoundaryObject::new(alloc, root, subdir)?;
-        ObjectStoreSequencedStorageProtocol::new_with_boundary(
+        ObjectStoreSequencedStorageProtocol::of_layout(
             alloc,
-            root,
-            subdir,
-            file_suffix,
-            codec,
-            boundary,
+            Layout::new(alloc, root, subdir, file_suffix, codec)?,
         )
+    }
+
+    /// The same, where this is the layout.
+    fn of_layout(
+        alloc: Global,
+        layout: Layout<C>,
+    ) -> Result<ObjectStoreSequencedStorageProtocol<T, C, ObjectStoreBoundaryObject>, PathFault>
+        requires { 1 ≤ layout.page }
+        ensures layout { IfOk result (λ p. p.layout ≡ layout) }
+        ensures latest { IfOk result (λ p. p.latest ≡ []) }
+        ensures boundary { IfOk result (λ p. (p.boundary.path ≡ layout.boundary) × (p.boundary.cached ≡ None)) }
+        ensures no_memory { IfErr result (λ fault. fault ≡ PathFault.NoMemory) }
+    {
+        let path = layout.boundary.try_clone()?;
+        Ok(ObjectStoreSequencedStorageProtocol {
+            alloc,
+            layout,
+            latest: Window::new(),
+            boundary: ObjectStoreBoundaryObject {
+                alloc,
+                path,
+                cached: None,
+            },
+            of: PhantomData,
+        })
     }
 }
 

@@ -1,8 +1,8 @@
-use Rattle.txn_drivers.proofs.LatestDriver.{begins, formed, spent, goes_on, less, ended}
+use Rattle.txn_drivers.proofs.LatestDriver.{begun, formed, spent, goes_on, less, ended}
 use Rattle.txn_drivers.proofs.latest.run.Goals as goal
 
 pub steps-init : goal.steps-init
-steps-init g c = begins _ _ _ _ _ _ _ c.requires.ascends c.requires.small c.requires.looks
+steps-init g c = begun _ _ c.requires.page _ _ _ _ _ c.requires.ascends c.requires.small c.requires.begins
 
 pub returns-then-not-pay : goal.returns-then-not-pay
 returns-then-not-pay g c = spent _ _ c.requires.page _ _ _ _ _ _ _ _ _ c.steps.invariant c.pay.new.listed _ (rw (c.is_listing.ensures, c.if-not-pay.true) at c.pay.ensures)

@@ -6,7 +6,7 @@ use Rattle.txn_store.proofs.sorted.SortedFiles.search.Given as goal
 abbrev pub invariant-loop-low : goal.invariant-loop-low
 invariant-loop-low l = record {
   narrows : Narrows l.mark l.asked l.self-inside.entries.items l.low l.high;
-  few : IsFew l.self-inside.entries.items l.fn.compared l.compared l.low l.high;
+  few : IsFew l.self-inside.entries.items l.fn.compared l.compared l.low l.high l.most;
 }
 
 abbrev pub decreases-loop-low : goal.decreases-loop-low
