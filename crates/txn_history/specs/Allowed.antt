@@ -19,6 +19,7 @@ use Rattle.txn_history.specs.Calls.{view_used, is_holders}
 use Rattle.txn_history.specs.Views.{View}
 use Rattle.txn_history.specs.OneHistory.{agree, base_of, is_known_base, has_low_boundary, keeps_epoch}
 
+-- the number of a fault
 abbrev pub fault_number : EventFault → ℕ
 fault_number faults.UnknownNumber = 1
 fault_number faults.NotAsked = 2

@@ -1,14 +1,14 @@
 -- The calls of a trace: when each began and ended, which views it uses, what it writes, and which ids were answered.
 use Rattle.std.specs.Prelude.{◌≡◌, ℕ, List, [], ◌∷◌, ◌+◌, ◌≤◌, ◌==◌, nat_eq, nat_lt, Bool, true, false, Option, Some, None, length, take, slice_get, if◌then◌else◌}
 use Rattle.std.specs.List.{list_any}
-use Rattle.txn_history.specs.declared.event.PlainCall.TheVariants as calls
+use Rattle.txn_history.specs.declared.event.PlainCall.TheVariants as plain_calls
 use Rattle.txn_history.specs.declared.event.PlainAnswer.{PlainAnswer}
 use Rattle.txn_history.specs.declared.event.PlainAnswer.TheVariants as plain_answers
 use Rattle.txn_history.specs.declared.trace.RowOf.{RowOf}
 use Rattle.txn_history.specs.declared.trace.RowOf.TheVariants.{Effect, Begun, Answered}
 use Rattle.txn_history.specs.declared.event.ViewCall.TheVariants as view_calls
 use Rattle.txn_history.specs.declared.event.Call.{Call}
-use Rattle.txn_history.specs.declared.event.Call.TheVariants as any
+use Rattle.txn_history.specs.declared.event.Call.TheVariants as calls
 use Rattle.txn_history.specs.declared.event.Answer.{Answer}
 use Rattle.txn_history.specs.declared.event.Answer.TheVariants as answers
 use Rattle.txn_history.specs.Trace.{Row}
@@ -78,25 +78,25 @@ module _ {C A : Type 0} where
 module _ {T : Type 0} where
   -- the view that a call uses
   abbrev pub view_used : Call T → Option ℕ
-  view_used (any.View (view_calls.Refresh view)) = Some view
-  view_used (any.View (view_calls.Update view value)) = Some view
-  view_used (any.View (view_calls.Claim view)) = Some view
-  view_used (any.View (view_calls.ClaimAt view epoch)) = Some view
-  view_used (any.View (view_calls.HolderRefresh view)) = Some view
-  view_used (any.View (view_calls.HolderUpdate view value)) = Some view
+  view_used (calls.View (view_calls.Refresh view)) = Some view
+  view_used (calls.View (view_calls.Update view value)) = Some view
+  view_used (calls.View (view_calls.Claim view)) = Some view
+  view_used (calls.View (view_calls.ClaimAt view epoch)) = Some view
+  view_used (calls.View (view_calls.HolderRefresh view)) = Some view
+  view_used (calls.View (view_calls.HolderUpdate view value)) = Some view
   view_used _ = None
 
   -- the call is one of a holder
   abbrev pub is_holders : Call T → Bool
-  is_holders (any.View (view_calls.HolderRefresh view)) = true
-  is_holders (any.View (view_calls.HolderUpdate view value)) = true
+  is_holders (calls.View (view_calls.HolderRefresh view)) = true
+  is_holders (calls.View (view_calls.HolderUpdate view value)) = true
   is_holders _ = false
 
   -- the value that a call asks to write on its base, but for a holder, whose value has to have its epoch
   abbrev pub value_written : Call T → Option T
-  value_written (any.Plain (calls.Write base value)) = Some value
-  value_written (any.Plain (calls.WriteUnchecked base value)) = Some value
-  value_written (any.View (view_calls.Update view value)) = Some value
+  value_written (calls.Plain (plain_calls.Write base value)) = Some value
+  value_written (calls.Plain (plain_calls.WriteUnchecked base value)) = Some value
+  value_written (calls.View (view_calls.Update view value)) = Some value
   value_written _ = None
 
   -- an answer tells an id that passes the test: the version of a view, and of a call without a view what `plain_tells_id` of it says

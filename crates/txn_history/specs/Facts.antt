@@ -5,9 +5,9 @@ use Rattle.std.specs.List.Sorted.{IsStrictlySortedBy}
 use Rattle.std.specs.Ordering.{nat_cmp}
 use Rattle.std.specs.declared.ops.Bound.{Bound}
 use Rattle.txn_history.specs.declared.event.PlainCall.{PlainCall}
-use Rattle.txn_history.specs.declared.event.PlainCall.TheVariants as calls
+use Rattle.txn_history.specs.declared.event.PlainCall.TheVariants as plain_calls
 use Rattle.txn_history.specs.declared.event.PlainAnswer.{PlainAnswer}
-use Rattle.txn_history.specs.declared.event.PlainAnswer.TheVariants as answers
+use Rattle.txn_history.specs.declared.event.PlainAnswer.TheVariants as plain_answers
 use Rattle.txn_store.specs.declared.request.Request.{Request}
 use Rattle.txn_history.specs.declared.trace.RowOf.{RowOf}
 use Rattle.txn_history.specs.declared.trace.RowOf.TheVariants.{Effect}
@@ -25,6 +25,8 @@ module _ {T : Type 0} (get_epoch : T → ℕ) where
   abbrev pub is_high : ℕ → Option T → Bool
   is_high epoch None = true
   is_high epoch (Some value) = nat_le epoch (get_epoch value)
+
+-- The answers. Each refusal has its number: 2, a failed store call, or no token left; 4, nothing to load; 5, a conflict; 6, a greater epoch; 7, not to be deleted, or not of the holder's epoch; 9, want of memory; 10, no id or no epoch left.
 
 -- the greatest id
 abbrev pub greatest : ℕ
@@ -89,16 +91,16 @@ module _ {T : Type 0} (decode : List ℕ → Option T) (get_epoch : T → ℕ) (
 module _ {C A T : Type 0} (decode : List ℕ → Option T) (get_epoch : T → ℕ) (failed : List ℕ) where
   -- An answer of a plain call that is no refusal fits it. A checked write answers its own version, with its value; a read what was newest.
   abbrev pub PlainSucceeds : List (RowOf C A) → ℕ → PlainCall T → PlainAnswer T → Type 0
-  PlainSucceeds before op (calls.Write base value) (answers.Wrote n) = Entered decode before op n value
-  PlainSucceeds before op (calls.WriteUnchecked base value) (answers.Wrote n) = Created before op n × (n ≡ number_of base + 1) × (n ≤ newest before)
-  PlainSucceeds before op calls.Read (answers.Read None) = WasEmpty decode before op
-  PlainSucceeds before op calls.Read (answers.Read (Some found)) = WasNewest decode before op found.0 found.1
-  PlainSucceeds before op (calls.ReadUnchecked id) (answers.Value found) = (id ≤ boundary before) ⊎ IsFound decode before op id found
-  PlainSucceeds before op (calls.ReadSeen id) (answers.Value found) = (id ≤ boundary before) ⊎ IsFound decode before op id found
-  PlainSucceeds before op (calls.ListIds from to) (answers.Ids ids) = AtRow before op (λ rows. Lists rows from to ids)
-  PlainSucceeds before op (calls.Delete id) answers.Done = AtRow before op (λ rows. (id ≤ boundary rows) × (is_stored rows id ≡ false))
-  PlainSucceeds before op (calls.Check id) answers.Done = AtRow before op (λ rows. boundary rows < id)
-  PlainSucceeds before op (calls.Advance to) answers.Done = to ≤ boundary before
+  PlainSucceeds before op (plain_calls.Write base value) (plain_answers.Wrote n) = Entered decode before op n value
+  PlainSucceeds before op (plain_calls.WriteUnchecked base value) (plain_answers.Wrote n) = Created before op n × (n ≡ number_of base + 1) × (n ≤ newest before)
+  PlainSucceeds before op plain_calls.Read (plain_answers.Read None) = WasEmpty decode before op
+  PlainSucceeds before op plain_calls.Read (plain_answers.Read (Some found)) = WasNewest decode before op found.0 found.1
+  PlainSucceeds before op (plain_calls.ReadUnchecked id) (plain_answers.Value found) = (id ≤ boundary before) ⊎ IsFound decode before op id found
+  PlainSucceeds before op (plain_calls.ReadSeen id) (plain_answers.Value found) = (id ≤ boundary before) ⊎ IsFound decode before op id found
+  PlainSucceeds before op (plain_calls.ListIds from to) (plain_answers.Ids ids) = AtRow before op (λ rows. Lists rows from to ids)
+  PlainSucceeds before op (plain_calls.Delete id) plain_answers.Done = AtRow before op (λ rows. (id ≤ boundary rows) × (is_stored rows id ≡ false))
+  PlainSucceeds before op (plain_calls.Check id) plain_answers.Done = AtRow before op (λ rows. boundary rows < id)
+  PlainSucceeds before op (plain_calls.Advance to) plain_answers.Done = to ≤ boundary before
   PlainSucceeds before op call answer = ⊥
 
   -- a write is refused because its base was overtaken, because the store has no token left, or because no id is left
@@ -107,9 +109,9 @@ module _ {C A T : Type 0} (decode : List ℕ → Option T) (get_epoch : T → �
 
   -- a refusal of a plain call fits it, by its number
   abbrev pub PlainRefuses : List (RowOf C A) → ℕ → PlainCall T → ℕ → Type 0
-  PlainRefuses before op (calls.Write base value) number = WriteRefused before op base number
-  PlainRefuses before op (calls.WriteUnchecked base value) number = WriteRefused before op base number
-  PlainRefuses before op (calls.Delete id) number = (number ≡ 7) × AtRow before op (λ rows. boundary rows < id)
-  PlainRefuses before op (calls.Check id) number = (number ≡ 5) × (id ≤ boundary before)
-  PlainRefuses before op (calls.Advance to) number = (number ≡ 2) × NoTokens before
+  PlainRefuses before op (plain_calls.Write base value) number = WriteRefused before op base number
+  PlainRefuses before op (plain_calls.WriteUnchecked base value) number = WriteRefused before op base number
+  PlainRefuses before op (plain_calls.Delete id) number = (number ≡ 7) × AtRow before op (λ rows. boundary rows < id)
+  PlainRefuses before op (plain_calls.Check id) number = (number ≡ 5) × (id ≤ boundary before)
+  PlainRefuses before op (plain_calls.Advance to) number = (number ≡ 2) × NoTokens before
   PlainRefuses before op call number = ⊥

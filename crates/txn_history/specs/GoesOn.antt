@@ -13,12 +13,13 @@ use Rattle.std.specs.Option.{option_map}
 use Rattle.txn_history.specs.declared.trace.RowOf.TheVariants.{Begun}
 use Rattle.txn_history.specs.Lists.{numbered}
 use Rattle.txn_history.specs.declared.event.ViewCall.TheVariants as view_calls
-use Rattle.txn_history.specs.declared.event.Call.TheVariants as any
+use Rattle.txn_history.specs.declared.event.Call.TheVariants as calls
 use Rattle.txn_history.specs.declared.event.Answer.{Answer}
 use Rattle.txn_history.specs.declared.event.Answer.TheVariants as answers
 use Rattle.txn_history.specs.Trace.{Row, Event, Told}
 use Rattle.txn_history.specs.Views.{View, ViewsGoOn, id_shown}
 
+-- a put or a delete: the requests that may become loose
 abbrev pub may_be_loose : Ask → Option Request
 may_be_loose (Store (requests.Put path bytes mode)) = Some (requests.Put path bytes mode)
 may_be_loose (Store (requests.Delete path)) = Some (requests.Delete path)
@@ -90,8 +91,8 @@ module _ {C A : Type 0} where
 module _ {T : Type 0} where
   -- the operation began as a claim on this view
   abbrev pub is_claim_on : ℕ → ℕ → Row T → Bool
-  is_claim_on number op (Begun o (any.View (view_calls.Claim view))) = (o == op) && (view == number)
-  is_claim_on number op (Begun o (any.View (view_calls.ClaimAt view epoch))) = (o == op) && (view == number)
+  is_claim_on number op (Begun o (calls.View (view_calls.Claim view))) = (o == op) && (view == number)
+  is_claim_on number op (Begun o (calls.View (view_calls.ClaimAt view epoch))) = (o == op) && (view == number)
   is_claim_on number op _ = false
 
   -- what is told ends this view of this client: a crash, or a claim on it that ends and is not held

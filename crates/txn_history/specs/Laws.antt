@@ -2,14 +2,14 @@
 use Rattle.std.specs.Prelude.{◌≡◌, ◌≤◌, ℕ, List, Option, true, take, slice_get, Some, None}
 use Rattle.txn_history.specs.declared.trace.RowOf.{RowOf}
 use Rattle.txn_history.specs.History.{boundary, erases}
-use Rattle.txn_history.specs.declared.event.PlainCall.TheVariants as calls
+use Rattle.txn_history.specs.declared.event.PlainCall.TheVariants as plain_calls
 use Rattle.txn_history.specs.declared.event.PlainAnswer.TheVariants as plain_answers
 use Rattle.txn_history.specs.declared.trace.RowOf.TheVariants.{Answered}
 use Rattle.txn_history.specs.Lists.{numbered}
 use Rattle.txn_history.specs.Calls.{IsCall}
 use Rattle.txn_history.specs.declared.event.ViewCall.TheVariants as view_calls
 use Rattle.txn_history.specs.declared.event.Call.{Call}
-use Rattle.txn_history.specs.declared.event.Call.TheVariants as any
+use Rattle.txn_history.specs.declared.event.Call.TheVariants as calls
 use Rattle.txn_history.specs.declared.event.Answer.{Answer}
 use Rattle.txn_history.specs.declared.event.Answer.TheVariants as answers
 use Rattle.txn_history.specs.Trace.{Row}
@@ -27,12 +27,12 @@ module _ {C A : Type 0} where
 module _ {T : Type 0} where
   -- the id that a checked write answers as its own
   abbrev pub id_entered : Call T → Answer T → Option ℕ
-  id_entered (any.Plain (calls.Write base value)) (answers.Plain (plain_answers.Wrote id)) = Some id
-  id_entered (any.View (view_calls.Init value)) (answers.View view id found) = Some id
-  id_entered (any.View (view_calls.Update view value)) (answers.View shown id found) = Some id
-  id_entered (any.View (view_calls.HolderUpdate view value)) (answers.View shown id found) = Some id
-  id_entered (any.View (view_calls.Claim view)) (answers.Held shown id found held) = Some id
-  id_entered (any.View (view_calls.ClaimAt view epoch)) (answers.Held shown id found held) = Some id
+  id_entered (calls.Plain (plain_calls.Write base value)) (answers.Plain (plain_answers.Wrote id)) = Some id
+  id_entered (calls.View (view_calls.Init value)) (answers.View view id found) = Some id
+  id_entered (calls.View (view_calls.Update view value)) (answers.View shown id found) = Some id
+  id_entered (calls.View (view_calls.HolderUpdate view value)) (answers.View shown id found) = Some id
+  id_entered (calls.View (view_calls.Claim view)) (answers.Held shown id found held) = Some id
+  id_entered (calls.View (view_calls.ClaimAt view epoch)) (answers.Held shown id found held) = Some id
   id_entered call answer = None
 
   -- row k is an answer of the operation, which is its own version of this id

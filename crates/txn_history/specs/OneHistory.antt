@@ -2,7 +2,7 @@
 use Rattle.std.specs.Prelude.{◌≡◌, ◌≢◌, ℕ, List, ◌+◌, ◌<◌, ◌≤◌, ◌⊎◌, ◌==◌, ◌&&◌, ◌||◌, not, Bool, true, false, if◌then◌else◌, Option, Some, None, is_some, take, slice_get}
 use Rattle.txn_store.specs.declared.request.Request.{Request}
 use Rattle.txn_types.specs.Numbers.{number_of}
-use Rattle.txn_history.specs.declared.event.PlainCall.TheVariants as calls
+use Rattle.txn_history.specs.declared.event.PlainCall.TheVariants as plain_calls
 use Rattle.txn_history.specs.declared.event.PlainAnswer.TheVariants as plain_answers
 use Rattle.txn_history.specs.declared.trace.RowOf.TheVariants.{Effect, Begun, Answered}
 use Rattle.txn_history.specs.History.{Version, created, raised, removed, has_id, versions_of, newest, boundary, was_erased, IsEntry, epoch_at}
@@ -10,7 +10,7 @@ use Rattle.txn_history.specs.Calls.{was_answered, IsCall, begun_count, before_be
 use Rattle.txn_history.specs.Facts.{base_on, is_high, greatest, Entered, WasNewest, WasEmpty, NoTokens, WriteRefused, Fails, PlainSucceeds, PlainRefuses}
 use Rattle.txn_history.specs.declared.event.ViewCall.TheVariants as view_calls
 use Rattle.txn_history.specs.declared.event.Call.{Call}
-use Rattle.txn_history.specs.declared.event.Call.TheVariants as any
+use Rattle.txn_history.specs.declared.event.Call.TheVariants as calls
 use Rattle.txn_history.specs.declared.event.Answer.{Answer}
 use Rattle.txn_history.specs.declared.event.Answer.TheVariants as answers
 use Rattle.txn_history.specs.Trace.{Row}
@@ -28,10 +28,10 @@ is_known_base rows (Some n) = was_told rows n
 module _ {T : Type 0} where
   -- the base that a call writes on, by where its view stands: the view's id for an update
   abbrev pub base_of : Option ℕ → Call T → Option ℕ
-  base_of at (any.Plain (calls.Write base value)) = base
-  base_of at (any.Plain (calls.WriteUnchecked base value)) = base
-  base_of at (any.View (view_calls.Update view value)) = at
-  base_of at (any.View (view_calls.HolderUpdate view value)) = at
+  base_of at (calls.Plain (plain_calls.Write base value)) = base
+  base_of at (calls.Plain (plain_calls.WriteUnchecked base value)) = base
+  base_of at (calls.View (view_calls.Update view value)) = at
+  base_of at (calls.View (view_calls.HolderUpdate view value)) = at
   base_of at _ = None
 
   -- where the view of a call stands, none of a call without a view
@@ -49,7 +49,7 @@ module _ {T : Type 0} where
 
   -- a boundary to advance to is 0, or below an id that some call answered
   abbrev pub has_low_boundary : List (Row T) → Call T → Bool
-  has_low_boundary rows (any.Plain (calls.Advance to)) = to == 0 || is_below_told rows to
+  has_low_boundary rows (calls.Plain (plain_calls.Advance to)) = to == 0 || is_below_told rows to
   has_low_boundary rows _ = true
 
   -- the view that a call uses was shown, and is a holder exactly where the call is a holder's
@@ -73,7 +73,7 @@ module _ {T : Type 0} (decode : List ℕ → Option T) (get_epoch : T → ℕ) w
 module _ {T : Type 0} where
   -- A raise: the boundary goes up to what its operation advances to, and stays below the newest entry.
   pub record Raises (before : List (Row T)) (op to : ℕ) : Type 0 where
-    pub called : IsCall before op (any.Plain (calls.Advance to))
+    pub called : IsCall before op (calls.Plain (plain_calls.Advance to))
     pub up : boundary before < to
     pub under : to < newest before
 
@@ -84,7 +84,7 @@ module _ {T : Type 0} where
 
   -- An erasure: the name that its operation deletes goes, and the boundary has reached its id.
   pub record Erases (before : List (Row T)) (op id : ℕ) : Type 0 where
-    pub called : IsCall before op (any.Plain (calls.Delete id))
+    pub called : IsCall before op (calls.Plain (plain_calls.Delete id))
     pub below : id ≤ boundary before
 
   -- the version that is removed, if one is, is an erasure
@@ -108,13 +108,13 @@ module _ {T : Type 0} (decode : List ℕ → Option T) (get_epoch : T → ℕ) (
 
   -- the call writes this entry directly on entry n
   abbrev pub WritesOn : List (Row T) → ℕ → Call T → ℕ → T → Type 0
-  WritesOn before op (any.Plain (calls.Write base value)) n entry = (base ≡ base_on n) × (entry ≡ value)
-  WritesOn before op (any.Plain (calls.WriteUnchecked base value)) n entry = (base ≡ base_on n) × (entry ≡ value)
-  WritesOn before op (any.View (view_calls.Init value)) n entry = (n ≡ 0) × (entry ≡ value)
-  WritesOn before op (any.View (view_calls.Update view value)) n entry = (base_by before op (any.View (view_calls.Update view value)) ≡ base_on n) × (entry ≡ value)
-  WritesOn before op (any.View (view_calls.HolderUpdate view value)) n entry = (base_by before op (any.View (view_calls.HolderUpdate view value)) ≡ base_on n) × (entry ≡ value)
-  WritesOn before op (any.View (view_calls.Claim view)) n entry = ClaimsOn before n entry
-  WritesOn before op (any.View (view_calls.ClaimAt view epoch)) n entry = ClaimsAtOn before n epoch entry
+  WritesOn before op (calls.Plain (plain_calls.Write base value)) n entry = (base ≡ base_on n) × (entry ≡ value)
+  WritesOn before op (calls.Plain (plain_calls.WriteUnchecked base value)) n entry = (base ≡ base_on n) × (entry ≡ value)
+  WritesOn before op (calls.View (view_calls.Init value)) n entry = (n ≡ 0) × (entry ≡ value)
+  WritesOn before op (calls.View (view_calls.Update view value)) n entry = (base_by before op (calls.View (view_calls.Update view value)) ≡ base_on n) × (entry ≡ value)
+  WritesOn before op (calls.View (view_calls.HolderUpdate view value)) n entry = (base_by before op (calls.View (view_calls.HolderUpdate view value)) ≡ base_on n) × (entry ≡ value)
+  WritesOn before op (calls.View (view_calls.Claim view)) n entry = ClaimsOn before n entry
+  WritesOn before op (calls.View (view_calls.ClaimAt view epoch)) n entry = ClaimsAtOn before n epoch entry
   WritesOn before op _ n entry = ⊥
 
   -- the value has the epoch of a holder, and no entry has an epoch above it
@@ -126,7 +126,7 @@ module _ {T : Type 0} (decode : List ℕ → Option T) (get_epoch : T → ℕ) (
 
   -- a holder's update appends a value of its own epoch, and nothing once an entry has an epoch above it
   abbrev pub MayAppend : List (Row T) → Call T → Type 0
-  MayAppend before (any.View (view_calls.HolderUpdate view value)) = IsUnfenced before view value
+  MayAppend before (calls.View (view_calls.HolderUpdate view value)) = IsUnfenced before view value
   MayAppend before _ = Unit {0}
 
   -- An append: the name is the next, the value is its operation's, written directly on the newest entry, whose epoch is no greater.
@@ -199,15 +199,15 @@ module _ {T : Type 0} (decode : List ℕ → Option T) (get_epoch : T → ℕ) w
 module _ {T : Type 0} (decode : List ℕ → Option T) (get_epoch : T → ℕ) (failed : List ℕ) where
   -- An answer that is no refusal fits the call. A write on a view answers its own version, with its value; a load or a refresh what was newest.
   abbrev pub Succeeds : List (Row T) → ℕ → Call T → Answer T → Type 0
-  Succeeds before op (any.Plain call) (answers.Plain answer) = PlainSucceeds decode get_epoch failed before op call answer
-  Succeeds before op (any.View (view_calls.Init value)) (answers.View shown n entry) = Shows before (view_count before + 1) shown n × Entered decode before op n entry
-  Succeeds before op (any.View view_calls.Load) (answers.View shown n entry) = Shows before (view_count before + 1) shown n × WasNewest decode before op n entry
-  Succeeds before op (any.View (view_calls.Refresh view)) (answers.View shown n entry) = Shows before view shown n × WasNewest decode before op n entry
-  Succeeds before op (any.View (view_calls.Update view value)) (answers.View shown n entry) = Shows before view shown n × Entered decode before op n entry
-  Succeeds before op (any.View (view_calls.Claim view)) (answers.Held shown n entry epoch) = Shows before view shown n × Holds decode get_epoch before op n entry epoch
-  Succeeds before op (any.View (view_calls.ClaimAt view at)) (answers.Held shown n entry epoch) = Shows before view shown n × Holds decode get_epoch before op n entry epoch × (epoch ≡ at)
-  Succeeds before op (any.View (view_calls.HolderRefresh view)) (answers.View shown n entry) = Shows before view shown n × WasNewest decode before op n entry × (epoch_held before view ≡ Some (get_epoch entry))
-  Succeeds before op (any.View (view_calls.HolderUpdate view value)) (answers.View shown n entry) = Shows before view shown n × Entered decode before op n entry
+  Succeeds before op (calls.Plain call) (answers.Plain answer) = PlainSucceeds decode get_epoch failed before op call answer
+  Succeeds before op (calls.View (view_calls.Init value)) (answers.View shown n entry) = Shows before (view_count before + 1) shown n × Entered decode before op n entry
+  Succeeds before op (calls.View view_calls.Load) (answers.View shown n entry) = Shows before (view_count before + 1) shown n × WasNewest decode before op n entry
+  Succeeds before op (calls.View (view_calls.Refresh view)) (answers.View shown n entry) = Shows before view shown n × WasNewest decode before op n entry
+  Succeeds before op (calls.View (view_calls.Update view value)) (answers.View shown n entry) = Shows before view shown n × Entered decode before op n entry
+  Succeeds before op (calls.View (view_calls.Claim view)) (answers.Held shown n entry epoch) = Shows before view shown n × Holds decode get_epoch before op n entry epoch
+  Succeeds before op (calls.View (view_calls.ClaimAt view at)) (answers.Held shown n entry epoch) = Shows before view shown n × Holds decode get_epoch before op n entry epoch × (epoch ≡ at)
+  Succeeds before op (calls.View (view_calls.HolderRefresh view)) (answers.View shown n entry) = Shows before view shown n × WasNewest decode before op n entry × (epoch_held before view ≡ Some (get_epoch entry))
+  Succeeds before op (calls.View (view_calls.HolderUpdate view value)) (answers.View shown n entry) = Shows before view shown n × Entered decode before op n entry
   Succeeds before op call answer = ⊥
 
   -- a claim is refused because the store has no token left, or because no id is left
@@ -216,17 +216,17 @@ module _ {T : Type 0} (decode : List ℕ → Option T) (get_epoch : T → ℕ) (
 
   -- a refusal fits the call, by its number
   abbrev pub Refuses : List (Row T) → ℕ → Call T → ℕ → Type 0
-  Refuses before op (any.Plain call) number = PlainRefuses decode get_epoch failed before op call number
-  Refuses before op (any.View (view_calls.Init value)) number = WriteRefused decode get_epoch failed before op None number
-  Refuses before op (any.View view_calls.Load) number = (number ≡ 4) × WasEmpty decode before op
-  Refuses before op (any.View (view_calls.Update view value)) number = WriteRefused decode get_epoch failed before op (base_by before op (any.View (view_calls.Update view value))) number
-  Refuses before op (any.View (view_calls.Claim view)) number = ((number ≡ 10) × HasReached decode get_epoch before greatest) ⊎ ClaimRefused before number
-  Refuses before op (any.View (view_calls.ClaimAt view at)) number = ((number ≡ 6) × HasReached decode get_epoch before at) ⊎ ClaimRefused before number
-  Refuses before op (any.View (view_calls.HolderRefresh view)) number = (number ≡ 6) × HolderFenced decode get_epoch before view
-  Refuses before op (any.View (view_calls.HolderUpdate view value)) number =
+  Refuses before op (calls.Plain call) number = PlainRefuses decode get_epoch failed before op call number
+  Refuses before op (calls.View (view_calls.Init value)) number = WriteRefused decode get_epoch failed before op None number
+  Refuses before op (calls.View view_calls.Load) number = (number ≡ 4) × WasEmpty decode before op
+  Refuses before op (calls.View (view_calls.Update view value)) number = WriteRefused decode get_epoch failed before op (base_by before op (calls.View (view_calls.Update view value))) number
+  Refuses before op (calls.View (view_calls.Claim view)) number = ((number ≡ 10) × HasReached decode get_epoch before greatest) ⊎ ClaimRefused before number
+  Refuses before op (calls.View (view_calls.ClaimAt view at)) number = ((number ≡ 6) × HasReached decode get_epoch before at) ⊎ ClaimRefused before number
+  Refuses before op (calls.View (view_calls.HolderRefresh view)) number = (number ≡ 6) × HolderFenced decode get_epoch before view
+  Refuses before op (calls.View (view_calls.HolderUpdate view value)) number =
       ((number ≡ 6) × HolderFenced decode get_epoch before view)
       ⊎ ((number ≡ 7) × (epoch_held before view ≢ Some (get_epoch value)))
-      ⊎ WriteRefused decode get_epoch failed before op (base_by before op (any.View (view_calls.HolderUpdate view value))) number
+      ⊎ WriteRefused decode get_epoch failed before op (base_by before op (calls.View (view_calls.HolderUpdate view value))) number
   Refuses before op call number = ⊥
 
   -- the answer fits the call: every call is also refused where its store call failed, or for want of memory

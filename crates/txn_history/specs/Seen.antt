@@ -1,5 +1,6 @@
 -- What a world shows beside its rows, since rows do not show it: its clients, each operation's client and what it asks
 -- for, the loose requests, the operations whose store call failed, and the views as they stand.
+-- Give-ups, crashes, failures and landings without effect add no rows.
 use Rattle.std.specs.Prelude.{ℕ, List, Option, Some, None}
 use Rattle.txn_store.specs.declared.request.Request.{Request}
 use Rattle.txn_history.specs.Lists.{numbered}

@@ -1,7 +1,7 @@
 //! What comes into a world of clients, what happens in it row by row, and what it means that the rows are one history:
 //! the audited definitions.
 //!
-//! The laws here follow of one history alone, whatever the machine; `txn_machine_inner` is one that is proved to keep these.
+//! The laws here follow of one history alone, whatever the machine; `txn_machine` has one that is proved to keep these.
 #![tactic(auto)]
 
 pub mod event;

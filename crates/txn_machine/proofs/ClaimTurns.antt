@@ -1,4 +1,4 @@
--- A claim takes a look or a reply as the write or the read of the machine of the nine calls does that its attempt is.
+-- A claim takes a look or a reply as the write or the read of the machine of plain calls does that its attempt is.
 use Rattle.std.proofs.Common.{◌≡◌, ℕ, ◌==◌, List, Bool, true, false, if◌then◌else◌, Option, Some, None, Result, Ok, Err, refl, sym, ◌∙◌, ap, subst, inl, inr}
 use Rattle.txn_store.specs.declared.request.Reply.{Reply}
 use Rattle.txn_types.specs.Errors.{error_number}

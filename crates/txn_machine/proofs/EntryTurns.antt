@@ -1,4 +1,4 @@
--- A call over a write takes a look or a reply as the write of the machine of the nine calls does.
+-- A call over a write takes a look or a reply as the write of the machine of plain calls does.
 use Rattle.std.proofs.Common.{◌≡◌, ℕ, List, Bool, true, false, Option, Some, Result, Ok, Err, refl, sym, ap, subst, inl}
 use Rattle.txn_store.specs.declared.request.Reply.{Reply}
 use Rattle.txn_caches.specs.declared.caches.Caches.{Caches}

@@ -1,4 +1,4 @@
--- What ties a world of all calls to a machine of the nine calls and to the layer of views. Each call without a view, and each
+-- What ties a world of all calls to a machine of plain calls and to the layer of views. Each call without a view, and each
 -- write or read inside a call on a view, is an operation of the machine with a number of its own: a fine operation. It is of one
 -- operation of the world, its owner, which runs one fine operation at a time.
 use Rattle.std.proofs.Common.{◌≡◌, ◌≢◌, ℕ, ◌+◌, ◌<◌, ◌≤◌, ◌⊎◌, List, length, Bool, true, nat_eq, Option, Some, None}
@@ -35,7 +35,7 @@ use Rattle.txn_machine.specs.Doing.{ended, is_claim_call}
 use Rattle.txn_machine.specs.Machine.{State, used_by}
 use Rattle.txn_machine.proofs.Matched.{fine_call, Matched}
 
--- an operation of the machine of the nine calls
+-- an operation of the machine of plain calls
 abbrev pub Fine : Type 0 → Type 0
 Fine T = machine_operation.PlainOperation T
 

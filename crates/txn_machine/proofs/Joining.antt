@@ -1,4 +1,4 @@
--- Every state that events lead to is joined with a machine of the nine calls and with a layer of views.
+-- Every state that events lead to is joined with a machine of plain calls and with a layer of views.
 use Rattle.std.proofs.Common.{◌≡◌, ℕ, zero, suc, ◌≤◌, List, [], Option, Some, None, inl, inr, refl, sym, ap, subst, arith}
 use Rattle.txn_history.specs.declared.event.EventFault.TheVariants as faults
 use Rattle.txn_history.specs.declared.event.EventOf.TheVariants as events

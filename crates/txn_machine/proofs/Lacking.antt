@@ -36,7 +36,7 @@ module _ {T : Type 0} (decode : List ℕ → Option T) (get_epoch : T → ℕ) w
   abbrev lacked : plain.Next T
   lacked = (doings.Ended, Some (plain_answers.Refused 9))
 
-  -- the operation of the nine calls that stands for it may be refused so
+  -- the operation of plain calls that stands for it may be refused so
   fine_stands : (s : machine.State T) (op : ℕ) (o : PlainOperation T) (ask : Ask) (caches : Caches) → machine.Acts s op o ask caches → machine_stands.Stands decode get_epoch s → machine_stands.Stands decode get_epoch (machine.acted s op o lacked caches)
   fine_stands s op o ask caches a st =
       let run = acts_run decode get_epoch s op o ask caches a st in

@@ -1,5 +1,5 @@
 -- What an operation of the world does, held against what the layer says that it does (a write or a read, or the act of a call
--- without a view) and against the operation of the machine of the nine calls that stands for it.
+-- without a view) and against the operation of the machine of plain calls that stands for it.
 use Rattle.std.proofs.Common.{◌≡◌, ℕ, List, [], Bool, Option, Some, None, is_some}
 use Rattle.txn_store.specs.declared.request.Reply.{Reply}
 use Rattle.txn_caches.specs.declared.caches.Caches.{Caches}
@@ -39,7 +39,7 @@ use Rattle.txn_machine.specs.Doing as whole
 use Rattle.txn_machine.specs.Machine.{answer_of, change_of, made_by, seen_view}
 
 module _ {T : Type 0} where
-  -- the call of the machine of the nine calls that a write or a read of a call on a view is
+  -- the call of the machine of plain calls that a write or a read of a call on a view is
   abbrev pub inner_call : Inner T → PlainCall T
   inner_call (Writes base value epoch) = calls.Write (base_on base) value
   inner_call Reads = calls.Read
@@ -83,7 +83,7 @@ module _ {T : Type 0} where
   ViewMatched call local inner op fine = ⊥
 
 module _ {T : Type 0} (get_epoch : T → ℕ) where
-  -- what it does, and the operation of the nine calls that stands for it
+  -- what it does, and the operation of plain calls that stands for it
   abbrev pub Matched : Call T → Option ℕ → Inner T → Doing T → PlainDoing T → Type 0
   Matched (any.Plain call) local inner (does.Plain doing) fine = (inner ≡ plain_inner get_epoch call) × (fine ≡ doing)
   Matched (any.Plain call) local inner (does.View op) fine = ⊥
@@ -101,7 +101,7 @@ module _ {T : Type 0} where
     pub quiet : view_used call ≡ None → (client : ℕ) → made_by client ending ≡ []
 
 module _ {T : Type 0} (page : ℕ) (encode : T → List ℕ) (decode : List ℕ → Option T) (get_epoch : T → ℕ) where
-  -- The next write or read begins as an operation of the nine calls does, which is not refused at once and may begin.
+  -- The next write or read begins as an operation of plain calls does, which is not refused at once and may begin.
   pub record GoesAs (call : Call T) (local : Option ℕ) (inner : Inner T) (next : Next T) : Type 0 where
     pub doing : Doing T
     pub goes : next ≡ (doing, None)
@@ -117,7 +117,7 @@ module _ {T : Type 0} (page : ℕ) (encode : T → List ℕ) (decode : List ℕ 
   NextAs call local (Ends answer change) next = EndsAs call answer change next
   NextAs call local (Opens id value) next = (next ≡ (ended, Some (endings.Comes (outcomes.Viewed id value)))) × (view_used call ≡ None)
 
--- What is to be proved of turns: the operation of the nine calls that stands for it takes the same look or reply, and where
+-- What is to be proved of turns: the operation of plain calls that stands for it takes the same look or reply, and where
 -- that is answered the layer takes the answer.
 module _ {T : Type 0} (page : ℕ) (encode : T → List ℕ) (decode : List ℕ → Option T) (get_epoch : T → ℕ) (set_epoch : T → ℕ → T) where
   abbrev pub Answered : Call T → Option ℕ → Inner T → PlainDoing T → Option (PlainAnswer T) → Next T → Type 0

@@ -1,4 +1,4 @@
--- A read that nothing disturbs, of a call without a view or on one, is one of the machine of the nine calls, state by state.
+-- A read that nothing disturbs, of a call without a view or on one, is one of the machine of plain calls, state by state.
 use Rattle.std.proofs.Common.{◌≡◌, ℕ, ◌+◌, ◌*◌, ◌-◌, ◌≤◌, ◌&&◌, List, [], ◌∷◌, set, Bool, true, false, not, cond, Option, Some, None, Result, Ok, Err, ◌⊎◌, inl, inr, refl, sym, ◌∙◌, ap, subst, arith}
 use Rattle.std.proofs.lemmas.Bool.{and_parts}
 use Rattle.std.proofs.lemmas.Option.{same_Some}
@@ -124,7 +124,7 @@ module _ {T : Type 0} (encode : T → List ℕ) (decode : List ℕ → Option T)
     leaves = λ read caches. refl;
   }
 
-  -- A state of the nine calls whose operation makes the same read over the same store and the same caches.
+  -- A state of plain calls whose operation makes the same read over the same store and the same caches.
   record Mirrors (whole : ReadOp T → Doing T) (s : State T) (op : ℕ) (f : machine.State T) (n : ℕ) (read : ReadOp T) : Type 0 where
     pub operation : Operation T
     pub there : numbered s.operations op ≡ Some operation
@@ -348,7 +348,7 @@ module _ {T : Type 0} (encode : T → List ℕ) (decode : List ℕ → Option T)
   begins_reading page (any.View (view_calls.ClaimAt number epoch)) is view = absurd is
   begins_reading page (any.View (view_calls.HolderUpdate number value)) is view = absurd is
 
-  -- What the bounds of the nine calls say of such a read, over the files and pages of the state.
+  -- What the bounds of plain calls say of such a read, over the files and pages of the state.
   record Bounds (s : State T) (op : ℕ) (states : List (State T)) : Type 0 where
     pub passes_few : passes op states ≤ 2
     pub turns_few : (more : ℕ) → HasPages s.store.files s.page more → turns op s states ≤ 2 * (more + 1)

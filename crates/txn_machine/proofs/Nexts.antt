@@ -1,5 +1,5 @@
--- The next write of a call on a view, and the read that a claim's conflict leads to, begin as operations of the machine of the
--- nine calls.
+-- The next write of a call on a view, and the read that a claim's conflict leads to, begin as operations of the machine of
+-- plain calls.
 use Rattle.std.proofs.Common.{◌≡◌, ℕ, zero, suc, ◌==◌, List, Bool, false, if◌then◌else◌, Option, Some, None, refl, ◌∙◌, ap}
 use Rattle.txn_types.specs.Numbers.{number_of}
 use Rattle.txn_steps.specs.declared.write.WriteOp.{WriteOp}

@@ -1,4 +1,4 @@
--- A call without a view takes a look or a reply as the operation of the machine of the nine calls does.
+-- A call without a view takes a look or a reply as the operation of the machine of plain calls does.
 use Rattle.std.proofs.Common.{◌≡◌, ℕ, ◌==◌, List, Bool, true, false, if◌then◌else◌, Option, Some, None, refl, sym, ap, subst}
 use Rattle.txn_store.specs.declared.request.Reply.{Reply}
 use Rattle.txn_caches.specs.declared.caches.Caches.{Caches}
@@ -107,7 +107,7 @@ module _ {T : Type 0} (page : ℕ) (encode : T → List ℕ) where
   started_ends (calls.Advance to) = λ answer e. absurd (cc)
 
 module _ {T : Type 0} (page : ℕ) (encode : T → List ℕ) (decode : List ℕ → Option T) (get_epoch : T → ℕ) (set_epoch : T → ℕ → T) where
-  -- a call without a view begins as an operation of the nine calls does
+  -- a call without a view begins as an operation of plain calls does
   pub plain_start : (call : PlainCall T) (local : Option ℕ) (view : Option (View T)) (next : Next T) → next ≡ whole.started page encode get_epoch set_epoch (any.Plain call) view →
       Answered page encode decode get_epoch set_epoch (any.Plain call) local (plain_inner get_epoch call) (plain.started page encode call).0 (plain.started page encode call).1 next
   plain_start call local view next e =

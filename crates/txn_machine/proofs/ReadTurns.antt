@@ -1,4 +1,4 @@
--- A call over a read takes a look or a reply as the read of the machine of the nine calls does.
+-- A call over a read takes a look or a reply as the read of the machine of plain calls does.
 use Rattle.std.proofs.Common.{◌≡◌, ℕ, List, Bool, true, false, Option, Some, None, Result, Ok, Err, refl, sym, ◌∙◌, ap, subst, inl}
 use Rattle.txn_store.specs.declared.request.Reply.{Reply}
 use Rattle.txn_types.specs.declared.error.TransactionalObjectError.{TransactionalObjectError}

@@ -1,4 +1,4 @@
--- Every turn of an operation is the turn of the operation of the machine of the nine calls that stands for it, or the layer's.
+-- Every turn of an operation is the turn of the operation of the machine of plain calls that stands for it, or the layer's.
 use Rattle.std.proofs.Common.{ℕ, List, Bool, Option, Some, None, sym, subst}
 use Rattle.txn_store.specs.declared.request.Reply.{Reply}
 use Rattle.txn_caches.specs.declared.caches.Caches.{Caches}

@@ -1,4 +1,4 @@
--- The effects of one history are moves.
+-- The effects of one history of plain calls are moves.
 use Rattle.std.proofs.Common.{ℕ, List, Option, Some, None, inl, inr}
 use Rattle.txn_store.specs.declared.request.Request.{Request}
 use Rattle.txn_machine_inner.specs.PlainTrace.{PlainRow}

@@ -1,4 +1,4 @@
--- What an operation of the world does: how a call starts, what it asks for, what it makes of a look or a reply, and what it leaves of its client's caches.
+-- What an operation of a plain call does: how a call starts, what it asks for, what it makes of a look or a reply, and what it leaves of its client's caches.
 use Rattle.std.specs.Prelude.{◌≡◌, ◌⊎◌, ℕ, ◌<◌, ◌^◌, List, map, ◌==◌, if◌then◌else◌, Bool, true, false, Option, Some, None, Result, Ok, Err}
 use Rattle.txn_store.specs.declared.request.Request.{Request}
 use Rattle.txn_store.specs.declared.request.Reply.{Reply}

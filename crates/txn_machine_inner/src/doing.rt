@@ -1,4 +1,4 @@
-//! The operations of a world's clients, as states of `txn_steps`.
+//! The operations of plain calls, as states of `txn_caches` and `txn_steps`.
 ghost use Rattle.std.specs.Prelude.{◌≡◌, false, None, Some, IfOk, IfSome};
 ghost use Rattle.txn_caches.specs.Steps.{turned_by_number};
 ghost use Rattle.txn_types.specs.Clones.{IsExactClone};

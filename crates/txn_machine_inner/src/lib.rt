@@ -1,5 +1,5 @@
-//! What clients over one store do, as a machine that events move: each operation as a state over its client's caches, and
-//! the proof that whatever events come, the rows are one history.
+//! What clients over one store do where they make plain calls alone, as a machine that events move: each operation as a
+//! state over its client's caches, and the proof that whatever events come, the rows are one history of plain calls.
 #![tactic(auto)]
 
 pub mod alone;

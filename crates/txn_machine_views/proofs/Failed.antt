@@ -5,7 +5,7 @@ use Rattle.txn_history.specs.declared.event.PlainCall.TheVariants as calls
 use Rattle.txn_history.specs.declared.event.PlainAnswer.{PlainAnswer}
 use Rattle.txn_history.specs.declared.event.PlainAnswer.TheVariants as plain_answers
 use Rattle.txn_history.specs.declared.trace.RowOf.TheVariants.{Effect, Begun, Answered}
-use Rattle.txn_history.specs.Facts as plain
+use Rattle.txn_history.specs.Facts as facts
 use Rattle.txn_history.specs.Facts.{Fails}
 use Rattle.txn_history.proofs.Lists.{any_true}
 use Rattle.txn_history.specs.declared.event.ViewCall.TheVariants as view_calls
@@ -23,7 +23,7 @@ module _ {T : Type 0} (decode : List ℕ → Option T) (get_epoch : T → ℕ) (
   abbrev more : List ℕ
   more = failed ++ op ∷ []
 
-  plain_still : (rows : List (Row T)) (o : ℕ) (call : PlainCall T) (answer : PlainAnswer T) → plain.PlainSucceeds decode get_epoch failed rows o call answer → plain.PlainSucceeds decode get_epoch more rows o call answer
+  plain_still : (rows : List (Row T)) (o : ℕ) (call : PlainCall T) (answer : PlainAnswer T) → facts.PlainSucceeds decode get_epoch failed rows o call answer → facts.PlainSucceeds decode get_epoch more rows o call answer
   plain_still rows o (calls.Write base value) (plain_answers.Wrote n) h = h
   plain_still rows o (calls.WriteUnchecked base value) (plain_answers.Wrote n) h = h
   plain_still rows o calls.Read (plain_answers.Read None) h = h
@@ -48,7 +48,7 @@ module _ {T : Type 0} (decode : List ℕ → Option T) (get_epoch : T → ℕ) (
   succeeds_still rows o (any.View (view_calls.HolderUpdate view value)) (answers.View shown n entry) h = h
   succeeds_still rows o _ _ h = absurd h
 
-  plain_refuses_still : (rows : List (Row T)) (o : ℕ) (call : PlainCall T) (number : ℕ) → plain.PlainRefuses decode get_epoch failed rows o call number → plain.PlainRefuses decode get_epoch more rows o call number
+  plain_refuses_still : (rows : List (Row T)) (o : ℕ) (call : PlainCall T) (number : ℕ) → facts.PlainRefuses decode get_epoch failed rows o call number → facts.PlainRefuses decode get_epoch more rows o call number
   plain_refuses_still rows o (calls.Write base value) number h = h
   plain_refuses_still rows o (calls.WriteUnchecked base value) number h = h
   plain_refuses_still rows o (calls.Delete id) number h = h

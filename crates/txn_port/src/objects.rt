@@ -17,7 +17,7 @@ pub(crate) type View = SimpleTransactionalObject<Record, MonotonicId, Ceiling>;
 pub(crate) type Holder = FenceableTransactionalObject<Record, Ceiling, RecordEpoch>;
 
 /// What a call answers, or its error.
-pub(crate) type AnyResult = Result<Answer<Record>, TransactionalObjectError>;
+pub(crate) type ObjectAnswer = Result<Answer<Record>, TransactionalObjectError>;
 
 /// An object of a number.
 #[derive(Drop)]
@@ -45,7 +45,7 @@ pub(crate) fn shown(number: u64, object: &Object) -> Said {
 }
 
 /// The candidate of an object.
-pub(crate) fn prepared<O: TransactionalObject<Record, MonotonicId>>(object: &O) -> AnyResult {
+pub(crate) fn prepared<O: TransactionalObject<Record, MonotonicId>>(object: &O) -> ObjectAnswer {
     let dirty = object.prepare_dirty()?;
     Ok(Answer::Plain(PlainAnswer::Read(Some((dirty.id.id(), dirty.value)))))
 }
@@ -55,7 +55,7 @@ pub(crate) fn refreshed<
     S: ObjectStore,
     P: TransactionalStorageProtocol<Record, MonotonicId, S>,
     O: TransactionalObject<Record, MonotonicId>,
->(number: u64, object: &mut O, protocol: &mut P, store: &mut S, turns: &mut Turns) -> AnyResult {
+>(number: u64, object: &mut O, protocol: &mut P, store: &mut S, turns: &mut Turns) -> ObjectAnswer {
     let value = *object.refresh(protocol, store, turns)?;
     Ok(Answer::View(number, object.id().id(), value))
 }
@@ -72,7 +72,7 @@ pub(crate) fn updated<
     store: &mut S,
     id: Option<u64>,
     value: Record,
-) -> AnyResult {
+) -> ObjectAnswer {
     let DirtyObject { id: own, .. } = object.prepare_dirty()?;
     let id = id.map_or(own, MonotonicId::new);
     object.update(protocol, store, DirtyObject { id, value })?;
@@ -113,7 +113,7 @@ pub(crate) fn applied<S: ObjectStore, P: TransactionalStorageProtocol<Record, Mo
     store: &mut S,
     turns: &mut Turns,
     change: Change,
-) -> AnyResult {
+) -> ObjectAnswer {
     let attempts = Cell::new(0);
     let mutator = |view: &View| candidate(view, change, &attempts);
     view.maybe_apply_update(protocol, store, turns, &mutator)?;
