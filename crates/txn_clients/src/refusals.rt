@@ -1,6 +1,8 @@
 //! Why what a client does is refused, as far as its operations and views tell.
 ghost use Rattle.std.specs.Prelude.{◌≡◌, None, Some, is_some, if◌then◌else◌};
-ghost use Rattle.txn_history.specs.Allowed.{ask_fault, may_use, base_seen};
+ghost use Rattle.txn_history.specs.Allowed.{ask_fault, id_seen, may_use, base_seen};
+ghost use Rattle.std.specs.Option.{option_copied};
+ghost use Rattle.txn_history.specs.Seen.{view_of};
 ghost use Rattle.txn_history.specs.declared.event.EventFault.TheVariants.{UnknownNumber};
 ghost use Rattle.txn_machine_inner.specs.Doing.{asks_as};
 ghost use Rattle.txn_clients.specs.Views.{seen_with};
@@ -8,6 +10,7 @@ ghost use Rattle.txn_clients.specs.Views.{seen_with};
 use crate::views::get;
 use txn_caches::ask::Ask;
 use txn_history::event::{Call, EventFault, PlainCall, ViewCall};
+use txn_history::view::View;
 use txn_machine_views::used::Used;
 
 /// Why an operation that asks for this is refused a look, or a store call: it has ended, or asks for the other.
@@ -35,6 +38,13 @@ pub fn end_refusal(ask: Option<Ask<'_>>) -> Option<EventFault>
     }
 }
 
+/// The view of this number, as a test of views sees it.
+fn seen<T>(views: &[Option<Used<T>>], number: u64) -> Option<&View<T>>
+    ensures { option_copied result ≡ view_of (seen_with views.now) number }
+{
+    get(views, number)
+}
+
 /// Whether the client may use the view of a call, if it has one: it is the client's own, and a holder exactly where the
 /// call is a holder's.
 pub fn may_use<T>(views: &[Option<Used<T>>], client: u64, holders: bool, view: Option<u64>) -> bool
@@ -43,10 +53,17 @@ pub fn may_use<T>(views: &[Option<Used<T>>], client: u64, holders: bool, view: O
     let Some(number) = view else {
         return true;
     };
-    match get(views, number) {
+    match seen(views, number) {
         Some(view) => view.client == client && holders == view.epoch.is_some(),
         None => false,
     }
+}
+
+/// Where the view of this number stands, if it does.
+fn id_at<T>(views: &[Option<Used<T>>], number: u64) -> Option<u64>
+    ensures { result ≡ id_seen (seen_with views.now) (Some number) }
+{
+    Some(seen(views, number)?.id)
 }
 
 /// The base that a call writes on: an update's is where its view stands.
@@ -56,8 +73,8 @@ pub fn base<T>(views: &[Option<Used<T>>], call: &Call<T>) -> Option<u64>
     match call {
         Call::Plain(PlainCall::Write(base, _)) => *base,
         Call::Plain(PlainCall::WriteUnchecked(base, _)) => *base,
-        Call::View(ViewCall::Update(view, _)) => Some(get(views, *view)?.id),
-        Call::View(ViewCall::HolderUpdate(view, _)) => Some(get(views, *view)?.id),
+        Call::View(ViewCall::Update(view, _)) => id_at(views, *view),
+        Call::View(ViewCall::HolderUpdate(view, _)) => id_at(views, *view),
         _ => None,
     }
 }

@@ -16,17 +16,24 @@ use txn_types::room::push_within;
 /// An answer twice: once to be noted, and once to be told.
 pub type Answers<T> = (Answer<T>, Answer<T>);
 
-/// The view of this number, where it stands.
-pub fn get<T>(views: &[Option<Used<T>>], number: u64) -> Option<&View<T>>
-    ensures { option_copied result ≡ seen_view (used_by views.now (Some number)) }
+/// The view of this number, and what uses it, where it stands.
+fn used_at<T>(views: &[Option<Used<T>>], number: u64) -> Option<&Used<T>>
+    ensures { option_copied result ≡ used_by views.now (Some number) }
 {
     if number == 0 {
         return None;
     }
-    match views.get((number - 1) as usize)? {
-        Some(used) => Some(&used.view),
+    match views.get((number - 1) as usize) {
+        Some(used) => used.as_ref(),
         None => None,
     }
+}
+
+/// The view of this number, where it stands.
+pub fn get<T>(views: &[Option<Used<T>>], number: u64) -> Option<&View<T>>
+    ensures { option_copied result ≡ seen_view (used_by views.now (Some number)) }
+{
+    Some(&used_at(views, number)?.view)
 }
 
 /// The view that a call uses, where it uses one and that stands.
@@ -40,12 +47,9 @@ pub fn find<T>(views: &[Option<Used<T>>], view: Option<u64>) -> Option<&View<T>>
 pub fn is_used<T>(views: &[Option<Used<T>>], number: u64) -> bool
     ensures { result ≡ is_used (used_by views.now (Some number)) }
 {
-    if number == 0 {
-        return false;
-    }
-    match views.get((number - 1) as usize) {
-        Some(Some(used)) => used.busy.is_some(),
-        _ => false,
+    match used_at(views, number) {
+        Some(used) => used.busy.is_some(),
+        None => false,
     }
 }
 

@@ -2,7 +2,6 @@
 use Rattle.std.proofs.Common.{◌≡◌, ℕ, ◌⊎◌, inl, inr, List, [], ◌∷◌, ◌++◌, reverse, Option, None, Result, Ok, Err, IfErr, refl, sym, ◌∙◌, ap, subst, arith}
 use Rattle.std.proofs.lemmas.List.{reverse-append}
 use Rattle.std.specs.FinMap.{get}
-use Rattle.std.specs.Result.{IsErrAnd}
 use Rattle.txn_store.specs.Paths.{Segments}
 use Rattle.txn_store.specs.Store.{Files, State as StoreState, Counted, Kept, Removed, Refused, PutRefused, TookPut, Puts, Deletes, put_fault, get_fault}
 use Rattle.txn_store.specs.Requests.{Serves}
@@ -166,8 +165,3 @@ row_refused log row old k why r = elim (cannot row.request k.store row.reply why
 
 pub reason_after : (log : List LogRow) (row : LogRow) (old : Replayed) (k : IsKept log old) (why : LogFault) → IsReason why row.request k.store row.reply → IsReasonAfter log row why
 reason_after log row old k why r = λ store leads. subst (λ (x : StoreState). IsReason why row.request x row.reply) (one_store (reverse log) k.store store k.leads leads) r
-
--- what holds of an error holds of the result that passes it on
-pub at_error : (P : LogFault → Type 0) (r : Result (Unit {0}) LogFault) (why : LogFault) → IsErrAnd r (λ given. given ≡ why) → P why → IfErr r P
-at_error P (Ok done) why is p = tt
-at_error P (Err given) why is p = subst P (sym is) p

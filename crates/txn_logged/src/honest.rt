@@ -62,10 +62,21 @@ impl HonestLog {
         ensures refused { IfErr result (λ why. (why ≡ LogFault.NoMemory) ⊎ (IsHonest (self.old ++ row ∷ []) → ⊥)) }
         ensures reason { IfErr result (IsReasonAfter self.old row) }
     {
-        self.rows.reserve(1)?;
-        self.kept.follow(alloc, &row.request, &row.reply)?;
-        push_within(&mut self.rows, row);
-        Ok(())
+        // The row is dropped by calls: in place, the proof would follow each state that may be dropped here.
+        if let Err(_) = self.rows.reserve(1) {
+            drop(row);
+            return Err(LogFault::NoMemory);
+        }
+        match self.kept.follow(alloc, &row.request, &row.reply) {
+            Ok(()) => {
+                push_within(&mut self.rows, row);
+                Ok(())
+            }
+            Err(fault) => {
+                drop(row);
+                Err(fault)
+            }
+        }
     }
 }
 

@@ -24,6 +24,38 @@ fn copied(reply: &Reply) -> Result<Reply, AllocError>
     }
 }
 
+/// The same request, twice. What is owned is dropped by calls here and in those that use it: in place, the proof would follow
+/// each state that may be dropped. The only error is want of memory.
+fn request_twice(request: &Request) -> Result<(Request, Request), AllocError>
+    ensures noted { IfOk result (λ pair. pair.0 ≡ request.now) }
+    ensures told { IfOk result (λ pair. pair.1 ≡ request.now) }
+{
+    let noted = request.try_clone()?;
+    match request.try_clone() {
+        Ok(told) => Ok((noted, told)),
+        Err(error) => {
+            drop(noted);
+            Err(error)
+        }
+    }
+}
+
+/// The same reply, twice. The only error is that of [`copied`].
+fn reply_twice(reply: &Reply) -> Result<(Reply, Reply), AllocError>
+    ensures copy { IfOk result (λ pair. pair.0 ≡ reply.now) }
+    ensures again { IfOk result (λ pair. pair.1 ≡ reply.now) }
+    ensures err { OnErr result (LeavesFiles reply.now) }
+{
+    let copy = copied(reply)?;
+    match copied(reply) {
+        Ok(again) => Ok((copy, again)),
+        Err(error) => {
+            drop(copy);
+            Err(error)
+        }
+    }
+}
+
 /// A store in memory with a log of the calls that it served. Its log leads from the empty store to it.
 ///
 /// A clause sees the log.
@@ -97,13 +129,26 @@ impl LoggedStore {
         ensures again { IfOk result (λ pair. pair.1 ≡ pair.0.reply) }
         ensures err { OnErr result (self.new ≡ self.old) }
     {
-        let noted = request.try_clone()?;
-        let told = request.try_clone()?;
         self.log.reserve(1)?;
         let place = self.log.len() as u64;
-        let reply = self.store.try_serve(alloc, request)?;
-        let copy = copied(&reply)?;
-        let again = copied(&reply)?;
+        let requests = request_twice(request)?;
+        let reply = match self.store.try_serve(alloc, request) {
+            Ok(reply) => reply,
+            Err(error) => {
+                drop(requests);
+                return Err(error);
+            }
+        };
+        let replies = match reply_twice(&reply) {
+            Ok(replies) => replies,
+            Err(error) => {
+                drop(requests);
+                drop(reply);
+                return Err(error);
+            }
+        };
+        let (noted, told) = requests;
+        let (copy, again) = replies;
         push_within(
             &mut self.log,
             LogRow {

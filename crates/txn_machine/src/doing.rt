@@ -35,12 +35,21 @@ use txn_view_steps::refresh::RefreshOp;
 use txn_view_steps::update::UpdateOp;
 
 /// What an operation does next. One that was answered, or given up, is a plain one that has ended.
-#[derive(Drop)]
 pub enum Doing<T> {
     /// That of a call without a view.
     Plain(PlainDoing<T>),
     /// That of a call on views.
     View(ViewOp<T>),
+}
+
+impl<T: Drop> Drop for Doing<T> {
+    /// Drops the operation's state: here, so that no crate above has to prove how each is dropped.
+    fn drop(self) {
+        match self {
+            Doing::Plain(_) => {}
+            Doing::View(_) => {}
+        }
+    }
 }
 
 /// An operation of a client.
