@@ -14,7 +14,7 @@ pub const EVENTS_OF_A_CALL: u64 = 200;
 #[derive(Debug, Drop, PartialEq, Eq)]
 pub enum Job<T> {
     /// Makes this call.
-    PlainCall(Call<T>),
+    Call(Call<T>),
     /// Reads, then writes the value on the id that it read, or as the first version where there was
     /// none. Where the read is refused there is no write.
     WriteOnRead(T),
