@@ -59,16 +59,21 @@ fn most_on_a_side(count: usize) -> usize
     2usize.pow(count.ilog2()) - 1
 }
 
-/// The index of the next entry that a search compares, where so many may stand on one side of it: as far behind as that
-/// allows.
-fn compared_next(low: usize, high: usize, most: usize) -> usize
+/// The index of the next entry that a search compares, where so many may stand on one side of it: the middle first, and
+/// then as far on as that allows, behind an entry that stood before the mark, and before one that stood behind it.
+fn compared_next(low: usize, high: usize, most: usize, last: Ordering) -> usize
     requires { low < high }
     ensures rising { low ≤ result }
     ensures within { result < high }
-    ensures before { result - low ≤ most }
+    ensures before { high - low ≤ 2 * most + 1 → result - low ≤ most }
     ensures behind { high - low ≤ 2 * most + 1 → high - (result + 1) ≤ most }
 {
-    low + most.min(high - low - 1)
+    let others = high - low - 1;
+    match last {
+        Ordering::Less => low + most.min(others),
+        Ordering::Equal => low + others / 2,
+        Ordering::Greater => low + others.saturating_sub(most),
+    }
 }
 
 /// An index among sorted files: `Ok` where a path stands, `Err` where it would.
@@ -108,8 +113,8 @@ impl SortedFiles {
     }
 
     /// Where a mark stands among the files. It compares as many of their paths as their number has binary digits, at most, and
-    /// far fewer near their end, where versions are put: each time it compares the path that stands as far behind as that bound
-    /// allows.
+    /// mostly far fewer near either end, where the newest version and the boundary stand: after the path in the middle each
+    /// path that it compares stands as far on as that bound allows.
     fn search(&self, mark: Mark, asked: &Path, compared: &mut u64) -> Place
         ensures place { IsPlace mark asked.now (finmap.entries self.now) result }
         // There is an index after it.
@@ -119,10 +124,12 @@ impl SortedFiles {
         let mut low = 0;
         let mut high = self.entries.len();
         let mut most = most_on_a_side(high);
+        let mut last = Ordering::Equal;
         while low < high {
-            let middle = compared_next(low, high, most);
+            let middle = compared_next(low, high, most, last);
             most /= 2;
-            match compare(compared, &self.entries[middle].0, mark, asked) {
+            last = compare(compared, &self.entries[middle].0, mark, asked);
+            match last {
                 Ordering::Less => low = middle + 1,
                 Ordering::Equal => return Ok(middle),
                 Ordering::Greater => high = middle,

@@ -16,31 +16,31 @@ index-requires c = let n = c.loop-low.invariant.narrows in let most = n.within i
 pub loop-low-preserved-in-Less : goal.loop-low-preserved-in-Less
 loop-low-preserved-in-Less c =
     let i = c.loop-low.invariant in
-    let counted = c.compare.ensures.counted in
+    let counted = c.compare-last.ensures.counted in
     record {
-      narrows = narrows_up c.args.mark c.args.asked.now c.self.inside.entries.items c.loop-low.low c.loop-low.high c.compared_next-middle.result c.index.result.now c.self.invariant i.narrows c.compared_next-middle.ensures.rising c.compared_next-middle.ensures.within c.index.ensures (sym c.compare.ensures.side ∙ c.in-Less.is);
-      few = few_more c.self.inside.entries.items c.args.compared.now c.loop-low.compared c.compare.new.compared c.loop-low.low c.loop-low.high c.loop-low.most _ c.loop-low.high i.few c.loop-low-test.true (omega (arith, counted)) (c.compared_next-middle.ensures.behind (i.few.covers c.loop-low-test.true));
+      narrows = narrows_up c.args.mark c.args.asked.now c.self.inside.entries.items c.loop-low.low c.loop-low.high c.compared_next-middle.result c.index.result.now c.self.invariant i.narrows c.compared_next-middle.ensures.rising c.compared_next-middle.ensures.within c.index.ensures (sym c.compare-last.ensures.side ∙ c.in-Less.is);
+      few = few_more c.self.inside.entries.items c.args.compared.now c.loop-low.compared c.compare-last.new.compared c.loop-low.low c.loop-low.high c.loop-low.most _ c.loop-low.high i.few c.loop-low-test.true (omega (arith, counted)) (c.compared_next-middle.ensures.behind (i.few.covers c.loop-low-test.true));
     }
 
 pub loop-low-preserved : goal.loop-low-preserved
 loop-low-preserved c =
     let i = c.loop-low.invariant in
-    let counted = c.compare.ensures.counted in
+    let counted = c.compare-last.ensures.counted in
     record {
-      narrows = narrows_down c.args.mark c.args.asked.now c.self.inside.entries.items c.loop-low.low c.loop-low.high c.compared_next-middle.result c.index.result.now c.self.invariant i.narrows c.compared_next-middle.ensures.rising c.compared_next-middle.ensures.within c.index.ensures (sym c.compare.ensures.side ∙ c.in-Greater.is);
-      few = few_more c.self.inside.entries.items c.args.compared.now c.loop-low.compared c.compare.new.compared c.loop-low.low c.loop-low.high c.loop-low.most c.loop-low.low _ i.few c.loop-low-test.true (omega (arith, counted)) c.compared_next-middle.ensures.before;
+      narrows = narrows_down c.args.mark c.args.asked.now c.self.inside.entries.items c.loop-low.low c.loop-low.high c.compared_next-middle.result c.index.result.now c.self.invariant i.narrows c.compared_next-middle.ensures.rising c.compared_next-middle.ensures.within c.index.ensures (sym c.compare-last.ensures.side ∙ c.in-Greater.is);
+      few = few_more c.self.inside.entries.items c.args.compared.now c.loop-low.compared c.compare-last.new.compared c.loop-low.low c.loop-low.high c.loop-low.most c.loop-low.low _ i.few c.loop-low-test.true (omega (arith, counted)) (c.compared_next-middle.ensures.before (i.few.covers c.loop-low-test.true));
     }
 
 pub returns-in-Equal-clause-place : goal.returns-in-Equal-clause-place
 returns-in-Equal-clause-place c =
     subst (λ (es : Entries). StandsAt c.args.mark c.args.asked.now es c.compared_next-middle.result) (sym (entries_are c.self.inside.entries.items c.args.self.now c.self.invariant c.self.view_is))
-    (stands_at c.args.mark c.args.asked.now c.self.inside.entries.items c.loop-low.low c.loop-low.high c.compared_next-middle.result c.index.result.now c.self.invariant c.loop-low.invariant.narrows c.compared_next-middle.ensures.rising c.compared_next-middle.ensures.within c.index.ensures (sym c.compare.ensures.side ∙ c.in-Equal.is))
+    (stands_at c.args.mark c.args.asked.now c.self.inside.entries.items c.loop-low.low c.loop-low.high c.compared_next-middle.result c.index.result.now c.self.invariant c.loop-low.invariant.narrows c.compared_next-middle.ensures.rising c.compared_next-middle.ensures.within c.index.ensures (sym c.compare-last.ensures.side ∙ c.in-Equal.is))
 
 pub returns-in-Equal-clause-few : goal.returns-in-Equal-clause-few
 returns-in-Equal-clause-few c =
-    let counted = c.compare.ensures.counted in
+    let counted = c.compare-last.ensures.counted in
     rw (entries_are c.self.inside.entries.items c.args.self.now c.self.invariant c.self.view_is)
-    (few_at_last c.self.inside.entries.items c.args.compared.now c.loop-low.compared c.compare.new.compared c.loop-low.low c.loop-low.high c.loop-low.most c.loop-low.invariant.few c.loop-low-test.true (omega (arith, counted)))
+    (few_at_last c.self.inside.entries.items c.args.compared.now c.loop-low.compared c.compare-last.new.compared c.loop-low.low c.loop-low.high c.loop-low.most c.loop-low.invariant.few c.loop-low-test.true (omega (arith, counted)))
 
 pub returns-clause-place : goal.returns-clause-place
 returns-clause-place c =
