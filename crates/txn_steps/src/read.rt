@@ -77,9 +77,11 @@ impl<T: Drop> ReadOp<T> {
         ensures turned { (self.new, turned_by_number result) ≡ read_accepted self.old }
         ensures store_error { TellsErrorOf None result }
     {
-        let ReadOp::Checks(id, value, _) = mem::replace(self, ReadOp::Ended) else {
+        let ReadOp::Checks(id, value, check) = mem::replace(self, ReadOp::Ended) else {
             unreachable!()
         };
+        // (by a call: in place, the proof would follow each state that may be dropped)
+        drop(check);
         Turned::Done(Ok(Some((id, value))))
     }
 
