@@ -181,7 +181,7 @@ fn try_blocks(
 fn try_alone(rt: &HostRuntime, blocks: &[Block], wrong: &mut String) -> io::Result<()> {
     let root = folder_of(rt, "scene")?;
     let tried = try_blocks(rt, root.as_str(), blocks, wrong);
-    let _ = fs::remove_dir_all(rt, root.as_str());
+    fs::remove_dir_all(rt, root.as_str())?;
     tried
 }
 

@@ -1,5 +1,6 @@
 -- A read of the newest version, driven: the loop.
 use Rattle.std.proofs.Common.{◌≡◌, ◌⊎◌, ℕ, ◌+◌, ◌*◌, ◌<◌, ◌≤◌, ◌^◌, ◌&&◌, Bool, true, false, List, length, Option, Some, IfSome, Result, Ok, Err, IfOk, IfErr, IsErrOf, refl, sym, ap, subst, ◌∙◌, inl, inr, arith, None}
+use Rattle.std.specs.Prelude.{◌==◌, if◌then◌else◌}
 use Rattle.std.proofs.Math.Nat.{lt_of_mul-lt-mul_right}
 use Rattle.std.proofs.lemmas.List.{length-append}
 use Rattle.txn_store.specs.VersionName.{Names}
@@ -17,12 +18,13 @@ use Rattle.txn_caches.specs.Steps.{turned_by_number, IsErrorOf}
 use Rattle.txn_caches.specs.Windows.{Ascends, greatest_held}
 use Rattle.txn_steps.specs.declared.latest.LatestOp.{LatestOp}
 use Rattle.txn_steps.specs.declared.latest.LatestOp.TheVariants.{Looks, Probes, Finds, Lists, Chooses, Gets, Keeps, Drops, Ended}
-use Rattle.txn_steps.specs.Latest.{ReadAnswer, latest_turned, latest_left}
+use Rattle.txn_steps.specs.Requests.{version_got}
+use Rattle.txn_steps.specs.Latest.{ReadAnswer, answered, begins_with, latest_begun, latest_turned, latest_left}
 use Rattle.txn_drivers.specs.Calls.{one_if, SpendsTurns, HasStoreCause, HasCauseOfRead}
 use Rattle.txn_drivers.specs.Standing.{FilesStand, WindowFits}
 use Rattle.txn_drivers.specs.LatestReads.{HasPages, HasGrown, IsRefused, HasToList, IsAnswer, AnswersOf, Ended as ReadEnded}
 use Rattle.txn_drivers.specs.PageCount.{files_below}
-use Rattle.txn_drivers.specs.LatestRuns.{is_listing, Begins, steps_left, calls_left, IsFormed, Pays, IsStep, Listing, Holds, HasSpent, Running}
+use Rattle.txn_drivers.specs.LatestRuns.{is_listing, steps_left, calls_left, IsFormed, Pays, IsStep, Listing, Holds, HasSpent, Running}
 use Rattle.txn_drivers.proofs.LatestWindows.{grown_none, grown_kept, grown_every}
 use Rattle.txn_drivers.proofs.LatestSteps.{Leaves}
 use Rattle.txn_drivers.proofs.LatestTurns.{NumberCause, calls_of, Fails}
@@ -328,7 +330,20 @@ begins names page decode store turns first op ascending small is = rw is (record
 looked_on : {T : Type 0} (names : Names) (page : ℕ) (decode : List ℕ → Option T) (store : State) (first : List Cached) (op : LatestOp T) → (op, Goes) ≡ latest_turned names page decode Looks first None → IsStep names page decode store store first first Looks op Goes
 looked_on names page decode store first op is = record { reply = None; replied = refl; lacks = false; turned = is; left = refl; store_error = tt }
 
-pub begun : {T : Type 0} (names : Names) (page : ℕ) (room : 1 ≤ page) (decode : List ℕ → Option T) (store : State) (turns : ℕ) (first : List Cached) (op : LatestOp T) → Ascends first → IfSome (greatest_held first) (λ version. version.id < 2 ^ 64) → Begins names page decode first op → Running names page decode store store turns turns first first false op
-begun names page room decode store turns first op ascending small (inl is) = begins names page decode store turns first op ascending small is
-begun names page room decode store turns first op ascending small (inr is) =
-    goes_on names page room decode store store turns turns first first false Looks (begins names page decode store turns first Looks ascending small refl) store turns first false op (omega arith, refl) (looked_on names page decode store first op is)
+begun_as : {T : Type 0} (names : Names) (page : ℕ) (decode : List ℕ → Option T) (found : Option Cached) (op : LatestOp T) → op ≡ latest_begun names page found → (op ≡ Looks) ⊎ ((op, Goes) ≡ begins_with names page decode Looks found)
+begun_as names page decode None op is = inr (ap (λ (o : LatestOp _). (o, Goes)) is)
+begun_as {T} names page decode (Some hand) op is = by (hand.id == 18446744073709551615) is
+  where
+    abbrev asks : LatestOp T
+    asks = Probes hand 0 (hand.id + 1) (version_got names (hand.id + 1))
+
+    by : (b : Bool) → op ≡ (if b then Looks else asks) → (op ≡ Looks) ⊎ ((op, Goes) ≡ (if b then answered decode Looks hand else (asks, Goes)))
+    by true same = inl same
+    by false same = inr (ap (λ (o : LatestOp T). (o, Goes)) same)
+
+pub begun : {T : Type 0} (names : Names) (page : ℕ) (room : 1 ≤ page) (decode : List ℕ → Option T) (store : State) (turns : ℕ) (first : List Cached) (op : LatestOp T) → Ascends first → IfSome (greatest_held first) (λ version. version.id < 2 ^ 64) → op ≡ latest_begun names page (greatest_held first) → Running names page decode store store turns turns first first false op
+begun names page room decode store turns first op ascending small is =
+    elim (begun_as names page decode (greatest_held first) op is) [
+      | inl looks ↦ begins names page decode store turns first op ascending small looks
+      | inr on ↦ goes_on names page room decode store store turns turns first first false Looks (begins names page decode store turns first Looks ascending small refl) store turns first false op (omega arith, refl) (looked_on names page decode store first op on)
+    ]

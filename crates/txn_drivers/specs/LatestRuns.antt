@@ -10,7 +10,6 @@ use Rattle.txn_store.specs.declared.request.Reply.{Reply}
 use Rattle.txn_types.specs.declared.error.TransactionalObjectError.{TransactionalObjectError}
 use Rattle.txn_caches.specs.declared.caches.Cached.{Cached}
 use Rattle.txn_caches.specs.declared.turned.Turned.{Turned}
-use Rattle.txn_caches.specs.declared.turned.Turned.TheVariants.{Goes}
 use Rattle.txn_caches.specs.Windows.{Ascends, held, greatest_held}
 use Rattle.txn_caches.specs.Steps.{turned_by_number, TellsErrorOf}
 use Rattle.txn_caches.specs.Asking.{reply_told, unless_lacking}
@@ -76,10 +75,6 @@ module _ {T : Type 0} where
 abbrev pub Pays : Bool → Bool → Bool → ℕ → ℕ → Bool → Type 0
 Pays asks listed listed' turns turns' true = (turns ≡ turns' + one_if (asks && listed)) × (listed' ≡ (asks || listed))
 Pays asks listed listed' turns turns' false = (one_if (asks && listed) ≡ 1) × (turns ≡ 0) × (turns' ≡ 0)
-
--- a read that looks, or has looked and goes on
-abbrev pub Begins : {T : Type 0} → Names → ℕ → (List ℕ → Option T) → List Cached → LatestOp T → Type 0
-Begins names page decode latest op = (op ≡ Looks) ⊎ ((op, Goes) ≡ latest_turned names page decode Looks latest None)
 
 -- one look or one store call of a read: what is replied, and what it makes of that
 pub record IsStep {T : Type 0} (names : Names) (page : ℕ) (decode : List ℕ → Option T) (old new : State) (latest latest' : List Cached) (op op' : LatestOp T) (told : Turned (Result (Option (ℕ × T)) TransactionalObjectError)) : Type 0 where

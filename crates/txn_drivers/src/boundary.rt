@@ -71,6 +71,7 @@ pub fn check_boundary<S: ObjectStore>(
     'steps: loop {
         match check_step(alloc, cached, store, &mut op) {
             Turned::Goes => {}
+            // (by a call: in place, the proof would follow each state that may be dropped)
             Turned::Done(answer) => {
                 drop(op);
                 return answer;

@@ -1,8 +1,9 @@
 //! A read of the newest version, driven to its end.
 ghost use Rattle.std.specs.Prelude.{◌≡◌, ◌^◌, ◌<◌, ◌≤◌, IfSome};
 ghost use Rattle.txn_caches.specs.Windows.{Ascends, greatest_held};
+ghost use Rattle.txn_steps.specs.Latest.{latest_begun};
 ghost use Rattle.txn_drivers.specs.LatestReads.{Ended};
-ghost use Rattle.txn_drivers.specs.LatestRuns.{is_listing, Begins, IsFormed, IsStep, Pays};
+ghost use Rattle.txn_drivers.specs.LatestRuns.{is_listing, IsFormed, IsStep, Pays};
 
 use crate::replies::reply_to;
 use crate::turns::Turns;
@@ -63,7 +64,7 @@ fn first_held(latest: &Window)
     }
 }
 
-/// Runs a read, from its first look or from what that led to, to its end.
+/// Runs a read to its end, from where its first look leaves it.
 fn run<T: Drop, C: ObjectCodec<T>, S: ObjectStore>(
     alloc: Global,
     layout: &Layout<C>,
@@ -75,7 +76,7 @@ fn run<T: Drop, C: ObjectCodec<T>, S: ObjectStore>(
     requires page { 1 ≤ layout.now.page }
     requires ascends { Ascends latest.old }
     requires small { IfSome (greatest_held latest.old) (λ version. version.id < 2 ^ 64) }
-    requires begins { Begins layout.now.names layout.now.page (C.decoded layout.now.codec) latest.old op.old }
+    requires begins { op.old ≡ latest_begun layout.now.names layout.now.page (greatest_held latest.old) }
     ensures { Ended layout.now.names layout.now.page (C.decoded layout.now.codec) (S.state store.old) (S.state store.new) turns.old turns.new latest.old latest.new result }
 {
     let mut listed = false;
@@ -110,17 +111,9 @@ pub fn read_latest<T: Drop, C: ObjectCodec<T>, S: ObjectStore>(
     ensures { Ended layout.now.names layout.now.page (C.decoded layout.now.codec) (S.state store.old) (S.state store.new) turns.old turns.new latest.old latest.new result }
 {
     first_held(latest);
-    match LatestOp::probing(alloc, layout, latest)? {
-        Some(mut op) => {
-            let answer = run(alloc, layout, latest, store, turns, &mut op);
-            drop(op);
-            answer
-        }
-        None => {
-            let mut op = LatestOp::start();
-            let answer = run(alloc, layout, latest, store, turns, &mut op);
-            drop(op);
-            answer
-        }
-    }
+    let mut op = LatestOp::begun(alloc, layout, latest)?;
+    let answer = run(alloc, layout, latest, store, turns, &mut op);
+    // (by a call: in place, the proof would follow each state that may be dropped)
+    drop(op);
+    answer
 }

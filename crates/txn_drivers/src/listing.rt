@@ -57,6 +57,7 @@ pub fn list_versions<T, C: ObjectCodec<T>, S: ObjectStore>(
     'steps: loop {
         match list_step(alloc, layout, store, &mut op) {
             Turned::Goes => {}
+            // (by a call: in place, the proof would follow each state that may be dropped)
             Turned::Done(answer) => {
                 drop(op);
                 return answer;

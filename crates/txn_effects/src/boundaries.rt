@@ -168,9 +168,7 @@ impl Boundaries {
         };
         self.land(fates, place, number, None)
     }
-}
 
-impl Boundaries {
     /// Notes what all calls show.
     fn find(&mut self, calls: &[Asked<'_>], fates: &mut Vec<Fate>) -> Result<(), AllocError> {
         for place in 0..calls.len() {
@@ -196,8 +194,6 @@ pub(crate) fn written(
         writers: BTreeMap::new(alloc),
         of_token: HashMap::new(alloc),
     };
-    match boundaries.find(calls, fates) {
-        Ok(()) => Ok(boundaries),
-        Err(error) => Err(error),
-    }
+    boundaries.find(calls, fates)?;
+    Ok(boundaries)
 }

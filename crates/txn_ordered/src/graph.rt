@@ -131,10 +131,8 @@ impl Graph {
         let mut ready = BinaryHeap::new(alloc);
         self.add_ready(keys, &mut ready)?;
         let mut order = Vec::with_capacity(alloc, keys.len())?;
-        match self.take_all(keys, &mut ready, &mut order) {
-            Ok(()) => Ok(order),
-            Err(error) => Err(error),
-        }
+        self.take_all(keys, &mut ready, &mut order)?;
+        Ok(order)
     }
 
     /// For each node that waits, after a sort, one that it waits for.

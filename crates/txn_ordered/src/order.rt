@@ -145,10 +145,8 @@ fn in_order(
     nodes: &[usize],
 ) -> Result<Vec<Placed>, AllocError> {
     let mut order = Vec::new(alloc);
-    match add_in_order(effects, nodes, &mut order) {
-        Ok(()) => Ok(order),
-        Err(error) => Err(error),
-    }
+    add_in_order(effects, nodes, &mut order)?;
+    Ok(order)
 }
 
 /// Notes what came before what, by the replies, where these boundaries were written.

@@ -47,10 +47,8 @@ impl Standing {
             ended: 0,
             lives: BTreeMap::new(alloc),
         };
-        match standing.note(calls, lives) {
-            Ok(()) => Ok(standing),
-            Err(error) => Err(error),
-        }
+        standing.note(calls, lives)?;
+        Ok(standing)
     }
 
     /// Notes when lives began and ended.

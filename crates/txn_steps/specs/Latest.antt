@@ -48,6 +48,11 @@ module _ {T : Type 0} where
   abbrev pub latest_getting : Names → ℕ → LatestOp T
   latest_getting names id = Gets id (version_got names id)
 
+  -- as the first look leaves it, by the greatest held version; one that can have no successor is looked at
+  abbrev pub latest_begun : Names → ℕ → Option Cached → LatestOp T
+  latest_begun names page None = latest_listing names page
+  latest_begun names page (Some hand) = if hand.id == 18446744073709551615 then Looks else Probes hand 0 (hand.id + 1) (version_got names (hand.id + 1))
+
   -- what it asks
   abbrev pub latest_asked : LatestOp T → Option Request
   latest_asked Looks = None

@@ -356,9 +356,9 @@ fn after_get<T: Drop, C: ObjectCodec<T>>(
 }
 
 impl<T: Drop> LatestOp<T> {
-    ghost use Rattle.std.specs.Prelude.{ℕ, List, Option, IfSome};
+    ghost use Rattle.std.specs.Prelude.{List};
     ghost use Rattle.txn_caches.specs.declared.caches.Cached.{Cached};
-    ghost use Rattle.txn_steps.specs.Latest.{latest_asked, latest_turned, latest_left, is_keeping, IsLatestReply, InRange};
+    ghost use Rattle.txn_steps.specs.Latest.{latest_asked, latest_begun, latest_turned, latest_left, is_keeping, IsLatestReply, InRange};
 
     /// A read, which begins with a look. It takes no memory.
     pub fn start() -> LatestOp<T>
@@ -367,21 +367,20 @@ impl<T: Drop> LatestOp<T> {
         LatestOp::Looks
     }
 
-    /// The read after its first look, where that finds a version that may have a successor, for which it asks. The only
-    /// error is want of memory.
-    pub fn probing<C>(
+    /// The read as its first look leaves it: it asks for the successor of the greatest held version, or for the first page
+    /// where none is held. Where that version can have no successor it looks, since the look would answer it. The only error is
+    /// want of memory.
+    pub fn begun<C>(
         alloc: Global,
         layout: &Layout<C>,
         latest: &Window,
-    ) -> Result<Option<LatestOp<T>>, AllocError>
-        ensures { IfOk result (λ begun. IfSome begun (λ op. (decode : List ℕ → Option T) → (op, Turned.Goes) ≡ latest_turned layout.now.names layout.now.page decode LatestOp.Looks latest.now None)) }
+    ) -> Result<LatestOp<T>, AllocError>
+        ensures { IfOk result (λ op. op ≡ latest_begun layout.now.names layout.now.page (greatest_held latest.now)) }
     {
         match latest.greatest() {
-            Some(cached) if !cached.id.is(u64::MAX) => {
-                let hand = cached.try_clone()?;
-                Ok(Some(probe(alloc, &layout.names, hand, 0)?))
-            }
-            _ => Ok(None),
+            None => list(layout),
+            Some(cached) if cached.id.is(u64::MAX) => Ok(LatestOp::start()),
+            Some(cached) => probe(alloc, &layout.names, cached.try_clone()?, 0),
         }
     }
 

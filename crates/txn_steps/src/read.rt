@@ -66,6 +66,7 @@ impl<T: Drop> ReadOp<T> {
         let ReadOp::Reads(latest, boundary) = mem::replace(self, ReadOp::Ended) else {
             unreachable!()
         };
+        // (by a call: in place, the proof would follow each state that may be dropped)
         drop(latest);
         self.go_to(ReadOp::Checks(id, value, CheckOp::of_read(id, boundary)));
     }

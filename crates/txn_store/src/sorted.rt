@@ -108,8 +108,8 @@ impl SortedFiles {
     }
 
     /// Where a mark stands among the files. It compares as many of their paths as their number has binary digits, at most, and
-    /// far fewer near their end, where versions are put: it asks for the path behind which so few are left that as many as
-    /// may be stand before it.
+    /// far fewer near their end, where versions are put: each time it compares the path that stands as far behind as that bound
+    /// allows.
     fn search(&self, mark: Mark, asked: &Path, compared: &mut u64) -> Place
         ensures place { IsPlace mark asked.now (finmap.entries self.now) result }
         // There is an index after it.

@@ -58,6 +58,7 @@ fn enter<T: Clone, C: ObjectCodec<T>, X: EpochField<T>>(
     let write = WriteOp::start(alloc, layout, Some(id), &value)?;
     match Copies::of(value) {
         Ok(copies) => Ok(Claiming::Writes(write, copies, epoch)),
+        // (by a call: in place, the proof would follow each state that may be dropped)
         Err(error) => {
             drop(write);
             Err(error.into())

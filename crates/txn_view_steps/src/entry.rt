@@ -56,7 +56,7 @@ impl<T: Clone> EntryOp<T> {
         let write = WriteOp::start(alloc, layout, base, value)?;
         match copies_of(value) {
             Ok(copies) => Ok(EntryOp::Writes(write, copies)),
-            // By a call: at the end of the body, the proof would follow each state that may be dropped there.
+            // (by a call: in place, the proof would follow each state that may be dropped)
             Err(error) => {
                 drop(write);
                 Err(error.into())
