@@ -65,9 +65,13 @@ at_some xs ys r a b h is = subst (Cut xs ys) is h
 at_none : (xs ys : List ℕ) (r : Found) → Cut xs ys r → r ≡ None → ⊥
 at_none xs ys r h is = subst (Cut xs ys) is h
 
--- a text of a word and a number, which are read
+-- a text of a word and what stands after it, which are read
+pub word_rest : (bs word rest : List ℕ) (a b : Bor (List ℕ)) → IsSplitOnceResult 32 bs (Some (a, b)) → a.now ≡ word → b.now ≡ rest → bs ≡ word ++ (32 ∷ rest)
+word_rest bs word rest a b h one two = (split_parts 32 bs (Some (a, b)) h (lit< tt)).0 ∙ rw (one, two) refl
+
+-- the same where that is a number
 pub word_number : (bs word : List ℕ) (a b : Bor (List ℕ)) (n : ℕ) → IsSplitOnceResult 32 bs (Some (a, b)) → a.now ≡ word → Some n ≡ decimal_read b.now → bs ≡ word ++ (32 ∷ decimal n)
-word_number bs word a b n h one two = (split_parts 32 bs (Some (a, b)) h (lit< tt)).0 ∙ rw (one, (decimal_read_is b.now n (sym two)).0) refl
+word_number bs word a b n h one two = word_rest bs word (decimal n) a b h one (decimal_read_is b.now n (sym two)).0
 
 -- what a reader says of a value, where it is read, and where it is not
 pub clash : {A : Type 0} (r : Option A) (x : A) → r ≡ Some x → r ≡ None → ⊥

@@ -9,7 +9,7 @@ use std::ops::Bound;
 use txn_history::event::{Call, PlainCall, ViewCall};
 
 /// The base of a write, or `-` for none.
-#[derive(Clone, Copy, Debug)]
+#[derive(Clone, Copy)]
 struct OnBase(Option<u64>);
 
 impl fmt::Display for OnBase {
@@ -24,7 +24,7 @@ impl fmt::Display for OnBase {
 }
 
 /// A bound of a listing: `=` and a number that is within, `!` and a number that is not, or `-` for none.
-#[derive(Clone, Copy, Debug)]
+#[derive(Clone, Copy)]
 struct UpTo(Bound<u64>);
 
 impl fmt::Display for UpTo {
@@ -40,7 +40,7 @@ impl fmt::Display for UpTo {
 }
 
 /// A call without a view, as it is written.
-#[derive(Clone, Copy, Debug)]
+#[derive(Clone, Copy)]
 struct PlainCalled<'a, T>(&'a PlainCall<T>);
 
 impl<T: LineValue> fmt::Display for PlainCalled<'_, T> {
@@ -72,7 +72,7 @@ impl<T: LineValue> fmt::Display for PlainCalled<'_, T> {
 }
 
 /// A call that makes a view, or uses one, as it is written.
-#[derive(Clone, Copy, Debug)]
+#[derive(Clone, Copy)]
 struct ViewCalled<'a, T>(&'a ViewCall<T>);
 
 impl<T: LineValue> fmt::Display for ViewCalled<'_, T> {

@@ -113,22 +113,26 @@ fn read_valueless<T: TextForm>(text: &str) -> Option<Call<T>>
     }
     let (word, rest) = text.split_once(' ')?;
     match word {
-        "read_unchecked" => Some(Call::Plain(PlainCall::ReadUnchecked(read_decimal(rest)?))),
-        "read_seen" => Some(Call::Plain(PlainCall::ReadSeen(read_decimal(rest)?))),
         "list" => {
             let (from, to) = read_list(rest)?;
-            Some(Call::Plain(PlainCall::ListIds(from, to)))
+            return Some(Call::Plain(PlainCall::ListIds(from, to)));
         }
-        "delete" => Some(Call::Plain(PlainCall::Delete(read_decimal(rest)?))),
-        "check" => Some(Call::Plain(PlainCall::Check(read_decimal(rest)?))),
-        "advance" => Some(Call::Plain(PlainCall::Advance(read_decimal(rest)?))),
-        "refresh" => Some(Call::View(ViewCall::Refresh(read_decimal(rest)?))),
-        "claim" => Some(Call::View(ViewCall::Claim(read_decimal(rest)?))),
         "claim_at" => {
             let (view, epoch) = read_pair(rest)?;
-            Some(Call::View(ViewCall::ClaimAt(view, epoch)))
+            return Some(Call::View(ViewCall::ClaimAt(view, epoch)));
         }
-        "holder_refresh" => Some(Call::View(ViewCall::HolderRefresh(read_decimal(rest)?))),
+        _ => {}
+    }
+    let number = read_decimal(rest)?;
+    match word {
+        "read_unchecked" => Some(Call::Plain(PlainCall::ReadUnchecked(number))),
+        "read_seen" => Some(Call::Plain(PlainCall::ReadSeen(number))),
+        "delete" => Some(Call::Plain(PlainCall::Delete(number))),
+        "check" => Some(Call::Plain(PlainCall::Check(number))),
+        "advance" => Some(Call::Plain(PlainCall::Advance(number))),
+        "refresh" => Some(Call::View(ViewCall::Refresh(number))),
+        "claim" => Some(Call::View(ViewCall::Claim(number))),
+        "holder_refresh" => Some(Call::View(ViewCall::HolderRefresh(number))),
         _ => None,
     }
 }

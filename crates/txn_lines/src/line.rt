@@ -80,19 +80,20 @@ fn read_other<C: TextForm>(words: &str) -> Option<Line<C>>
         → words.now ≡ line_text C.text line → result ≡ Some line }
 {
     let (word, rest) = words.split_once(' ')?;
+    if word == "fail" {
+        let (op, failure) = read_fail(rest)?;
+        return Some(Line::Event(EventOf::Fail(op, failure)));
+    }
+    let number = read_decimal(rest)?;
     match word {
-        "clients" => Some(Line::Clients(read_decimal(rest)?)),
-        "page" => Some(Line::Page(read_decimal(rest)?)),
-        "run" => Some(Line::Run(read_decimal(rest)?)),
-        "look" => Some(Line::Event(EventOf::Look(read_decimal(rest)?))),
-        "serve" => Some(Line::Event(EventOf::Serve(read_decimal(rest)?))),
-        "fail" => {
-            let (op, failure) = read_fail(rest)?;
-            Some(Line::Event(EventOf::Fail(op, failure)))
-        }
-        "giveup" => Some(Line::Event(EventOf::GiveUp(read_decimal(rest)?))),
-        "land" => Some(Line::Event(EventOf::Land(read_decimal(rest)?))),
-        "crash" => Some(Line::Event(EventOf::Crash(read_decimal(rest)?))),
+        "clients" => Some(Line::Clients(number)),
+        "page" => Some(Line::Page(number)),
+        "run" => Some(Line::Run(number)),
+        "look" => Some(Line::Event(EventOf::Look(number))),
+        "serve" => Some(Line::Event(EventOf::Serve(number))),
+        "giveup" => Some(Line::Event(EventOf::GiveUp(number))),
+        "land" => Some(Line::Event(EventOf::Land(number))),
+        "crash" => Some(Line::Event(EventOf::Crash(number))),
         _ => None,
     }
 }

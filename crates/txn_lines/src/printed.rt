@@ -28,7 +28,7 @@ fn refusal_name(number: u8) -> &'static str
 }
 
 /// Ids, each after one space, or ` none`.
-#[derive(Clone, Copy, Debug)]
+#[derive(Clone, Copy)]
 struct Listed<'a>(&'a [u64]);
 
 impl fmt::Display for Listed<'_> {
@@ -46,7 +46,7 @@ impl fmt::Display for Listed<'_> {
 }
 
 /// The answer of a call without a view, or a refusal, as it is printed.
-#[derive(Clone, Copy, Debug)]
+#[derive(Clone, Copy)]
 struct PlainAnswered<'a, T>(&'a PlainAnswer<T>);
 
 impl<T: LineValue> fmt::Display for PlainAnswered<'_, T> {

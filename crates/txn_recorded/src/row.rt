@@ -5,7 +5,6 @@ use txn_store::request::{Reply, Request};
 
 /// One row of a client's recording. The client counts its operations from 1, in the order in which they begin, and has one at
 /// a time. Times are nanoseconds of one clock, which all clients of a machine read.
-#[derive(Drop)]
 pub enum Row<T> {
     /// The recording is of the client of this number, at least 1, whose listings have pages of at most so many files, at least 1.
     Client(u64, u64),
@@ -21,4 +20,19 @@ pub enum Row<T> {
     GiveUp(u64),
     /// The operation is answered, with the answer as it is printed.
     Answer(u64, String),
+}
+
+impl<T: Drop> Drop for Row<T> {
+    /// Drops what the row has: here, so that no crate above has to prove how each part is dropped.
+    fn drop(self) {
+        match self {
+            Row::Client(_, _) => {}
+            Row::Begin(_, _) => {}
+            Row::Ask(_, _, _) => {}
+            Row::Reply(_, _, _) => {}
+            Row::Failed(_, _) => {}
+            Row::GiveUp(_) => {}
+            Row::Answer(_, _) => {}
+        }
+    }
 }

@@ -70,14 +70,17 @@ fn hex_bytes(alloc: Global, text: &str) -> Result<Bytes, TextFault> {
     Ok(Bytes::from_vec(bytes)?)
 }
 
+/// A put of this mode, of a path and of bytes as hex digits.
+fn put_of(alloc: Global, path: &str, hex: &str, mode: PutMode) -> Result<Request, TextFault> {
+    let path = Path::from_text(alloc, path)?;
+    let bytes = hex_bytes(alloc, hex)?;
+    Ok(Request::Put { path, bytes, mode })
+}
+
 /// A put of this mode: its path and its bytes.
 fn read_put(alloc: Global, text: &str, mode: PutMode) -> Result<Request, TextFault> {
     let (path, hex) = cut(text)?;
-    Ok(Request::Put {
-        path: Path::from_text(alloc, path)?,
-        bytes: hex_bytes(alloc, hex)?,
-        mode,
-    })
+    put_of(alloc, path, hex, mode)
 }
 
 /// A put over another: its path, the token of the other, and its bytes.
@@ -85,11 +88,7 @@ fn read_update(alloc: Global, text: &str) -> Result<Request, TextFault> {
     let (path, rest) = cut(text)?;
     let (token, hex) = cut(rest)?;
     let mode = PutMode::Update(Token::new(number(token)?));
-    Ok(Request::Put {
-        path: Path::from_text(alloc, path)?,
-        bytes: hex_bytes(alloc, hex)?,
-        mode,
-    })
+    put_of(alloc, path, hex, mode)
 }
 
 /// A get: its path, and the token that is known.

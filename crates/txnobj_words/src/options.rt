@@ -291,22 +291,47 @@ const COMMANDS: &[Row] = &[
 const STATUSES: &str =
     "Statuses: 0 done; 1 a fault of the system; 2 wrong words; 3 nothing new to see, or a folder that does not serve; 4 an audit that does not agree; 12 the store failed; 14 there is no version; 15 a conflict; 16 fenced; 17 not in this state; 18 bytes that are no value; 19 no memory; 20 no id or epoch is left; 21 no end in sight: others write all the time, or the boundary stands above the newest version; 30 + n the client does not permit the call, by fault n";
 
-/// An argument as what it is.
-fn of_kind<'a>(arg: Arg<'a>, id: &'static str, kind: Kind) -> Arg<'a> {
-    match kind {
-        Kind::Place => arg.required(true),
-        Kind::Count => arg.required(true).value_parser(value_parser!(u64)),
-        Kind::Places => arg.required(true).num_args(1..).action(ArgAction::Append),
-        Kind::Flag => arg.long(id).action(ArgAction::SetTrue),
-        Kind::Text(name) => arg.long(id).value_name(name),
-        Kind::Number => arg.long(id).value_parser(value_parser!(u64)),
-        Kind::Needed => arg.long(id).required(true).value_parser(value_parser!(u64)),
+impl Kind {
+    /// Whether it has to be there.
+    fn is_required(self) -> bool {
+        matches!(
+            self,
+            Kind::Place | Kind::Count | Kind::Places | Kind::Needed
+        )
     }
+
+    /// Whether it stands after its name, and not in a place of its own.
+    fn is_option(self) -> bool {
+        matches!(
+            self,
+            Kind::Flag | Kind::Text(_) | Kind::Number | Kind::Needed
+        )
+    }
+}
+
+/// An argument as what it is.
+fn of_kind<'a>(arg: Arg<'a>, kind: Kind) -> Arg<'a> {
+    match kind {
+        Kind::Place => arg,
+        Kind::Places => arg.num_args(1..).action(ArgAction::Append),
+        Kind::Flag => arg.action(ArgAction::SetTrue),
+        Kind::Text(name) => arg.value_name(name),
+        Kind::Count | Kind::Number | Kind::Needed => arg.value_parser(value_parser!(u64)),
+    }
+}
+
+/// An argument under its name, where it is an option.
+fn named<'a>(arg: Arg<'a>, id: &'static str, kind: Kind) -> Arg<'a> {
+    if kind.is_option() {
+        return arg.long(id);
+    }
+    arg
 }
 
 fn argument<'a>(alloc: Global, row: &Argument) -> Arg<'a> {
     let (id, kind, default, help) = *row;
-    let arg = of_kind(Arg::new(alloc, id).help(help), id, kind);
+    let arg = Arg::new(alloc, id).help(help).required(kind.is_required());
+    let arg = of_kind(named(arg, id, kind), kind);
     if default.is_empty() {
         return arg;
     }
@@ -331,10 +356,19 @@ fn subcommand<'a>(alloc: Global, row: &Row) -> Result<Words<'a>, AllocError> {
     with_arguments(alloc, words, arguments)
 }
 
-fn with_commands<'a>(alloc: Global, words: Words<'a>) -> Result<Words<'a>, AllocError> {
+fn with_command<'a>(alloc: Global, words: Words<'a>, row: &Row) -> Result<Words<'a>, AllocError> {
+    let command = subcommand(alloc, row)?;
+    words.subcommand(command)
+}
+
+fn with_commands<'a>(
+    alloc: Global,
+    words: Words<'a>,
+    rows: &[Row],
+) -> Result<Words<'a>, AllocError> {
     let mut words = words;
-    for row in COMMANDS {
-        words = words.subcommand(subcommand(alloc, row)?)?;
+    for row in rows {
+        words = with_command(alloc, words, row)?;
     }
     Ok(words)
 }
@@ -346,7 +380,8 @@ fn words_of<'a>(alloc: Global) -> Result<Words<'a>, AllocError> {
         )
         .after_help(STATUSES)
         .subcommand_required(true);
-    with_commands(alloc, with_arguments(alloc, words, OPTIONS)?)
+    let words = with_arguments(alloc, words, OPTIONS)?;
+    with_commands(alloc, words, COMMANDS)
 }
 
 /// Where a value comes from that an argument names.
@@ -417,6 +452,31 @@ fn texts_in<'a>(
     Ok(texts)
 }
 
+/// What is asked for by words that were read, which name a command.
+fn command_in<'a>(alloc: Global, found: &ArgMatches<'a>) -> Result<Command<'a>, AllocError> {
+    match found.subcommand() {
+        Some(("audit", of)) => Ok(Command::Audit {
+            diaries: texts_in(alloc, of, "DIARY")?,
+            clock_error: number_in(of, "clock-error"),
+        }),
+        Some((name, of)) => Ok(command_of(name, of).unwrap_or(Command::Doctor)),
+        None => Ok(Command::Doctor),
+    }
+}
+
+fn options_in<'a>(alloc: Global, found: &ArgMatches<'a>) -> Result<Options<'a>, AllocError> {
+    let command = command_in(alloc, found)?;
+    Ok(Options {
+        root: found.get_str("root"),
+        name: found.get_str("name"),
+        suffix: text_in(found, "suffix"),
+        client: found.get_one::<u64>("client"),
+        diary: found.get_str("diary"),
+        syncs: !found.get_flag("no-sync"),
+        command,
+    })
+}
+
 /// What the words ask for, the program's name first.
 ///
 /// # Errors
@@ -424,21 +484,5 @@ fn texts_in<'a>(
 /// The text to be printed and the status to end with, also where the words ask for help, which is no error: 0 then, else 2.
 pub fn options_of<'a>(alloc: Global, words: &'a [String]) -> Result<Options<'a>, Error> {
     let found = words_of(alloc)?.try_get_matches_from(words)?;
-    let command = match found.subcommand() {
-        Some(("audit", of)) => Command::Audit {
-            diaries: texts_in(alloc, of, "DIARY")?,
-            clock_error: number_in(of, "clock-error"),
-        },
-        Some((name, of)) => command_of(name, of).unwrap_or(Command::Doctor),
-        None => Command::Doctor,
-    };
-    Ok(Options {
-        root: found.get_str("root"),
-        name: found.get_str("name"),
-        suffix: text_in(&found, "suffix"),
-        client: found.get_one::<u64>("client"),
-        diary: found.get_str("diary"),
-        syncs: !found.get_flag("no-sync"),
-        command,
-    })
+    Ok(options_in(alloc, &found)?)
 }
