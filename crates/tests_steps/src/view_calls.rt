@@ -11,12 +11,8 @@ use txn_types::layout::Layout;
 use txn_view_drivers::call::ViewCall;
 use txn_view_drivers::with_epochs::WithEpochs;
 use txn_view_steps::claim::ClaimOp;
-use txn_view_steps::claim_at::ClaimAtOp;
-use txn_view_steps::holder::{HolderRefreshOp, HolderUpdateOp};
-use txn_view_steps::init::InitOp;
-use txn_view_steps::load::LoadOp;
-use txn_view_steps::refresh::RefreshOp;
-use txn_view_steps::update::UpdateOp;
+use txn_view_steps::entry::EntryOp;
+use txn_view_steps::view_read::{Purpose, ViewReadOp};
 
 /// An update that another client makes on the version of this id, by its record's epoch and payload.
 pub(crate) type Beside = Option<(u64, u64, u64)>;
@@ -68,12 +64,27 @@ fn overtake(alloc: Global, layout: &Layout<RecordCodec>, place: &mut Place, besi
     if let Some((id, epoch, payload)) = beside {
         place.turn();
         let value = Record { epoch, payload };
-        if let Ok(op) = UpdateOp::start(alloc, layout, MonotonicId::new(id), &value) {
+        if let Ok(op) = EntryOp::start(alloc, layout, Some(MonotonicId::new(id)), &value) {
             let _ = said(driven(alloc, layout, place, ViewCall { op }, 5));
         }
         place.turn();
         place.begin();
     }
+}
+
+/// A step that reads the newest version for a view.
+fn view_read(
+    alloc: Global,
+    layout: &Layout<RecordCodec>,
+    place: &mut Place,
+    purpose: Purpose,
+    steps: u64,
+) -> Result<Told, Error>
+    requires { 1 ≤ layout.now.page }
+{
+    let op = ViewReadOp::<Record>::start(layout, purpose)?;
+    let epochs = RecordEpoch;
+    Ok(said(driven(alloc, layout, place, WithEpochs { op, epochs }, steps)))
 }
 
 /// A step that uses a view.
@@ -91,26 +102,25 @@ fn on_view(
     let epochs = RecordEpoch;
     Ok(match step {
         Step::Update(epoch, payload) => {
-            let op = UpdateOp::start(alloc, layout, id, &Record { epoch, payload })?;
+            let op = EntryOp::start(alloc, layout, Some(id), &Record { epoch, payload })?;
             said(driven(alloc, layout, place, ViewCall { op }, steps))
         }
         Step::Claim(beside) => {
-            let op = ClaimOp::start(alloc, layout, &epochs, id, &value)?;
+            let op = ClaimOp::start(alloc, layout, &epochs, None, id, &value)?;
             overtake(alloc, layout, place, beside);
             said(driven(alloc, layout, place, WithEpochs { op, epochs }, steps))
         }
         Step::ClaimAt(epoch, beside) => {
-            let op = ClaimAtOp::start(alloc, layout, &epochs, epoch, id, &value)?;
+            let op = ClaimOp::start(alloc, layout, &epochs, Some(epoch), id, &value)?;
             overtake(alloc, layout, place, beside);
             said(driven(alloc, layout, place, WithEpochs { op, epochs }, steps))
         }
         Step::HolderRefresh => {
-            let op = HolderRefreshOp::start(layout, held)?;
-            said(driven(alloc, layout, place, WithEpochs { op, epochs }, steps))
+            view_read(alloc, layout, place, Purpose::HolderRefresh(held), steps)?
         }
         Step::HolderUpdate(epoch, payload) => {
             let next = Record { epoch, payload };
-            let op = HolderUpdateOp::start(alloc, layout, &epochs, held, id, &value, &next)?;
+            let op = EntryOp::start_for_holder(alloc, layout, &epochs, held, id, &value, &next)?;
             said(driven(alloc, layout, place, ViewCall { op }, steps))
         }
         _ => GoesOn,
@@ -131,17 +141,11 @@ fn stepped(
         Step::Has(id, epoch, payload) => Viewed(id, epoch, payload),
         Step::Boundary(bytes) => Is(place.put(&layout.boundary, bytes)),
         Step::Init(epoch, payload) => {
-            let op = InitOp::start(alloc, layout, &Record { epoch, payload })?;
+            let op = EntryOp::start(alloc, layout, None, &Record { epoch, payload })?;
             said(driven(alloc, layout, place, ViewCall { op }, steps))
         }
-        Step::Load => {
-            let op = LoadOp::<Record>::start(layout)?;
-            said(driven(alloc, layout, place, ViewCall { op }, steps))
-        }
-        Step::Refresh => {
-            let op = RefreshOp::<Record>::start(layout)?;
-            said(driven(alloc, layout, place, ViewCall { op }, steps))
-        }
+        Step::Load => view_read(alloc, layout, place, Purpose::Load, steps)?,
+        Step::Refresh => view_read(alloc, layout, place, Purpose::Refresh, steps)?,
         _ => match place.client.view {
             Some(view) => return on_view(alloc, layout, place, view, step, steps),
             None => GoesOn,

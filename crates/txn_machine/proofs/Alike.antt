@@ -1,9 +1,7 @@
 -- An operation of the world and the fine operation that stands for it ask for the same, and take the same.
 use Rattle.std.proofs.Common.{◌≡◌, ℕ, Option, Some, refl, sym, ◌∙◌, ap, subst}
 use Rattle.txn_store.specs.declared.request.Reply.{Reply}
-use Rattle.txn_steps.specs.declared.read.ReadOp.{ReadOp}
 use Rattle.txn_machine_inner.specs.declared.doing.PlainDoing.{PlainDoing}
-use Rattle.txn_machine_inner.specs.declared.doing.PlainDoing.TheVariants as doings
 use Rattle.txn_machine_inner.specs.Doing as plain
 use Rattle.txn_machine_inner.specs.Doing.{ask_of}
 use Rattle.txn_view_steps.specs.declared.entry.EntryOp.{EntryOp}
@@ -11,8 +9,7 @@ use Rattle.txn_view_steps.specs.declared.claiming.Claiming.{Claiming}
 use Rattle.txn_view_steps.specs.Entries.{entry_asked, IsEntryReply}
 use Rattle.txn_view_steps.specs.Attempts.{claiming_asked, IsClaimingReply, IsClaimingInRange}
 use Rattle.txn_view_steps.specs.declared.op.ViewOp.{ViewOp}
-use Rattle.txn_view_steps.specs.declared.op.ViewOp.TheVariants.{Init, Load, Refresh, Update, Claim, ClaimAt, HolderRefresh, HolderUpdate}
-use Rattle.txn_history.specs.declared.event.ViewCall.TheVariants as view_calls
+use Rattle.txn_view_steps.specs.declared.op.ViewOp.TheVariants as ops
 use Rattle.txn_history.specs.declared.event.ViewCall.{ViewCall}
 use Rattle.txn_history.specs.declared.event.Call.{Call}
 use Rattle.txn_history.specs.declared.event.Call.TheVariants as any
@@ -49,20 +46,11 @@ module _ {T : Type 0} where
     λ r. subst (λ (e : Claiming T). IsClaimingInRange e) (sym h.attempt_is) (subst (λ (d : PlainDoing T). plain.InRange d) h.fine_is r),
   )
 
-  read_same : (doing : Doing T) (read : ReadOp T) (fine : PlainDoing T) → fine ≡ doings.Read read → Same doing (doings.Read read) → Same doing fine
-  read_same doing read fine e h = subst (Same doing) (sym e) h
-
   view_same : (call : ViewCall T) (local : Option ℕ) (inner : Inner T) (op : ViewOp T) (fine : PlainDoing T) → ViewMatched (any.View call) local inner op fine → Same (does.View op) fine
-  view_same (view_calls.Init v) local (Writes base value epoch) (Init op) fine h = (let s = entry_same op.entry value fine h in record { asks = s.0; replies = s.1; range = λ r. tt })
-  view_same view_calls.Load local Reads (Load op) fine h = read_same (does.View (Load op)) op.read fine h (record { asks = refl; replies = λ reply r. r; range = λ r. r })
-  view_same (view_calls.Refresh number) local Reads (Refresh op) fine h = read_same (does.View (Refresh op)) op.read fine h (record { asks = refl; replies = λ reply r. r; range = λ r. r })
-  view_same (view_calls.Update number v) local (Writes base value epoch) (Update op) fine h = (let s = entry_same op.entry value fine h in record { asks = s.0; replies = s.1; range = λ r. tt })
-  view_same (view_calls.Claim number) local (Writes base value epoch) (Claim op) fine h = (let s = attempt_same op.claiming value epoch fine h in record { asks = s.0; replies = s.1; range = λ r. s.2 })
-  view_same (view_calls.Claim number) local Reads (Claim op) fine h = (let s = claim_read_same op.claiming fine h in record { asks = s.0; replies = s.1; range = s.2 })
-  view_same (view_calls.ClaimAt number at) local (Writes base value epoch) (ClaimAt op) fine h = (let s = attempt_same op.claiming value epoch fine h.0 in record { asks = s.0; replies = s.1; range = λ r. s.2 })
-  view_same (view_calls.ClaimAt number at) local Reads (ClaimAt op) fine h = (let s = claim_read_same op.claiming fine h.0 in record { asks = s.0; replies = s.1; range = s.2 })
-  view_same (view_calls.HolderRefresh number) local Reads (HolderRefresh op) fine h = read_same (does.View (HolderRefresh op)) op.read fine h.0 (record { asks = refl; replies = λ reply r. r; range = λ r. r })
-  view_same (view_calls.HolderUpdate number v) local (Writes base value epoch) (HolderUpdate op) fine h = (let s = entry_same op.entry value fine h in record { asks = s.0; replies = s.1; range = λ r. tt })
+  view_same call local (Writes base value epoch) (ops.Enters op) fine h = (let s = entry_same op value fine h.1 in record { asks = s.0; replies = s.1; range = λ r. tt })
+  view_same call local Reads (ops.Reads op) fine h = subst (Same (does.View (ops.Reads op))) (sym h.1) (record { asks = refl; replies = λ reply r. r; range = λ r. r })
+  view_same call local (Writes base value epoch) (ops.Claims op) fine h = (let s = attempt_same op.claiming value epoch fine h.1 in record { asks = s.0; replies = s.1; range = λ r. s.2 })
+  view_same call local Reads (ops.Claims op) fine h = (let s = claim_read_same op.claiming fine h.1 in record { asks = s.0; replies = s.1; range = s.2 })
   view_same call local inner op fine h = absurd h
 
 module _ {T : Type 0} (get_epoch : T → ℕ) where

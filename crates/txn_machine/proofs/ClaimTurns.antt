@@ -1,5 +1,6 @@
 -- A claim takes a look or a reply as the write or the read of the machine of plain calls does that its attempt is.
 use Rattle.std.proofs.Common.{◌≡◌, ℕ, ◌==◌, List, Bool, true, false, if◌then◌else◌, Option, Some, None, Result, Ok, Err, refl, sym, ◌∙◌, ap, subst, inl, inr}
+use Rattle.std.proofs.lemmas.Option.{same_Some}
 use Rattle.txn_store.specs.declared.request.Reply.{Reply}
 use Rattle.txn_types.specs.Errors.{error_number}
 use Rattle.txn_types.specs.Epochs.{claimed_epoch}
@@ -21,13 +22,14 @@ use Rattle.txn_machine_inner.specs.Doing as plain
 use Rattle.txn_view_steps.specs.declared.claiming.Claiming.{Claiming}
 use Rattle.txn_view_steps.specs.declared.claiming.Claiming.TheVariants as claiming
 use Rattle.txn_view_steps.specs.declared.op.ViewOp.{ViewOp}
-use Rattle.txn_view_steps.specs.declared.op.ViewOp.TheVariants.{Claim, ClaimAt}
+use Rattle.txn_view_steps.specs.declared.op.ViewOp.TheVariants as ops
 use Rattle.txn_view_steps.specs.declared.outcome.Outcome.{Outcome}
 use Rattle.txn_view_steps.specs.declared.outcome.Outcome.TheVariants as outcomes
-use Rattle.txn_view_steps.specs.Attempts.{claiming_turned, claiming_left, attempt_turned, refreshed_turned, followed, entered_with, attempted_again, IsMade}
+use Rattle.txn_view_steps.specs.Attempts.{attempt_turned, refreshed_turned, followed, entered_with, attempted_again}
+use Rattle.txn_view_steps.specs.Claims.{as_claim}
 use Rattle.txn_view_steps.specs.Readings.{said}
 use Rattle.txn_view_steps.specs.Shortages.{IsShort, LacksAsWrite}
-use Rattle.txn_view_steps.specs.ViewOps.{view_turned, view_left, held}
+use Rattle.txn_view_steps.specs.ViewOps.{held}
 use Rattle.txn_history.specs.declared.event.ViewCall.{ViewCall}
 use Rattle.txn_history.specs.declared.event.ViewCall.TheVariants as view_calls
 use Rattle.txn_history.specs.declared.event.Call.{Call}
@@ -43,26 +45,23 @@ use Rattle.txn_machine.specs.declared.doing.Doing.TheVariants as does
 use Rattle.txn_machine.specs.declared.doing.Ending.TheVariants as endings
 use Rattle.txn_machine.specs.Doing.{Next, ended, refused, view_next, goes_by, IsMadeSo}
 use Rattle.txn_machine.specs.Doing as whole
-use Rattle.txn_machine.proofs.Matched.{ViewMatched, IsAttempt, IsClaimRead, EndsAs, Answered, TurnsAs}
+use Rattle.txn_machine.proofs.Matched.{asked_of, IsAttempt, IsClaimRead, EndsAs, Answered, TurnsAs}
 use Rattle.txn_machine.proofs.ReadsLeft.{left_by_refusal, left_as_refused, left_as_going}
 use Rattle.txn_machine.proofs.EntryTurns.{Tells, refusal_closes}
 use Rattle.txn_machine.proofs.Nexts.{write_goes, read_goes}
 
 module _ {T : Type 0} where
-  abbrev pub at_claim : Claiming T → ViewOp T
-  at_claim op = Claim (record { claiming = op })
+  -- a claim that asks for this, at its attempt
+  abbrev pub at_claim : Option ℕ → Claiming T → ViewOp T
+  at_claim asked op = ops.Claims (as_claim asked op)
 
-  abbrev pub at_claim_at : ℕ → Claiming T → ViewOp T
-  at_claim_at epoch op = ClaimAt (record { epoch = epoch; claiming = op })
-
-  -- a claim at its attempt, as a call on a view
   abbrev pub wrapped : (Claiming T → ViewOp T) → Claiming T × Turned (Result (Outcome T) ℕ) → ViewOp T × Turned (Result (Outcome T) ℕ)
   wrapped as_op next = (as_op next.0, next.1)
 
-  lacking_wrapped : {O : Type 0} (hold : O → ViewOp T) (as_op : Claiming T → O) (lacks : Bool) (x : Claiming T × Turned (Result (Outcome T) ℕ)) →
-      held hold (unless_lacking lacks (as_op claiming.Ended) (as_op x.0, x.1)) ≡ unless_lacking lacks (hold (as_op claiming.Ended)) (wrapped (λ c. hold (as_op c)) x)
-  lacking_wrapped {O} hold as_op true x = refl
-  lacking_wrapped {O} hold as_op false x = refl
+  lacking_wrapped : (asked : Option ℕ) (lacks : Bool) (x : Claiming T × Turned (Result (Outcome T) ℕ)) →
+      held ops.Claims (unless_lacking lacks (as_claim asked claiming.Ended) (as_claim asked x.0, x.1)) ≡ unless_lacking lacks (at_claim asked claiming.Ended) (wrapped (at_claim asked) x)
+  lacking_wrapped asked true x = refl
+  lacking_wrapped asked false x = refl
 
   -- the view is held
   holds_view : (call : Call T) (number id : ℕ) (value : T) (epoch : ℕ) → view_used call ≡ Some number → EndsAs call (answers.Held number id value epoch) (Makes id value epoch) (ended, Some (endings.Comes (outcomes.Held id value epoch)))
@@ -76,20 +75,25 @@ module _ {T : Type 0} where
 
 module _ {T : Type 0} (page : ℕ) (encode : T → List ℕ) (decode : List ℕ → Option T) (get_epoch : T → ℕ) (set_epoch : T → ℕ → T) where
   -- A claim: what the layer makes of the answers of its write and its read, and what its operation does then.
-  pub record IsClaimCall (call : ViewCall T) (local asked : Option ℕ) (as_op : Claiming T → ViewOp T) : Type 0 where
-    pub attempt : (write : WriteOp) (base : ℕ) (value : T) (epoch : ℕ) → ViewMatched (any.View call) local (Writes base value epoch) (as_op (claiming.Writes write value epoch)) (doings.Write write)
-    pub reading : (read : ReadOp T) → ViewMatched (any.View call) local Reads (as_op (claiming.Reads read)) (doings.Read read)
+  pub record IsClaimCall (call : ViewCall T) (local asked : Option ℕ) : Type 0 where
+    pub asks_so : asked_of (any.View call) ≡ Some asked
     pub wrote : (id : ℕ) (value : T) (epoch : ℕ) → Tells page encode decode get_epoch call local (entered (any.View call) id value epoch) (ended, Some (endings.Comes (outcomes.Held id value epoch)))
     pub refuses : (number : ℕ) → Tells page encode decode get_epoch call local (refusing (any.View call) number) (refused number)
     pub denies : (number : ℕ) → denied (any.View call) number ≡ (if◌then◌else◌ {A = layer.Next T} (number == 5) (Goes Reads) (refusing (any.View call) number))
     pub misses : missed (any.View call) ≡ refusing (any.View call) 7
     pub finds : (id : ℕ) (value : T) → parts.found get_epoch set_epoch (any.View call) local id value ≡ attempted get_epoch set_epoch (any.View call) asked id value
-    pub turns : (op : Claiming T) (lacks : Bool) (caches : Caches) (reply : Option Reply) →
-        view_turned world_names world_boundary page encode decode get_epoch set_epoch lacks (as_op op) caches reply ≡ unless_lacking lacks (as_op claiming.Ended) (wrapped as_op (claiming_turned world_names world_boundary page encode decode get_epoch set_epoch asked op caches reply))
-    pub leaves : (op : Claiming T) (caches : Caches) (told : Turned (Result (Outcome T) ℕ)) → view_left (as_op op) caches told ≡ claiming_left op caches told
-    pub made : (op : Claiming T) → IsMadeSo encode decode get_epoch (does.View (as_op op)) → IsMade encode decode get_epoch op
 
-  module _ (call : ViewCall T) (local asked : Option ℕ) (as_op : Claiming T → ViewOp T) (facts : IsClaimCall call local asked as_op) where
+  module _ (call : ViewCall T) (local asked : Option ℕ) (facts : IsClaimCall call local asked) where
+    abbrev as_op : Claiming T → ViewOp T
+    as_op op = at_claim asked op
+
+    -- its write, and its read
+    attempt : (write : WriteOp) (value : T) (epoch : ℕ) → IsAttempt (claiming.Writes write value epoch) value epoch (doings.Write write)
+    attempt write value epoch = record { write = write; attempt_is = refl; fine_is = refl }
+
+    reading : (read : ReadOp T) → IsClaimRead (claiming.Reads read) (doings.Read read)
+    reading read = record { read = read; attempt_is = refl; fine_is = refl }
+
     -- what the layer makes of an answer, memory aside, and what the claim does then
     abbrev pub Follows : layer.Next T → Next T → Type 0
     Follows makes next = Tells page encode decode get_epoch call local makes next
@@ -102,8 +106,7 @@ module _ {T : Type 0} (page : ℕ) (encode : T → List ℕ) (decode : List ℕ 
     follows_entry true id value epoch e made = facts.refuses 10
     follows_entry false id value epoch e made =
         let write = write_started world_names world_boundary (Some id) (encode value) in
-        let m = facts.made (claiming.Writes write value epoch) made in
-        (m.own, write_goes page encode decode get_epoch call local id value epoch (as_op (claiming.Writes write value epoch)) e m.reads_back (facts.attempt write id value epoch))
+        (made.own, write_goes page encode decode get_epoch call local id value epoch (as_op (claiming.Writes write value epoch)) e made.reads_back (facts.asks_so, attempt write value epoch))
 
     -- it begins an attempt on a version, whose epoch decides which one is set
     pub follows_claim : (epoch : Result ℕ TransactionalObjectError) (id : ℕ) (value : T) →
@@ -116,7 +119,7 @@ module _ {T : Type 0} (page : ℕ) (encode : T → List ℕ) (decode : List ℕ 
     follows_conflict : (five : Bool) (number : ℕ) →
         Follows (if◌then◌else◌ {A = layer.Next T} five (Goes Reads) (refusing (any.View call) number))
         (view_next (wrapped as_op (if◌then◌else◌ {A = Claiming T × Turned (Result (Outcome T) ℕ)} five (claiming.Reads (read_started world_boundary), turns.Goes) (claiming.Ended, turns.Done (Err number)))))
-    follows_conflict true number = (tt, read_goes page encode decode get_epoch call local (as_op (claiming.Reads (read_started world_boundary))) (facts.reading (read_started world_boundary)))
+    follows_conflict true number = (tt, read_goes page encode decode get_epoch call local (as_op (claiming.Reads (read_started world_boundary))) (facts.asks_so, reading (read_started world_boundary)))
     follows_conflict false number = facts.refuses number
 
     -- the attempt's write is answered
@@ -125,7 +128,7 @@ module _ {T : Type 0} (page : ℕ) (encode : T → List ℕ) (decode : List ℕ 
     attempt_answered base value epoch true (write, turns.Goes) short = absurd (short refl)
     attempt_answered base value epoch true (write, turns.Done (Ok id)) short = absurd (short refl)
     attempt_answered base value epoch true (write, turns.Done (Err number)) short = (refusing (any.View call) 9, refl, inr refl, (facts.refuses 9).0, (facts.refuses 9).1)
-    attempt_answered base value epoch false (write, turns.Goes) short = (does.View (as_op (claiming.Writes write value epoch)), refl, facts.attempt write base value epoch)
+    attempt_answered base value epoch false (write, turns.Goes) short = (does.View (as_op (claiming.Writes write value epoch)), refl, (facts.asks_so, attempt write value epoch))
     attempt_answered base value epoch false (write, turns.Done (Ok id)) short = (entered (any.View call) id value epoch, refl, inl refl, (facts.wrote id value epoch).0, (facts.wrote id value epoch).1)
     attempt_answered base value epoch false (write, turns.Done (Err number)) short =
         let f = subst (λ (due : layer.Next T). Follows due (view_next (wrapped as_op (attempt_turned world_boundary value epoch (write, turns.Done (Err number)))))) (sym (facts.denies number)) (follows_conflict (number == 5) number) in
@@ -141,8 +144,8 @@ module _ {T : Type 0} (page : ℕ) (encode : T → List ℕ) (decode : List ℕ 
           after = plain.write_next x;
           turns = refl;
           answered = subst (λ (n : ViewOp T × Turned (Result (Outcome T) ℕ)). Answered page encode decode get_epoch set_epoch (any.View call) local (Writes base value epoch) (plain.write_next {T = T} x).0 (plain.write_next {T = T} x).1 (view_next n))
-              (sym (facts.turns (claiming.Writes write value epoch) lacks caches reply)) (attempt_answered base value epoch lacks x short);
-          leaves = facts.leaves (claiming.Writes write value epoch) caches _;
+              (sym (lacking_wrapped asked lacks (attempt_turned world_boundary value epoch x))) (attempt_answered base value epoch lacks x short);
+          leaves = refl;
         }
 
     -- its read found this
@@ -158,7 +161,7 @@ module _ {T : Type 0} (page : ℕ) (encode : T → List ℕ) (decode : List ℕ 
         Answered page encode decode get_epoch set_epoch (any.View call) local Reads (plain.or_no_memory lacks (plain.read_next x)).0 (plain.or_no_memory lacks (plain.read_next x)).1
         (view_next (unless_lacking lacks (as_op claiming.Ended) (wrapped as_op (refreshed_turned world_names world_boundary encode get_epoch set_epoch asked x))))
     reading_answered true x made = (refusing (any.View call) 9, refl, inl refl, (facts.refuses 9).0, (facts.refuses 9).1)
-    reading_answered false (read, turns.Goes) made = (does.View (as_op (claiming.Reads read)), refl, facts.reading read)
+    reading_answered false (read, turns.Goes) made = (does.View (as_op (claiming.Reads read)), refl, (facts.asks_so, reading read))
     reading_answered false (read, turns.Done (Ok found)) made = let f = follows_found found made in (parts.taken get_epoch set_epoch (any.View call) local Reads (inside (plain_answers.Read found)), refl, inl refl, f.0, f.1)
     reading_answered false (read, turns.Done (Err number)) made = (refusing (any.View call) number, refl, inl refl, (facts.refuses number).0, (facts.refuses number).1)
 
@@ -183,14 +186,14 @@ module _ {T : Type 0} (page : ℕ) (encode : T → List ℕ) (decode : List ℕ 
     reading_at read caches reply lacks made =
         let x = read_turned world_names world_boundary page decode read caches reply in
         let after = plain.or_no_memory lacks (plain.read_next x) in
-        let is = facts.turns (claiming.Reads read) lacks caches reply in
+        let is = lacking_wrapped asked lacks (refreshed_turned world_names world_boundary encode get_epoch set_epoch asked x) in
         record {
           refused = lacks;
           after = after;
           turns = refl;
           answered = subst (λ (n : ViewOp T × Turned (Result (Outcome T) ℕ)). Answered page encode decode get_epoch set_epoch (any.View call) local Reads after.0 after.1 (view_next n)) (sym is)
               (reading_answered lacks x (subst (λ (n : ViewOp T × Turned (Result (Outcome T) ℕ)). IsMadeSo encode decode get_epoch (view_next n).0) is made));
-          leaves = facts.leaves (claiming.Reads read) caches _ ∙ (ap (λ (n : ViewOp T × Turned (Result (Outcome T) ℕ)). read_left read caches (said (goes_by (view_next n).1))) is ∙ reading_leaves read caches reply lacks x refl);
+          leaves = ap (λ (n : ViewOp T × Turned (Result (Outcome T) ℕ)). read_left read caches (said (goes_by (view_next n).1))) is ∙ reading_leaves read caches reply lacks x refl;
         }
 
     pub attempt_turns : (base : ℕ) (value : T) (epoch : ℕ) (op : Claiming T) (fine : PlainDoing T) (caches : Caches) (reply : Option Reply) (lacks : Bool) → IsAttempt op value epoch fine → LacksAsWrite op caches reply lacks →
@@ -209,32 +212,22 @@ module _ {T : Type 0} (page : ℕ) (encode : T → List ℕ) (decode : List ℕ 
         (reading_at m.read caches reply lacks
         (subst (λ (o : Claiming T). IsMadeSo encode decode get_epoch (whole.turned page encode decode get_epoch set_epoch lacks (does.View (as_op o)) caches reply).0) m.attempt_is (made m.read m.attempt_is))))
 
-  -- the two claims
-
-  pub claim_call : (number : ℕ) (local : Option ℕ) → IsClaimCall (view_calls.Claim number) local None at_claim
-  claim_call number local = record {
-    attempt = λ write base value epoch. record { write = write; attempt_is = refl; fine_is = refl };
-    reading = λ read. record { read = read; attempt_is = refl; fine_is = refl };
+  -- the claim of the next epoch, and that of an epoch that is asked for
+  pub claim_call : (call : ViewCall T) (local asked : Option ℕ) → asked_of (any.View call) ≡ Some asked → IsClaimCall call local asked
+  claim_call (view_calls.Claim number) local asked e = subst (IsClaimCall (view_calls.Claim number) local) (same_Some None asked e) (record {
+    asks_so = refl;
     wrote = λ id value epoch. (tt, holds_view (any.View (view_calls.Claim number)) number id value epoch refl);
     refuses = λ n. (tt, refusal_closes (any.View (view_calls.Claim number)) n refl);
     denies = λ n. refl;
     misses = refl;
     finds = λ id value. refl;
-    turns = λ op lacks caches reply. lacking_wrapped Claim (λ c. record { claiming = c }) lacks (claiming_turned world_names world_boundary page encode decode get_epoch set_epoch None op caches reply);
-    leaves = λ op caches told. refl;
-    made = λ op made. made;
-  }
-
-  pub claim_at_call : (number sought : ℕ) (local : Option ℕ) → IsClaimCall (view_calls.ClaimAt number sought) local (Some sought) (at_claim_at sought)
-  claim_at_call number sought local = record {
-    attempt = λ write base value epoch. (record { write = write; attempt_is = refl; fine_is = refl }, refl);
-    reading = λ read. (record { read = read; attempt_is = refl; fine_is = refl }, refl);
+  })
+  claim_call (view_calls.ClaimAt number sought) local asked e = subst (IsClaimCall (view_calls.ClaimAt number sought) local) (same_Some (Some sought) asked e) (record {
+    asks_so = refl;
     wrote = λ id value epoch. (tt, holds_view (any.View (view_calls.ClaimAt number sought)) number id value epoch refl);
     refuses = λ n. (tt, refusal_closes (any.View (view_calls.ClaimAt number sought)) n refl);
     denies = λ n. refl;
     misses = refl;
     finds = λ id value. refl;
-    turns = λ op lacks caches reply. lacking_wrapped ClaimAt (λ c. record { epoch = sought; claiming = c }) lacks (claiming_turned world_names world_boundary page encode decode get_epoch set_epoch (Some sought) op caches reply);
-    leaves = λ op caches told. refl;
-    made = λ op made. made;
-  }
+  })
+  claim_call call local asked e = absurd (cc)

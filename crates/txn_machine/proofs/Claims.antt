@@ -23,18 +23,16 @@ use Rattle.txn_view_steps.specs.declared.claiming.Claiming.TheVariants as claimi
 use Rattle.txn_view_steps.specs.declared.entry.EntryOp.{EntryOp}
 use Rattle.txn_view_steps.specs.declared.entry.EntryOp.TheVariants as entries
 use Rattle.txn_view_steps.specs.declared.op.ViewOp.{ViewOp}
-use Rattle.txn_view_steps.specs.declared.op.ViewOp.TheVariants.{Init, Load, Refresh, Update, Claim, ClaimAt, HolderRefresh, HolderUpdate}
+use Rattle.txn_view_steps.specs.declared.op.ViewOp.TheVariants.{Enters, Reads, Claims}
 use Rattle.txn_view_steps.specs.declared.outcome.Outcome.{Outcome}
 use Rattle.txn_view_steps.specs.declared.outcome.Outcome.TheVariants as outcomes
 use Rattle.txn_view_steps.specs.Attempts.{attempt_turned, attempted_again, claiming_turned, followed, refreshed_turned}
-use Rattle.txn_view_steps.specs.Claims.{claim_started, claim_at_started}
-use Rattle.txn_view_steps.specs.Entries.{entry_turned, written_turned}
-use Rattle.txn_view_steps.specs.Holders.{as_holder_refresh, holder_viewed, holder_refreshed, holder_update_started}
-use Rattle.txn_view_steps.specs.Inits.{init_started}
-use Rattle.txn_view_steps.specs.Loads.{as_load, loaded}
+use Rattle.txn_view_steps.specs.declared.view_read.Purpose.{Purpose}
+use Rattle.txn_view_steps.specs.declared.view_read.Purpose.TheVariants as purposes
+use Rattle.txn_view_steps.specs.Claims.{claim_started}
+use Rattle.txn_view_steps.specs.Entries.{entry_started, holder_entry_started, entry_turned, written_turned}
 use Rattle.txn_view_steps.specs.Readings.{seen}
-use Rattle.txn_view_steps.specs.Refreshes.{as_refresh, refreshed}
-use Rattle.txn_view_steps.specs.Updates.{update_started}
+use Rattle.txn_view_steps.specs.ViewReads.{as_view_read, holder_viewed, shown}
 use Rattle.txn_view_steps.specs.ViewOps.{view_turned}
 use Rattle.txn_history.specs.declared.event.ViewCall.TheVariants as view_calls
 use Rattle.txn_history.specs.declared.event.Call.{Call}
@@ -54,16 +52,11 @@ module _ {T : Type 0} where
   EndsFit claims (endings.Comes (outcomes.Held id value epoch)) = claims ≡ true
   EndsFit claims (endings.Comes (outcomes.Shut id value error)) = claims ≡ false
 
-  -- an operation of one of the two claims
+  -- an operation of a claim
   abbrev pub is_claim : ViewOp T → Bool
-  is_claim (Claim op) = true
-  is_claim (ClaimAt op) = true
-  is_claim (Init op) = false
-  is_claim (Load op) = false
-  is_claim (Refresh op) = false
-  is_claim (Update op) = false
-  is_claim (HolderRefresh op) = false
-  is_claim (HolderUpdate op) = false
+  is_claim (Claims op) = true
+  is_claim (Enters op) = false
+  is_claim (Reads op) = false
 
   -- it is a claim just where it does what a claim does
   abbrev pub ClaimFits : Bool → Doing T → Type 0
@@ -86,7 +79,7 @@ module _ {T : Type 0} where
   lacking_fits {O} claims true op next h = tt
   lacking_fits {O} claims false op next h = h
 
-  -- the calls over a write
+  -- a call over a write
 
   written_fits : (value : T) (x : WriteOp × Turned (Result ℕ ℕ)) → OutcomeFits false (written_turned value x).1
   written_fits value (write, turns.Goes) = tt
@@ -97,28 +90,24 @@ module _ {T : Type 0} where
   entry_fits (entries.Writes write value) caches reply = written_fits value (write_turned write caches reply)
   entry_fits entries.Ended caches reply = tt
 
-  -- the calls over a read
+  -- a call over a read
 
   seen_fits : {O : Type 0} (as_read : ReadOp T → O) (see : Option (ℕ × T) → Result (Outcome T) ℕ) → ((found : Option (ℕ × T)) → OutcomeFits false (turns.Done (see found))) → (x : ReadOp T × Turned (ReadAnswer T)) → OutcomeFits false (seen as_read see x).1
   seen_fits {O} as_read see h (read, turns.Goes) = tt
   seen_fits {O} as_read see h (read, turns.Done (Ok found)) = h found
   seen_fits {O} as_read see h (read, turns.Done (Err number)) = tt
 
-  loaded_fits : (found : Option (ℕ × T)) → OutcomeFits false (turns.Done (loaded found))
-  loaded_fits (Some found) = refl
-  loaded_fits None = tt
-
-  refreshed_fits : (found : Option (ℕ × T)) → OutcomeFits false (turns.Done (refreshed found))
-  refreshed_fits (Some found) = refl
-  refreshed_fits None = tt
-
   viewed_fits : (found : ℕ × T) (test : Result (Unit {0}) TransactionalObjectError) → EndsFit false (endings.Comes (holder_viewed found test))
   viewed_fits found (Ok own) = refl
   viewed_fits found (Err error) = refl
 
-  holder_fits : (get_epoch : T → ℕ) (local : ℕ) (found : Option (ℕ × T)) → OutcomeFits false (turns.Done (holder_refreshed get_epoch local found))
-  holder_fits get_epoch local (Some found) = viewed_fits found (epoch_tested local (get_epoch found.1))
-  holder_fits get_epoch local None = tt
+  shown_fits : (get_epoch : T → ℕ) (purpose : Purpose) (found : Option (ℕ × T)) → OutcomeFits false (turns.Done (shown get_epoch purpose found))
+  shown_fits get_epoch purposes.Load (Some found) = refl
+  shown_fits get_epoch purposes.Load None = tt
+  shown_fits get_epoch purposes.Refresh (Some found) = refl
+  shown_fits get_epoch purposes.Refresh None = tt
+  shown_fits get_epoch (purposes.HolderRefresh local) (Some found) = viewed_fits found (epoch_tested local (get_epoch found.1))
+  shown_fits get_epoch (purposes.HolderRefresh local) None = tt
 
   -- claims
 
@@ -149,15 +138,10 @@ module _ {T : Type 0} (page : ℕ) (encode : T → List ℕ) (decode : List ℕ 
   -- a step keeps whether it is a claim
   view_fits : (lacks : Bool) (op : ViewOp T) (caches : Caches) (reply : Option Reply) →
       (is_claim op ≡ is_claim (view_turned world_names world_boundary page encode decode get_epoch set_epoch lacks op caches reply).0) × OutcomeFits (is_claim op) (view_turned world_names world_boundary page encode decode get_epoch set_epoch lacks op caches reply).1
-  view_fits lacks (Init op) caches reply = (refl, entry_fits op.entry caches reply)
-  view_fits lacks (Load op) caches reply = (refl, lacking_fits false lacks _ _ (seen_fits as_load loaded loaded_fits (read_turned world_names world_boundary page decode op.read caches reply)))
-  view_fits lacks (Refresh op) caches reply = (refl, lacking_fits false lacks _ _ (seen_fits as_refresh refreshed refreshed_fits (read_turned world_names world_boundary page decode op.read caches reply)))
-  view_fits lacks (Update op) caches reply = (refl, entry_fits op.entry caches reply)
-  view_fits lacks (Claim op) caches reply = (refl, lacking_fits true lacks _ _ (claiming_fits None op.claiming caches reply))
-  view_fits lacks (ClaimAt op) caches reply = (refl, lacking_fits true lacks _ _ (claiming_fits (Some op.epoch) op.claiming caches reply))
-  view_fits lacks (HolderRefresh op) caches reply =
-      (refl, lacking_fits false lacks _ _ (seen_fits (as_holder_refresh op.local) (holder_refreshed get_epoch op.local) (holder_fits get_epoch op.local) (read_turned world_names world_boundary page decode op.read caches reply)))
-  view_fits lacks (HolderUpdate op) caches reply = (refl, entry_fits op.entry caches reply)
+  view_fits lacks (Enters op) caches reply = (refl, entry_fits op caches reply)
+  view_fits lacks (Reads op) caches reply =
+      (refl, lacking_fits false lacks _ _ (seen_fits (as_view_read op.purpose) (shown get_epoch op.purpose) (shown_fits get_epoch op.purpose) (read_turned world_names world_boundary page decode op.read caches reply)))
+  view_fits lacks (Claims op) caches reply = (refl, lacking_fits true lacks _ _ (claiming_fits op.asked op.claiming caches reply))
 
 module _ {T : Type 0} where
   next_of_fits : (claims : Bool) (op : ViewOp T) (told : Turned (Result (Outcome T) ℕ)) → claims ≡ is_claim op → OutcomeFits claims told → NextFits claims (next_of (does.View op) told)
@@ -195,15 +179,15 @@ module _ {T : Type 0} (page : ℕ) (encode : T → List ℕ) (decode : List ℕ 
 module _ {T : Type 0} (page : ℕ) (encode : T → List ℕ) (get_epoch : T → ℕ) (set_epoch : T → ℕ → T) where
   pub started_claims : (call : Call T) (view : Option (View T)) → NextFits (is_claim_call call) (started page encode get_epoch set_epoch call view)
   started_claims (any.Plain call) view = plain_next_fits (plain.started page encode call)
-  started_claims (any.View (view_calls.Init value)) view = first_next_fits false Init (init_started world_names world_boundary encode value) (λ op. refl)
+  started_claims (any.View (view_calls.Init value)) view = first_next_fits false Enters (entry_started world_names world_boundary encode None value) (λ op. refl)
   started_claims (any.View view_calls.Load) view = (refl, tt)
   started_claims (any.View (view_calls.Refresh number)) view = (refl, tt)
-  started_claims (any.View (view_calls.Update number value)) (Some view) = first_next_fits false Update (update_started world_names world_boundary encode view.id value) (λ op. refl)
-  started_claims (any.View (view_calls.Claim number)) (Some view) = first_next_fits true Claim (claim_started world_names world_boundary encode get_epoch set_epoch view.id view.object) (λ op. refl)
-  started_claims (any.View (view_calls.ClaimAt number epoch)) (Some view) = first_next_fits true ClaimAt (claim_at_started world_names world_boundary encode get_epoch set_epoch epoch view.id view.object) (λ op. refl)
+  started_claims (any.View (view_calls.Update number value)) (Some view) = first_next_fits false Enters (entry_started world_names world_boundary encode (Some view.id) value) (λ op. refl)
+  started_claims (any.View (view_calls.Claim number)) (Some view) = first_next_fits true Claims (claim_started world_names world_boundary encode get_epoch set_epoch None view.id view.object) (λ op. refl)
+  started_claims (any.View (view_calls.ClaimAt number epoch)) (Some view) = first_next_fits true Claims (claim_started world_names world_boundary encode get_epoch set_epoch (Some epoch) view.id view.object) (λ op. refl)
   started_claims (any.View (view_calls.HolderRefresh number)) (Some view) = with_local_fits false view.epoch _ (λ own. (refl, tt))
   started_claims (any.View (view_calls.HolderUpdate number value)) (Some view) =
-      with_local_fits false view.epoch _ (λ own. first_next_fits false HolderUpdate (holder_update_started world_names world_boundary encode get_epoch own view.id view.object value) (λ op. refl))
+      with_local_fits false view.epoch _ (λ own. first_next_fits false Enters (holder_entry_started world_names world_boundary encode get_epoch own view.id view.object value) (λ op. refl))
   started_claims (any.View (view_calls.Update number value)) None = (λ e. refl, tt)
   started_claims (any.View (view_calls.Claim number)) None = (λ e. refl, tt)
   started_claims (any.View (view_calls.ClaimAt number epoch)) None = (λ e. refl, tt)

@@ -68,14 +68,12 @@ use Rattle.txn_view_steps.specs.declared.claiming.Claiming.{Claiming}
 use Rattle.txn_view_steps.specs.declared.claiming.Claiming.TheVariants as claims
 use Rattle.txn_view_steps.specs.declared.entry.EntryOp.{EntryOp}
 use Rattle.txn_view_steps.specs.declared.entry.EntryOp.TheVariants as entries
-use Rattle.txn_view_steps.specs.declared.op.ViewOp.TheVariants.{Init, Load, Refresh, Update, Claim, ClaimAt, HolderRefresh, HolderUpdate}
+use Rattle.txn_view_steps.specs.declared.op.ViewOp.TheVariants as ops
 use Rattle.txn_view_steps.specs.declared.outcome.Outcome.{Outcome}
 use Rattle.txn_view_steps.specs.Attempts.{attempt_turned, refreshed_turned, claiming_turned, claiming_left, IsClaimingReply}
 use Rattle.txn_view_steps.specs.Entries.{written_turned, entry_turned, entry_caches, IsEntryReply}
-use Rattle.txn_view_steps.specs.Holders.{as_holder_refresh, holder_refreshed}
-use Rattle.txn_view_steps.specs.Loads.{as_load, loaded}
 use Rattle.txn_view_steps.specs.Readings.{seen as seen_as}
-use Rattle.txn_view_steps.specs.Refreshes.{as_refresh, refreshed}
+use Rattle.txn_view_steps.specs.ViewReads.{as_view_read, shown}
 use Rattle.txn_machine.specs.declared.doing.Doing.{Doing}
 use Rattle.txn_machine.specs.declared.doing.Doing.TheVariants as does
 use Rattle.txn_machine.specs.Doing.{Next, refused, plain_next, next_of, turned, caches_left, IsReply}
@@ -407,25 +405,11 @@ module _ {T : Type 0} (page : ℕ) (encode : T → List ℕ) (decode : List ℕ 
   failed_turn (does.Plain (doings.Check op)) is = (let c = check_fails caches reply failed op is in (plain_check (check_turned op caches (Some reply)) c.0, c.1))
   failed_turn (does.Plain (doings.Advance op)) is = (let a = advance_fails caches reply failed world_boundary op is in (plain_advance (advance_turned world_boundary op caches (Some reply)) a.0, a.1))
   failed_turn (does.Plain doings.Ended) is = absurd is
-  failed_turn (does.View (Init op)) is = (let e = entry_fails caches reply failed op.entry is in (view_ends _ (entry_turned op.entry caches (Some reply)).1 e.0, e.1))
-  failed_turn (does.View (Update op)) is = (let e = entry_fails caches reply failed op.entry is in (view_ends _ (entry_turned op.entry caches (Some reply)).1 e.0, e.1))
-  failed_turn (does.View (HolderUpdate op)) is = (let e = entry_fails caches reply failed op.entry is in (view_ends _ (entry_turned op.entry caches (Some reply)).1 e.0, e.1))
-  failed_turn (does.View (Load op)) is =
+  failed_turn (does.View (ops.Enters op)) is = (let e = entry_fails caches reply failed op is in (view_ends _ (entry_turned op caches (Some reply)).1 e.0, e.1))
+  failed_turn (does.View (ops.Reads op)) is =
       let r = read_op_fails caches reply failed world_names page decode world_boundary op.read is in
       let turn = read_turned world_names world_boundary page decode op.read caches (Some reply) in
-      let next = seen_as as_load loaded turn in
-      (view_ends (does.View (Load next.0)) next.1 (seen_told caches reply failed as_load loaded turn r.0), r.1 _)
-  failed_turn (does.View (Refresh op)) is =
-      let r = read_op_fails caches reply failed world_names page decode world_boundary op.read is in
-      let turn = read_turned world_names world_boundary page decode op.read caches (Some reply) in
-      let next = seen_as as_refresh refreshed turn in
-      (view_ends (does.View (Refresh next.0)) next.1 (seen_told caches reply failed as_refresh refreshed turn r.0), r.1 _)
-  failed_turn (does.View (HolderRefresh op)) is =
-      let r = read_op_fails caches reply failed world_names page decode world_boundary op.read is in
-      let turn = read_turned world_names world_boundary page decode op.read caches (Some reply) in
-      let next = seen_as (as_holder_refresh op.local) (holder_refreshed get_epoch op.local) turn in
-      (view_ends (does.View (HolderRefresh next.0)) next.1 (seen_told caches reply failed (as_holder_refresh op.local) (holder_refreshed get_epoch op.local) turn r.0), r.1 _)
-  failed_turn (does.View (Claim op)) is =
-      (let c = claiming_fails caches reply failed world_names world_boundary page encode decode get_epoch set_epoch None op.claiming is in (view_ends _ _ c.0, c.1 _))
-  failed_turn (does.View (ClaimAt op)) is =
-      (let c = claiming_fails caches reply failed world_names world_boundary page encode decode get_epoch set_epoch (Some op.epoch) op.claiming is in (view_ends _ _ c.0, c.1 _))
+      let next = seen_as (as_view_read op.purpose) (shown get_epoch op.purpose) turn in
+      (view_ends (does.View (ops.Reads next.0)) next.1 (seen_told caches reply failed (as_view_read op.purpose) (shown get_epoch op.purpose) turn r.0), r.1 _)
+  failed_turn (does.View (ops.Claims op)) is =
+      (let c = claiming_fails caches reply failed world_names world_boundary page encode decode get_epoch set_epoch op.asked op.claiming is in (view_ends _ _ c.0, c.1 _))

@@ -22,12 +22,11 @@ use Rattle.txn_machine_inner.specs.declared.doing.PlainDoing.{PlainDoing}
 use Rattle.txn_machine_inner.specs.declared.doing.PlainDoing.TheVariants as doings
 use Rattle.txn_machine_inner.specs.Doing as plain
 use Rattle.txn_view_steps.specs.declared.op.ViewOp.{ViewOp}
-use Rattle.txn_view_steps.specs.declared.op.ViewOp.TheVariants.{Init, Update, Claim, ClaimAt, HolderRefresh, HolderUpdate}
+use Rattle.txn_view_steps.specs.declared.op.ViewOp.TheVariants as ops
+use Rattle.txn_view_steps.specs.declared.view_read.Purpose.TheVariants as purposes
 use Rattle.txn_view_steps.specs.declared.outcome.Outcome.{Outcome}
-use Rattle.txn_view_steps.specs.Claims.{claim_started, claim_at_started}
-use Rattle.txn_view_steps.specs.Holders.{holder_refresh_started, holder_update_started}
-use Rattle.txn_view_steps.specs.Inits.{init_started}
-use Rattle.txn_view_steps.specs.Updates.{update_started}
+use Rattle.txn_view_steps.specs.Claims.{claim_started}
+use Rattle.txn_view_steps.specs.Entries.{entry_started, holder_entry_started}
 use Rattle.txn_view_steps.specs.ViewOps.{view_turned}
 use Rattle.txn_history.specs.declared.event.ViewCall.TheVariants as view_calls
 use Rattle.txn_history.specs.declared.event.Call.{Call}
@@ -35,7 +34,7 @@ use Rattle.txn_history.specs.declared.event.Call.TheVariants as any
 use Rattle.txn_history.specs.Views.{View}
 use Rattle.txn_machine.specs.declared.doing.Doing.{Doing}
 use Rattle.txn_machine.specs.declared.doing.Doing.TheVariants as does
-use Rattle.txn_machine.specs.Doing.{Next, asked, plain_next, next_of, first_next, with_local, started, turned}
+use Rattle.txn_machine.specs.Doing.{Next, asked, plain_next, next_of, first_next, with_local, reads_for, started, turned}
 
 module _ {T : Type 0} where
   abbrev pub Fits : Next T → Type 0
@@ -116,15 +115,15 @@ module _ {T : Type 0} (page : ℕ) (encode : T → List ℕ) (decode : List ℕ 
 module _ {T : Type 0} (page : ℕ) (encode : T → List ℕ) (get_epoch : T → ℕ) (set_epoch : T → ℕ → T) where
   pub started_fits : (call : Call T) (view : Option (View T)) → Fits (started page encode get_epoch set_epoch call view)
   started_fits (any.Plain call) view = fits_of_plain (plain.started page encode call) (plain_started_fits page encode call)
-  started_fits (any.View (view_calls.Init value)) view = first_fits Init (init_started world_names world_boundary encode value)
+  started_fits (any.View (view_calls.Init value)) view = first_fits ops.Enters (entry_started world_names world_boundary encode None value)
   started_fits (any.View view_calls.Load) view = refl
   started_fits (any.View (view_calls.Refresh number)) view = refl
-  started_fits (any.View (view_calls.Update number value)) (Some view) = first_fits Update (update_started world_names world_boundary encode view.id value)
-  started_fits (any.View (view_calls.Claim number)) (Some view) = first_fits Claim (claim_started world_names world_boundary encode get_epoch set_epoch view.id view.object)
-  started_fits (any.View (view_calls.ClaimAt number epoch)) (Some view) = first_fits ClaimAt (claim_at_started world_names world_boundary encode get_epoch set_epoch epoch view.id view.object)
-  started_fits (any.View (view_calls.HolderRefresh number)) (Some view) = local_fits view.epoch (λ own. (does.View (HolderRefresh (holder_refresh_started world_boundary own)), None)) (λ own. refl)
+  started_fits (any.View (view_calls.Update number value)) (Some view) = first_fits ops.Enters (entry_started world_names world_boundary encode (Some view.id) value)
+  started_fits (any.View (view_calls.Claim number)) (Some view) = first_fits ops.Claims (claim_started world_names world_boundary encode get_epoch set_epoch None view.id view.object)
+  started_fits (any.View (view_calls.ClaimAt number epoch)) (Some view) = first_fits ops.Claims (claim_started world_names world_boundary encode get_epoch set_epoch (Some epoch) view.id view.object)
+  started_fits (any.View (view_calls.HolderRefresh number)) (Some view) = local_fits view.epoch (λ own. reads_for (purposes.HolderRefresh own)) (λ own. refl)
   started_fits (any.View (view_calls.HolderUpdate number value)) (Some view) =
-      local_fits view.epoch (λ own. first_next HolderUpdate (holder_update_started world_names world_boundary encode get_epoch own view.id view.object value)) (λ own. first_fits HolderUpdate (holder_update_started world_names world_boundary encode get_epoch own view.id view.object value))
+      local_fits view.epoch (λ own. first_next ops.Enters (holder_entry_started world_names world_boundary encode get_epoch own view.id view.object value)) (λ own. first_fits ops.Enters (holder_entry_started world_names world_boundary encode get_epoch own view.id view.object value))
   started_fits (any.View (view_calls.Update number value)) None = refl
   started_fits (any.View (view_calls.Claim number)) None = refl
   started_fits (any.View (view_calls.ClaimAt number epoch)) None = refl

@@ -1,6 +1,6 @@
 -- What an operation of the world does, held against what the layer says that it does (a write or a read, or the act of a call
 -- without a view) and against the operation of the machine of plain calls that stands for it.
-use Rattle.std.proofs.Common.{◌≡◌, ℕ, List, [], Bool, Option, Some, None, is_some}
+use Rattle.std.proofs.Common.{◌≡◌, ℕ, List, [], Bool, true, false, Option, Some, None, is_some}
 use Rattle.txn_store.specs.declared.request.Reply.{Reply}
 use Rattle.txn_caches.specs.declared.caches.Caches.{Caches}
 use Rattle.txn_steps.specs.declared.write.WriteOp.{WriteOp}
@@ -18,7 +18,9 @@ use Rattle.txn_view_steps.specs.declared.claiming.Claiming.{Claiming}
 use Rattle.txn_view_steps.specs.declared.claiming.Claiming.TheVariants as claiming
 use Rattle.txn_view_steps.specs.declared.outcome.Outcome.TheVariants as outcomes
 use Rattle.txn_view_steps.specs.declared.op.ViewOp.{ViewOp}
-use Rattle.txn_view_steps.specs.declared.op.ViewOp.TheVariants.{Init, Load, Refresh, Update, Claim, ClaimAt, HolderRefresh, HolderUpdate}
+use Rattle.txn_view_steps.specs.declared.op.ViewOp.TheVariants as ops
+use Rattle.txn_view_steps.specs.declared.view_read.Purpose.{Purpose}
+use Rattle.txn_view_steps.specs.declared.view_read.Purpose.TheVariants as purposes
 use Rattle.txn_history.specs.declared.event.ViewCall.TheVariants as view_calls
 use Rattle.txn_history.specs.declared.event.ViewCall.{ViewCall}
 use Rattle.txn_history.specs.declared.event.Call.{Call}
@@ -68,18 +70,32 @@ module _ {T : Type 0} where
     pub attempt_is : attempt ≡ claiming.Reads read
     pub fine_is : fine ≡ doings.Read read
 
+  -- the call writes a value that a view then shows
+  abbrev pub enters : Call T → Bool
+  enters (any.View (view_calls.Init v)) = true
+  enters (any.View (view_calls.Update number v)) = true
+  enters (any.View (view_calls.HolderUpdate number v)) = true
+  enters call = false
+
+  -- what the call reads the newest version for, where it does no more than that, by the epoch of its holder
+  abbrev pub purpose_of : Call T → Option ℕ → Option Purpose
+  purpose_of (any.View view_calls.Load) local = Some purposes.Load
+  purpose_of (any.View (view_calls.Refresh number)) local = Some purposes.Refresh
+  purpose_of (any.View (view_calls.HolderRefresh number)) (Some own) = Some (purposes.HolderRefresh own)
+  purpose_of call local = None
+
+  -- the epoch that the call asks for, where it is a claim
+  abbrev pub asked_of : Call T → Option (Option ℕ)
+  asked_of (any.View (view_calls.Claim number)) = Some None
+  asked_of (any.View (view_calls.ClaimAt number at)) = Some (Some at)
+  asked_of call = None
+
   -- a call on a view, by what the layer says that it does now, and by the epoch of its holder
   abbrev pub ViewMatched : Call T → Option ℕ → Inner T → ViewOp T → PlainDoing T → Type 0
-  ViewMatched (any.View (view_calls.Init v)) local (Writes base value epoch) (Init op) fine = IsEntryWrite op.entry value fine
-  ViewMatched (any.View view_calls.Load) local Reads (Load op) fine = fine ≡ doings.Read op.read
-  ViewMatched (any.View (view_calls.Refresh number)) local Reads (Refresh op) fine = fine ≡ doings.Read op.read
-  ViewMatched (any.View (view_calls.Update number v)) local (Writes base value epoch) (Update op) fine = IsEntryWrite op.entry value fine
-  ViewMatched (any.View (view_calls.Claim number)) local (Writes base value epoch) (Claim op) fine = IsAttempt op.claiming value epoch fine
-  ViewMatched (any.View (view_calls.Claim number)) local Reads (Claim op) fine = IsClaimRead op.claiming fine
-  ViewMatched (any.View (view_calls.ClaimAt number at)) local (Writes base value epoch) (ClaimAt op) fine = IsAttempt op.claiming value epoch fine × (op.epoch ≡ at)
-  ViewMatched (any.View (view_calls.ClaimAt number at)) local Reads (ClaimAt op) fine = IsClaimRead op.claiming fine × (op.epoch ≡ at)
-  ViewMatched (any.View (view_calls.HolderRefresh number)) local Reads (HolderRefresh op) fine = (fine ≡ doings.Read op.read) × (local ≡ Some op.local)
-  ViewMatched (any.View (view_calls.HolderUpdate number v)) local (Writes base value epoch) (HolderUpdate op) fine = IsEntryWrite op.entry value fine
+  ViewMatched call local (Writes base value epoch) (ops.Enters op) fine = (enters call ≡ true) × IsEntryWrite op value fine
+  ViewMatched call local Reads (ops.Reads op) fine = (purpose_of call local ≡ Some op.purpose) × (fine ≡ doings.Read op.read)
+  ViewMatched call local (Writes base value epoch) (ops.Claims op) fine = (asked_of call ≡ Some op.asked) × IsAttempt op.claiming value epoch fine
+  ViewMatched call local Reads (ops.Claims op) fine = (asked_of call ≡ Some op.asked) × IsClaimRead op.claiming fine
   ViewMatched call local inner op fine = ⊥
 
 module _ {T : Type 0} (get_epoch : T → ℕ) where

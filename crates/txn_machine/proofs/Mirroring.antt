@@ -35,13 +35,13 @@ use Rattle.txn_machine_inner.proofs.AllTurns.{turns_from}
 use Rattle.txn_machine_inner.proofs.Windowed.{AllWindows}
 use Rattle.txn_machine_inner.proofs.World.{first_true}
 use Rattle.txn_view_steps.specs.declared.op.ViewOp.{ViewOp}
-use Rattle.txn_view_steps.specs.declared.op.ViewOp.TheVariants.{Load, Refresh, HolderRefresh}
+use Rattle.txn_view_steps.specs.declared.op.ViewOp.TheVariants as ops
 use Rattle.txn_view_steps.specs.declared.outcome.Outcome.{Outcome}
-use Rattle.txn_view_steps.specs.Holders.{as_holder_refresh, holder_refreshed}
-use Rattle.txn_view_steps.specs.Loads.{as_load, loaded, load_ended}
+use Rattle.txn_view_steps.specs.declared.view_read.Purpose.{Purpose}
+use Rattle.txn_view_steps.specs.declared.view_read.Purpose.TheVariants as purposes
 use Rattle.txn_view_steps.specs.Readings.{seen}
-use Rattle.txn_view_steps.specs.Refreshes.{as_refresh, refreshed, refresh_ended}
 use Rattle.txn_view_steps.specs.ViewOps.{held}
+use Rattle.txn_view_steps.specs.ViewReads.{as_view_read, shown}
 use Rattle.txn_history.specs.declared.event.ViewCall.TheVariants as view_calls
 use Rattle.txn_history.specs.declared.event.Call.{Call}
 use Rattle.txn_history.specs.declared.event.Call.TheVariants as any
@@ -100,27 +100,11 @@ module _ {T : Type 0} (encode : T → List ℕ) (decode : List ℕ → Option T)
     leaves = λ read caches. refl;
   }
 
-  load_read : IsRead (λ read. does.View (Load (as_load read)))
-  load_read = record {
+  view_read : (purpose : Purpose) → IsRead (λ read. does.View (ops.Reads (as_view_read purpose read)))
+  view_read purpose = record {
     is = λ read. refl;
     asks = λ read. refl;
-    follows = λ page refused read caches reply. view_follows as_load Load load_ended loaded refused (told_by page read caches reply);
-    leaves = λ read caches. refl;
-  }
-
-  refresh_read : IsRead (λ read. does.View (Refresh (as_refresh read)))
-  refresh_read = record {
-    is = λ read. refl;
-    asks = λ read. refl;
-    follows = λ page refused read caches reply. view_follows as_refresh Refresh refresh_ended refreshed refused (told_by page read caches reply);
-    leaves = λ read caches. refl;
-  }
-
-  holder_read : (local : ℕ) → IsRead (λ read. does.View (HolderRefresh (as_holder_refresh local read)))
-  holder_read local = record {
-    is = λ read. refl;
-    asks = λ read. refl;
-    follows = λ page refused read caches reply. view_follows (as_holder_refresh local) HolderRefresh _ (holder_refreshed get_epoch local) refused (told_by page read caches reply);
+    follows = λ page refused read caches reply. view_follows (as_view_read purpose) ops.Reads _ (shown get_epoch purpose) refused (told_by page read caches reply);
     leaves = λ read caches. refl;
   }
 
@@ -326,14 +310,14 @@ module _ {T : Type 0} (encode : T → List ℕ) (decode : List ℕ → Option T)
 
   begins_reading : (page : ℕ) (call : Call T) → IsReading call → (view : Option (View T)) → ((whole : ReadOp T → Doing T) × IsRead whole × (Start page call view ≡ (whole (read_started world_boundary), None))) ⊎ ((Start page call view).0 ≡ ended)
   begins_reading page (any.Plain calls.Read) is view = inl (_, plain_read, refl)
-  begins_reading page (any.View view_calls.Load) is view = inl (_, load_read, refl)
-  begins_reading page (any.View (view_calls.Refresh number)) is view = inl (_, refresh_read, refl)
+  begins_reading page (any.View view_calls.Load) is view = inl (_, view_read purposes.Load, refl)
+  begins_reading page (any.View (view_calls.Refresh number)) is view = inl (_, view_read purposes.Refresh, refl)
   begins_reading page (any.View (view_calls.HolderRefresh number)) is None = inr refl
   begins_reading page (any.View (view_calls.HolderRefresh number)) is (Some view) = by view.epoch refl
     where
       by : (local : Option ℕ) → view.epoch ≡ local → ((whole : ReadOp T → Doing T) × IsRead whole × (Start page (any.View (view_calls.HolderRefresh number)) (Some view) ≡ (whole (read_started world_boundary), None))) ⊎ ((Start page (any.View (view_calls.HolderRefresh number)) (Some view)).0 ≡ ended)
       by None e = inr (rw e refl)
-      by (Some local) e = inl (_, holder_read local, rw e refl)
+      by (Some local) e = inl (_, view_read (purposes.HolderRefresh local), rw e refl)
   begins_reading page (any.Plain (calls.Write base value)) is view = absurd is
   begins_reading page (any.Plain (calls.WriteUnchecked base value)) is view = absurd is
   begins_reading page (any.Plain (calls.ReadUnchecked id)) is view = absurd is

@@ -1,5 +1,6 @@
 -- A call over a read takes a look or a reply as the read of the machine of plain calls does.
 use Rattle.std.proofs.Common.{◌≡◌, ℕ, List, Bool, true, false, Option, Some, None, Result, Ok, Err, refl, sym, ◌∙◌, ap, subst, inl}
+use Rattle.std.proofs.lemmas.Option.{same_Some}
 use Rattle.txn_store.specs.declared.request.Reply.{Reply}
 use Rattle.txn_types.specs.declared.error.TransactionalObjectError.{TransactionalObjectError}
 use Rattle.txn_types.specs.Epochs.{epoch_tested}
@@ -16,14 +17,14 @@ use Rattle.txn_machine_inner.specs.declared.doing.PlainDoing.{PlainDoing}
 use Rattle.txn_machine_inner.specs.declared.doing.PlainDoing.TheVariants as doings
 use Rattle.txn_machine_inner.specs.Doing as plain
 use Rattle.txn_view_steps.specs.declared.op.ViewOp.{ViewOp}
-use Rattle.txn_view_steps.specs.declared.op.ViewOp.TheVariants.{Load, Refresh, HolderRefresh}
+use Rattle.txn_view_steps.specs.declared.op.ViewOp.TheVariants as ops
 use Rattle.txn_view_steps.specs.declared.outcome.Outcome.{Outcome}
 use Rattle.txn_view_steps.specs.declared.outcome.Outcome.TheVariants as outcomes
-use Rattle.txn_view_steps.specs.Holders.{as_holder_refresh, holder_viewed, holder_refreshed}
-use Rattle.txn_view_steps.specs.Loads.{as_load, loaded}
-use Rattle.txn_view_steps.specs.Refreshes.{as_refresh, refreshed}
+use Rattle.txn_view_steps.specs.declared.view_read.Purpose.{Purpose}
+use Rattle.txn_view_steps.specs.declared.view_read.Purpose.TheVariants as purposes
 use Rattle.txn_view_steps.specs.Readings.{seen, said}
-use Rattle.txn_view_steps.specs.ViewOps.{view_turned, view_left, held}
+use Rattle.txn_view_steps.specs.ViewOps.{held}
+use Rattle.txn_view_steps.specs.ViewReads.{as_view_read, holder_viewed, shown}
 use Rattle.txn_history.specs.declared.event.ViewCall.{ViewCall}
 use Rattle.txn_history.specs.declared.event.ViewCall.TheVariants as view_calls
 use Rattle.txn_history.specs.declared.event.Call.TheVariants as any
@@ -34,19 +35,14 @@ use Rattle.txn_machine.specs.declared.doing.Doing.TheVariants as does
 use Rattle.txn_machine.specs.declared.doing.Ending.TheVariants as endings
 use Rattle.txn_machine.specs.Doing.{ended, refused, view_next, goes_by}
 use Rattle.txn_machine.specs.Doing as whole
-use Rattle.txn_machine.proofs.Matched.{ViewMatched, Answered, TurnsAs}
+use Rattle.txn_machine.proofs.Matched.{purpose_of, Answered, TurnsAs}
 use Rattle.txn_machine.proofs.ReadsLeft.{left_by_refusal, left_as_refused}
 use Rattle.txn_machine.proofs.EntryTurns.{Tells, refusal_keeps, puts_view}
 
 module _ {T : Type 0} where
-  abbrev pub at_load : ReadOp T → ViewOp T
-  at_load read = Load (as_load read)
-
-  abbrev pub at_refresh : ReadOp T → ViewOp T
-  at_refresh read = Refresh (as_refresh read)
-
-  abbrev pub at_holder_refresh : ℕ → ReadOp T → ViewOp T
-  at_holder_refresh own read = HolderRefresh (as_holder_refresh own read)
+  -- it makes this read, for this purpose
+  abbrev pub at_read : Purpose → ReadOp T → ViewOp T
+  at_read purpose read = ops.Reads (as_view_read purpose read)
 
   -- a call over its read, as that of any call
   held_seen : {O : Type 0} (hold : O → ViewOp T) (as_read : ReadOp T → O) (see : Option (ℕ × T) → Result (Outcome T) ℕ) (lacks : Bool) (x : ReadOp T × Turned (ReadAnswer T)) →
@@ -63,20 +59,23 @@ module _ {T : Type 0} where
 
 module _ {T : Type 0} (page : ℕ) (encode : T → List ℕ) (decode : List ℕ → Option T) (get_epoch : T → ℕ) (set_epoch : T → ℕ → T) where
   -- A call over a read: what the layer makes of the read's answers, and what its operation does then.
-  pub record IsReadCall (call : ViewCall T) (local : Option ℕ) (as_op : ReadOp T → ViewOp T) (see : Option (ℕ × T) → Result (Outcome T) ℕ) : Type 0 where
-    pub matched : (read : ReadOp T) → ViewMatched (any.View call) local Reads (as_op read) (doings.Read read)
-    pub finds : (found : ℕ × T) → Tells page encode decode get_epoch call local (parts.found get_epoch set_epoch (any.View call) local found.0 found.1) (view_next (as_op reads.Ended, turns.Done (see (Some found))))
-    pub misses : Tells page encode decode get_epoch call local (missed (any.View call)) (view_next (as_op reads.Ended, turns.Done (see None)))
+  pub record IsReadCall (call : ViewCall T) (local : Option ℕ) (purpose : Purpose) : Type 0 where
+    pub reads_so : purpose_of (any.View call) local ≡ Some purpose
+    pub finds : (found : ℕ × T) → Tells page encode decode get_epoch call local (parts.found get_epoch set_epoch (any.View call) local found.0 found.1) (view_next (at_read purpose reads.Ended, turns.Done (shown get_epoch purpose (Some found))))
+    pub misses : Tells page encode decode get_epoch call local (missed (any.View call)) (view_next (at_read purpose reads.Ended, turns.Done (shown get_epoch purpose None)))
     pub refuses : (number : ℕ) → Tells page encode decode get_epoch call local (refusing (any.View call) number) (refused number)
-    pub turns : (read : ReadOp T) (lacks : Bool) (caches : Caches) (reply : Option Reply) →
-        view_turned world_names world_boundary page encode decode get_epoch set_epoch lacks (as_op read) caches reply ≡ unless_lacking lacks (as_op reads.Ended) (seen as_op see (read_turned world_names world_boundary page decode read caches reply))
-    pub leaves : (read : ReadOp T) (caches : Caches) (told : Turned (Result (Outcome T) ℕ)) → view_left (as_op read) caches told ≡ read_left read caches (said told)
 
-  module _ (call : ViewCall T) (local : Option ℕ) (as_op : ReadOp T → ViewOp T) (see : Option (ℕ × T) → Result (Outcome T) ℕ) (facts : IsReadCall call local as_op see) where
+  module _ (call : ViewCall T) (local : Option ℕ) (purpose : Purpose) (facts : IsReadCall call local purpose) where
+    abbrev as_op : ReadOp T → ViewOp T
+    as_op read = at_read purpose read
+
+    abbrev see : Option (ℕ × T) → Result (Outcome T) ℕ
+    see found = shown get_epoch purpose found
+
     read_answered : (lacks : Bool) (x : ReadOp T × Turned (ReadAnswer T)) →
         Answered page encode decode get_epoch set_epoch (any.View call) local Reads (plain.or_no_memory lacks (plain.read_next x)).0 (plain.or_no_memory lacks (plain.read_next x)).1 (view_next (unless_lacking lacks (as_op reads.Ended) (seen as_op see x)))
     read_answered true x = (refusing (any.View call) 9, refl, inl refl, (facts.refuses 9).0, (facts.refuses 9).1)
-    read_answered false (read, turns.Goes) = (does.View (as_op read), refl, facts.matched read)
+    read_answered false (read, turns.Goes) = (does.View (as_op read), refl, (facts.reads_so, refl))
     read_answered false (read, turns.Done (Ok None)) = (missed (any.View call), refl, inl refl, facts.misses.0, facts.misses.1)
     read_answered false (read, turns.Done (Ok (Some found))) = (parts.found get_epoch set_epoch (any.View call) local found.0 found.1, refl, inl refl, (facts.finds found).0, (facts.finds found).1)
     read_answered false (read, turns.Done (Err number)) = (refusing (any.View call) number, refl, inl refl, (facts.refuses number).0, (facts.refuses number).1)
@@ -94,41 +93,19 @@ module _ {T : Type 0} (page : ℕ) (encode : T → List ℕ) (decode : List ℕ 
     read_at read caches reply lacks =
         let x = read_turned world_names world_boundary page decode read caches reply in
         let after = plain.or_no_memory lacks (plain.read_next x) in
-        let is = facts.turns read lacks caches reply in
+        let is = held_seen ops.Reads (as_view_read purpose) see lacks x in
         record {
           refused = lacks;
           after = after;
           turns = refl;
           answered = subst (λ (n : ViewOp T × Turned (Result (Outcome T) ℕ)). Answered page encode decode get_epoch set_epoch (any.View call) local Reads after.0 after.1 (view_next n)) (sym is) (read_answered lacks x);
-          leaves = facts.leaves read caches _ ∙ (ap (λ (n : ViewOp T × Turned (Result (Outcome T) ℕ)). read_left read caches (said (goes_by (view_next n).1))) is ∙ read_leaves read caches reply lacks x refl);
+          leaves = ap (λ (n : ViewOp T × Turned (Result (Outcome T) ℕ)). read_left read caches (said (goes_by (view_next n).1))) is ∙ read_leaves read caches reply lacks x refl;
         }
 
     pub read_turns : (read : ReadOp T) (fine : PlainDoing T) (caches : Caches) (reply : Option Reply) (lacks : Bool) → fine ≡ doings.Read read →
         TurnsAs page encode decode get_epoch set_epoch (any.View call) local Reads (does.View (as_op read)) fine caches reply (whole.turned page encode decode get_epoch set_epoch lacks (does.View (as_op read)) caches reply)
     read_turns read fine caches reply lacks e =
         subst (λ (f : PlainDoing T). TurnsAs page encode decode get_epoch set_epoch (any.View call) local Reads (does.View (as_op read)) f caches reply (whole.turned page encode decode get_epoch set_epoch lacks (does.View (as_op read)) caches reply)) (sym e) (read_at read caches reply lacks)
-
-  -- the calls over a read
-
-  pub load_call : (local : Option ℕ) → IsReadCall view_calls.Load local at_load loaded
-  load_call local = record {
-    matched = λ read. refl;
-    finds = λ found. (tt, (refl, refl));
-    misses = (tt, refusal_keeps (any.View view_calls.Load) 4 refl);
-    refuses = λ number. (tt, refusal_keeps (any.View view_calls.Load) number refl);
-    turns = λ read lacks caches reply. held_seen Load as_load loaded lacks (read_turned world_names world_boundary page decode read caches reply);
-    leaves = λ read caches told. refl;
-  }
-
-  pub refresh_call : (number : ℕ) (local : Option ℕ) → IsReadCall (view_calls.Refresh number) local at_refresh refreshed
-  refresh_call number local = record {
-    matched = λ read. refl;
-    finds = λ found. (tt, puts_view (any.View (view_calls.Refresh number)) number found.0 found.1 refl);
-    misses = (tt, refusal_keeps (any.View (view_calls.Refresh number)) 7 refl);
-    refuses = λ n. (tt, refusal_keeps (any.View (view_calls.Refresh number)) n refl);
-    turns = λ read lacks caches reply. held_seen Refresh as_refresh refreshed lacks (read_turned world_names world_boundary page decode read caches reply);
-    leaves = λ read caches told. refl;
-  }
 
   -- a holder's view is at the version that was read, and the holder may be shut out
   holder_finds : (number own : ℕ) (found : ℕ × T) (test : Result (Unit {0}) TransactionalObjectError) →
@@ -139,12 +116,24 @@ module _ {T : Type 0} (page : ℕ) (encode : T → List ℕ) (decode : List ℕ 
     record { ending = endings.Comes (outcomes.Shut found.0 found.1 error); ends = refl; answers = λ count. refl; changes = refl; quiet = λ none client. absurd (cc) },
   )
 
-  pub holder_refresh_call : (number own : ℕ) → IsReadCall (view_calls.HolderRefresh number) (Some own) (at_holder_refresh own) (holder_refreshed get_epoch own)
-  holder_refresh_call number own = record {
-    matched = λ read. (refl, refl);
+  -- each call that reads so
+  pub read_call : (call : ViewCall T) (local : Option ℕ) (purpose : Purpose) → purpose_of (any.View call) local ≡ Some purpose → IsReadCall call local purpose
+  read_call view_calls.Load local purpose e = subst (IsReadCall view_calls.Load local) (same_Some purposes.Load purpose e) (record {
+    reads_so = refl;
+    finds = λ found. (tt, (refl, refl));
+    misses = (tt, refusal_keeps (any.View view_calls.Load) 4 refl);
+    refuses = λ number. (tt, refusal_keeps (any.View view_calls.Load) number refl);
+  })
+  read_call (view_calls.Refresh number) local purpose e = subst (IsReadCall (view_calls.Refresh number) local) (same_Some purposes.Refresh purpose e) (record {
+    reads_so = refl;
+    finds = λ found. (tt, puts_view (any.View (view_calls.Refresh number)) number found.0 found.1 refl);
+    misses = (tt, refusal_keeps (any.View (view_calls.Refresh number)) 7 refl);
+    refuses = λ n. (tt, refusal_keeps (any.View (view_calls.Refresh number)) n refl);
+  })
+  read_call (view_calls.HolderRefresh number) (Some own) purpose e = subst (IsReadCall (view_calls.HolderRefresh number) (Some own)) (same_Some (purposes.HolderRefresh own) purpose e) (record {
+    reads_so = refl;
     finds = λ found. holder_finds number own found (epoch_tested own (get_epoch found.1));
     misses = (tt, refusal_keeps (any.View (view_calls.HolderRefresh number)) 7 refl);
     refuses = λ n. (tt, refusal_keeps (any.View (view_calls.HolderRefresh number)) n refl);
-    turns = λ read lacks caches reply. held_seen HolderRefresh (as_holder_refresh own) (holder_refreshed get_epoch own) lacks (read_turned world_names world_boundary page decode read caches reply);
-    leaves = λ read caches told. refl;
-  }
+  })
+  read_call call local purpose e = absurd (cc)

@@ -1,5 +1,5 @@
 -- A failure is the turn that its operation takes with the reply of a call that failed; and a claim is refused with 10 by its own base alone.
-use Rattle.std.proofs.Common.{◌≡◌, ◌≢◌, ℕ, ◌+◌, ◌==◌, List, Bool, true, false, nat_le, nat_lt, if◌then◌else◌, Option, Some, None, Result, Ok, Err, ◌⊎◌, inl, inr, refl, ap, arith}
+use Rattle.std.proofs.Common.{◌≡◌, ◌≢◌, ℕ, ◌+◌, ◌==◌, List, Bool, true, false, nat_le, nat_lt, if◌then◌else◌, Option, Some, None, Result, Ok, Err, ◌⊎◌, inl, inr, refl, ap, arith, subst}
 use Rattle.std.proofs.lemmas.Bool.{eqb-true}
 use Rattle.std.proofs.lemmas.Option.{same_Some}
 use Rattle.txn_store.specs.Paths.{Segments}
@@ -53,14 +53,12 @@ use Rattle.txn_history.specs.declared.event.Failure.TheVariants as failures
 use Rattle.txn_history.specs.Names.{world_names, world_boundary}
 use Rattle.txn_history.specs.Facts.{greatest}
 use Rattle.txn_view_steps.specs.declared.claim.ClaimOp.{ClaimOp}
-use Rattle.txn_view_steps.specs.declared.claim_at.ClaimAtOp.{ClaimAtOp}
 use Rattle.txn_view_steps.specs.declared.claiming.Claiming.{Claiming}
 use Rattle.txn_view_steps.specs.declared.claiming.Claiming.TheVariants as claims
-use Rattle.txn_view_steps.specs.declared.op.ViewOp.{ViewOp}
-use Rattle.txn_view_steps.specs.declared.op.ViewOp.TheVariants.{Claim, ClaimAt}
+use Rattle.txn_view_steps.specs.declared.op.ViewOp.TheVariants as ops
 use Rattle.txn_view_steps.specs.declared.outcome.Outcome.{Outcome}
 use Rattle.txn_view_steps.specs.Attempts.{entered, entered_with, attempted, attempt_turned, refreshed_turned, followed, claiming_turned}
-use Rattle.txn_view_steps.specs.Claims.{as_claim, as_claim_at, claim_turned, claim_at_turned}
+use Rattle.txn_view_steps.specs.Claims.{as_claim, claim_turned}
 use Rattle.txn_view_steps.specs.Lacking.{started_as}
 use Rattle.txn_history.specs.declared.event.ViewCall.TheVariants as view_calls
 use Rattle.txn_history.specs.declared.event.Call.TheVariants as any
@@ -330,9 +328,9 @@ module _ {T : Type 0} where
   followed_ten (Ok next) e = absurd (cc)
   followed_ten (Err number) e = ap Err (cc)
 
-  first_ten : {O : Type 0} (whole : Claiming T → O) (as_op : O → ViewOp T) (r : Result (Claiming T) ℕ) → first_next as_op (started_as whole r) ≡ refused 10 → r ≡ Err 10
-  first_ten whole as_op (Ok next) e = absurd (none_some (ap (λ (n : Next T). number_in n.1) e))
-  first_ten whole as_op (Err number) e = ap Err (same_Some number 10 (ap (λ (n : Next T). number_in n.1) e))
+  first_ten : (asked : Option ℕ) (r : Result (Claiming T) ℕ) → first_next ops.Claims (started_as (as_claim asked) r) ≡ refused 10 → r ≡ Err 10
+  first_ten asked (Ok next) e = absurd (none_some (ap (λ (n : Next T). number_in n.1) e))
+  first_ten asked (Err number) e = ap Err (same_Some number 10 (ap (λ (n : Next T). number_in n.1) e))
 
   ends_ten : (op : Doing T) (told : Turned (Result (Outcome T) ℕ)) → next_of op told ≡ refused 10 → told ≡ Done (Err 10)
   ends_ten op Goes e = absurd (none_some (ap (λ (n : Next T). number_in n.1) e))
@@ -389,25 +387,29 @@ module _ {T : Type 0} (page : ℕ) (encode : T → List ℕ) (decode : List ℕ 
   pub claim_first : (number : ℕ) (view : View T) → started page encode get_epoch set_epoch (any.View (view_calls.Claim number)) (Some view) ≡ refused 10 → (view.id ≡ greatest) ⊎ (get_epoch view.object ≡ greatest)
   claim_first number view e =
       next_ten world_names world_boundary encode get_epoch set_epoch view.id view.object
-      (first_ten as_claim Claim (attempted world_names world_boundary encode get_epoch set_epoch None view.id view.object) e)
+      (first_ten None (attempted world_names world_boundary encode get_epoch set_epoch None view.id view.object) e)
 
   pub claim_at_first : (number epoch : ℕ) (view : View T) → started page encode get_epoch set_epoch (any.View (view_calls.ClaimAt number epoch)) (Some view) ≡ refused 10 → view.id ≡ greatest
   claim_at_first number epoch view e =
       asked_ten world_names world_boundary encode get_epoch set_epoch epoch view.id view.object
-      (first_ten (as_claim_at epoch) ClaimAt (attempted world_names world_boundary encode get_epoch set_epoch (Some epoch) view.id view.object) e)
+      (first_ten (Some epoch) (attempted world_names world_boundary encode get_epoch set_epoch (Some epoch) view.id view.object) e)
 
-  pub claim_later : (lacks : Bool) (op : ClaimOp T) (caches : Caches) (reply : Option Reply) → turned page encode decode get_epoch set_epoch lacks (does.View (Claim op)) caches reply ≡ refused 10 →
-      (id : ℕ) × (value : T) × Found page decode op.claiming caches reply id value × ((id ≡ greatest) ⊎ (get_epoch value ≡ greatest))
-  claim_later true op caches reply e = absurd (nine_ends {T = T} e)
-  claim_later false op caches reply e =
+  -- a refusal 10 after the first attempt comes of an attempt on what the claim's read found
+  later_ten : (op : ClaimOp T) (caches : Caches) (reply : Option Reply) → turned page encode decode get_epoch set_epoch false (does.View (ops.Claims op)) caches reply ≡ refused 10 → OfFound op.asked caches reply op.claiming
+  later_ten op caches reply e =
       let x = claim_turned world_names world_boundary page encode decode get_epoch set_epoch op caches reply in
-      let f = claiming_ten None caches reply op.claiming (ends_ten (does.View (Claim x.0)) x.1 e) in
-      (f.0, f.1, f.2, next_ten world_names world_boundary encode get_epoch set_epoch f.0 f.1 f.3)
+      claiming_ten op.asked caches reply op.claiming (ends_ten (does.View (ops.Claims x.0)) x.1 e)
 
-  pub claim_at_later : (lacks : Bool) (op : ClaimAtOp T) (caches : Caches) (reply : Option Reply) → turned page encode decode get_epoch set_epoch lacks (does.View (ClaimAt op)) caches reply ≡ refused 10 →
+  pub claim_later : (lacks : Bool) (op : ClaimOp T) (caches : Caches) (reply : Option Reply) → op.asked ≡ None → turned page encode decode get_epoch set_epoch lacks (does.View (ops.Claims op)) caches reply ≡ refused 10 →
+      (id : ℕ) × (value : T) × Found page decode op.claiming caches reply id value × ((id ≡ greatest) ⊎ (get_epoch value ≡ greatest))
+  claim_later true op caches reply asks e = absurd (nine_ends {T = T} e)
+  claim_later false op caches reply asks e =
+      let f = later_ten op caches reply e in
+      (f.0, f.1, f.2, next_ten world_names world_boundary encode get_epoch set_epoch f.0 f.1 (subst (λ (a : Option ℕ). attempted world_names world_boundary encode get_epoch set_epoch a f.0 f.1 ≡ Err 10) asks f.3))
+
+  pub claim_at_later : (lacks : Bool) (epoch : ℕ) (op : ClaimOp T) (caches : Caches) (reply : Option Reply) → op.asked ≡ Some epoch → turned page encode decode get_epoch set_epoch lacks (does.View (ops.Claims op)) caches reply ≡ refused 10 →
       (id : ℕ) × (value : T) × Found page decode op.claiming caches reply id value × (id ≡ greatest)
-  claim_at_later true op caches reply e = absurd (nine_ends {T = T} e)
-  claim_at_later false op caches reply e =
-      let x = claim_at_turned world_names world_boundary page encode decode get_epoch set_epoch op caches reply in
-      let f = claiming_ten (Some op.epoch) caches reply op.claiming (ends_ten (does.View (ClaimAt x.0)) x.1 e) in
-      (f.0, f.1, f.2, asked_ten world_names world_boundary encode get_epoch set_epoch op.epoch f.0 f.1 f.3)
+  claim_at_later true epoch op caches reply asks e = absurd (nine_ends {T = T} e)
+  claim_at_later false epoch op caches reply asks e =
+      let f = later_ten op caches reply e in
+      (f.0, f.1, f.2, asked_ten world_names world_boundary encode get_epoch set_epoch epoch f.0 f.1 (subst (λ (a : Option ℕ). attempted world_names world_boundary encode get_epoch set_epoch a f.0 f.1 ≡ Err 10) asks f.3))

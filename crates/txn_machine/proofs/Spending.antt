@@ -36,12 +36,10 @@ use Rattle.txn_machine_inner.specs.declared.doing.PlainDoing.TheVariants as doin
 use Rattle.txn_machine_inner.specs.Doing as plain
 use Rattle.txn_view_steps.specs.declared.entry.EntryOp.{EntryOp}
 use Rattle.txn_view_steps.specs.declared.entry.EntryOp.TheVariants as entries
-use Rattle.txn_view_steps.specs.declared.op.ViewOp.{ViewOp}
-use Rattle.txn_view_steps.specs.declared.op.ViewOp.TheVariants.{Init, Load, Refresh, Update, Claim, ClaimAt, HolderRefresh, HolderUpdate}
+use Rattle.txn_view_steps.specs.declared.op.ViewOp.TheVariants as ops
 use Rattle.txn_view_steps.specs.declared.outcome.Outcome.{Outcome}
 use Rattle.txn_view_steps.specs.CallsLeft.{entry_left}
-use Rattle.txn_view_steps.specs.Entries.{entry_turned}
-use Rattle.txn_view_steps.specs.Holders.{holder_writes, own_epochs}
+use Rattle.txn_view_steps.specs.Entries.{entry_started, entry_turned, entry_tested, own_epochs}
 use Rattle.txn_view_steps.proofs.CallLemmas.{entry_spends}
 use Rattle.txn_history.specs.declared.event.ViewCall.TheVariants as view_calls
 use Rattle.txn_history.specs.declared.event.Call.{Call}
@@ -52,7 +50,7 @@ use Rattle.txn_machine.specs.declared.doing.Doing.{Doing}
 use Rattle.txn_machine.specs.declared.doing.Doing.TheVariants as does
 use Rattle.txn_machine.specs.declared.doing.Operation.{Operation}
 use Rattle.txn_machine.specs.Doing.{Next, ended, plain_next, next_of, with_local, first_next, started, turned, IsReply}
-use Rattle.txn_machine.specs.CallsLeft.{most_of, any_left, is_look_of, is_serve_of, taken_of}
+use Rattle.txn_machine.specs.CallsLeft.{five_and_two, most_of, any_left, is_look_of, is_serve_of, taken_of}
 use Rattle.txn_machine.specs.Machine.{State, doing_next, with_doing, ended_by, next_op, new_operation, view_now, Fails, Takes, Runs, IsReached}
 use Rattle.txn_machine.proofs.Reached.{reached_replies, reached_looks}
 use Rattle.txn_machine.proofs.Runs.{taken_reached}
@@ -101,10 +99,10 @@ module _ {T : Type 0} where
     seen_next false (op, Done (Ok found)) h = (nothing_left, refl, h)
     seen_next false (op, Done (Err number)) h = (nothing_left, refl, h)
 
-    entry_next : (whole : EntryOp T → ViewOp T) → ((entry : EntryOp T) → any_left (does.View (whole entry)) ≡ Some (entry_left entry)) → (x : EntryOp T × Turned (Result (Outcome T) ℕ)) → SpendsOne reply before (left_after x.1 (entry_left x.0)) → Spent reply before (next_of (does.View (whole x.0)) x.1)
-    entry_next whole is (entry, Goes) h = (entry_left entry, is entry, h)
-    entry_next whole is (entry, Done (Ok outcome)) h = (nothing_left, refl, h)
-    entry_next whole is (entry, Done (Err number)) h = (nothing_left, refl, h)
+    entry_next : (x : EntryOp T × Turned (Result (Outcome T) ℕ)) → SpendsOne reply before (left_after x.1 (entry_left x.0)) → Spent reply before (next_of (does.View (ops.Enters x.0)) x.1)
+    entry_next (entry, Goes) h = (entry_left entry, refl, h)
+    entry_next (entry, Done (Ok outcome)) h = (nothing_left, refl, h)
+    entry_next (entry, Done (Err number)) h = (nothing_left, refl, h)
 
   -- a get of one id, and nothing more
   value_next : (lacking : Bool) (op : ReadUncheckedOp) (answer : Result (Option T) ℕ) (reply : Reply) → Spent (Some reply) (record { looks = 0; calls = 1 }) (plain_next (plain.or_no_memory lacking (plain.value_next op (Done answer))))
@@ -139,17 +137,10 @@ module _ {T : Type 0} (page : ℕ) (encode : T → List ℕ) (decode : List ℕ 
   turn_spends (does.Plain (doings.Read op)) reply left e is = absurd (cc)
   turn_spends (does.Plain (doings.ListIds op)) reply left e is = absurd (cc)
   turn_spends (does.Plain (doings.Advance op)) reply left e is = absurd (cc)
-  turn_spends (does.View (Init op)) reply left e is =
-      one_left (λ l. Spent reply l (After (does.View (Init op)) reply)) (entry_left op.entry) left e (entry_next reply (entry_left op.entry) (λ entry. Init (record { entry = entry })) (λ entry. refl) (entry_turned op.entry caches reply) (entry_spends op.entry caches reply is))
-  turn_spends (does.View (Update op)) reply left e is =
-      one_left (λ l. Spent reply l (After (does.View (Update op)) reply)) (entry_left op.entry) left e (entry_next reply (entry_left op.entry) (λ entry. Update (record { entry = entry })) (λ entry. refl) (entry_turned op.entry caches reply) (entry_spends op.entry caches reply is))
-  turn_spends (does.View (HolderUpdate op)) reply left e is =
-      one_left (λ l. Spent reply l (After (does.View (HolderUpdate op)) reply)) (entry_left op.entry) left e (entry_next reply (entry_left op.entry) (λ entry. HolderUpdate (record { entry = entry })) (λ entry. refl) (entry_turned op.entry caches reply) (entry_spends op.entry caches reply is))
-  turn_spends (does.View (Load op)) reply left e is = absurd (cc)
-  turn_spends (does.View (Refresh op)) reply left e is = absurd (cc)
-  turn_spends (does.View (Claim op)) reply left e is = absurd (cc)
-  turn_spends (does.View (ClaimAt op)) reply left e is = absurd (cc)
-  turn_spends (does.View (HolderRefresh op)) reply left e is = absurd (cc)
+  turn_spends (does.View (ops.Enters op)) reply left e is =
+      one_left (λ l. Spent reply l (After (does.View (ops.Enters op)) reply)) (entry_left op) left e (entry_next reply (entry_left op) (entry_turned op caches reply) (entry_spends op caches reply is))
+  turn_spends (does.View (ops.Reads op)) reply left e is = absurd (cc)
+  turn_spends (does.View (ops.Claims op)) reply left e is = absurd (cc)
 
 module _ {T : Type 0} where
   -- it has the most of its call left as it starts, or is refused at once
@@ -160,17 +151,21 @@ module _ {T : Type 0} where
   either_starts true number doing most e = inr refl
   either_starts false number doing most e = inl e
 
-  entry_starts : {O : Type 0} (whole : O → ViewOp T) (b : Bool) (op : O) (most : Left) → any_left (does.View (whole op)) ≡ Some most → Starts most (first_next whole (if◌then◌else◌ {A = Result O ℕ} b (Err 10) (Ok op)))
-  entry_starts whole true op most e = inr refl
-  entry_starts whole false op most e = inl e
+  entry_starts : (b : Bool) (op : EntryOp T) (most : Left) → any_left (does.View (ops.Enters op)) ≡ Some most → Starts most (first_next ops.Enters (if◌then◌else◌ {A = Result (EntryOp T) ℕ} b (Err 10) (Ok op)))
+  entry_starts true op most e = inr refl
+  entry_starts false op most e = inl e
 
   local_starts : (most : Left) (local : Option ℕ) (next : ℕ → Next T) → ((own : ℕ) → Starts most (next own)) → Starts most (with_local local next)
   local_starts most None next h = inr refl
   local_starts most (Some own) next h = h own
 
 module _ {T : Type 0} (page : ℕ) (encode : T → List ℕ) (get_epoch : T → ℕ) (set_epoch : T → ℕ → T) where
-  holder_starts : (id : ℕ) (value : T) (own : Result (Unit {0}) ℕ) → Starts (record { looks = 5; calls = 2 }) (first_next HolderUpdate (holder_writes world_names world_boundary encode id value own))
-  holder_starts id value (Ok fits) = entry_starts HolderUpdate (id == 18446744073709551615) (record { entry = entries.Writes (write_started world_names world_boundary (Some id) (encode value)) value }) (record { looks = 5; calls = 2 }) refl
+  -- a write on a version
+  update_starts : (id : ℕ) (value : T) → Starts five_and_two (first_next ops.Enters (entry_started world_names world_boundary encode (Some id) value))
+  update_starts id value = entry_starts (id == 18446744073709551615) (entries.Writes (write_started world_names world_boundary (Some id) (encode value)) value) five_and_two refl
+
+  holder_starts : (id : ℕ) (value : T) (own : Result (Unit {0}) ℕ) → Starts five_and_two (first_next ops.Enters (entry_tested world_names world_boundary encode id value own))
+  holder_starts id value (Ok fits) = update_starts id value
   holder_starts id value (Err number) = inr refl
 
   abbrev Start : Call T → Option (View T) → Next T
@@ -178,7 +173,7 @@ module _ {T : Type 0} (page : ℕ) (encode : T → List ℕ) (get_epoch : T → 
 
   pub call_starts : (call : Call T) (view : Option (View T)) (most : Left) → most_of call ≡ Some most → Starts most (Start call view)
   call_starts (any.Plain (calls.Write base value)) view most e =
-      one_left (λ l. Starts l (Start (any.Plain (calls.Write base value)) view)) (record { looks = 5; calls = 2 }) most e (either_starts (number_of base == 18446744073709551615) 10 (doings.Write (write_started world_names world_boundary base (encode value))) (record { looks = 5; calls = 2 }) refl)
+      one_left (λ l. Starts l (Start (any.Plain (calls.Write base value)) view)) five_and_two most e (either_starts (number_of base == 18446744073709551615) 10 (doings.Write (write_started world_names world_boundary base (encode value))) five_and_two refl)
   call_starts (any.Plain (calls.WriteUnchecked base value)) view most e =
       one_left (λ l. Starts l (Start (any.Plain (calls.WriteUnchecked base value)) view)) (record { looks = 1; calls = 1 }) most e (either_starts (number_of base == 18446744073709551615) 10 (doings.WriteUnchecked (unchecked_started world_names base (encode value))) (record { looks = 1; calls = 1 }) refl)
   call_starts (any.Plain (calls.ReadUnchecked id)) view most e = inl e
@@ -190,11 +185,10 @@ module _ {T : Type 0} (page : ℕ) (encode : T → List ℕ) (get_epoch : T → 
   call_starts (any.Plain (calls.Advance to)) view most e = absurd (cc)
   call_starts (any.View (view_calls.Init value)) view most e = inl e
   call_starts (any.View (view_calls.Update number value)) (Some view) most e =
-      one_left (λ l. Starts l (Start (any.View (view_calls.Update number value)) (Some view))) (record { looks = 5; calls = 2 }) most e
-      (entry_starts Update (view.id == 18446744073709551615) (record { entry = entries.Writes (write_started world_names world_boundary (Some view.id) (encode value)) value }) (record { looks = 5; calls = 2 }) refl)
+      one_left (λ l. Starts l (Start (any.View (view_calls.Update number value)) (Some view))) five_and_two most e (update_starts view.id value)
   call_starts (any.View (view_calls.HolderUpdate number value)) (Some view) most e =
-      one_left (λ l. Starts l (Start (any.View (view_calls.HolderUpdate number value)) (Some view))) (record { looks = 5; calls = 2 }) most e
-      (local_starts (record { looks = 5; calls = 2 }) view.epoch _ (λ own. holder_starts view.id value (own_epochs own (get_epoch view.object) (get_epoch value))))
+      one_left (λ l. Starts l (Start (any.View (view_calls.HolderUpdate number value)) (Some view))) five_and_two most e
+      (local_starts five_and_two view.epoch _ (λ own. holder_starts view.id value (own_epochs own (get_epoch view.object) (get_epoch value))))
   call_starts (any.View (view_calls.Update number value)) None most e = inr refl
   call_starts (any.View (view_calls.HolderUpdate number value)) None most e = inr refl
   call_starts (any.View view_calls.Load) view most e = absurd (cc)

@@ -15,7 +15,7 @@ use Rattle.txn_machine_inner.specs.Doing as plain
 use Rattle.txn_view_steps.specs.declared.claiming.Claiming.{Claiming}
 use Rattle.txn_view_steps.specs.declared.claiming.Claiming.TheVariants as claiming
 use Rattle.txn_view_steps.specs.declared.op.ViewOp.{ViewOp}
-use Rattle.txn_view_steps.specs.declared.op.ViewOp.TheVariants.{Init, Load, Refresh, Update, Claim, ClaimAt, HolderRefresh, HolderUpdate}
+use Rattle.txn_view_steps.specs.declared.op.ViewOp.TheVariants as ops
 use Rattle.txn_view_steps.specs.declared.outcome.Outcome.{Outcome}
 use Rattle.txn_view_steps.specs.Attempts.{claiming_left}
 use Rattle.txn_view_steps.specs.ViewOps as views
@@ -38,14 +38,9 @@ module _ {T : Type 0} where
   claiming_left_so claiming.Ended caches answer = refl
 
   view_left_so : (op : ViewOp T) (caches : Caches) (answer : Result (Outcome T) ℕ) → view_left op caches (Done answer) ≡ view_left op caches (Done (Err 9))
-  view_left_so (Init op) caches answer = refl
-  view_left_so (Load op) caches answer = refl
-  view_left_so (Refresh op) caches answer = refl
-  view_left_so (Update op) caches answer = refl
-  view_left_so (Claim op) caches answer = claiming_left_so op.claiming caches answer
-  view_left_so (ClaimAt op) caches answer = claiming_left_so op.claiming caches answer
-  view_left_so (HolderRefresh op) caches answer = refl
-  view_left_so (HolderUpdate op) caches answer = refl
+  view_left_so (ops.Enters op) caches answer = refl
+  view_left_so (ops.Reads op) caches answer = refl
+  view_left_so (ops.Claims op) caches answer = claiming_left_so op.claiming caches answer
 
   left_at : (op new : ViewOp T) (caches : Caches) (told : Turned (Result (Outcome T) ℕ)) → view_left op caches told ≡ view_left op caches (goes_by (next_of (does.View new) told).1)
   left_at op new caches Goes = refl

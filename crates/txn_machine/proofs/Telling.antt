@@ -6,7 +6,7 @@ use Rattle.txn_types.specs.declared.error.TransactionalObjectError.{Transactiona
 use Rattle.txn_types.specs.Epochs.{claimed_epoch, epoch_tested}
 use Rattle.txn_history.specs.Calls as plain_calls
 use Rattle.txn_history.specs.Facts.{greatest}
-use Rattle.txn_view_steps.specs.Holders.{own_epochs}
+use Rattle.txn_view_steps.specs.Entries.{own_epochs}
 use Rattle.txn_history.specs.declared.event.ViewCall.{ViewCall}
 use Rattle.txn_history.specs.declared.event.ViewCall.TheVariants as view_calls
 use Rattle.txn_history.specs.declared.event.Call.{Call}

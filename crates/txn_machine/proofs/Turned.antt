@@ -18,7 +18,6 @@ use Rattle.txn_history.specs.Facts.{base_on}
 use Rattle.txn_machine_inner.specs.declared.doing.PlainDoing.{PlainDoing}
 use Rattle.txn_machine_inner.specs.Machine as machine
 use Rattle.txn_history.specs.declared.event.ViewCall.{ViewCall}
-use Rattle.txn_history.specs.declared.event.ViewCall.TheVariants as view_calls
 use Rattle.txn_history.specs.declared.event.Call.{Call}
 use Rattle.txn_history.specs.declared.event.Call.TheVariants as any
 use Rattle.txn_history.specs.declared.event.Answer.{Answer}
@@ -35,6 +34,7 @@ use Rattle.txn_machine_views.proofs.Takes.{take_stands}
 use Rattle.txn_machine_views.proofs.Runs.{tell_stands}
 use Rattle.txn_machine_views.proofs.Tied.{Alike, same_versions}
 use Rattle.txn_view_steps.specs.declared.op.ViewOp.{ViewOp}
+use Rattle.txn_view_steps.specs.declared.op.ViewOp.TheVariants as ops
 use Rattle.txn_machine.specs.declared.doing.Doing.{Doing}
 use Rattle.txn_machine.specs.declared.doing.Doing.TheVariants as does
 use Rattle.txn_machine.specs.declared.doing.Operation.{Operation}
@@ -90,14 +90,9 @@ module _ {T : Type 0} where
 module _ {T : Type 0} (get_epoch : T → ℕ) where
   -- a call on a view writes or reads
   acts_nothing : (call : ViewCall T) (local : Option ℕ) (op : ViewOp T) (fine : PlainDoing T) → Matched get_epoch (any.View call) local Acts (does.View op) fine → ⊥
-  acts_nothing (view_calls.Init value) local op fine h = h
-  acts_nothing view_calls.Load local op fine h = h
-  acts_nothing (view_calls.Refresh view) local op fine h = h
-  acts_nothing (view_calls.Update view value) local op fine h = h
-  acts_nothing (view_calls.Claim view) local op fine h = h
-  acts_nothing (view_calls.ClaimAt view epoch) local op fine h = h
-  acts_nothing (view_calls.HolderRefresh view) local op fine h = h
-  acts_nothing (view_calls.HolderUpdate view value) local op fine h = h
+  acts_nothing call local (ops.Enters op) fine h = h
+  acts_nothing call local (ops.Reads op) fine h = h
+  acts_nothing call local (ops.Claims op) fine h = h
 
   no_acts : (call : ViewCall T) (local : Option ℕ) (doing : Doing T) (fine : PlainDoing T) → Matched get_epoch (any.View call) local Acts doing fine → ⊥
   no_acts call local (does.Plain doing) fine h = h

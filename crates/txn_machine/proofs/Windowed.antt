@@ -12,7 +12,7 @@ use Rattle.txn_view_steps.specs.declared.claiming.Claiming.{Claiming}
 use Rattle.txn_view_steps.specs.declared.claiming.Claiming.TheVariants as claims
 use Rattle.txn_view_steps.specs.declared.entry.EntryOp.{EntryOp}
 use Rattle.txn_view_steps.specs.declared.entry.EntryOp.TheVariants as entries
-use Rattle.txn_view_steps.specs.declared.op.ViewOp.TheVariants.{Init, Load, Refresh, Update, Claim, ClaimAt, HolderRefresh, HolderUpdate}
+use Rattle.txn_view_steps.specs.declared.op.ViewOp.TheVariants as ops
 use Rattle.txn_view_steps.specs.declared.outcome.Outcome.{Outcome}
 use Rattle.txn_view_steps.specs.Attempts.{claiming_left}
 use Rattle.txn_view_steps.specs.Entries.{entry_caches}
@@ -41,14 +41,9 @@ module _ {T : Type 0} where
 
   any_window : (doing : Doing T) (caches : Caches) (ending : Option (Ending T)) → IsWindow caches.latest → IsWindow (caches_left doing caches ending).latest
   any_window (does.Plain doing) caches ending w = left_window doing caches (answer_in ending) w
-  any_window (does.View (Init op)) caches ending w = entry_window op.entry caches w
-  any_window (does.View (Update op)) caches ending w = entry_window op.entry caches w
-  any_window (does.View (HolderUpdate op)) caches ending w = entry_window op.entry caches w
-  any_window (does.View (Load op)) caches ending w = read_window op.read caches (said (goes_by ending)) w
-  any_window (does.View (Refresh op)) caches ending w = read_window op.read caches (said (goes_by ending)) w
-  any_window (does.View (HolderRefresh op)) caches ending w = read_window op.read caches (said (goes_by ending)) w
-  any_window (does.View (Claim op)) caches ending w = claiming_window op.claiming caches (goes_by ending) w
-  any_window (does.View (ClaimAt op)) caches ending w = claiming_window op.claiming caches (goes_by ending) w
+  any_window (does.View (ops.Enters op)) caches ending w = entry_window op caches w
+  any_window (does.View (ops.Reads op)) caches ending w = read_window op.read caches (said (goes_by ending)) w
+  any_window (does.View (ops.Claims op)) caches ending w = claiming_window op.claiming caches (goes_by ending) w
 
   abbrev Windowed : State T → Type 0
   Windowed s = AllWindows s.caches

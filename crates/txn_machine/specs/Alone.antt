@@ -6,7 +6,7 @@ use Rattle.txn_history.specs.Lists.{numbered}
 use Rattle.txn_machine_inner.specs.declared.doing.PlainDoing.{PlainDoing}
 use Rattle.txn_machine_inner.specs.declared.doing.PlainDoing.TheVariants as doings
 use Rattle.txn_machine_inner.specs.Alone.{begins_pass, is_turn}
-use Rattle.txn_view_steps.specs.declared.op.ViewOp.TheVariants.{Init, Load, Refresh, Update, Claim, ClaimAt, HolderRefresh, HolderUpdate}
+use Rattle.txn_view_steps.specs.declared.op.ViewOp.TheVariants.{Enters, Reads, Claims}
 use Rattle.txn_history.specs.declared.event.ViewCall.TheVariants as view_calls
 use Rattle.txn_history.specs.declared.event.Call.{Call}
 use Rattle.txn_history.specs.declared.event.Call.TheVariants as any
@@ -28,14 +28,9 @@ module _ {T : Type 0} where
   -- the read that its operation makes, as an operation of plain calls
   abbrev pub read_of : Doing T → PlainDoing T
   read_of (does.Plain doing) = doing
-  read_of (does.View (Load op)) = doings.Read op.read
-  read_of (does.View (Refresh op)) = doings.Read op.read
-  read_of (does.View (HolderRefresh op)) = doings.Read op.read
-  read_of (does.View (Init op)) = doings.Ended
-  read_of (does.View (Update op)) = doings.Ended
-  read_of (does.View (Claim op)) = doings.Ended
-  read_of (does.View (ClaimAt op)) = doings.Ended
-  read_of (does.View (HolderUpdate op)) = doings.Ended
+  read_of (does.View (Reads op)) = doings.Read op.read
+  read_of (does.View (Enters op)) = doings.Ended
+  read_of (does.View (Claims op)) = doings.Ended
 
   abbrev pub read_by : Option (Operation T) → PlainDoing T
   read_by None = doings.Ended

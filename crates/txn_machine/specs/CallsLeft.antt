@@ -8,7 +8,7 @@ use Rattle.txn_history.specs.declared.event.EventOf.TheVariants as events
 use Rattle.txn_machine_inner.specs.declared.doing.PlainDoing.{PlainDoing}
 use Rattle.txn_machine_inner.specs.declared.doing.PlainDoing.TheVariants as doings
 use Rattle.txn_view_steps.specs.declared.op.ViewOp.{ViewOp}
-use Rattle.txn_view_steps.specs.declared.op.ViewOp.TheVariants.{Init, Load, Refresh, Update, Claim, ClaimAt, HolderRefresh, HolderUpdate}
+use Rattle.txn_view_steps.specs.declared.op.ViewOp.TheVariants.{Enters, Reads, Claims}
 use Rattle.txn_view_steps.specs.CallsLeft.{entry_left}
 use Rattle.txn_history.specs.declared.event.ViewCall.TheVariants as view_calls
 use Rattle.txn_history.specs.declared.event.Call.{Call}
@@ -55,14 +55,9 @@ module _ {T : Type 0} where
   plain_left (doings.Advance op) = None
 
   abbrev pub view_left : ViewOp T → Option Left
-  view_left (Init op) = Some (entry_left op.entry)
-  view_left (Update op) = Some (entry_left op.entry)
-  view_left (HolderUpdate op) = Some (entry_left op.entry)
-  view_left (Load op) = None
-  view_left (Refresh op) = None
-  view_left (Claim op) = None
-  view_left (ClaimAt op) = None
-  view_left (HolderRefresh op) = None
+  view_left (Enters op) = Some (entry_left op)
+  view_left (Reads op) = None
+  view_left (Claims op) = None
 
   -- what an operation has left, where its call has a bound: nothing where it has ended
   abbrev pub any_left : Doing T → Option Left

@@ -14,15 +14,14 @@ use Rattle.txn_machine_inner.specs.Doing as plain
 use Rattle.txn_machine_inner.specs.Doing.{ask_of}
 use Rattle.txn_view_steps.specs.declared.outcome.Outcome.{Outcome}
 use Rattle.txn_view_steps.specs.declared.op.ViewOp.{ViewOp}
-use Rattle.txn_view_steps.specs.declared.op.ViewOp.TheVariants.{Init, Load, Refresh, Update, Claim, ClaimAt, HolderRefresh, HolderUpdate}
+use Rattle.txn_view_steps.specs.declared.op.ViewOp.TheVariants as ops
+use Rattle.txn_view_steps.specs.declared.view_read.Purpose.{Purpose}
+use Rattle.txn_view_steps.specs.declared.view_read.Purpose.TheVariants as purposes
 use Rattle.txn_view_steps.specs.ViewOps as views
 use Rattle.txn_view_steps.specs.ViewOps.{view_asked, view_turned, view_left, IsViewReply, IsViewInRange, IsViewMade}
-use Rattle.txn_view_steps.specs.Inits.{init_started}
-use Rattle.txn_view_steps.specs.Loads.{load_started}
-use Rattle.txn_view_steps.specs.Refreshes.{refresh_started}
-use Rattle.txn_view_steps.specs.Updates.{update_started}
-use Rattle.txn_view_steps.specs.Claims.{claim_started, claim_at_started}
-use Rattle.txn_view_steps.specs.Holders.{holder_refresh_started, holder_update_started}
+use Rattle.txn_view_steps.specs.Entries.{entry_started, holder_entry_started}
+use Rattle.txn_view_steps.specs.ViewReads.{view_read_started}
+use Rattle.txn_view_steps.specs.Claims.{claim_started}
 use Rattle.txn_history.specs.declared.event.ViewCall.TheVariants as view_calls
 use Rattle.txn_history.specs.declared.event.Call.{Call}
 use Rattle.txn_history.specs.declared.event.Call.TheVariants as any
@@ -146,18 +145,22 @@ module _ {T : Type 0} where
   with_local None next = refused 7
   with_local (Some local) next = next local
 
+  -- it reads the newest version, for this purpose
+  abbrev pub reads_for : Purpose → Next T
+  reads_for purpose = (does.View (ops.Reads (view_read_started world_boundary purpose)), None)
+
 module _ {T : Type 0} (page : ℕ) (encode : T → List ℕ) (get_epoch : T → ℕ) (set_epoch : T → ℕ → T) where
   -- how a call starts, by the view that it uses as it stands then
   abbrev pub started : Call T → Option (View T) → Next T
   started (any.Plain call) view = plain_next (plain.started page encode call)
-  started (any.View (view_calls.Init value)) view = first_next Init (init_started world_names world_boundary encode value)
-  started (any.View view_calls.Load) view = (does.View (Load (load_started world_boundary)), None)
-  started (any.View (view_calls.Refresh number)) view = (does.View (Refresh (refresh_started world_boundary)), None)
-  started (any.View (view_calls.Update number value)) (Some view) = first_next Update (update_started world_names world_boundary encode view.id value)
-  started (any.View (view_calls.Claim number)) (Some view) = first_next Claim (claim_started world_names world_boundary encode get_epoch set_epoch view.id view.object)
-  started (any.View (view_calls.ClaimAt number epoch)) (Some view) = first_next ClaimAt (claim_at_started world_names world_boundary encode get_epoch set_epoch epoch view.id view.object)
-  started (any.View (view_calls.HolderRefresh number)) (Some view) = with_local view.epoch (λ local. (does.View (HolderRefresh (holder_refresh_started world_boundary local)), None))
-  started (any.View (view_calls.HolderUpdate number value)) (Some view) = with_local view.epoch (λ local. first_next HolderUpdate (holder_update_started world_names world_boundary encode get_epoch local view.id view.object value))
+  started (any.View (view_calls.Init value)) view = first_next ops.Enters (entry_started world_names world_boundary encode None value)
+  started (any.View view_calls.Load) view = reads_for purposes.Load
+  started (any.View (view_calls.Refresh number)) view = reads_for purposes.Refresh
+  started (any.View (view_calls.Update number value)) (Some view) = first_next ops.Enters (entry_started world_names world_boundary encode (Some view.id) value)
+  started (any.View (view_calls.Claim number)) (Some view) = first_next ops.Claims (claim_started world_names world_boundary encode get_epoch set_epoch None view.id view.object)
+  started (any.View (view_calls.ClaimAt number epoch)) (Some view) = first_next ops.Claims (claim_started world_names world_boundary encode get_epoch set_epoch (Some epoch) view.id view.object)
+  started (any.View (view_calls.HolderRefresh number)) (Some view) = with_local view.epoch (λ local. reads_for (purposes.HolderRefresh local))
+  started (any.View (view_calls.HolderUpdate number value)) (Some view) = with_local view.epoch (λ local. first_next ops.Enters (holder_entry_started world_names world_boundary encode get_epoch local view.id view.object value))
   started (any.View call) None = refused 7
 
 module _ {T : Type 0} (page : ℕ) (encode : T → List ℕ) (decode : List ℕ → Option T) (get_epoch : T → ℕ) (set_epoch : T → ℕ → T) where

@@ -25,14 +25,10 @@ use txn_types::error::TransactionalObjectError;
 use txn_types::id::MonotonicId;
 use txn_types::layout::Layout;
 use txn_view_steps::claim::ClaimOp;
-use txn_view_steps::claim_at::ClaimAtOp;
-use txn_view_steps::holder::{HolderRefreshOp, HolderUpdateOp};
-use txn_view_steps::init::InitOp;
-use txn_view_steps::load::LoadOp;
+use txn_view_steps::entry::EntryOp;
 use txn_view_steps::op::ViewOp;
 use txn_view_steps::outcome::{Outcome, ViewAnswer};
-use txn_view_steps::refresh::RefreshOp;
-use txn_view_steps::update::UpdateOp;
+use txn_view_steps::view_read::{Purpose, ViewReadOp};
 
 /// What an operation does next. One that was answered, or given up, is a plain one that has ended.
 pub enum Doing<T> {
@@ -45,9 +41,10 @@ pub enum Doing<T> {
 impl<T: Drop> Drop for Doing<T> {
     /// Drops the operation's state: here, so that no crate above has to prove how each is dropped.
     fn drop(self) {
+        // (by calls: in place, the proof would follow each state that may be dropped)
         match self {
-            Doing::Plain(_) => {}
-            Doing::View(_) => {}
+            Doing::Plain(doing) => drop(doing),
+            Doing::View(op) => drop(op),
         }
     }
 }
@@ -169,33 +166,33 @@ fn start_on<T: Clone, C: ObjectCodec<T>, E: EpochField<T>>(
 {
     match call {
         ViewCall::Refresh(_) => Ok((
-            Doing::View(ViewOp::Refresh(RefreshOp::start(layout)?)),
+            Doing::View(ViewOp::Reads(ViewReadOp::start(layout, Purpose::Refresh)?)),
             None,
         )),
         ViewCall::Update(_, value) => {
-            first(UpdateOp::start(alloc, layout, MonotonicId::new(view.id), value).map(
-                ViewOp::Update,
-            ))
+            let base = Some(MonotonicId::new(view.id));
+            first(EntryOp::start(alloc, layout, base, value).map(ViewOp::Enters))
         }
         ViewCall::Claim(_) => {
             first(ClaimOp::start(
                 alloc,
                 layout,
                 epochs,
+                None,
                 MonotonicId::new(view.id),
                 &view.object,
             )
-            .map(ViewOp::Claim))
+            .map(ViewOp::Claims))
         }
-        ViewCall::ClaimAt(_, epoch) => first(ClaimAtOp::start(
+        ViewCall::ClaimAt(_, epoch) => first(ClaimOp::start(
             alloc,
             layout,
             epochs,
-            *epoch,
+            Some(*epoch),
             MonotonicId::new(view.id),
             &view.object,
         )
-        .map(ViewOp::ClaimAt)),
+        .map(ViewOp::Claims)),
         ViewCall::HolderRefresh(_) | ViewCall::HolderUpdate(..) => match view.epoch {
             Some(local) => start_holder(alloc, layout, epochs, call, view, local),
             None => Ok((ended(), Some(7))),
@@ -223,10 +220,10 @@ fn start_holder<T: Clone, C: ObjectCodec<T>, E: EpochField<T>>(
 {
     match call {
         ViewCall::HolderRefresh(_) => Ok((
-            Doing::View(ViewOp::HolderRefresh(HolderRefreshOp::start(layout, local)?)),
+            Doing::View(ViewOp::Reads(ViewReadOp::start(layout, Purpose::HolderRefresh(local))?)),
             None,
         )),
-        ViewCall::HolderUpdate(_, value) => first(HolderUpdateOp::start(
+        ViewCall::HolderUpdate(_, value) => first(EntryOp::start_for_holder(
             alloc,
             layout,
             epochs,
@@ -235,7 +232,7 @@ fn start_holder<T: Clone, C: ObjectCodec<T>, E: EpochField<T>>(
             &view.object,
             value,
         )
-        .map(ViewOp::HolderUpdate)),
+        .map(ViewOp::Enters)),
         ViewCall::Init(_)
         | ViewCall::Load
         | ViewCall::Refresh(_)
@@ -270,12 +267,17 @@ pub fn start<T: Clone, C: ObjectCodec<T>, E: EpochField<T>>(
             Ok((Doing::Plain(doing), refusal))
         }
         Call::View(ViewCall::Init(value)) => {
-            first(InitOp::start(alloc, layout, value).map(ViewOp::Init))
+            first(EntryOp::start(alloc, layout, None, value).map(ViewOp::Enters))
         }
-        Call::View(ViewCall::Load) => Ok((Doing::View(ViewOp::Load(LoadOp::start(layout)?)), None)),
+        Call::View(ViewCall::Load) => {
+            Ok((
+                Doing::View(ViewOp::Reads(ViewReadOp::start(layout, Purpose::Load)?)),
+                None,
+            ))
+        }
         Call::View(ViewCall::Refresh(_)) => {
             Ok((
-                Doing::View(ViewOp::Refresh(RefreshOp::start(layout)?)),
+                Doing::View(ViewOp::Reads(ViewReadOp::start(layout, Purpose::Refresh)?)),
                 None,
             ))
         }

@@ -1,5 +1,5 @@
 //! Which refusals an operation ends with where a store call failed, and where a claim has no id or no epoch left.
-ghost use Rattle.std.specs.Prelude.{◌≡◌, ◌⊎◌, ℕ, Bool, false, Option, Some, Ok};
+ghost use Rattle.std.specs.Prelude.{◌≡◌, ◌⊎◌, ℕ, Bool, false, Option, Some, None, Ok};
 ghost use Rattle.txn_store.specs.declared.request.Reply.{Reply};
 ghost use Rattle.txn_store.specs.declared.store.StoreError.TheVariants as errors;
 ghost use Rattle.txn_caches.specs.declared.caches.Caches.{Caches};
@@ -11,7 +11,6 @@ ghost use Rattle.txn_history.specs.declared.event.Failure.{Failure};
 ghost use Rattle.txn_history.specs.Names.{world_names, world_boundary};
 ghost use Rattle.txn_history.specs.Facts.{greatest};
 ghost use Rattle.txn_view_steps.specs.declared.claim.ClaimOp.{ClaimOp};
-ghost use Rattle.txn_view_steps.specs.declared.claim_at.ClaimAtOp.{ClaimAtOp};
 ghost use Rattle.txn_view_steps.specs.declared.claiming.Claiming.{Claiming};
 ghost use Rattle.txn_view_steps.specs.declared.claiming.Claiming.TheVariants as claiming;
 ghost use Rattle.txn_view_steps.specs.declared.op.ViewOp.TheVariants as view_ops;
@@ -44,8 +43,8 @@ pub fn claims_are_refused_by_their_base<T: Drop, C: ObjectCodec<T>, E: EpochFiel
 )
     ensures first { (page number : ℕ) (view : View T) → started page (C.encoded _codec.now) (E.epoch_of _epochs.now) (E.with_epoch _epochs.now) (any.View (view_calls.Claim number)) (Some view) ≡ refused 10 → (view.id ≡ greatest) ⊎ (E.epoch_of _epochs.now view.object ≡ greatest) }
     ensures first_at { (page number epoch : ℕ) (view : View T) → started page (C.encoded _codec.now) (E.epoch_of _epochs.now) (E.with_epoch _epochs.now) (any.View (view_calls.ClaimAt number epoch)) (Some view) ≡ refused 10 → view.id ≡ greatest }
-    ensures later { (page : ℕ) (lacks : Bool) (op : ClaimOp T) (caches : Caches) (reply : Option Reply) → turned page (C.encoded _codec.now) (C.decoded _codec.now) (E.epoch_of _epochs.now) (E.with_epoch _epochs.now) lacks (does.View (view_ops.Claim op)) caches reply ≡ refused 10 →
+    ensures later { (page : ℕ) (lacks : Bool) (op : ClaimOp T) (caches : Caches) (reply : Option Reply) → op.asked ≡ None → turned page (C.encoded _codec.now) (C.decoded _codec.now) (E.epoch_of _epochs.now) (E.with_epoch _epochs.now) lacks (does.View (view_ops.Claims op)) caches reply ≡ refused 10 →
         (id : ℕ) × (value : T) × Found page (C.decoded _codec.now) op.claiming caches reply id value × ((id ≡ greatest) ⊎ (E.epoch_of _epochs.now value ≡ greatest)) }
-    ensures later_at { (page : ℕ) (lacks : Bool) (op : ClaimAtOp T) (caches : Caches) (reply : Option Reply) → turned page (C.encoded _codec.now) (C.decoded _codec.now) (E.epoch_of _epochs.now) (E.with_epoch _epochs.now) lacks (does.View (view_ops.ClaimAt op)) caches reply ≡ refused 10 →
+    ensures later_at { (page : ℕ) (lacks : Bool) (epoch : ℕ) (op : ClaimOp T) (caches : Caches) (reply : Option Reply) → op.asked ≡ Some epoch → turned page (C.encoded _codec.now) (C.decoded _codec.now) (E.epoch_of _epochs.now) (E.with_epoch _epochs.now) lacks (does.View (view_ops.Claims op)) caches reply ≡ refused 10 →
         (id : ℕ) × (value : T) × Found page (C.decoded _codec.now) op.claiming caches reply id value × (id ≡ greatest) }
 {}

@@ -11,7 +11,7 @@ use Rattle.txn_history.specs.History.{newest, epoch_at}
 use Rattle.txn_history.specs.Facts.{base_on, greatest}
 use Rattle.txn_history.proofs.Rows.{newest_grows}
 use Rattle.txn_history.proofs.More.{epoch_kept}
-use Rattle.txn_view_steps.specs.Holders.{value_tested, own_epochs}
+use Rattle.txn_view_steps.specs.Entries.{value_tested, own_epochs}
 use Rattle.txn_history.specs.declared.event.ViewCall.TheVariants as view_calls
 use Rattle.txn_history.specs.declared.event.Call.{Call}
 use Rattle.txn_history.specs.declared.event.Call.TheVariants as any

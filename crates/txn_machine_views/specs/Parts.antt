@@ -8,7 +8,7 @@ use Rattle.txn_types.specs.declared.error.TransactionalObjectError.{Transactiona
 use Rattle.txn_history.specs.declared.event.PlainCall.{PlainCall}
 use Rattle.txn_history.specs.declared.event.PlainCall.TheVariants as calls
 use Rattle.txn_history.specs.Facts.{base_on, greatest, Entered, WasNewest, WasEmpty, WriteRefused, Fails}
-use Rattle.txn_view_steps.specs.Holders.{own_epochs}
+use Rattle.txn_view_steps.specs.Entries.{own_epochs}
 use Rattle.txn_history.specs.declared.event.ViewCall.TheVariants as view_calls
 use Rattle.txn_history.specs.declared.event.Call.{Call}
 use Rattle.txn_history.specs.declared.event.Call.TheVariants as any

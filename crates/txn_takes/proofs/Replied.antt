@@ -321,34 +321,19 @@ module _ {T : Type 0} where
   claim_range claimings.Ended can = absurd can
 
   view_replies : (op : ViewOp T) (reply : Option Reply) → CanView op → FitsAsk (view_asked op) reply → IsViewReply op reply
-  view_replies (views.Init op) reply can fits = entry_replies op.entry reply can fits
-  view_replies (views.Load op) reply can fits = read_replies op.read reply can fits
-  view_replies (views.Refresh op) reply can fits = read_replies op.read reply can fits
-  view_replies (views.Update op) reply can fits = entry_replies op.entry reply can fits
-  view_replies (views.Claim op) reply can fits = claim_replies op.claiming reply can fits
-  view_replies (views.ClaimAt op) reply can fits = claim_replies op.claiming reply can fits
-  view_replies (views.HolderRefresh op) reply can fits = read_replies op.read reply can fits
-  view_replies (views.HolderUpdate op) reply can fits = entry_replies op.entry reply can fits
+  view_replies (views.Enters op) reply can fits = entry_replies op reply can fits
+  view_replies (views.Reads op) reply can fits = read_replies op.read reply can fits
+  view_replies (views.Claims op) reply can fits = claim_replies op.claiming reply can fits
 
   view_serves : (op : ViewOp T) → CanView op → CanServe (view_asked op)
-  view_serves (views.Init op) can = entry_serves op.entry can
-  view_serves (views.Load op) can = read_serves op.read can
-  view_serves (views.Refresh op) can = read_serves op.read can
-  view_serves (views.Update op) can = entry_serves op.entry can
-  view_serves (views.Claim op) can = claim_serves op.claiming can
-  view_serves (views.ClaimAt op) can = claim_serves op.claiming can
-  view_serves (views.HolderRefresh op) can = read_serves op.read can
-  view_serves (views.HolderUpdate op) can = entry_serves op.entry can
+  view_serves (views.Enters op) can = entry_serves op can
+  view_serves (views.Reads op) can = read_serves op.read can
+  view_serves (views.Claims op) can = claim_serves op.claiming can
 
   view_range : (op : ViewOp T) → CanView op → IsViewInRange op
-  view_range (views.Init op) can = tt
-  view_range (views.Load op) can = read_range op.read can
-  view_range (views.Refresh op) can = read_range op.read can
-  view_range (views.Update op) can = tt
-  view_range (views.Claim op) can = claim_range op.claiming can
-  view_range (views.ClaimAt op) can = claim_range op.claiming can
-  view_range (views.HolderRefresh op) can = read_range op.read can
-  view_range (views.HolderUpdate op) can = tt
+  view_range (views.Enters op) can = tt
+  view_range (views.Reads op) can = read_range op.read can
+  view_range (views.Claims op) can = claim_range op.claiming can
 
   -- any operation
 

@@ -41,14 +41,9 @@ module _ {T : Type 0} where
   CanClaim claimings.Ended = ⊥
 
   abbrev pub CanView : ViewOp T → Type 0
-  CanView (views.Init op) = CanEnter op.entry
-  CanView (views.Load op) = CanRead op.read
-  CanView (views.Refresh op) = CanRead op.read
-  CanView (views.Update op) = CanEnter op.entry
-  CanView (views.Claim op) = CanClaim op.claiming
-  CanView (views.ClaimAt op) = CanClaim op.claiming
-  CanView (views.HolderRefresh op) = CanRead op.read
-  CanView (views.HolderUpdate op) = CanEnter op.entry
+  CanView (views.Enters op) = CanEnter op
+  CanView (views.Reads op) = CanRead op.read
+  CanView (views.Claims op) = CanClaim op.claiming
 
   abbrev pub CanTake : Doing T → Type 0
   CanTake (does.Plain doing) = CanDo doing

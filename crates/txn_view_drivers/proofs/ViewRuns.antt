@@ -3,16 +3,11 @@ use Rattle.std.proofs.Common.{◌≡◌, ℕ, ◌≤◌, ◌+◌, ◌^◌, ◌<�
 use Rattle.txn_store.specs.Paths.{Segments}
 use Rattle.txn_store.specs.VersionName.{Names}
 use Rattle.txn_store.specs.Store.{State}
-use Rattle.txn_store.specs.declared.request.Request.{Request}
-use Rattle.txn_store.specs.declared.request.Reply.{Reply}
 use Rattle.txn_types.specs.Numbers.{number_of}
 use Rattle.txn_types.specs.Epochs.{epoch_tested}
 use Rattle.txn_types.specs.declared.error.TransactionalObjectError.{TransactionalObjectError}
 use Rattle.txn_types.specs.declared.error.TransactionalObjectError.TheVariants as kinds
-use Rattle.txn_caches.specs.declared.caches.Caches.{Caches}
-use Rattle.txn_caches.specs.declared.turned.Turned.{Turned}
 use Rattle.txn_caches.specs.Windows.{Ascends, greatest_held}
-use Rattle.txn_steps.specs.declared.read.ReadOp.{ReadOp}
 use Rattle.txn_steps.specs.declared.read.ReadOp.TheVariants as reads
 use Rattle.txn_steps.specs.Reads.{read_started, read_asked, read_turned, read_left}
 use Rattle.txn_steps.specs.Writes.{write_started, write_asked, write_turned, write_caches}
@@ -24,26 +19,30 @@ use Rattle.txn_drivers.proofs.DrivenWrite.{checked_write_driven}
 use Rattle.txn_view_steps.specs.declared.entry.EntryOp.{EntryOp}
 use Rattle.txn_view_steps.specs.declared.entry.EntryOp.TheVariants as entries
 use Rattle.txn_view_steps.specs.declared.outcome.Outcome.{Outcome}
-use Rattle.txn_view_steps.specs.Holders.{holder_viewed}
+use Rattle.txn_view_steps.specs.declared.view_read.Purpose.{Purpose}
+use Rattle.txn_view_steps.specs.declared.view_read.ViewReadOp.{ViewReadOp}
+use Rattle.txn_view_steps.specs.Entries.{entry_asked, entry_caches}
 use Rattle.txn_view_steps.specs.Readings.{said}
+use Rattle.txn_view_steps.specs.ViewReads.{holder_viewed, view_read_asked}
 use Rattle.txn_view_drivers.specs.declared.call.ViewCall.{ViewCall}
-use Rattle.txn_view_drivers.specs.CallLayers.{EntryLayer, ReadLayer, entry_at}
-use Rattle.txn_view_drivers.specs.CallRuns.{CallStepped, WritingSteps, call_turned}
+use Rattle.txn_view_drivers.specs.declared.with_epochs.WithEpochs.{WithEpochs}
+use Rattle.txn_view_drivers.specs.CallLayers.{entry_at, entry_layer, view_read_at, view_read_gone, view_read_layer}
+use Rattle.txn_view_drivers.specs.CallRuns.{EntrySteps, entry_call_turned, ViewReadSteps, view_read_call_turned}
 use Rattle.txn_view_drivers.specs.Entering.{EntryStood, EntryDriven}
 use Rattle.txn_view_drivers.specs.Layers.{run_through, part_of}
 use Rattle.txn_view_drivers.specs.Viewing.{LoadAnswers, RefreshAnswers, HolderAnswers, ViewDriven}
 use Rattle.txn_view_drivers.proofs.EntryRuns.{write_answers, write_spends}
-use Rattle.txn_view_drivers.specs.Seen.{entry_seen, load_seen, refresh_seen, holder_seen, seen_as}
+use Rattle.txn_view_drivers.specs.Seen.{entry_seen, load_seen, refresh_seen, holder_seen, view_read_seen, seen_as}
 
 -- a call over a write, which is based so and has an id
 
-module _ {T O : Type 0} (wrap : EntryOp T → O) (asked : O → Option Request) (turned : O → Caches → Option Reply → O × Turned (Result (Outcome T) ℕ)) (left : O → Caches → Caches) (value : T) (layer : EntryLayer wrap asked turned left value) (names : Names) (decode : List ℕ → Option T) (path : Segments) (base : Option ℕ) (bytes : List ℕ) (reads : decode bytes ≡ Some value) (last : number_of base + 1 < 2 ^ 64) (a : Scene (ViewCall O)) (starts : a.op ≡ entry_at wrap (entries.Writes (write_started names path base bytes) value)) where
-  pub entry_driven : (steps : ℕ) (answer : Option (Result (Outcome T) TransactionalObjectError)) (b : Scene (ViewCall O)) → Drives (WritingSteps asked turned left) steps a answer b → EntryDriven names decode path base bytes value steps a answer b
+module _ {T : Type 0} (value : T) (names : Names) (decode : List ℕ → Option T) (path : Segments) (base : Option ℕ) (bytes : List ℕ) (reads : decode bytes ≡ Some value) (last : number_of base + 1 < 2 ^ 64) (a : Scene (ViewCall (EntryOp T))) (starts : a.op ≡ entry_at (entries.Writes (write_started names path base bytes) value)) where
+  pub entry_driven : (steps : ℕ) (answer : Option (Result (Outcome T) TransactionalObjectError)) (b : Scene (ViewCall (EntryOp T))) → Drives EntrySteps steps a answer b → EntryDriven names decode path base bytes value steps a answer b
   entry_driven steps None b on =
-      let run = run_through false write_asked write_turned (λ op caches told. write_caches op caches) (λ (call : ViewCall O). call) (λ call. asked call.op) (call_turned turned) (λ call caches told. left call.op caches) (λ write. entry_at wrap (entries.Writes write value)) (entry_at wrap entries.Ended) (entry_seen value) layer (write_started names path base bytes) a starts steps None b on in
+      let run = run_through false write_asked write_turned (λ op caches told. write_caches op caches) (λ (call : ViewCall (EntryOp T)). call) (λ call. entry_asked call.op) entry_call_turned (λ call caches told. entry_caches call.op caches) (λ write. entry_at (entries.Writes write value)) (entry_at entries.Ended) (entry_seen value) (entry_layer value) (write_started names path base bytes) a starts steps None b on in
       checked_write_driven names decode path base bytes value reads last (part_of (write_started names path base bytes) a) refl steps None (part_of run.0 b) run.1
   entry_driven steps (Some answer) b on =
-      let run = run_through false write_asked write_turned (λ op caches told. write_caches op caches) (λ (call : ViewCall O). call) (λ call. asked call.op) (call_turned turned) (λ call caches told. left call.op caches) (λ write. entry_at wrap (entries.Writes write value)) (entry_at wrap entries.Ended) (entry_seen value) layer (write_started names path base bytes) a starts steps (Some answer) b on in
+      let run = run_through false write_asked write_turned (λ op caches told. write_caches op caches) (λ (call : ViewCall (EntryOp T)). call) (λ call. entry_asked call.op) entry_call_turned (λ call caches told. entry_caches call.op caches) (λ write. entry_at (entries.Writes write value)) (entry_at entries.Ended) (entry_seen value) (entry_layer value) (write_started names path base bytes) a starts steps (Some answer) b on in
       let write = checked_write_driven names decode path base bytes value reads last (part_of (write_started names path base bytes) a) refl steps (Some run.1) (part_of run.0 b) run.2 in
       record {
         last = run.0;
@@ -92,15 +91,15 @@ module _ {T : Type 0} (h : List T) (old new : State) where
     holder_answers (Ok (Some found)) is = by_epoch found (epoch_tested local (epoch_of found.1)) is.0 refl
     holder_answers (Err error) is = holder_error error is.1
 
--- a call over a read
+-- a call over a read, for a purpose; `Answers` is what its answer says of a history
 
-module _ {T O : Type 0} (names : Names) (path : Segments) (page : ℕ) (room : 1 ≤ page) (decode : List ℕ → Option T) (ended : O → O) (asked : O → Option Request) (turned : O → Caches → Option Reply → O × Turned (Result (Outcome T) ℕ)) (read_of : O → ReadOp T) (wrap : ReadOp T → O) (see : Option (ℕ × T) → Result (Outcome T) TransactionalObjectError) (layer : ReadLayer names path page decode ended asked turned read_of wrap see) (Answers : List T → State → State → Result (Outcome T) TransactionalObjectError → Type 0) (answers : (h : List T) (old new : State) (told : Result (Option (ℕ × T)) TransactionalObjectError) → Told h old new told → Answers h old new (seen_as see told)) (a : Scene O) (ascending : Ascends a.caches.latest) (small : IfSome (greatest_held a.caches.latest) (λ version. version.id < 2 ^ 64)) (starts : a.op ≡ wrap (read_started path)) where
-  pub view_driven : (steps : ℕ) (answer : Option (Result (Outcome T) TransactionalObjectError)) (b : Scene O) → Drives (CallStepped true ended asked turned (λ op caches told. read_left (read_of op) caches (said told))) steps a answer b → ViewDriven names decode path page see Answers steps a answer b
+module _ {T X : Type 0} (names : Names) (path : Segments) (page : ℕ) (room : 1 ≤ page) (decode : List ℕ → Option T) (epoch_of : X → T → ℕ) (purpose : Purpose) (a : Scene (WithEpochs (ViewReadOp T) X)) (Answers : List T → State → State → Result (Outcome T) TransactionalObjectError → Type 0) (answers : (h : List T) (old new : State) (told : Result (Option (ℕ × T)) TransactionalObjectError) → Told h old new told → Answers h old new (seen_as (view_read_seen (epoch_of a.op.epochs) purpose) told)) (ascending : Ascends a.caches.latest) (small : IfSome (greatest_held a.caches.latest) (λ version. version.id < 2 ^ 64)) (starts : a.op ≡ view_read_at purpose a.op.epochs (read_started path)) where
+  pub view_driven : (steps : ℕ) (answer : Option (Result (Outcome T) TransactionalObjectError)) (b : Scene (WithEpochs (ViewReadOp T) X)) → Drives (ViewReadSteps names path page decode epoch_of) steps a answer b → ViewDriven names decode path page (view_read_seen (epoch_of a.op.epochs) purpose) Answers steps a answer b
   view_driven steps None b on =
-      let run = run_through true read_asked (read_turned names path page decode) read_left ended asked turned (λ op caches told. read_left (read_of op) caches (said told)) wrap (wrap reads.Ended) see layer (read_started path) a starts steps None b on in
+      let run = run_through true read_asked (read_turned names path page decode) read_left view_read_gone (λ call. view_read_asked call.op) (view_read_call_turned names path page decode epoch_of) (λ call caches told. read_left call.op.read caches (said told)) (view_read_at purpose a.op.epochs) (view_read_at purpose a.op.epochs reads.Ended) (view_read_seen (epoch_of a.op.epochs) purpose) (view_read_layer names path page decode epoch_of purpose a.op.epochs) (read_started path) a starts steps None b on in
       read_driven names path page room decode (part_of (read_started path) a) refl ascending small steps None (part_of run.0 b) run.1
   view_driven steps (Some answer) b on =
-      let run = run_through true read_asked (read_turned names path page decode) read_left ended asked turned (λ op caches told. read_left (read_of op) caches (said told)) wrap (wrap reads.Ended) see layer (read_started path) a starts steps (Some answer) b on in
+      let run = run_through true read_asked (read_turned names path page decode) read_left view_read_gone (λ call. view_read_asked call.op) (view_read_call_turned names path page decode epoch_of) (λ call caches told. read_left call.op.read caches (said told)) (view_read_at purpose a.op.epochs) (view_read_at purpose a.op.epochs reads.Ended) (view_read_seen (epoch_of a.op.epochs) purpose) (view_read_layer names path page decode epoch_of purpose a.op.epochs) (read_started path) a starts steps (Some answer) b on in
       let read = read_driven names path page room decode (part_of (read_started path) a) refl ascending small steps (Some run.1) (part_of run.0 b) run.2 in
       record {
         last = run.0;

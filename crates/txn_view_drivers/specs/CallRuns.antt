@@ -15,19 +15,11 @@ use Rattle.txn_drivers.specs.DriveRuns.{Scene}
 use Rattle.txn_drivers.specs.DriveSteps.{CanWriteChecked}
 use Rattle.txn_view_steps.specs.declared.entry.EntryOp.{EntryOp}
 use Rattle.txn_view_steps.specs.declared.entry.EntryOp.TheVariants as entries
-use Rattle.txn_view_steps.specs.declared.holder.HolderRefreshOp.{HolderRefreshOp}
-use Rattle.txn_view_steps.specs.declared.holder.HolderUpdateOp.{HolderUpdateOp}
-use Rattle.txn_view_steps.specs.declared.init.InitOp.{InitOp}
-use Rattle.txn_view_steps.specs.declared.load.LoadOp.{LoadOp}
 use Rattle.txn_view_steps.specs.declared.outcome.Outcome.{Outcome}
-use Rattle.txn_view_steps.specs.declared.refresh.RefreshOp.{RefreshOp}
-use Rattle.txn_view_steps.specs.declared.update.UpdateOp.{UpdateOp}
-use Rattle.txn_view_steps.specs.Holders.{holder_refresh_ended, holder_refresh_asked, holder_refresh_turned, holder_update_asked, holder_update_turned, holder_update_caches}
-use Rattle.txn_view_steps.specs.Inits.{init_asked, init_turned, init_caches}
-use Rattle.txn_view_steps.specs.Loads.{load_ended, load_asked, load_turned}
+use Rattle.txn_view_steps.specs.declared.view_read.ViewReadOp.{ViewReadOp}
+use Rattle.txn_view_steps.specs.Entries.{entry_asked, entry_turned, entry_caches}
 use Rattle.txn_view_steps.specs.Readings.{said}
-use Rattle.txn_view_steps.specs.Refreshes.{refresh_ended, refresh_asked, refresh_turned}
-use Rattle.txn_view_steps.specs.Updates.{update_asked, update_turned, update_caches}
+use Rattle.txn_view_steps.specs.ViewReads.{view_read_asked, view_read_ended, view_read_turned}
 use Rattle.txn_view_drivers.specs.declared.call.ViewCall.{ViewCall}
 use Rattle.txn_view_drivers.specs.declared.with_epochs.WithEpochs.{WithEpochs}
 
@@ -50,43 +42,21 @@ as_call next = (record { op = next.0 }, next.1)
 abbrev pub with_epochs : {O X A : Type 0} → X → O × A → WithEpochs O X × A
 with_epochs epochs next = (record { op = next.0; epochs = epochs }, next.1)
 
--- what a call makes of a look or a reply
-abbrev pub call_turned : {O A : Type 0} → (O → Caches → Option Reply → O × A) → ViewCall O → Caches → Option Reply → ViewCall O × A
-call_turned turned call caches reply = as_call (turned call.op caches reply)
-
 module _ {T : Type 0} where
-  -- a step of a call that takes no memory
-  abbrev pub WritingSteps : {O : Type 0} → (O → Option Request) → (O → Caches → Option Reply → O × Turned (Result (Outcome T) ℕ)) → (O → Caches → Caches) → StepsOf T (ViewCall O)
-  WritingSteps asked turned left = CallStepped false (λ call. call) (λ call. asked call.op) (call_turned turned) (λ call caches told. left call.op caches)
+  abbrev pub entry_call_turned : ViewCall (EntryOp T) → Caches → Option Reply → ViewCall (EntryOp T) × Turned (Result (Outcome T) ℕ)
+  entry_call_turned call caches reply = as_call (entry_turned call.op caches reply)
 
-  -- the call that writes the first version
-  abbrev pub InitSteps : StepsOf T (ViewCall (InitOp T))
-  InitSteps = WritingSteps init_asked init_turned init_caches
+  -- a call that writes a value that a view then shows; it takes no memory
+  abbrev pub EntrySteps : StepsOf T (ViewCall (EntryOp T))
+  EntrySteps = CallStepped false (λ call. call) (λ call. entry_asked call.op) entry_call_turned (λ call caches told. entry_caches call.op caches)
 
-  -- the call that writes on a view's version
-  abbrev pub UpdateSteps : StepsOf T (ViewCall (UpdateOp T))
-  UpdateSteps = WritingSteps update_asked update_turned update_caches
+  module _ {X : Type 0} (names : Names) (path : Segments) (page : ℕ) (decode : List ℕ → Option T) (epoch_of : X → T → ℕ) where
+    abbrev pub view_read_call_turned : WithEpochs (ViewReadOp T) X → Caches → Option Reply → WithEpochs (ViewReadOp T) X × Turned (Result (Outcome T) ℕ)
+    view_read_call_turned call caches reply = with_epochs call.epochs (view_read_turned names path page decode (epoch_of call.epochs) call.op caches reply)
 
-  -- the call that writes on a holder's version
-  abbrev pub HolderUpdateSteps : StepsOf T (ViewCall (HolderUpdateOp T))
-  HolderUpdateSteps = WritingSteps holder_update_asked holder_update_turned holder_update_caches
-
-  module _ (names : Names) (path : Segments) (page : ℕ) (decode : List ℕ → Option T) where
-    -- the call that makes a view of the newest version
-    abbrev pub LoadSteps : StepsOf T (ViewCall (LoadOp T))
-    LoadSteps = CallStepped true (λ call. record { op = load_ended }) (λ call. load_asked call.op) (call_turned (load_turned names path page decode)) (λ call caches told. read_left call.op.read caches (said told))
-
-    -- the call that moves a view to the newest version
-    abbrev pub RefreshSteps : StepsOf T (ViewCall (RefreshOp T))
-    RefreshSteps = CallStepped true (λ call. record { op = refresh_ended }) (λ call. refresh_asked call.op) (call_turned (refresh_turned names path page decode)) (λ call caches told. read_left call.op.read caches (said told))
-
-    module _ {X : Type 0} (epoch_of : X → T → ℕ) where
-      abbrev pub holder_call_turned : WithEpochs (HolderRefreshOp T) X → Caches → Option Reply → WithEpochs (HolderRefreshOp T) X × Turned (Result (Outcome T) ℕ)
-      holder_call_turned call caches reply = with_epochs call.epochs (holder_refresh_turned names path page decode (epoch_of call.epochs) call.op caches reply)
-
-      -- the call that moves a holder's view to the newest version
-      abbrev pub HolderRefreshSteps : StepsOf T (WithEpochs (HolderRefreshOp T) X)
-      HolderRefreshSteps = CallStepped true (λ call. record { op = holder_refresh_ended call.op; epochs = call.epochs }) (λ call. holder_refresh_asked call.op) holder_call_turned (λ call caches told. read_left call.op.read caches (said told))
+    -- a call that reads the newest version for a view
+    abbrev pub ViewReadSteps : StepsOf T (WithEpochs (ViewReadOp T) X)
+    ViewReadSteps = CallStepped true (λ call. record { op = view_read_ended call.op; epochs = call.epochs }) (λ call. view_read_asked call.op) view_read_call_turned (λ call caches told. read_left call.op.read caches (said told))
 
   -- a write of a value that a view then shows asks for what its write does, and has not ended
   abbrev pub CanEnter : EntryOp T → Type 0

@@ -16,13 +16,12 @@ use Rattle.txn_drivers.specs.DriveReads.{read_asks}
 use Rattle.txn_drivers.specs.DriveRuns.{Scene}
 use Rattle.txn_drivers.specs.DriveSteps.{CanWriteChecked, CanRead}
 use Rattle.txn_view_steps.specs.declared.claim.ClaimOp.{ClaimOp}
-use Rattle.txn_view_steps.specs.declared.claim_at.ClaimAtOp.{ClaimAtOp}
 use Rattle.txn_view_steps.specs.declared.claiming.Claiming.{Claiming}
 use Rattle.txn_view_steps.specs.declared.claiming.Claiming.TheVariants.{Writes, Reads, Ended}
 use Rattle.txn_view_steps.specs.Attempts.{attempted, attempted_again, entered_with}
 use Rattle.txn_view_drivers.specs.declared.with_epochs.WithEpochs.{WithEpochs}
 use Rattle.txn_view_drivers.specs.ClaimLayers.{AttemptLed, ReadLed, ClaimLed, claim_led}
-use Rattle.txn_view_drivers.specs.ClaimSteps.{CanClaim, AttemptStepped, ClaimSteps, ClaimAtSteps}
+use Rattle.txn_view_drivers.specs.ClaimSteps.{CanClaim, AttemptStepped, ClaimSteps}
 use Rattle.txn_view_drivers.specs.Layers.{part_of}
 
 module _ {T : Type 0} (names : Names) (path : Segments) (encode : T → List ℕ) (epoch_of : T → ℕ) (with_epoch : T → ℕ → T) (asked : Option ℕ) where
@@ -85,7 +84,4 @@ module _ {T : Type 0} (names : Names) (path : Segments) (page : ℕ) (room : 1 �
 
 module _ {T X : Type 0} (names : Names) (path : Segments) (page : ℕ) (room : 1 ≤ page) (encode : T → List ℕ) (decode : List ℕ → Option T) (epoch_of : X → T → ℕ) (with_epoch : X → T → ℕ → T) where
   pub claim_asks : (a b : Scene (WithEpochs (ClaimOp T) X)) → CanClaim a.op.op.claiming → ClaimSteps names path page encode decode epoch_of with_epoch a Goes b → CanClaim b.op.op.claiming
-  claim_asks a b can step = attempt_asks names path page room encode decode (epoch_of a.op.epochs) (with_epoch a.op.epochs) None (part_of a.op.op.claiming a) (part_of b.op.op.claiming b) can step.attempt
-
-  pub claim_at_asks : (a b : Scene (WithEpochs (ClaimAtOp T) X)) → CanClaim a.op.op.claiming → ClaimAtSteps names path page encode decode epoch_of with_epoch a Goes b → CanClaim b.op.op.claiming
-  claim_at_asks a b can step = attempt_asks names path page room encode decode (epoch_of a.op.epochs) (with_epoch a.op.epochs) (Some a.op.op.epoch) (part_of a.op.op.claiming a) (part_of b.op.op.claiming b) can step.attempt
+  claim_asks a b can step = attempt_asks names path page room encode decode (epoch_of a.op.epochs) (with_epoch a.op.epochs) a.op.op.asked (part_of a.op.op.claiming a) (part_of b.op.op.claiming b) can step.attempt

@@ -1,5 +1,5 @@
 -- Claims that run alone: a step of one, and when a store can serve what it asks.
-use Rattle.std.specs.Prelude.{◌≡◌, ℕ, true, List, Option, Some, None, Result}
+use Rattle.std.specs.Prelude.{◌≡◌, ℕ, true, List, Option, Result}
 use Rattle.txn_store.specs.Paths.{Segments}
 use Rattle.txn_store.specs.VersionName.{Names}
 use Rattle.txn_types.specs.declared.error.TransactionalObjectError.{TransactionalObjectError}
@@ -8,7 +8,6 @@ use Rattle.txn_caches.specs.Steps.{turned_by_number, lacks_memory}
 use Rattle.txn_drivers.specs.DriveRuns.{Scene}
 use Rattle.txn_drivers.specs.DriveSteps.{CanWriteChecked, CanRead}
 use Rattle.txn_view_steps.specs.declared.claim.ClaimOp.{ClaimOp}
-use Rattle.txn_view_steps.specs.declared.claim_at.ClaimAtOp.{ClaimAtOp}
 use Rattle.txn_view_steps.specs.declared.claiming.Claiming.{Claiming}
 use Rattle.txn_view_steps.specs.declared.claiming.Claiming.TheVariants.{Writes, Reads, Ended}
 use Rattle.txn_view_steps.specs.declared.outcome.Outcome.{Outcome}
@@ -33,13 +32,8 @@ module _ {T : Type 0} where
       pub short : LacksAsWrite a.op a.caches step.reply (lacks_memory (turned_by_number told))
 
   module _ {X : Type 0} (names : Names) (path : Segments) (page : ℕ) (encode : T → List ℕ) (decode : List ℕ → Option T) (epoch_of : X → T → ℕ) (with_epoch : X → T → ℕ → T) where
-    -- a claim of the next epoch: its attempts step, and its field of epochs stays
+    -- a claim: its attempts step, and its field of epochs and what it asks for stay
     pub record ClaimSteps (a : Scene (WithEpochs (ClaimOp T) X)) (told : Turned (Result (Outcome T) TransactionalObjectError)) (b : Scene (WithEpochs (ClaimOp T) X)) : Type 0 where
-      pub attempt : AttemptStepped names path page encode decode (epoch_of a.op.epochs) (with_epoch a.op.epochs) None (part_of a.op.op.claiming a) told (part_of b.op.op.claiming b)
+      pub attempt : AttemptStepped names path page encode decode (epoch_of a.op.epochs) (with_epoch a.op.epochs) a.op.op.asked (part_of a.op.op.claiming a) told (part_of b.op.op.claiming b)
       pub same_epochs : b.op.epochs ≡ a.op.epochs
-
-    -- a claim of an epoch that is asked for: that stays too
-    pub record ClaimAtSteps (a : Scene (WithEpochs (ClaimAtOp T) X)) (told : Turned (Result (Outcome T) TransactionalObjectError)) (b : Scene (WithEpochs (ClaimAtOp T) X)) : Type 0 where
-      pub attempt : AttemptStepped names path page encode decode (epoch_of a.op.epochs) (with_epoch a.op.epochs) (Some a.op.op.epoch) (part_of a.op.op.claiming a) told (part_of b.op.op.claiming b)
-      pub same_epochs : b.op.epochs ≡ a.op.epochs
-      pub same_epoch : b.op.op.epoch ≡ a.op.op.epoch
+      pub same_asked : b.op.op.asked ≡ a.op.op.asked

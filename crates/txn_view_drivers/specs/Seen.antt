@@ -5,7 +5,9 @@ use Rattle.txn_types.specs.declared.error.TransactionalObjectError.TheVariants.{
 use Rattle.txn_types.specs.Epochs.{epoch_tested}
 use Rattle.txn_view_steps.specs.declared.outcome.Outcome.{Outcome}
 use Rattle.txn_view_steps.specs.declared.outcome.Outcome.TheVariants.{Viewed}
-use Rattle.txn_view_steps.specs.Holders.{holder_viewed}
+use Rattle.txn_view_steps.specs.declared.view_read.Purpose.{Purpose}
+use Rattle.txn_view_steps.specs.declared.view_read.Purpose.TheVariants.{Load, Refresh, HolderRefresh}
+use Rattle.txn_view_steps.specs.ViewReads.{holder_viewed}
 
 -- what a call makes of an answer, by what it makes of one that is no error: an error is its own
 abbrev pub seen_as : {A B : Type 0} → (A → Result B TransactionalObjectError) → Result A TransactionalObjectError → Result B TransactionalObjectError
@@ -31,3 +33,9 @@ module _ {T : Type 0} where
   abbrev pub holder_seen : (T → ℕ) → ℕ → Option (ℕ × T) → Result (Outcome T) TransactionalObjectError
   holder_seen epoch_of local (Some found) = Ok (holder_viewed found (epoch_tested local (epoch_of found.1)))
   holder_seen epoch_of local None = Err InvalidObjectState
+
+  -- a read, by what it is for
+  abbrev pub view_read_seen : (T → ℕ) → Purpose → Option (ℕ × T) → Result (Outcome T) TransactionalObjectError
+  view_read_seen epoch_of Load = load_seen
+  view_read_seen epoch_of Refresh = refresh_seen
+  view_read_seen epoch_of (HolderRefresh local) = holder_seen epoch_of local

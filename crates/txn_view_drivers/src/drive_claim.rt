@@ -1,4 +1,4 @@
-//! The call that makes a view a holder of the next epoch, run alone.
+//! The call that makes a view a holder, run alone.
 
 use crate::with_epochs::WithEpochs;
 use std::alloc::Global;
@@ -13,8 +13,8 @@ use txn_types::layout::Layout;
 use txn_view_steps::claim::ClaimOp;
 use txn_view_steps::outcome::ViewAnswer;
 
-/// A claim writes its view's value with the next epoch, and where that is overtaken reads the newest version and tries
-/// again. It asks that a clone is the same value.
+/// A claim writes its view's value with the next epoch, or with the one that is asked for, and where that is overtaken reads
+/// the newest version and tries again. It asks that a clone is the same value.
 impl<T: Clone, X: EpochField<T>, C: ObjectCodec<T>> Drive<C> for WithEpochs<ClaimOp<T>, X> {
     ghost use Rattle.std.specs.Prelude.{◌≤◌};
     ghost use Rattle.txn_types.specs.Clones.{IsExactClone};

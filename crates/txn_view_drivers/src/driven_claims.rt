@@ -4,13 +4,12 @@ ghost use Rattle.txn_types.specs.declared.error.TransactionalObjectError.{Transa
 ghost use Rattle.txn_caches.specs.Windows.{Ascends};
 ghost use Rattle.txn_drivers.specs.DriveRuns.{Scene, Drives};
 ghost use Rattle.txn_view_steps.specs.declared.claim.ClaimOp.{ClaimOp};
-ghost use Rattle.txn_view_steps.specs.declared.claim_at.ClaimAtOp.{ClaimAtOp};
 ghost use Rattle.txn_view_steps.specs.declared.outcome.Outcome.{Outcome};
 ghost use Rattle.txn_view_steps.specs.Attempts.{IsMade};
-ghost use Rattle.txn_view_steps.specs.Claims.{claim_started, claim_at_started};
+ghost use Rattle.txn_view_steps.specs.Claims.{claim_started};
 ghost use Rattle.txn_view_drivers.specs.declared.with_epochs.WithEpochs.{WithEpochs};
 ghost use Rattle.txn_view_drivers.specs.Claimed.{ClaimDriven};
-ghost use Rattle.txn_view_drivers.specs.ClaimSteps.{ClaimSteps, ClaimAtSteps};
+ghost use Rattle.txn_view_drivers.specs.ClaimSteps.{ClaimSteps};
 
 use txn_types::codec::ObjectCodec;
 use txn_types::epoch::EpochField;
@@ -24,12 +23,12 @@ use txn_types::layout::Layout;
 /// as each window's, and a page has room for one file at least.
 pub fn claim_driven<T, X: EpochField<T>, C: ObjectCodec<T>>(_layout: &Layout<C>)
     requires { 1 ≤ _layout.now.page }
-    ensures { (id : ℕ) (object : T) (steps : ℕ) (a b : Scene (WithEpochs (ClaimOp T) X)) (answer : Option (Result (Outcome T) TransactionalObjectError)) → Ascends a.caches.latest → claim_started _layout.now.names _layout.now.boundary (C.encoded _layout.now.codec) (X.epoch_of a.op.epochs) (X.with_epoch a.op.epochs) id object ≡ Ok a.op.op → IsMade (C.encoded _layout.now.codec) (C.decoded _layout.now.codec) (X.epoch_of a.op.epochs) a.op.op.claiming → Drives (ClaimSteps _layout.now.names _layout.now.boundary _layout.now.page (C.encoded _layout.now.codec) (C.decoded _layout.now.codec) X.epoch_of X.with_epoch) steps a answer b → ClaimDriven _layout.now.names (C.decoded _layout.now.codec) _layout.now.boundary (X.epoch_of a.op.epochs) (X.with_epoch a.op.epochs) None _layout.now.page id object steps a answer b }
+    ensures { (id : ℕ) (object : T) (steps : ℕ) (a b : Scene (WithEpochs (ClaimOp T) X)) (answer : Option (Result (Outcome T) TransactionalObjectError)) → Ascends a.caches.latest → claim_started _layout.now.names _layout.now.boundary (C.encoded _layout.now.codec) (X.epoch_of a.op.epochs) (X.with_epoch a.op.epochs) None id object ≡ Ok a.op.op → IsMade (C.encoded _layout.now.codec) (C.decoded _layout.now.codec) (X.epoch_of a.op.epochs) a.op.op.claiming → Drives (ClaimSteps _layout.now.names _layout.now.boundary _layout.now.page (C.encoded _layout.now.codec) (C.decoded _layout.now.codec) X.epoch_of X.with_epoch) steps a answer b → ClaimDriven _layout.now.names (C.decoded _layout.now.codec) _layout.now.boundary (X.epoch_of a.op.epochs) (X.with_epoch a.op.epochs) None _layout.now.page id object steps a answer b }
 {}
 
 /// The law of a claim of an epoch that is asked for, as that of the next one: where that is not above the newest version's,
 /// it is `Fenced`.
 pub fn claim_at_driven<T, X: EpochField<T>, C: ObjectCodec<T>>(_layout: &Layout<C>)
     requires { 1 ≤ _layout.now.page }
-    ensures { (epoch id : ℕ) (object : T) (steps : ℕ) (a b : Scene (WithEpochs (ClaimAtOp T) X)) (answer : Option (Result (Outcome T) TransactionalObjectError)) → Ascends a.caches.latest → claim_at_started _layout.now.names _layout.now.boundary (C.encoded _layout.now.codec) (X.epoch_of a.op.epochs) (X.with_epoch a.op.epochs) epoch id object ≡ Ok a.op.op → IsMade (C.encoded _layout.now.codec) (C.decoded _layout.now.codec) (X.epoch_of a.op.epochs) a.op.op.claiming → Drives (ClaimAtSteps _layout.now.names _layout.now.boundary _layout.now.page (C.encoded _layout.now.codec) (C.decoded _layout.now.codec) X.epoch_of X.with_epoch) steps a answer b → ClaimDriven _layout.now.names (C.decoded _layout.now.codec) _layout.now.boundary (X.epoch_of a.op.epochs) (X.with_epoch a.op.epochs) (Some epoch) _layout.now.page id object steps a answer b }
+    ensures { (epoch id : ℕ) (object : T) (steps : ℕ) (a b : Scene (WithEpochs (ClaimOp T) X)) (answer : Option (Result (Outcome T) TransactionalObjectError)) → Ascends a.caches.latest → claim_started _layout.now.names _layout.now.boundary (C.encoded _layout.now.codec) (X.epoch_of a.op.epochs) (X.with_epoch a.op.epochs) (Some epoch) id object ≡ Ok a.op.op → IsMade (C.encoded _layout.now.codec) (C.decoded _layout.now.codec) (X.epoch_of a.op.epochs) a.op.op.claiming → Drives (ClaimSteps _layout.now.names _layout.now.boundary _layout.now.page (C.encoded _layout.now.codec) (C.decoded _layout.now.codec) X.epoch_of X.with_epoch) steps a answer b → ClaimDriven _layout.now.names (C.decoded _layout.now.codec) _layout.now.boundary (X.epoch_of a.op.epochs) (X.with_epoch a.op.epochs) (Some epoch) _layout.now.page id object steps a answer b }
 {}

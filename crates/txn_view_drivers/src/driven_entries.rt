@@ -2,15 +2,11 @@
 ghost use Rattle.std.specs.Prelude.{◌≡◌, ℕ, ◌^◌, ◌<◌, Option, None, Some, Result, Ok};
 ghost use Rattle.txn_types.specs.declared.error.TransactionalObjectError.{TransactionalObjectError};
 ghost use Rattle.txn_drivers.specs.DriveRuns.{Scene, Drives};
-ghost use Rattle.txn_view_steps.specs.declared.holder.HolderUpdateOp.{HolderUpdateOp};
-ghost use Rattle.txn_view_steps.specs.declared.init.InitOp.{InitOp};
+ghost use Rattle.txn_view_steps.specs.declared.entry.EntryOp.{EntryOp};
 ghost use Rattle.txn_view_steps.specs.declared.outcome.Outcome.{Outcome};
-ghost use Rattle.txn_view_steps.specs.declared.update.UpdateOp.{UpdateOp};
-ghost use Rattle.txn_view_steps.specs.Holders.{holder_update_started};
-ghost use Rattle.txn_view_steps.specs.Inits.{init_started};
-ghost use Rattle.txn_view_steps.specs.Updates.{update_started};
+ghost use Rattle.txn_view_steps.specs.Entries.{entry_started, holder_entry_started};
 ghost use Rattle.txn_view_drivers.specs.declared.call.ViewCall.{ViewCall};
-ghost use Rattle.txn_view_drivers.specs.CallRuns.{InitSteps, UpdateSteps, HolderUpdateSteps};
+ghost use Rattle.txn_view_drivers.specs.CallRuns.{EntrySteps};
 ghost use Rattle.txn_view_drivers.specs.Entering.{EntryDriven};
 
 use txn_types::codec::ObjectCodec;
@@ -21,7 +17,7 @@ use txn_types::layout::Layout;
 /// and the view is at it; where it is not, it is `ObjectVersionExists`, and nothing moves. After any other error, which is
 /// the store's, the value may have been written. On any files it leaves what its write does.
 pub fn init_driven<T, C: ObjectCodec<T>>(_layout: &Layout<C>)
-    ensures { (value : T) (steps : ℕ) (a b : Scene (ViewCall (InitOp T))) (answer : Option (Result (Outcome T) TransactionalObjectError)) → C.decoded _layout.now.codec (C.encoded _layout.now.codec value) ≡ Some value → init_started _layout.now.names _layout.now.boundary (C.encoded _layout.now.codec) value ≡ Ok a.op.op → Drives InitSteps steps a answer b → EntryDriven _layout.now.names (C.decoded _layout.now.codec) _layout.now.boundary None (C.encoded _layout.now.codec value) value steps a answer b }
+    ensures { (value : T) (steps : ℕ) (a b : Scene (ViewCall (EntryOp T))) (answer : Option (Result (Outcome T) TransactionalObjectError)) → C.decoded _layout.now.codec (C.encoded _layout.now.codec value) ≡ Some value → entry_started _layout.now.names _layout.now.boundary (C.encoded _layout.now.codec) None value ≡ Ok a.op.op → Drives EntrySteps steps a answer b → EntryDriven _layout.now.names (C.decoded _layout.now.codec) _layout.now.boundary None (C.encoded _layout.now.codec value) value steps a answer b }
 {}
 
 /// The law of a call that writes a value on a view's version and runs alone from its start: seven steps are enough. Where
@@ -30,11 +26,11 @@ pub fn init_driven<T, C: ObjectCodec<T>>(_layout: &Layout<C>)
 /// nothing moves. After any other error, which is the store's, the value may have been written. On any files it leaves what
 /// its write does.
 pub fn update_driven<T, C: ObjectCodec<T>>(_layout: &Layout<C>)
-    ensures { (id : ℕ) (value : T) (steps : ℕ) (a b : Scene (ViewCall (UpdateOp T))) (answer : Option (Result (Outcome T) TransactionalObjectError)) → id < 2 ^ 64 → C.decoded _layout.now.codec (C.encoded _layout.now.codec value) ≡ Some value → update_started _layout.now.names _layout.now.boundary (C.encoded _layout.now.codec) id value ≡ Ok a.op.op → Drives UpdateSteps steps a answer b → EntryDriven _layout.now.names (C.decoded _layout.now.codec) _layout.now.boundary (Some id) (C.encoded _layout.now.codec value) value steps a answer b }
+    ensures { (id : ℕ) (value : T) (steps : ℕ) (a b : Scene (ViewCall (EntryOp T))) (answer : Option (Result (Outcome T) TransactionalObjectError)) → id < 2 ^ 64 → C.decoded _layout.now.codec (C.encoded _layout.now.codec value) ≡ Some value → entry_started _layout.now.names _layout.now.boundary (C.encoded _layout.now.codec) (Some id) value ≡ Ok a.op.op → Drives EntrySteps steps a answer b → EntryDriven _layout.now.names (C.decoded _layout.now.codec) _layout.now.boundary (Some id) (C.encoded _layout.now.codec value) value steps a answer b }
 {}
 
 /// The law of a call that writes a value on a holder's version and runs alone from its start, as that of an update: it has
 /// started, so the epochs of the version and of the value are the holder's.
 pub fn holder_update_driven<T, C: ObjectCodec<T>>(_layout: &Layout<C>)
-    ensures { (epoch_of : T → ℕ) (local id : ℕ) (object value : T) (steps : ℕ) (a b : Scene (ViewCall (HolderUpdateOp T))) (answer : Option (Result (Outcome T) TransactionalObjectError)) → id < 2 ^ 64 → C.decoded _layout.now.codec (C.encoded _layout.now.codec value) ≡ Some value → holder_update_started _layout.now.names _layout.now.boundary (C.encoded _layout.now.codec) epoch_of local id object value ≡ Ok a.op.op → Drives HolderUpdateSteps steps a answer b → EntryDriven _layout.now.names (C.decoded _layout.now.codec) _layout.now.boundary (Some id) (C.encoded _layout.now.codec value) value steps a answer b }
+    ensures { (epoch_of : T → ℕ) (local id : ℕ) (object value : T) (steps : ℕ) (a b : Scene (ViewCall (EntryOp T))) (answer : Option (Result (Outcome T) TransactionalObjectError)) → id < 2 ^ 64 → C.decoded _layout.now.codec (C.encoded _layout.now.codec value) ≡ Some value → holder_entry_started _layout.now.names _layout.now.boundary (C.encoded _layout.now.codec) epoch_of local id object value ≡ Ok a.op.op → Drives EntrySteps steps a answer b → EntryDriven _layout.now.names (C.decoded _layout.now.codec) _layout.now.boundary (Some id) (C.encoded _layout.now.codec value) value steps a answer b }
 {}

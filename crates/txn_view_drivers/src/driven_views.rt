@@ -3,16 +3,12 @@ ghost use Rattle.std.specs.Prelude.{◌≡◌, ℕ, ◌^◌, ◌<◌, ◌≤◌,
 ghost use Rattle.txn_types.specs.declared.error.TransactionalObjectError.{TransactionalObjectError};
 ghost use Rattle.txn_caches.specs.Windows.{Ascends, greatest_held};
 ghost use Rattle.txn_drivers.specs.DriveRuns.{Scene, Drives};
-ghost use Rattle.txn_view_steps.specs.declared.holder.HolderRefreshOp.{HolderRefreshOp};
-ghost use Rattle.txn_view_steps.specs.declared.load.LoadOp.{LoadOp};
 ghost use Rattle.txn_view_steps.specs.declared.outcome.Outcome.{Outcome};
-ghost use Rattle.txn_view_steps.specs.declared.refresh.RefreshOp.{RefreshOp};
-ghost use Rattle.txn_view_steps.specs.Holders.{holder_refresh_started};
-ghost use Rattle.txn_view_steps.specs.Loads.{load_started};
-ghost use Rattle.txn_view_steps.specs.Refreshes.{refresh_started};
-ghost use Rattle.txn_view_drivers.specs.declared.call.ViewCall.{ViewCall};
+ghost use Rattle.txn_view_steps.specs.declared.view_read.Purpose.TheVariants.{Load, Refresh, HolderRefresh};
+ghost use Rattle.txn_view_steps.specs.declared.view_read.ViewReadOp.{ViewReadOp};
+ghost use Rattle.txn_view_steps.specs.ViewReads.{view_read_started};
 ghost use Rattle.txn_view_drivers.specs.declared.with_epochs.WithEpochs.{WithEpochs};
-ghost use Rattle.txn_view_drivers.specs.CallRuns.{LoadSteps, RefreshSteps, HolderRefreshSteps};
+ghost use Rattle.txn_view_drivers.specs.CallRuns.{ViewReadSteps};
 ghost use Rattle.txn_view_drivers.specs.Viewing.{LoadDriven, RefreshDriven, HolderDriven};
 
 use txn_types::codec::ObjectCodec;
@@ -24,16 +20,16 @@ use txn_types::layout::Layout;
 /// where there is none; they stand for the same afterwards, also after an error, which is else the store's or want of memory;
 /// and 40 steps and two for each page are enough. On any files it leaves what its read does. What is held has ascending ids
 /// of 64 bits, as each window's are, and a page has room for one file at least.
-pub fn load_driven<T, C: ObjectCodec<T>>(_layout: &Layout<C>)
+pub fn load_driven<T, X: EpochField<T>, C: ObjectCodec<T>>(_layout: &Layout<C>)
     requires { 1 ≤ _layout.now.page }
-    ensures { (steps : ℕ) (a b : Scene (ViewCall (LoadOp T))) (answer : Option (Result (Outcome T) TransactionalObjectError)) → Ascends a.caches.latest → IfSome (greatest_held a.caches.latest) (λ version. version.id < 2 ^ 64) → a.op.op ≡ load_started _layout.now.boundary → Drives (LoadSteps _layout.now.names _layout.now.boundary _layout.now.page (C.decoded _layout.now.codec)) steps a answer b → LoadDriven _layout.now.names (C.decoded _layout.now.codec) _layout.now.boundary _layout.now.page steps a answer b }
+    ensures { (steps : ℕ) (a b : Scene (WithEpochs (ViewReadOp T) X)) (answer : Option (Result (Outcome T) TransactionalObjectError)) → Ascends a.caches.latest → IfSome (greatest_held a.caches.latest) (λ version. version.id < 2 ^ 64) → a.op.op ≡ view_read_started _layout.now.boundary Load → Drives (ViewReadSteps _layout.now.names _layout.now.boundary _layout.now.page (C.decoded _layout.now.codec) X.epoch_of) steps a answer b → LoadDriven _layout.now.names (C.decoded _layout.now.codec) _layout.now.boundary _layout.now.page steps a answer b }
 {}
 
 /// The law of a call that moves a view to the newest version and runs alone from its start, as that of a load, but that no
 /// version is `InvalidObjectState`.
-pub fn refresh_driven<T, C: ObjectCodec<T>>(_layout: &Layout<C>)
+pub fn refresh_driven<T, X: EpochField<T>, C: ObjectCodec<T>>(_layout: &Layout<C>)
     requires { 1 ≤ _layout.now.page }
-    ensures { (steps : ℕ) (a b : Scene (ViewCall (RefreshOp T))) (answer : Option (Result (Outcome T) TransactionalObjectError)) → Ascends a.caches.latest → IfSome (greatest_held a.caches.latest) (λ version. version.id < 2 ^ 64) → a.op.op ≡ refresh_started _layout.now.boundary → Drives (RefreshSteps _layout.now.names _layout.now.boundary _layout.now.page (C.decoded _layout.now.codec)) steps a answer b → RefreshDriven _layout.now.names (C.decoded _layout.now.codec) _layout.now.boundary _layout.now.page steps a answer b }
+    ensures { (steps : ℕ) (a b : Scene (WithEpochs (ViewReadOp T) X)) (answer : Option (Result (Outcome T) TransactionalObjectError)) → Ascends a.caches.latest → IfSome (greatest_held a.caches.latest) (λ version. version.id < 2 ^ 64) → a.op.op ≡ view_read_started _layout.now.boundary Refresh → Drives (ViewReadSteps _layout.now.names _layout.now.boundary _layout.now.page (C.decoded _layout.now.codec) X.epoch_of) steps a answer b → RefreshDriven _layout.now.names (C.decoded _layout.now.codec) _layout.now.boundary _layout.now.page steps a answer b }
 {}
 
 /// The law of a call that moves a holder's view to the newest version and runs alone from its start, as that of a refresh:
@@ -41,5 +37,5 @@ pub fn refresh_driven<T, C: ObjectCodec<T>>(_layout: &Layout<C>)
 /// that is greater and by `InvalidObjectState` where it is smaller.
 pub fn holder_refresh_driven<T, X: EpochField<T>, C: ObjectCodec<T>>(_layout: &Layout<C>)
     requires { 1 ≤ _layout.now.page }
-    ensures { (local steps : ℕ) (a b : Scene (WithEpochs (HolderRefreshOp T) X)) (answer : Option (Result (Outcome T) TransactionalObjectError)) → Ascends a.caches.latest → IfSome (greatest_held a.caches.latest) (λ version. version.id < 2 ^ 64) → a.op.op ≡ holder_refresh_started _layout.now.boundary local → Drives (HolderRefreshSteps _layout.now.names _layout.now.boundary _layout.now.page (C.decoded _layout.now.codec) X.epoch_of) steps a answer b → HolderDriven _layout.now.names (C.decoded _layout.now.codec) _layout.now.boundary _layout.now.page (X.epoch_of a.op.epochs) local steps a answer b }
+    ensures { (local steps : ℕ) (a b : Scene (WithEpochs (ViewReadOp T) X)) (answer : Option (Result (Outcome T) TransactionalObjectError)) → Ascends a.caches.latest → IfSome (greatest_held a.caches.latest) (λ version. version.id < 2 ^ 64) → a.op.op ≡ view_read_started _layout.now.boundary (HolderRefresh local) → Drives (ViewReadSteps _layout.now.names _layout.now.boundary _layout.now.page (C.decoded _layout.now.codec) X.epoch_of) steps a answer b → HolderDriven _layout.now.names (C.decoded _layout.now.codec) _layout.now.boundary _layout.now.page (X.epoch_of a.op.epochs) local steps a answer b }
 {}

@@ -3,12 +3,8 @@
 
 pub mod call;
 pub mod drive_claim;
-pub mod drive_claim_at;
-pub mod drive_holder_update;
-pub mod drive_init;
-pub mod drive_load;
-pub mod drive_refresh;
-pub mod drive_update;
+pub mod drive_entry;
+pub mod drive_view_read;
 pub mod driven_claims;
 pub mod driven_entries;
 pub mod driven_views;

@@ -23,16 +23,12 @@ use Rattle.txn_view_steps.specs.declared.claiming.Claiming.{Claiming}
 use Rattle.txn_view_steps.specs.declared.claiming.Claiming.TheVariants as claims
 use Rattle.txn_view_steps.specs.declared.entry.EntryOp.{EntryOp}
 use Rattle.txn_view_steps.specs.declared.entry.EntryOp.TheVariants.{Writes, Ended}
-use Rattle.txn_view_steps.specs.declared.holder.HolderRefreshOp.{HolderRefreshOp}
-use Rattle.txn_view_steps.specs.declared.load.LoadOp.{LoadOp}
-use Rattle.txn_view_steps.specs.declared.refresh.RefreshOp.{RefreshOp}
+use Rattle.txn_view_steps.specs.declared.view_read.ViewReadOp.{ViewReadOp}
 use Rattle.txn_view_steps.specs.Attempts.{attempt_turned, entered_with, attempted_again, refreshed_turned, followed, claiming_turned, IsClaimingInRange}
 use Rattle.txn_view_steps.specs.CallsLeft.{entry_left}
 use Rattle.txn_view_steps.specs.Entries.{entry_started, entry_turned, written_turned, IsEntryReply}
-use Rattle.txn_view_steps.specs.Holders.{as_holder_refresh, holder_refreshed, holder_refresh_turned, IsHolderRefreshInRange}
-use Rattle.txn_view_steps.specs.Loads.{as_load, loaded, load_turned, IsLoadInRange}
 use Rattle.txn_view_steps.specs.Readings.{seen}
-use Rattle.txn_view_steps.specs.Refreshes.{as_refresh, refreshed, refresh_turned, IsRefreshInRange}
+use Rattle.txn_view_steps.specs.ViewReads.{as_view_read, shown, view_read_turned, IsViewReadInRange}
 
 abbrev after_write : WriteOp × Turned (Result ℕ ℕ) → Left
 after_write next = left_after next.1 (write_left next.0)
@@ -62,14 +58,8 @@ module _ {T : Type 0} where
   seen_in_range as_read see InRange into (read, Done (Ok found)) h = into _ tt
   seen_in_range as_read see InRange into (read, Done (Err number)) h = into _ tt
 
-  pub load_stays : (names : Names) (path : Segments) (page : ℕ) (decode : List ℕ → Option T) (op : LoadOp T) (caches : Caches) (reply : Option Reply) → IsLoadInRange op → IsLoadInRange (load_turned names path page decode op caches reply).0
-  load_stays names path page decode op caches reply h = seen_in_range as_load loaded IsLoadInRange (λ read in_range. in_range) (read_turned names path page decode op.read caches reply) (read_stays names page decode path op.read caches reply h)
-
-  pub refresh_stays : (names : Names) (path : Segments) (page : ℕ) (decode : List ℕ → Option T) (op : RefreshOp T) (caches : Caches) (reply : Option Reply) → IsRefreshInRange op → IsRefreshInRange (refresh_turned names path page decode op caches reply).0
-  refresh_stays names path page decode op caches reply h = seen_in_range as_refresh refreshed IsRefreshInRange (λ read in_range. in_range) (read_turned names path page decode op.read caches reply) (read_stays names page decode path op.read caches reply h)
-
-  pub holder_refresh_stays : (names : Names) (path : Segments) (page : ℕ) (decode : List ℕ → Option T) (epoch_of : T → ℕ) (op : HolderRefreshOp T) (caches : Caches) (reply : Option Reply) → IsHolderRefreshInRange op → IsHolderRefreshInRange (holder_refresh_turned names path page decode epoch_of op caches reply).0
-  holder_refresh_stays names path page decode epoch_of op caches reply h = seen_in_range (as_holder_refresh op.local) (holder_refreshed epoch_of op.local) IsHolderRefreshInRange (λ read in_range. in_range) (read_turned names path page decode op.read caches reply) (read_stays names page decode path op.read caches reply h)
+  pub view_read_stays : (names : Names) (path : Segments) (page : ℕ) (decode : List ℕ → Option T) (epoch_of : T → ℕ) (op : ViewReadOp T) (caches : Caches) (reply : Option Reply) → IsViewReadInRange op → IsViewReadInRange (view_read_turned names path page decode epoch_of op caches reply).0
+  view_read_stays names path page decode epoch_of op caches reply h = seen_in_range (as_view_read op.purpose) (shown epoch_of op.purpose) IsViewReadInRange (λ read in_range. in_range) (read_turned names path page decode op.read caches reply) (read_stays names page decode path op.read caches reply h)
 
   abbrev ClaimStays : Claiming T × Turned (Result (Outcome T) ℕ) → Type 0
   ClaimStays next = IsClaimingInRange next.0

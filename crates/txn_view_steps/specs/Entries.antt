@@ -5,6 +5,9 @@ use Rattle.txn_store.specs.VersionName.{Names}
 use Rattle.txn_store.specs.declared.request.Request.{Request}
 use Rattle.txn_store.specs.declared.request.Reply.{Reply}
 use Rattle.txn_types.specs.Numbers.{number_of}
+use Rattle.txn_types.specs.Errors.{error_number}
+use Rattle.txn_types.specs.Epochs.{epoch_tested}
+use Rattle.txn_types.specs.declared.error.TransactionalObjectError.{TransactionalObjectError}
 use Rattle.txn_caches.specs.declared.caches.Caches.{Caches}
 use Rattle.txn_caches.specs.declared.turned.Turned.{Turned}
 use Rattle.txn_caches.specs.declared.turned.Turned.TheVariants.{Goes, Done}
@@ -59,3 +62,22 @@ module _ {T : Type 0} (names : Names) (boundary : Segments) (encode : T → List
   -- it writes the value on its base, which has a next id
   abbrev pub entry_started : Option ℕ → T → Result (EntryOp T) ℕ
   entry_started base value = if number_of base == 18446744073709551615 then Err 10 else Ok (Writes (write_started names boundary base (encode value)) value)
+
+-- the epoch of the view's value is the holder's, and so is that of the value to be written
+abbrev pub value_tested : ℕ → ℕ → Result (Unit {0}) TransactionalObjectError → Result (Unit {0}) ℕ
+value_tested local written (Ok own) = if written == local then Ok tt else Err 7
+value_tested local written (Err error) = Err (error_number error)
+
+abbrev pub own_epochs : ℕ → ℕ → ℕ → Result (Unit {0}) ℕ
+own_epochs local viewed written = value_tested local written (epoch_tested local viewed)
+
+module _ {T : Type 0} (names : Names) (boundary : Segments) (encode : T → List ℕ) where
+  -- where both epochs are the holder's, it writes the value on the view's version
+  abbrev pub entry_tested : ℕ → T → Result (Unit {0}) ℕ → Result (EntryOp T) ℕ
+  entry_tested id value (Ok own) = entry_started names boundary encode (Some id) value
+  entry_tested id value (Err number) = Err number
+
+module _ {T : Type 0} (names : Names) (boundary : Segments) (encode : T → List ℕ) (epoch_of : T → ℕ) where
+  -- that of a holder, by its epoch, its view's version and the value to be written
+  abbrev pub holder_entry_started : ℕ → ℕ → T → T → Result (EntryOp T) ℕ
+  holder_entry_started local id object value = entry_tested names boundary encode id value (own_epochs local (epoch_of object) (epoch_of value))

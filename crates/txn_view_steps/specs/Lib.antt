@@ -1,13 +1,9 @@
 pub mod Lacking
 pub mod Entries
-pub mod Inits
 pub mod Readings
-pub mod Loads
-pub mod Refreshes
-pub mod Updates
+pub mod ViewReads
 pub mod Attempts
 pub mod Claims
-pub mod Holders
 pub mod CallsLeft
 pub mod ViewOps
 pub mod Shortages

@@ -7,17 +7,13 @@ ghost use Rattle.txn_caches.specs.declared.caches.Caches.{Caches};
 ghost use Rattle.txn_caches.specs.Counts.{left_after, SpendsOne};
 ghost use Rattle.txn_view_steps.specs.declared.claiming.Claiming.{Claiming};
 ghost use Rattle.txn_view_steps.specs.declared.entry.EntryOp.{EntryOp};
-ghost use Rattle.txn_view_steps.specs.declared.holder.HolderRefreshOp.{HolderRefreshOp};
-ghost use Rattle.txn_view_steps.specs.declared.load.LoadOp.{LoadOp};
-ghost use Rattle.txn_view_steps.specs.declared.refresh.RefreshOp.{RefreshOp};
+ghost use Rattle.txn_view_steps.specs.declared.view_read.ViewReadOp.{ViewReadOp};
 ghost use Rattle.txn_view_steps.specs.Attempts.{claiming_turned, IsClaimingInRange};
 ghost use Rattle.txn_view_steps.specs.CallsLeft.{entry_left};
 ghost use Rattle.txn_view_steps.specs.Entries.{entry_started, entry_turned, IsEntryReply};
-ghost use Rattle.txn_view_steps.specs.Holders.{holder_refresh_turned, IsHolderRefreshInRange};
-ghost use Rattle.txn_view_steps.specs.Loads.{load_turned, IsLoadInRange};
-ghost use Rattle.txn_view_steps.specs.Refreshes.{refresh_turned, IsRefreshInRange};
+ghost use Rattle.txn_view_steps.specs.ViewReads.{view_read_turned, IsViewReadInRange};
 
-/// The write of a value that a view then shows, which `InitOp`, `UpdateOp` and `HolderUpdateOp` are, makes at most five looks
+/// The write of a value that a view then shows makes at most five looks
 /// and two calls of the store: it has so many left as it starts, and each step takes one of its kind at least and adds none
 /// of the other.
 pub fn entries_are_short<T: Drop>(_value: &T)
@@ -27,8 +23,6 @@ pub fn entries_are_short<T: Drop>(_value: &T)
 
 /// The reads of these calls find at most four successors: each step leaves them in range.
 pub fn reads_stay_in_range<T: Drop>(_value: &T)
-    ensures load { (names : Names) (path : Segments) (page : ℕ) (decode : List ℕ → Option T) (op : LoadOp T) (caches : Caches) (reply : Option Reply) → IsLoadInRange op → IsLoadInRange (load_turned names path page decode op caches reply).0 }
-    ensures refresh { (names : Names) (path : Segments) (page : ℕ) (decode : List ℕ → Option T) (op : RefreshOp T) (caches : Caches) (reply : Option Reply) → IsRefreshInRange op → IsRefreshInRange (refresh_turned names path page decode op caches reply).0 }
-    ensures holder_refresh { (names : Names) (path : Segments) (page : ℕ) (decode : List ℕ → Option T) (epoch_of : T → ℕ) (op : HolderRefreshOp T) (caches : Caches) (reply : Option Reply) → IsHolderRefreshInRange op → IsHolderRefreshInRange (holder_refresh_turned names path page decode epoch_of op caches reply).0 }
+    ensures view_read { (names : Names) (path : Segments) (page : ℕ) (decode : List ℕ → Option T) (epoch_of : T → ℕ) (op : ViewReadOp T) (caches : Caches) (reply : Option Reply) → IsViewReadInRange op → IsViewReadInRange (view_read_turned names path page decode epoch_of op caches reply).0 }
     ensures claiming { (names : Names) (path : Segments) (page : ℕ) (encode : T → List ℕ) (decode : List ℕ → Option T) (epoch_of : T → ℕ) (with_epoch : T → ℕ → T) (asked : Option ℕ) (op : Claiming T) (caches : Caches) (reply : Option Reply) → IsClaimingInRange op → IsClaimingInRange (claiming_turned names path page encode decode epoch_of with_epoch asked op caches reply).0 }
 {}

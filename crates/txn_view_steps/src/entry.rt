@@ -5,7 +5,7 @@ ghost use Rattle.txn_types.specs.Numbers.{number_of};
 ghost use Rattle.txn_caches.specs.Steps.{by_number, turned_by_number, TellsErrorOf};
 ghost use Rattle.txn_caches.specs.Asking.{asks, reply_told};
 ghost use Rattle.txn_view_steps.specs.Lacking.{lacks, or_lacking};
-ghost use Rattle.txn_view_steps.specs.Entries.{entry_started, entry_asked, entry_value, entry_turned, entry_caches, IsWriting, IsEntryReply};
+ghost use Rattle.txn_view_steps.specs.Entries.{entry_started, holder_entry_started, own_epochs, entry_asked, entry_value, entry_turned, entry_caches, IsWriting, IsEntryReply};
 
 use crate::copies::Copies;
 use crate::outcome::{Outcome, ViewAnswer};
@@ -17,12 +17,13 @@ use txn_caches::turned::Turned;
 use txn_steps::write::WriteOp;
 use txn_store::request::Reply;
 use txn_types::codec::ObjectCodec;
+use txn_types::epoch::{EpochField, test_epoch};
 use txn_types::error::TransactionalObjectError;
 use txn_types::id::MonotonicId;
 use txn_types::layout::Layout;
 
-/// A write of a value that a view then shows. The copies for the answer are made beforehand, so that nothing grows once
-/// it is made.
+/// A write of a value that a view then shows: as the first version, or directly on the view's version. The copies for the
+/// answer are made beforehand, so that nothing grows once it is made. It has at most two calls of the store and five looks.
 #[derive(Drop)]
 pub enum EntryOp<T> {
     /// It writes this value.
@@ -37,6 +38,22 @@ fn copies_of<T: Clone>(value: &T) -> Result<Copies<T>, AllocError>
     ensures { IfOk result (λ copies. copies ≡ value.now) }
 {
     Copies::of(value.clone()?)
+}
+
+/// Whether the epoch of the view's value, and that of the value to be written, are the holder's.
+fn test_epochs<T, X: EpochField<T>>(
+    epochs: &X,
+    local: u64,
+    object: &T,
+    value: &T,
+) -> Result<(), TransactionalObjectError>
+    ensures { by_number result ≡ own_epochs local (X.epoch_of epochs.now object.now) (X.epoch_of epochs.now value.now) }
+{
+    test_epoch(local, epochs.get_epoch(object))?;
+    if epochs.get_epoch(value) != local {
+        return Err(TransactionalObjectError::InvalidObjectState);
+    }
+    Ok(())
 }
 
 impl<T: Clone> EntryOp<T> {
@@ -62,6 +79,28 @@ impl<T: Clone> EntryOp<T> {
                 Err(error.into())
             }
         }
+    }
+
+    /// A write of the value directly on the version of this id and this object, those of the holder's view. Where the
+    /// object's epoch is greater than the holder's it is `Fenced`; where it is smaller, or the value's is another one,
+    /// `InvalidObjectState`. An id of the greatest u64 is `IdExhausted`; the other error is `NoMemory`. It asks that a clone
+    /// is the same value.
+    pub fn start_for_holder<C: ObjectCodec<T>, X: EpochField<T>>(
+        alloc: Global,
+        layout: &Layout<C>,
+        epochs: &X,
+        local: u64,
+        id: MonotonicId,
+        object: &T,
+        value: &T,
+    ) -> Result<EntryOp<T>, TransactionalObjectError>
+        requires { IsExactClone T.is_clone }
+        ensures started { by_number result ≡ or_lacking (lacks (by_number result)) (holder_entry_started layout.now.names layout.now.boundary (C.encoded layout.now.codec) (X.epoch_of epochs.now) local id object.now value.now) }
+        ensures last { OnOk result (id < 2 ^ 64 - 1) }
+        ensures reads_back { OnOk result (C.decoded layout.now.codec (C.encoded layout.now.codec value.now) ≡ Some value.now) }
+    {
+        test_epochs(epochs, local, object, value)?;
+        EntryOp::start(alloc, layout, Some(id), value)
     }
 }
 
@@ -89,7 +128,8 @@ impl<T: Drop> EntryOp<T> {
     }
 
     /// Takes the store's reply to what it asks, or none for a look. Where the write answers its id, the view is at that,
-    /// with the value; an error of the write is answered. An answer ends it. It takes no memory.
+    /// with the value. A version that stands already, or that the boundary has reached, is `ObjectVersionExists`; any other
+    /// error is the store's, as it becomes. An answer ends it. It takes no memory.
     pub fn take(&mut self, caches: &mut Caches, reply: Option<Reply>) -> Turned<ViewAnswer<T>>
         requires { IsEntryReply self.old reply }
         ensures turned { (self.new, turned_by_number result) ≡ entry_turned self.old caches.old reply }

@@ -4,10 +4,11 @@
 //! own. Each call on views is a thin layer over a write or over a read of the newest version, those of `txn_steps`.
 //!
 //! ## Core types
-//! - `InitOp`, `LoadOp`: they make a view.
-//! - `RefreshOp`, `UpdateOp`: they move a view.
-//! - `ClaimOp`, `ClaimAtOp`: they make a view a holder.
-//! - `HolderRefreshOp`, `HolderUpdateOp`: they move a holder's view, where its epoch is still the newest.
+//! - `EntryOp`: it writes a value that a view then shows, and so makes a view (an init) or moves one (an update, also that
+//!   of a holder, whose epoch has to be the value's).
+//! - `ViewReadOp`: it reads the newest version for a view, and so makes one (a load) or moves one (a refresh, also that of a
+//!   holder, whose epoch is tested on what was read).
+//! - `ClaimOp`: it makes a view a holder, of the next epoch or of one that is asked for.
 //! - `ViewOp`: any of them.
 //! - `Outcome`: what a call comes to, which says what becomes of the view, with the `Copies` that an answer needs.
 //!
@@ -17,16 +18,11 @@
 #![tactic(auto)]
 
 pub mod claim;
-pub mod claim_at;
 pub mod claiming;
 pub mod copies;
 pub mod counts;
 pub mod entry;
-pub mod holder;
-pub mod init;
-pub mod load;
 pub mod op;
 pub mod outcome;
 mod reading;
-pub mod refresh;
-pub mod update;
+pub mod view_read;

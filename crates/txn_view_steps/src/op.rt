@@ -6,13 +6,9 @@ ghost use Rattle.txn_caches.specs.Asking.{asks, reply_told};
 ghost use Rattle.txn_view_steps.specs.ViewOps.{view_asked, view_left, view_turned, IsViewReply, IsViewInRange, IsClaimReading, IsViewMade, MayLack};
 
 use crate::claim::ClaimOp;
-use crate::claim_at::ClaimAtOp;
-use crate::holder::{HolderRefreshOp, HolderUpdateOp};
-use crate::init::InitOp;
-use crate::load::LoadOp;
+use crate::entry::EntryOp;
 use crate::outcome::ViewAnswer;
-use crate::refresh::RefreshOp;
-use crate::update::UpdateOp;
+use crate::view_read::ViewReadOp;
 use std::alloc::Global;
 use txn_caches::ask::Ask;
 use txn_caches::caches::Caches;
@@ -23,16 +19,25 @@ use txn_types::epoch::EpochField;
 use txn_types::layout::Layout;
 
 /// The state of any call on a view.
-#[derive(Drop)]
 pub enum ViewOp<T> {
-    Init(InitOp<T>),
-    Load(LoadOp<T>),
-    Refresh(RefreshOp<T>),
-    Update(UpdateOp<T>),
-    Claim(ClaimOp<T>),
-    ClaimAt(ClaimAtOp<T>),
-    HolderRefresh(HolderRefreshOp<T>),
-    HolderUpdate(HolderUpdateOp<T>),
+    /// It writes a value that a view then shows: an init, an update, or that of a holder.
+    Enters(EntryOp<T>),
+    /// It reads the newest version, which a view then shows: a load, a refresh, or that of a holder.
+    Reads(ViewReadOp<T>),
+    /// It makes a view a holder.
+    Claims(ClaimOp<T>),
+}
+
+impl<T: Drop> Drop for ViewOp<T> {
+    /// Drops the state: here, so that no crate above has to prove how each is dropped.
+    fn drop(self) {
+        // (by calls: in place, the proof would follow each state that may be dropped)
+        match self {
+            ViewOp::Enters(op) => drop(op),
+            ViewOp::Reads(op) => drop(op),
+            ViewOp::Claims(op) => drop(op),
+        }
+    }
 }
 
 impl<T: Drop> ViewOp<T> {
@@ -41,14 +46,9 @@ impl<T: Drop> ViewOp<T> {
         ensures { asks result ≡ view_asked self.now }
     {
         match self {
-            ViewOp::Init(op) => op.ask(),
-            ViewOp::Load(op) => op.ask(),
-            ViewOp::Refresh(op) => op.ask(),
-            ViewOp::Update(op) => op.ask(),
-            ViewOp::Claim(op) => op.ask(),
-            ViewOp::ClaimAt(op) => op.ask(),
-            ViewOp::HolderRefresh(op) => op.ask(),
-            ViewOp::HolderUpdate(op) => op.ask(),
+            ViewOp::Enters(op) => op.ask(),
+            ViewOp::Reads(op) => op.ask(),
+            ViewOp::Claims(op) => op.ask(),
         }
     }
 }
@@ -76,14 +76,9 @@ impl<T: Clone> ViewOp<T> {
         ensures store_error { TellsErrorOf (reply_told reply) result }
     {
         match self {
-            ViewOp::Init(op) => op.take(caches, reply),
-            ViewOp::Load(op) => op.take(alloc, layout, caches, reply),
-            ViewOp::Refresh(op) => op.take(alloc, layout, caches, reply),
-            ViewOp::Update(op) => op.take(caches, reply),
-            ViewOp::Claim(op) => op.take(alloc, layout, epochs, caches, reply),
-            ViewOp::ClaimAt(op) => op.take(alloc, layout, epochs, caches, reply),
-            ViewOp::HolderRefresh(op) => op.take(alloc, layout, epochs, caches, reply),
-            ViewOp::HolderUpdate(op) => op.take(caches, reply),
+            ViewOp::Enters(op) => op.take(caches, reply),
+            ViewOp::Reads(op) => op.take(alloc, layout, epochs, caches, reply),
+            ViewOp::Claims(op) => op.take(alloc, layout, epochs, caches, reply),
         }
     }
 }

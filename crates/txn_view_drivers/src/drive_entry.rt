@@ -1,4 +1,4 @@
-//! The call that writes the first version, run alone.
+//! A call that writes a value that a view then shows, run alone.
 
 use crate::call::ViewCall;
 use std::alloc::Global;
@@ -8,21 +8,22 @@ use txn_drivers::drive::Drive;
 use txn_drivers::replies::reply_to;
 use txn_store::store::ObjectStore;
 use txn_types::layout::Layout;
-use txn_view_steps::init::InitOp;
+use txn_view_steps::entry::EntryOp;
 use txn_view_steps::outcome::ViewAnswer;
 
-/// It writes the first version, and makes a view of it.
-impl<T: Drop, C> Drive<C> for ViewCall<InitOp<T>> {
-    ghost use Rattle.txn_view_drivers.specs.CallLaws.{init_asks};
-    ghost use Rattle.txn_view_drivers.specs.CallRuns.{CanEnter, InitSteps};
+/// It writes the first version, and makes a view of it; or it writes on a view's version, also on a holder's, and moves the
+/// view to it.
+impl<T: Drop, C> Drive<C> for ViewCall<EntryOp<T>> {
+    ghost use Rattle.txn_view_drivers.specs.CallLaws.{entry_asks};
+    ghost use Rattle.txn_view_drivers.specs.CallRuns.{CanEnter, EntrySteps};
 
     type Answer = ViewAnswer<T>;
 
-    ghost asks = { λ layout call. CanEnter call.op.entry };
+    ghost asks = { λ layout call. CanEnter call.op };
 
-    ghost leads = { λ layout. InitSteps };
+    ghost leads = { λ layout. EntrySteps };
 
-    ghost asks_again = { λ layout a b can step. init_asks a b can step };
+    ghost asks_again = { λ layout a b can step. entry_asks a b can step };
 
     fn step<S: ObjectStore>(
         &mut self,

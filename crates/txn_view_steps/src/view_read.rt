@@ -1,0 +1,149 @@
+//! A read of the newest version that a view then shows.
+ghost use Rattle.std.specs.Prelude.{◌≡◌, None, IfOk};
+ghost use Rattle.txn_types.specs.Clones.{IsExactClone};
+ghost use Rattle.txn_caches.specs.Steps.{by_number, turned_by_number, lacks_memory, HasErrorOf, TellsErrorOf};
+ghost use Rattle.txn_caches.specs.Asking.{asks, reply_told, unless_lacking};
+ghost use Rattle.txn_steps.specs.Reads.{read_left};
+ghost use Rattle.txn_view_steps.specs.Lacking.{lacks, or_lacking};
+ghost use Rattle.txn_view_steps.specs.Readings.{said};
+ghost use Rattle.txn_view_steps.specs.ViewReads.{view_read_started, view_read_ended, view_read_asked, view_read_turned, loaded, refreshed, holder_refreshed, shown, IsViewReadReply, IsViewReadInRange};
+
+use crate::copies::Copies;
+use crate::outcome::{Outcome, ViewAnswer};
+use crate::reading::read_on;
+use std::alloc::{AllocError, Global};
+use txn_caches::ask::Ask;
+use txn_caches::caches::Caches;
+use txn_caches::turned::Turned;
+use txn_steps::read::ReadOp;
+use txn_store::request::Reply;
+use txn_types::codec::ObjectCodec;
+use txn_types::epoch::{EpochField, test_epoch};
+use txn_types::error::TransactionalObjectError;
+use txn_types::id::MonotonicId;
+use txn_types::layout::Layout;
+
+/// What the newest version is read for.
+#[derive(Clone, Copy)]
+pub enum Purpose {
+    /// To make a view of it.
+    Load,
+    /// To move a view to it.
+    Refresh,
+    /// To move the view of a holder of this epoch to it, and to test that epoch.
+    HolderRefresh(u64),
+}
+
+/// Reads the newest version, and makes a view of it, or moves a view to it.
+#[derive(Drop)]
+pub struct ViewReadOp<T> {
+    /// What it reads for.
+    pub purpose: Purpose,
+    /// The read.
+    pub read: ReadOp<T>,
+}
+
+/// What a load makes of what its read found.
+fn loaded<T: Clone>(found: Option<(MonotonicId, T)>) -> ViewAnswer<T>
+    requires { IsExactClone T.is_clone }
+    ensures loaded { by_number result ≡ or_lacking (lacks (by_number result)) (loaded found) }
+    ensures store_error { HasErrorOf None result }
+{
+    match found {
+        Some((id, value)) => Ok(Outcome::Viewed(id, Copies::of(value)?)),
+        None => Err(TransactionalObjectError::LatestRecordMissing),
+    }
+}
+
+/// What a refresh makes of what its read found.
+fn refreshed<T: Clone>(found: Option<(MonotonicId, T)>) -> ViewAnswer<T>
+    requires { IsExactClone T.is_clone }
+    ensures refreshed { by_number result ≡ or_lacking (lacks (by_number result)) (refreshed found) }
+    ensures store_error { HasErrorOf None result }
+{
+    match found {
+        Some((id, value)) => Ok(Outcome::Viewed(id, Copies::of(value)?)),
+        None => Err(TransactionalObjectError::InvalidObjectState),
+    }
+}
+
+/// What a holder's refresh makes of what its read found: the view is at it, be its epoch the holder's or not.
+fn holder_refreshed<T: Clone, X: EpochField<T>>(
+    epochs: &X,
+    local: u64,
+    found: Option<(MonotonicId, T)>,
+) -> ViewAnswer<T>
+    requires { IsExactClone T.is_clone }
+    ensures refreshed { by_number result ≡ or_lacking (lacks (by_number result)) (holder_refreshed (X.epoch_of epochs.now) local found) }
+    ensures store_error { HasErrorOf None result }
+{
+    let Some((id, value)) = found else {
+        return Err(TransactionalObjectError::InvalidObjectState);
+    };
+    match test_epoch(local, epochs.get_epoch(&value)) {
+        Ok(()) => Ok(Outcome::Viewed(id, Copies::of(value)?)),
+        Err(error) => Ok(Outcome::Shut(id, value, error)),
+    }
+}
+
+/// What it makes of what was found, by what that was read for.
+fn shown<T: Clone, X: EpochField<T>>(
+    epochs: &X,
+    purpose: Purpose,
+    found: Option<(MonotonicId, T)>,
+) -> ViewAnswer<T>
+    requires { IsExactClone T.is_clone }
+    ensures shown { by_number result ≡ or_lacking (lacks (by_number result)) (shown (X.epoch_of epochs.now) purpose found) }
+    ensures store_error { HasErrorOf None result }
+{
+    match purpose {
+        Purpose::Load => loaded(found),
+        Purpose::Refresh => refreshed(found),
+        Purpose::HolderRefresh(local) => holder_refreshed(epochs, local, found),
+    }
+}
+
+impl<T: Drop> ViewReadOp<T> {
+    /// A read of the newest version for this purpose, which begins with a look. The only error is want of memory.
+    pub fn start<C>(layout: &Layout<C>, purpose: Purpose) -> Result<ViewReadOp<T>, AllocError>
+        ensures { IfOk result (λ op. op ≡ view_read_started layout.now.boundary purpose) }
+    {
+        let read = ReadOp::start(layout)?;
+        Ok(ViewReadOp { purpose, read })
+    }
+
+    /// What it asks for. It takes no memory.
+    pub fn ask(&self) -> Ask<'_>
+        ensures { asks result ≡ view_read_asked self.now }
+    {
+        self.read.ask()
+    }
+}
+
+impl<T: Clone> ViewReadOp<T> {
+    /// Takes the store's reply to what it asks, or none for a look. The view is at the version that the read answers: where
+    /// its epoch is greater than that of a holder that refreshes, the holder is shut by `Fenced`, and where it is smaller by
+    /// `InvalidObjectState`. None is `LatestRecordMissing` for a load, and else `InvalidObjectState`; an error of the read is
+    /// answered. A growth that is refused is `NoMemory`. An answer ends it. It asks that a clone is the same value.
+    pub fn take<C: ObjectCodec<T>, X: EpochField<T>>(
+        &mut self,
+        alloc: Global,
+        layout: &Layout<C>,
+        epochs: &X,
+        caches: &mut Caches,
+        reply: Option<Reply>,
+    ) -> Turned<ViewAnswer<T>>
+        requires exact { IsExactClone T.is_clone }
+        requires reply { IsViewReadReply self.old reply }
+        requires range { IsViewReadInRange self.old }
+        ensures turned { (self.new, turned_by_number result) ≡ unless_lacking (lacks_memory (turned_by_number result)) (view_read_ended self.old) (view_read_turned layout.now.names layout.now.boundary layout.now.page (C.decoded layout.now.codec) (X.epoch_of epochs.now) self.old caches.old reply) }
+        ensures caches { caches.new ≡ read_left self.old.read caches.old (said (turned_by_number result)) }
+        ensures store_error { TellsErrorOf (reply_told reply) result }
+    {
+        match read_on(&mut self.read, alloc, layout, caches, reply) {
+            Turned::Goes => Turned::Goes,
+            Turned::Done(Ok(found)) => Turned::Done(shown(epochs, self.purpose, found)),
+            Turned::Done(Err(error)) => Turned::Done(Err(error)),
+        }
+    }
+}
