@@ -6,12 +6,26 @@ use txn_recorded::row::Row;
 use txn_recordings::read::read_row;
 use txn_store::request::{Reply, Request};
 
+fn asked(row: &Row<Record>) -> Result<Option<Request>, AllocError> {
+    match row {
+        Row::Ask(_, _, request) => Ok(Some(request.try_clone()?)),
+        _ => Ok(None),
+    }
+}
+
+fn replied(row: &Row<Record>) -> Result<Option<Reply>, AllocError> {
+    match row {
+        Row::Reply(_, _, reply) => Ok(Some(reply.try_clone()?)),
+        _ => Ok(None),
+    }
+}
+
 /// The request of a text.
 pub fn request(alloc: Global, text: &str) -> Result<Option<Request>, AllocError> {
     let text = format!(in alloc; "ask 1 0 {text}")?;
     match read_row::<Record>(alloc, text.as_str()) {
-        Ok(Row::Ask(_, _, request)) => Ok(Some(request)),
-        _ => Ok(None),
+        Ok(row) => asked(&row),
+        Err(_) => Ok(None),
     }
 }
 
@@ -19,7 +33,7 @@ pub fn request(alloc: Global, text: &str) -> Result<Option<Request>, AllocError>
 pub fn reply(alloc: Global, text: &str) -> Result<Option<Reply>, AllocError> {
     let text = format!(in alloc; "reply 1 0 {text}")?;
     match read_row::<Record>(alloc, text.as_str()) {
-        Ok(Row::Reply(_, _, reply)) => Ok(Some(reply)),
-        _ => Ok(None),
+        Ok(row) => replied(&row),
+        Err(_) => Ok(None),
     }
 }

@@ -14,10 +14,20 @@ use txn_types::epoch::EpochField;
 /// over what the call's rows of the journal tell, looks aside, and calls the store once for each reply that they tell.
 ///
 /// Clauses see its diary, its recorder, its store, and whether it goes on.
-#[derive(Drop)]
 pub struct Client<T: Clone, C: ObjectCodec<T> + Drop, E: EpochField<T>, S, R: Recorder<T>> {
     work: Work<T, C, E, S, R>,
     goes_on: bool,
+}
+
+impl<T: Clone, C: ObjectCodec<T> + Drop, E: EpochField<T>, S: Drop, R: Recorder<T> + Drop> Drop
+    for Client<T, C, E, S, R> {
+    /// Drops all that the client keeps: here, so that no crate above has to prove how each part is dropped.
+    fn drop(self) {
+        let Client {
+            work: _,
+            goes_on: _,
+        } = self;
+    }
 }
 
 impl<T: Clone, C: ObjectCodec<T> + Drop, E: EpochField<T>, S, R: Recorder<T>> Model

@@ -147,7 +147,10 @@ impl<T: Clone, C: ObjectCodec<T> + Drop, E: EpochField<T>, S: Serve, R: Recorder
                 self.recorder.answered(op, &answer)?;
                 Ok(Heard::Answered(answer))
             }
-            _ => Ok(Heard::Goes),
+            told => {
+                drop(told);
+                Ok(Heard::Goes)
+            }
         }
     }
 
@@ -242,7 +245,8 @@ impl<T: Clone, C: ObjectCodec<T> + Drop, E: EpochField<T>, S: Serve, R: Recorder
         ensures err { IfErr result (λ stop. IsEnding stop × IsFurther self.old.diary self.new.diary) }
     {
         match self.diary.give_up(op) {
-            Ok(_) => {
+            Ok(told) => {
+                drop(told);
                 self.recorder.gave_up(op)?;
                 Ok(())
             }

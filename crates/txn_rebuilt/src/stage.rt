@@ -13,6 +13,7 @@ ghost use Rattle.txn_rebuilt.specs.declared.stage.Stage.TheVariants as stages;
 
 use crate::fault::RowFault;
 use std::alloc::Global;
+use std::mem;
 use txn_caches::ask::Ask;
 use txn_diary::diary::Diary;
 use txn_history::event::{Call, Told};
@@ -52,6 +53,25 @@ fn stage_of<'a, T: LineValue>(alloc: Global, told: Told<T>) -> Result<Stage<'a>,
             Ok(Stage::Runs)
         }
     }
+}
+
+/// The stage that comes next, in place of the one before.
+fn enter<'a>(stage: &mut Stage<'a>, next: Stage<'a>)
+    ensures { stage.new ≡ next.entry }
+{
+    drop(mem::replace(stage, next));
+}
+
+/// The stage that comes with what a client is told, in place of the one before.
+fn go_on<'a, T: LineValue>(
+    alloc: Global,
+    stage: &mut Stage<'a>,
+    told: Told<T>,
+) -> Result<(), RowFault>
+    ensures { (otherwise : Told T) (op : ℕ) (answer : Option (Answer T)) → IsUnanswered otherwise → told ≡ told_of otherwise op answer → OnOk result (IsStageOf (answered_text T.text) answer stage.new) }
+{
+    enter(stage, stage_of(alloc, told)?);
+    Ok(())
 }
 
 /// Whether an operation asks the store this.
@@ -130,7 +150,7 @@ impl<'a, T: Clone + LineValue, C: ObjectCodec<T> + Drop, E: EpochField<T>> Rebui
         ensures same { OnOk result (IsSameClient self.old.diary self.new.diary) }
     {
         let told = self.diary.look(self.begun)?;
-        self.stage = stage_of(alloc, told)?;
+        go_on(alloc, &mut self.stage, told)?;
         Ok(())
     }
 
@@ -162,7 +182,7 @@ impl<'a, T: Clone + LineValue, C: ObjectCodec<T> + Drop, E: EpochField<T>> Rebui
         let call = call.try_clone()?;
         let told = self.diary.begin(call)?;
         self.begun = op;
-        self.stage = stage_of(alloc, told)?;
+        go_on(alloc, &mut self.stage, told)?;
         Ok(())
     }
 
@@ -177,7 +197,7 @@ impl<'a, T: Clone + LineValue, C: ObjectCodec<T> + Drop, E: EpochField<T>> Rebui
         if !asks_this(self.diary.asks(op), request) {
             return Err(RowFault::OtherRequest);
         }
-        self.stage = Stage::Asks(request);
+        enter(&mut self.stage, Stage::Asks(request));
         Ok(())
     }
 
@@ -208,7 +228,7 @@ impl<'a, T: Clone + LineValue, C: ObjectCodec<T> + Drop, E: EpochField<T>> Rebui
             reply,
         };
         let told = self.diary.receive(op, receipt)?;
-        self.stage = stage_of(alloc, told)?;
+        go_on(alloc, &mut self.stage, told)?;
         Ok(())
     }
 
@@ -225,7 +245,7 @@ impl<'a, T: Clone + LineValue, C: ObjectCodec<T> + Drop, E: EpochField<T>> Rebui
             return Err(RowFault::OtherRequest);
         }
         let told = self.diary.failed(op)?;
-        self.stage = stage_of(alloc, told)?;
+        go_on(alloc, &mut self.stage, told)?;
         Ok(())
     }
 
@@ -239,7 +259,7 @@ impl<'a, T: Clone + LineValue, C: ObjectCodec<T> + Drop, E: EpochField<T>> Rebui
         }
         let told = self.diary.give_up(op)?;
         drop(told);
-        self.stage = Stage::Idle;
+        enter(&mut self.stage, Stage::Idle);
         Ok(())
     }
 
@@ -259,7 +279,7 @@ impl<'a, T: Clone + LineValue, C: ObjectCodec<T> + Drop, E: EpochField<T>> Rebui
             }
             _ => return Err(RowFault::OutOfTurn),
         }
-        self.stage = Stage::Idle;
+        enter(&mut self.stage, Stage::Idle);
         Ok(())
     }
 
