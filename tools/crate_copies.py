@@ -208,14 +208,19 @@ class Copies:
         return [*words, "--jobs", "1", *["--incremental", "out/incremental"] * keeps]
 
     def check_in(self, copy, libraries, is_library, keeps, changed, only):
-        """The log of a check of a copy with these texts in place of the crate's own. `only` has for each function to
-        prove the names to try for it, one after the other where `rattle` knows no such function; with none left, or
-        with no function, the whole crate is checked. Where it `keeps` its work it takes what earlier checks kept in the
-        copy, if they were of the crate by itself as this one is, or as a library as this one is."""
-        for path, text in {**self.texts, **changed}.items():
+        """The log of a check of a copy with these texts in place of the crate's own, None for one that goes. `only` has for
+        each function to prove the names to try for it, one after the other where `rattle` knows no such function; with
+        none left, or with no function, the whole crate is checked. Where it `keeps` its work it takes what earlier checks
+        kept in the copy, if they were of the crate by itself as this one is, or as a library as this one is."""
+        texts = {path: text for path, text in {**self.texts, **changed}.items() if text is not None}
+        for path in texts_of(copy).keys() - texts:
+            os.remove(f"{copy}/{path}")
+        for path, text in texts.items():
+            os.makedirs(os.path.dirname(f"{copy}/{path}"), exist_ok=True)
             with open(f"{copy}/{path}", "w", encoding="utf-8") as file:
                 file.write(text)
         words, only = self.words_of_check(copy, libraries, is_library, keeps), [list(names) for names in only]
+        words += ["--allow-holes"] * any(path not in self.texts for path in texts)
         while True:
             asked = sorted({names[0] for names in only}) if all(only) else []
             said = self.run(copy, [*words, *(word for it in asked for word in ("--only", it))])[1]

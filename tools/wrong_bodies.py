@@ -3,14 +3,16 @@
 A check proves each function by itself, from the contracts of what it calls. So edits of different bodies do not
 disturb one another, and the log of one check says for each function whether its own body was refused, or whether it
 only waits for a function that it calls. Where a shared check refuses a function that no edit changes, it decides
-nothing. Nothing here runs a check: see crate_copies.py."""
+nothing. Since a proof cites of what it calls no more than the contract, the proofs of the functions that no edit changes
+are left open there, and only what such a check does not refuse is tried once more with those proofs. Nothing here runs a
+check: see crate_copies.py."""
 from __future__ import annotations
 
 import os
 import re
 from dataclasses import dataclass, field
 
-from rattle_source import homes_of, module_of, named_in_log, places_in
+from rattle_source import READ_BY_OTHERS, homes_of, module_of, named_in_log, places_in
 
 MOST_IN_A_CHECK = 64
 # (an own reason, as "expected answers", stands before these)
@@ -20,13 +22,23 @@ WAITING = re.compile(
 )
 FUNCTION_LINE = re.compile(r"^fn (\w+)::(\S+): (.*)$", re.M)
 VERDICT_LINE = re.compile(r"^logic=(\S+)", re.M)
-# (the last line where not the whole crate was asked for)
+# (the last line where not the whole crate was asked for, and where proofs were left open)
 PART_LINE = re.compile(r"^only=(\d+) proved=(\d+)$", re.M)
+OPEN_LINE = re.compile(r"^only=\d+ holes=\d+$", re.M)
 ERROR_LINE = re.compile(r"^(?:\./)?(\S+?):\d+:\d+: error: (?:`[^`]*`: )?(.*)$", re.M)
 GOAL_LINE = re.compile(r": error: `[^`]*`: ")
 UNREADABLE = re.compile(
     r"is not in scope|has no field|is no name|operand is missing|expected the end|cannot continue"
 )
+# The proof of a function that is left open, and the files that a proof may have instead.
+OPEN_PROOF = """\
+use {library}.proofs.{place}.Statement.{{statement}}
+
+pub {name}_spec : {{M : Type 1}} → statement M
+{name}_spec = ?
+"""
+NO_BODY = "{\n    unreachable!()\n}"
+PROOF_FILES = ("Proof.antt", "Answers.antt", "Invariants.antt")
 
 
 class BadEdit(Exception):
@@ -77,7 +89,7 @@ class Log:
     @property
     def is_refusal(self):
         """Whether it says of functions that they are refused, of a text that could be read."""
-        return self.verdict == "not-proved" and self.is_of_functions and not self.unread
+        return self.verdict in ("not-proved", "open") and self.is_of_functions and not self.unread
 
 
 def pairs_of(text):
@@ -212,6 +224,7 @@ def unread_line(text, changed):
 def read_log(crate, text, changed=()):
     """Reads the log of a check of this crate in which the files `changed` were edited."""
     parts = ["proved" if asked == proved else "not-proved" for asked, proved in PART_LINE.findall(text)]
+    parts += ["open" for _ in OPEN_LINE.findall(text)]
     verdict = (VERDICT_LINE.findall(text) or parts or [""])[-1]
     first_lines = " | ".join(text.strip().split("\n")[:6])
     log = Log(verdict, set(), set(), set(), set(), unread_line(text, changed), first_lines)
@@ -232,7 +245,7 @@ def read_log(crate, text, changed=()):
 def refused_unchanged(log, edits, functions):
     """The first function that the log refuses for its own body though none of these edits changes it, "" where there is
     none: where edits change bodies alone, only the check itself can be wrong there."""
-    changed = {function.label for edit in edits for function in edit.functions}
+    changed = {function.label for function in functions_of(edits)}
     for path in sorted(log.refused):
         named = {it.label for it in named_in_log(path, functions)}
         if named and not named & changed:
@@ -273,36 +286,79 @@ def why_not_refused(edit, log):
     return "NOT REFUSED: the crate is still proved with this edit"
 
 
+def functions_of(edits):
+    """The functions that any of the edits changes."""
+    return {it for edit in edits for it in edit.functions}
+
+
 def names_to_check(edits):
     """For each function that an edit changes the names by which a check can be asked for it alone, the least first: its
     own, and its module. Of an edit of no function, its modules. None stands for the whole crate."""
-    functions = sorted({it for edit in edits for it in edit.functions}, key=lambda it: it.label)
+    functions = sorted(functions_of(edits), key=lambda it: it.label)
     names = [[it.label, it.module] for it in functions]
     names += [[module] for edit in edits if not edit.functions for module in sorted(edit.modules)]
     return [[it for it in some if it] for some in names]
 
 
+def can_be_open(edits):
+    """Whether these edits change bodies alone, so that a check of their functions needs no other body."""
+    return all(it.is_of_bodies and it.functions for it in edits)
+
+
+def left_open(crate, texts, changed):
+    """The texts by path of a crate in which each function but those that are changed has no body to prove, and a proof
+    that is left open; None stands for a file that goes."""
+    files, homes = {}, homes_of(sources_of(texts))
+    for path, text in sources_of(texts).items():
+        places = [it for it in places_in(text, module_of(path), homes) if it.function not in changed]
+        for place in reversed([it for it in places if is_read_by_its_contract(it, text)]):
+            text = text[: place.body] + NO_BODY + text[place.end :]
+            files.update(open_proof(crate, texts, place.function))
+        files[path] = text
+    return files
+
+
+def is_read_by_its_contract(place, text):
+    """Whether no other function's proof reads the body of this one, and it has one."""
+    head, is_main = text[place.start : place.body], place.function.label == "main"
+    has_body = text[place.body : place.body + 1] == "{"
+    return has_body and not (is_main or place.is_of_trait or READ_BY_OTHERS.search(head))
+
+
+def open_proof(crate, texts, function):
+    """The files by path that leave the proof of a function open. Where `rattle` knows it by another name they are read by
+    nobody."""
+    names = [*function.module.split("::"), function.owner.label if function.owner else "", function.name]
+    place = [it for it in names if it]
+    folder = f"proofs/{'/'.join(place)}"
+    files = {f"{folder}/{it}": None for it in PROOF_FILES if f"{folder}/{it}" in texts}
+    text = OPEN_PROOF.format(library=f"Rattle.{crate}", place=".".join(place), name=function.name)
+    return {**files, f"{folder}/{PROOF_FILES[0]}": text}
+
+
 class Trial:
-    """Tries edits of one crate. `check` takes the crate's changed texts by path and the names of what to check, and
-    gives the log of their check."""
+    """Tries edits of one crate. `check` takes the crate's changed texts by path, None for one that goes, and the names of
+    what to check, and gives the log of their check."""
 
     def __init__(self, crate, texts, check):
         self.crate, self.texts, self.check = crate, texts, check
         self.functions = functions_in(texts)
 
-    def log_of(self, edits, names):
-        """The log of a check of these edits together, of what the names name."""
+    def log_of(self, edits, names, is_open=False):
+        """The log of a check of these edits together, of what the names name; where `is_open`, the functions that no edit
+        changes have no bodies, and their proofs are left open."""
         texts = self.texts
         for edit in edits:
             texts = applied(texts, edit.pairs)
         changed = {path: text for path, text in texts.items() if text != self.texts[path]}
-        return read_log(self.crate, self.check(changed, names), changed)
+        given = left_open(self.crate, texts, functions_of(edits)) if is_open else changed
+        return read_log(self.crate, self.check(given, names), changed)
 
-    def together(self, batch):
+    def together(self, batch, is_open=False):
         """Tries a batch in one check. Returns the outcomes of the edits that it decides, and the other edits."""
-        if len(batch) == 1:
+        if len(batch) == 1 and not is_open:
             return [self.alone(batch[0])], []
-        log = self.log_of(batch, names_to_check(batch))
+        log = self.log_of(batch, names_to_check(batch), is_open)
         is_sound = log.is_refusal and not refused_unchanged(log, batch, self.functions)
         refused = refused_for_sure(log, self.functions) if is_sound else set()
         well = [it for it in batch if refused & {function.label for function in it.functions}]

@@ -12,7 +12,7 @@ from concurrent.futures import FIRST_COMPLETED, ThreadPoolExecutor, wait
 
 from crate_copies import Commands, Copies, all_below, crates_listed, rlib_in
 from kept_verdicts import FOLDER_VARIABLE, NoSheet, Verdicts, default_folder
-from wrong_bodies import MOST_IN_A_CHECK, BadEdit, Outcome, Trial, batches, read_edit
+from wrong_bodies import MOST_IN_A_CHECK, BadEdit, Outcome, Trial, batches, can_be_open, read_edit
 
 
 # The folder of a crate with those that are tried only where all are asked for, and are else read alone.
@@ -207,7 +207,9 @@ class Run:
         keeps = not self.is_after_ci or len(crate.batches) > 1 or crate.rounds > 0
         check = functools.partial(copies.check_in, copy, self.folders, self.is_after_ci, keeps)
         trial = Trial(crate.name, copies.texts, check)
-        outcomes, rest = trial.together(batch)
+        # (where an earlier check kept the proofs of what the edited functions call, they need not be left open)
+        is_open = self.is_after_ci and not crate.rounds and can_be_open(batch)
+        outcomes, rest = trial.together(batch, is_open)
         with copies.lock:
             copies.free.append(copy)
         return outcomes, rest
@@ -223,8 +225,8 @@ class Run:
             self.try_again(crate)
 
     def try_again(self, crate):
-        """Tries once more together what a shared check could not decide, as an edit of a function that calls another
-        edited one, and then alone. Ends where nothing is undecided."""
+        """Tries once more together, with all proofs, what a shared check could not decide, as an edit of a function that
+        calls another edited one, and then alone. Ends where nothing is undecided."""
         edits, crate.undecided = crate.undecided, []
         if not edits:
             self.end(crate)

@@ -7,7 +7,8 @@ sys.dont_write_bytecode = True
 sys.path.insert(0, os.path.dirname(os.path.dirname(os.path.realpath(__file__))))
 
 from rattle_source import module_of, named_in_log, owner_of_impl, places_in, without_own_bodies  # noqa: E402
-from wrong_bodies import BadEdit, Trial, applied, batches, functions_in, pairs_of, read_edit, read_log  # noqa: E402
+from wrong_bodies import BadEdit, Trial, applied, batches, can_be_open, functions_in, left_open  # noqa: E402
+from wrong_bodies import pairs_of, read_edit, read_log  # noqa: E402
 
 PATHS = """\
 const MOST: usize = 9;
@@ -240,6 +241,12 @@ class Logs(unittest.TestCase):
         self.assertTrue(read_log("made", "fn made::a: not proved\nonly=2 proved=1\n").is_refusal)
         self.assertEqual(read_log("made", "fn made::a: proved\nonly=1 proved=1\n").verdict, "proved")
 
+    def test_a_check_with_open_proofs(self):
+        hole = "fn made::b: depends on a hole in `Rattle.made.proofs.b.Proof.b_spec`\nonly=2 holes=1\n"
+        log = read_log("made", f"fn made::a: not proved\n{hole}")
+        self.assertEqual((log.refused, log.undecided, log.is_refusal), ({"a"}, {"b"}, True))
+        self.assertEqual(read_log("made", hole).refused, set())
+
     def test_other_crates_and_no_verdict(self):
         log = read_log("made", "fn other::a: not proved\n")
         self.assertEqual((log.refused, log.verdict, log.is_refusal), (set(), "", False))
@@ -280,7 +287,7 @@ class FakeCheck:
     def __call__(self, changed, only):
         self.runs.append(changed)
         self.asked.append(only)
-        return self.says("\n".join(changed.values()))
+        return self.says("\n".join(it for it in changed.values() if it is not None))
 
 
 class Trials(unittest.TestCase):
@@ -296,6 +303,27 @@ class Trials(unittest.TestCase):
         self.assertEqual((alone, len(check.runs)), ([], 1))
         self.assertIn('text != "."', check.runs[0]["src/path.rt"])
         self.assertEqual(check.asked, [[["path::Path::join", "path"], ["path::is_dots", "path"]]])
+
+    def test_the_functions_that_no_edit_changes_are_left_open(self):
+        batch = [edit("a", DOTS), edit("b", JOIN)]
+        self.assertTrue(can_be_open(batch))
+        lines = ["path::is_dots: not proved", "path::Path::fmt: depends on a hole in `x`"]
+        trial, check = self.trial(lambda text: log_text(*lines, verdict=""))
+        trial.together(batch, is_open=True)
+        text = check.runs[0]["src/path.rt"]
+        self.assertIn('text != "."', text)
+        self.assertIn("pub fn fmt(&self) -> u8 {\n    unreachable!()\n}", text)
+        self.assertNotIn("Fault::First", text)
+        self.assertNotIn("proofs/path/is_dots/Proof.antt", check.runs[0])
+        statement = "use Rattle.made.proofs.path.Path.fmt.Statement.{statement}\n"
+        self.assertIn(statement, check.runs[0]["proofs/path/Path/fmt/Proof.antt"])
+
+    def test_what_proofs_of_open_functions_had_goes(self):
+        texts = {**TEXTS, "proofs/path/Path/fmt/Answers.antt": "", "proofs/path/is_dots/Answers.antt": ""}
+        changed = {it for it in functions_in(texts) if it.label == "path::is_dots"}
+        files = left_open("made", texts, changed)
+        self.assertIsNone(files["proofs/path/Path/fmt/Answers.antt"])
+        self.assertNotIn("proofs/path/is_dots/Answers.antt", files)
 
     def test_what_only_waits_is_tried_alone(self):
         waits = "path::Path::join: no proof: it calls `made::path::is_dots`, which is not proved"

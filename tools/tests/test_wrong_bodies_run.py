@@ -36,6 +36,7 @@ if [ "$(basename "$0")" = rattle ]; then
     *) exit 2 ;;
   esac
   case "$*" in *"--incremental out/incremental"*) form="$form keeps" ;; esac
+  case "$*" in *--allow-holes*) form="$form open" && grep -q "spec = ?" proofs/second/Proof.antt || exit 2 ;; esac
   echo "$form" >> "$CALLS.forms"
   grep -q NAMELESS src/lib.rt && case "$*" in *"--only first"*)
     echo "rattle: error: \\`$name\\` has no function \\`first\\`: help: write the name" && exit 2 ;;
@@ -51,6 +52,7 @@ for it in first second third; do
   grep -q "CALLS_second_$it" src/lib.rt && grep -q WRONG_second src/lib.rt && said="no proof: it calls second"
   echo "fn $name::$it: $said"
 done
+case "$*" in *--allow-holes*) echo "only=1 holes=1" && exit 1 ;; esac
 case "$*" in *--only*) echo "only=1 proved=$((1 - status))" && exit $status ;; esac
 [ $status = 0 ] && echo "logic=proved" || echo "logic=not-proved"
 [ "$1" = lib ] && mkdir -p "out/rlib" && touch "out/rlib/$name.rlib"
@@ -133,7 +135,19 @@ class Runs(unittest.TestCase):
         self.assertEqual(self.forms(), ["itself keeps"])
         self.assertEqual(self.forms("--after-ci"), ["library"])
         self.edit("low", "again", "    1", "    WRONG_first again")
-        self.assertEqual(self.forms("--after-ci"), ["library keeps"] * 2)
+        self.assertEqual(self.forms("--after-ci"), ["library keeps", "library keeps open"])
+
+    def test_after_ci_other_functions_are_left_open_at_first(self):
+        self.file("repository/crates/low/out/rlib/low.rlib", "")
+        self.assertEqual(self.forms("--only", "first"), ["itself keeps"])
+        self.assertEqual(self.forms("--only", "first", "--after-ci"), ["library open"])
+        self.edit("low", "first", "    1", "    one")
+        self.file("calls.forms", "")
+        status, last, said, _ = self.run_command("low", "--only", "first", "--after-ci")
+        self.assertEqual((status, last), (1, "0 passed, 1 failed"))
+        self.assertIn("low/wrong-bodies/first.edit: NOT REFUSED", said)
+        with open(f"{self.room}/calls.forms", encoding="utf-8") as file:
+            self.assertEqual(file.read().split("\n")[:-1], ["library open", "library keeps"])
 
     def test_a_program_is_checked_by_itself(self):
         self.file("repository/crates/low/src/main.rt", SOURCE)
