@@ -1,13 +1,28 @@
-//! Tests of the protocols that no script of `txn_port` shows: types of one's own, uses from outside, and workloads.
+//! Tests of the protocols, and of the objects and their holders, that no script of `txn_port` shows: types of one's own, uses
+//! from outside, and workloads; rows of which a call is broken off, how often an update tests its invariants, and a view with
+//! ids of its own. And a use of manifests, and tests of a manifest store.
 #![tactic(auto)]
 
 #[cfg(test)]
 mod checked;
 #[cfg(test)]
+mod counted;
+#[cfg(test)]
+mod failing;
+pub mod kept;
+#[cfg(test)]
 mod names;
 #[cfg(test)]
 mod over_boundary;
+#[cfg(test)]
+mod refused;
+#[cfg(test)]
+mod register;
 pub mod scripted;
+#[cfg(test)]
+mod stores;
+#[cfg(test)]
+mod swept;
 #[cfg(test)]
 mod uses;
 #[cfg(test)]

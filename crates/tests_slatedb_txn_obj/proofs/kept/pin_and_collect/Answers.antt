@@ -6,9 +6,9 @@ use Rattle.slatedb_txn_obj.specs.Views.{IsVersion}
 use Rattle.txn_manifest.specs.Manifest.{with_pins, with_payload}
 use Rattle.txn_manifest.specs.Pins.{pins_with}
 use Rattle.txn_manifest.specs.Collected.{LeavesNeeded}
-use Rattle.tests_manifest.specs.Kept.{IsStored}
-use Rattle.tests_manifest.proofs.Keeping.{created_others, leaves_pinned}
-use Rattle.tests_manifest.proofs.kept.pin_and_collect.Goals as goal
+use Rattle.tests_slatedb_txn_obj.specs.Kept.{IsStored}
+use Rattle.tests_slatedb_txn_obj.proofs.Keeping.{created_others, leaves_pinned}
+use Rattle.tests_slatedb_txn_obj.proofs.kept.pin_and_collect.Goals as goal
 
 pub returns-clause-left : goal.returns-clause-left
 returns-clause-left g c = λ h b stands version. (

@@ -3,7 +3,7 @@ ghost use Rattle.std.specs.Prelude.{◌≡◌, ℕ, List, IfOk, OnOk};
 ghost use Rattle.slatedb_txn_obj.specs.Views.{IsVersion};
 ghost use Rattle.txn_manifest.specs.declared.manifest.Manifest.{Manifest};
 ghost use Rattle.txn_manifest.specs.Stores.{StandsBy};
-ghost use Rattle.tests_manifest.specs.Kept.{LeavesPinned};
+ghost use Rattle.tests_slatedb_txn_obj.specs.Kept.{LeavesPinned};
 
 use slatedb_txn_obj::{Invariant, TransactionalObjectError, Turns};
 use txn_manifest::collector::Versions;

@@ -14,7 +14,7 @@ use Rattle.txn_manifest.specs.declared.manifest.Manifest.{Manifest}
 use Rattle.txn_manifest.specs.Manifest.{with_pins, with_payload}
 use Rattle.txn_manifest.specs.Pins.{pins_with}
 use Rattle.txn_manifest.specs.Collected.{IsSameFile, LeavesNeeded, is_unpinned}
-use Rattle.tests_manifest.specs.Kept.{IsStored, LeavesPinned}
+use Rattle.tests_slatedb_txn_obj.specs.Kept.{IsStored, LeavesPinned}
 
 -- a created version leaves the files of the others
 pub created_others : (names now : Names) (id : ℕ) (old new : State) → now ≡ names → id < 2 ^ 64 → MayCreate (version_path now id) old new → (n : ℕ) → n < 2 ^ 64 → n ≢ id → IsSameFile names old.files new.files n

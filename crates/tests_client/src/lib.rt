@@ -1,5 +1,0 @@
-//! Tests of clients that record themselves.
-#![tactic(auto)]
-
-#[cfg(test)]
-mod clients;
