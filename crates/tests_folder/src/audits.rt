@@ -3,8 +3,8 @@
 use std::alloc::{AllocError, AllocGlobal, Global};
 use std::test::Fail;
 use txn_lines::record::{Record, RecordCodec, RecordEpoch};
+use txn_recorded::read::{read_row, text_of};
 use txn_recorded::row::Row;
-use txn_recordings::read::{read_row, text_of};
 use txn_replayed::audit::audit_recordings;
 
 /// It writes two versions, and of the second it does not know it.

@@ -2,8 +2,8 @@
 
 use std::alloc::{AllocError, Global};
 use txn_lines::record::Record;
+use txn_recorded::read::read_row;
 use txn_recorded::row::Row;
-use txn_recordings::read::read_row;
 use txn_store::request::{Reply, Request};
 
 fn asked(row: &Row<Record>) -> Result<Option<Request>, AllocError> {

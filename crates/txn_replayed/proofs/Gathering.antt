@@ -8,7 +8,7 @@ use Rattle.txn_diary.specs.Diaries.{DiaryState}
 use Rattle.txn_lines.specs.Printed.{answered_text}
 use Rattle.txn_recorded.specs.declared.row.Row.{Row}
 use Rattle.txn_recorded.specs.declared.row.Row.TheVariants as kinds
-use Rattle.txn_rebuilt.specs.Told.{TellsSame, recording_tells, journal_tells}
+use Rattle.txn_replayed.specs.Told.{TellsSame, recording_tells, journal_tells}
 use Rattle.txn_replayed.specs.OneHistory.{as_diary, IsOf, AreOf}
 
 -- one more of a list, as something else

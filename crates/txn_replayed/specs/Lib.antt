@@ -1,1 +1,3 @@
 pub mod OneHistory
+pub mod Told
+pub mod Stages

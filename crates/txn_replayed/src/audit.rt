@@ -5,6 +5,8 @@ ghost use Rattle.txn_journals.specs.Journals.{Replays};
 ghost use Rattle.txn_journals.specs.Shares.{AreDiaries};
 ghost use Rattle.txn_replayed.specs.OneHistory.{as_diary, IsOf, AreOf, IsOneHistoryOf};
 
+use crate::fault::RowFault;
+use crate::rebuild::rebuild;
 use crate::refusal::Refusal;
 use crate::replay::{places_of, replay};
 use std::alloc::Global;
@@ -16,8 +18,6 @@ use txn_journals::laws::clients_share_only_the_store;
 use txn_lines::text_form::LineValue;
 use txn_logged::honest::HonestLog;
 use txn_ordered::order::{CallPlace, order};
-use txn_rebuilt::fault::RowFault;
-use txn_rebuilt::rebuild::rebuild;
 use txn_recorded::row::Row;
 use txn_types::codec::ObjectCodec;
 use txn_types::epoch::EpochField;

@@ -3,5 +3,8 @@
 #![tactic(auto)]
 
 pub mod audit;
+pub mod fault;
+pub mod rebuild;
 pub mod refusal;
 mod replay;
+mod stage;

@@ -1,11 +1,11 @@
 //! Why recordings are not audited.
 
+use crate::fault::RowFault;
 use std::alloc::{AllocError, AllocFailed};
 use std::fmt;
 use txn_journals::fault::AuditFault;
 use txn_logged::fault::LogFault;
 use txn_ordered::order::{CallPlace, OrderFault};
-use txn_rebuilt::fault::RowFault;
 
 /// Why recordings are not one history, as far as they were audited. Recordings and rows are counted from 0, and rows of the
 /// order too.

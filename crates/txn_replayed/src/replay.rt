@@ -1,5 +1,6 @@
 //! The recorded calls on an honest store, in their order.
 
+use crate::fault::RowFault;
 use crate::refusal::Refusal;
 use std::alloc::{AllocError, Global};
 use txn_journals::audited::Logged;
@@ -7,7 +8,6 @@ use txn_journals::rows::LogRow;
 use txn_logged::fault::LogFault;
 use txn_logged::honest::HonestLog;
 use txn_ordered::order::{CallPlace, Placed};
-use txn_rebuilt::fault::RowFault;
 use txn_recorded::row::Row;
 use txn_store::request::{Reply, Request};
 

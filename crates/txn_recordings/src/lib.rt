@@ -1,5 +1,0 @@
-//! Reading what clients of a real store wrote down.
-#![tactic(auto)]
-
-pub mod read;
-pub mod source;
