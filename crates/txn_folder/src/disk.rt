@@ -11,7 +11,7 @@ use crate::listing::page_after;
 use crate::numbers::{Numbers, Written};
 use crate::place::{Place, number_at, number_in, shown};
 use bytes::Bytes;
-use std::alloc::{AllocError, Global};
+use std::alloc::Global;
 use std::fs;
 use std::io::ErrorKind;
 use std::rt::{Clock, Files};
@@ -34,10 +34,7 @@ pub(crate) struct Disk<R: Files + Drop> {
     lasting: Lasting,
 }
 
-impl<R: Files + Clock + Alloc<A = Global> + Clone + Drop> Disk<R>
-where
-    R::File: LockFile,
-{
+impl<R: Files + Drop> Disk<R> {
     pub fn new(rt: R, folder: Folder, syncs: bool) -> Disk<R>
         ensures { result.numbers.last ≡ 0 }
     {
@@ -50,33 +47,12 @@ where
         }
     }
 
-    /// Removes temporary files that are older than a time, and tells how many.
-    pub fn clean(&self, before: SystemTime) -> Result<u64, Fault> {
-        let versions = clean_in(&self.rt, &self.folder, self.folder.versions(), before)?;
-        let gc = clean_in(&self.rt, &self.folder, self.folder.gc(), before)?;
-        Ok(versions.saturating_add(gc))
-    }
-
-    fn file_of(&self, alloc: Global, place: Place) -> Result<String, AllocError> {
-        match place {
-            Place::Version(id) => self.folder.version(alloc, id),
-            Place::Boundary => String::from_str(alloc, self.folder.boundary()),
-        }
-    }
-
-    fn folder_of(&self, place: Place) -> &str {
-        match place {
-            Place::Version(_) => self.folder.versions(),
-            Place::Boundary => self.folder.gc(),
-        }
-    }
-
     /// Makes the names in a place's folder last, where that is asked.
     fn sync(&self, place: Place) -> Result<(), Halt> {
         if !self.syncs {
             return Ok(());
         }
-        sync_folder(&self.rt, self.folder_of(place))
+        sync_folder(&self.rt, self.folder.folder_of(place))
     }
 
     /// Makes the absence of a file at a place last, where that is asked. A folder that is missing has no names.
@@ -84,7 +60,7 @@ where
         if !self.syncs {
             return Ok(());
         }
-        sync_if_there(&self.rt, self.folder_of(place))
+        sync_if_there(&self.rt, self.folder.folder_of(place))
     }
 
     /// Makes the file of this number at a place last, where that is asked.
@@ -94,7 +70,7 @@ where
         if !self.syncs {
             return Ok(());
         }
-        sync_folder(&self.rt, self.folder_of(place))?;
+        sync_folder(&self.rt, self.folder.folder_of(place))?;
         self.lasting.add(place, number);
         Ok(())
     }
@@ -110,6 +86,32 @@ where
         self.make_last(place, number)
     }
 
+    fn remove_locked(&self, place: Place, file: &str) -> Result<(), Halt> {
+        remove(&self.rt, file)?;
+        self.sync(place)
+    }
+
+    /// Makes the versions of a page, which is to be told, last where that is asked and is not known.
+    fn make_page_last(&mut self, names: &VersionNames, page: &Page) -> Result<(), Halt>
+        ensures { self.new.numbers.last ≡ self.old.numbers.last }
+    {
+        match newest(names, page) {
+            Some(id) => self.make_told_last(Place::Version(id), None),
+            None => Ok(()),
+        }
+    }
+
+    /// Whether the folder of the versions is there.
+    fn has_versions(&self) -> Result<bool, Halt> {
+        match fs::metadata(&self.rt, self.folder.versions()) {
+            Ok(_) => Ok(true),
+            Err(error) if error.kind() == ErrorKind::NotFound => Ok(false),
+            Err(error) => Err(at_error(Doing::Listing, error)),
+        }
+    }
+}
+
+impl<R: Files + Clock + Drop> Disk<R> {
     /// Makes a file, where none stands, and tells its token. With syncs the name is looked up first, since what is
     /// written and then refused was synced for nothing; without, the link alone finds that it is taken.
     pub fn create(
@@ -121,7 +123,7 @@ where
         ensures token { IfOk result (λ told. IfSome told (IsTokenAt place bytes.now self.old.numbers.last self.new.numbers.last)) }
         ensures rises { self.old.numbers.last ≤ self.new.numbers.last }
     {
-        let file = self.file_of(alloc, place)?;
+        let file = self.folder.file_of(alloc, place)?;
         if self.syncs && stands(&self.rt, file.as_str())? {
             return Ok(None);
         }
@@ -152,10 +154,33 @@ where
             return written;
         }
         drop(written);
-        make_folders(&self.rt, self.folder_of(place), syncs)?;
+        make_folders(&self.rt, self.folder.folder_of(place), syncs)?;
         self.numbers.write(alloc, &self.rt, file, bytes, syncs)
     }
 
+    /// Puts a new file in the place of what stands there.
+    fn put_over(
+        &mut self,
+        alloc: Global,
+        place: Place,
+        file: &str,
+        bytes: &Bytes,
+    ) -> Result<Token, Halt>
+        ensures token { IfOk result (IsTokenAt place bytes.now self.old.numbers.last self.new.numbers.last) }
+        ensures rises { self.old.numbers.last ≤ self.new.numbers.last }
+    {
+        let written = self.write(alloc, place, file, bytes)?;
+        replace(&self.rt, written.name.as_str(), written.number, file)?;
+        let number = number_at(place, bytes.as_slice(), Some(written.number));
+        self.make_last(place, number)?;
+        Ok(shown(number))
+    }
+}
+
+impl<R: Files + Clock + Drop> Disk<R>
+where
+    R::File: LockFile,
+{
     /// The lock of a file's updates and removals, in a folder that is made where it is missing.
     fn lock(&self, alloc: Global, place: Place, file: &str) -> Result<R::File, Halt> {
         let name = format!(in alloc; "{file}#0")?;
@@ -164,8 +189,55 @@ where
             return lock;
         }
         drop(lock);
-        make_folders(&self.rt, self.folder_of(place), self.syncs)?;
+        make_folders(&self.rt, self.folder.folder_of(place), self.syncs)?;
         take_lock(&self.rt, name.as_str(), Sharing::Alone)
+    }
+
+    /// Writes a file whatever stands there, and tells its token.
+    pub fn overwrite(&mut self, alloc: Global, place: Place, bytes: &Bytes) -> Result<Token, Halt>
+        ensures token { IfOk result (IsTokenAt place bytes.now self.old.numbers.last self.new.numbers.last) }
+        ensures rises { self.old.numbers.last ≤ self.new.numbers.last }
+    {
+        let file = self.folder.file_of(alloc, place)?;
+        let _ = stands(&self.rt, file.as_str())?;
+        let lock = self.lock(alloc, place, file.as_str())?;
+        let done = self.put_over(alloc, place, file.as_str(), bytes);
+        drop(lock);
+        done
+    }
+
+    /// The lock that removals of versions take alone, and listings with one another.
+    fn lock_versions(&self, alloc: Global, sharing: Sharing) -> Result<R::File, Halt> {
+        let versions = self.folder.versions();
+        let name = format!(in alloc; "{versions}/#0")?;
+        take_lock(&self.rt, name.as_str(), sharing)
+    }
+
+    /// Removes a file. One that is gone already may be so by another's removal, which is made to last before it is told.
+    pub fn delete(&self, alloc: Global, place: Place) -> Result<(), Halt> {
+        let file = self.folder.file_of(alloc, place)?;
+        if !stands(&self.rt, file.as_str())? {
+            return self.sync_gone(place);
+        }
+        let lock = match place {
+            Place::Version(_) => self.lock_versions(alloc, Sharing::Alone)?,
+            Place::Boundary => self.lock(alloc, place, file.as_str())?,
+        };
+        let removed = self.remove_locked(place, file.as_str());
+        drop(lock);
+        removed
+    }
+}
+
+impl<R: Files + Clock + Alloc<A = Global> + Clone + Drop> Disk<R>
+where
+    R::File: LockFile,
+{
+    /// Removes temporary files that are older than a time, and tells how many.
+    pub fn clean(&self, before: SystemTime) -> Result<u64, Fault> {
+        let versions = clean_in(&self.rt, &self.folder, self.folder.versions(), before)?;
+        let gc = clean_in(&self.rt, &self.folder, self.folder.gc(), before)?;
+        Ok(versions.saturating_add(gc))
     }
 
     /// Replaces a file that has this token, and tells the new one.
@@ -179,7 +251,7 @@ where
         ensures token { IfOk result (λ told. IfSome told (IsTokenAt place bytes.now self.old.numbers.last self.new.numbers.last)) }
         ensures rises { self.old.numbers.last ≤ self.new.numbers.last }
     {
-        let file = self.file_of(alloc, place)?;
+        let file = self.folder.file_of(alloc, place)?;
         let lock = self.lock(alloc, place, file.as_str())?;
         let done = self.update_locked(alloc, place, file.as_str(), bytes, token);
         drop(lock);
@@ -205,75 +277,17 @@ where
         Ok(Some(token))
     }
 
-    /// Writes a file whatever stands there, and tells its token.
-    pub fn overwrite(&mut self, alloc: Global, place: Place, bytes: &Bytes) -> Result<Token, Halt>
-        ensures token { IfOk result (IsTokenAt place bytes.now self.old.numbers.last self.new.numbers.last) }
-        ensures rises { self.old.numbers.last ≤ self.new.numbers.last }
-    {
-        let file = self.file_of(alloc, place)?;
-        let _ = stands(&self.rt, file.as_str())?;
-        let lock = self.lock(alloc, place, file.as_str())?;
-        let done = self.put_over(alloc, place, file.as_str(), bytes);
-        drop(lock);
-        done
-    }
-
-    /// Puts a new file in the place of what stands there.
-    fn put_over(
-        &mut self,
-        alloc: Global,
-        place: Place,
-        file: &str,
-        bytes: &Bytes,
-    ) -> Result<Token, Halt>
-        ensures token { IfOk result (IsTokenAt place bytes.now self.old.numbers.last self.new.numbers.last) }
-        ensures rises { self.old.numbers.last ≤ self.new.numbers.last }
-    {
-        let written = self.write(alloc, place, file, bytes)?;
-        replace(&self.rt, written.name.as_str(), written.number, file)?;
-        let number = number_at(place, bytes.as_slice(), Some(written.number));
-        self.make_last(place, number)?;
-        Ok(shown(number))
-    }
-
     /// What the file at a place says, where there is one.
     pub fn read(&mut self, alloc: Global, place: Place) -> Result<Option<Found>, Halt>
         ensures found { IfOk result (λ told. IfSome told (λ found. IsFoundAt place found.bytes found.token)) }
         ensures kept { self.new.numbers.last ≡ self.old.numbers.last }
     {
-        let file = self.file_of(alloc, place)?;
+        let file = self.folder.file_of(alloc, place)?;
         let Some(found) = read_file(&self.rt, place, file.as_str())? else {
             return Ok(None);
         };
         self.make_told_last(place, number_in(found.token))?;
         Ok(Some(found))
-    }
-
-    /// The lock that removals of versions take alone, and listings with one another.
-    fn lock_versions(&self, alloc: Global, sharing: Sharing) -> Result<R::File, Halt> {
-        let versions = self.folder.versions();
-        let name = format!(in alloc; "{versions}/#0")?;
-        take_lock(&self.rt, name.as_str(), sharing)
-    }
-
-    /// Removes a file. One that is gone already may be so by another's removal, which is made to last before it is told.
-    pub fn delete(&self, alloc: Global, place: Place) -> Result<(), Halt> {
-        let file = self.file_of(alloc, place)?;
-        if !stands(&self.rt, file.as_str())? {
-            return self.sync_gone(place);
-        }
-        let lock = match place {
-            Place::Version(_) => self.lock_versions(alloc, Sharing::Alone)?,
-            Place::Boundary => self.lock(alloc, place, file.as_str())?,
-        };
-        let removed = self.remove_locked(place, file.as_str());
-        drop(lock);
-        removed
-    }
-
-    fn remove_locked(&self, place: Place, file: &str) -> Result<(), Halt> {
-        remove(&self.rt, file)?;
-        self.sync(place)
     }
 
     /// The first versions above one, up to the limit.
@@ -299,25 +313,6 @@ where
         let page = page?;
         self.make_page_last(names, &page)?;
         Ok(page)
-    }
-
-    /// Makes the versions of a page, which is to be told, last where that is asked and is not known.
-    fn make_page_last(&mut self, names: &VersionNames, page: &Page) -> Result<(), Halt>
-        ensures { self.new.numbers.last ≡ self.old.numbers.last }
-    {
-        match newest(names, page) {
-            Some(id) => self.make_told_last(Place::Version(id), None),
-            None => Ok(()),
-        }
-    }
-
-    /// Whether the folder of the versions is there.
-    fn has_versions(&self) -> Result<bool, Halt> {
-        match fs::metadata(&self.rt, self.folder.versions()) {
-            Ok(_) => Ok(true),
-            Err(error) if error.kind() == ErrorKind::NotFound => Ok(false),
-            Err(error) => Err(at_error(Doing::Listing, error)),
-        }
     }
 }
 

@@ -5,6 +5,7 @@ ghost use Rattle.txn_store.specs.Digits.{padded};
 ghost use Rattle.txn_store.specs.VersionName.{is_suffix, version_name};
 ghost use Rattle.txn_folder.specs.Files.{versions_folder, gc_folder, boundary_file, boundary_name, version_file, IsTemporaryOf};
 
+use crate::place::Place;
 use std::alloc::{AllocError, Global};
 use std::marker::Model;
 use txn_store::digits::read_digits;
@@ -104,6 +105,22 @@ impl Folder {
         let suffix = self.suffix.as_str();
         let file = format!(in alloc; "{versions}/{id:020}.{suffix}")?;
         Ok(file)
+    }
+
+    /// The file at a place. The only error is want of memory.
+    pub(crate) fn file_of(&self, alloc: Global, place: Place) -> Result<String, AllocError> {
+        match place {
+            Place::Version(id) => self.version(alloc, id),
+            Place::Boundary => String::from_str(alloc, self.boundary()),
+        }
+    }
+
+    /// The folder of the file at a place.
+    pub(crate) fn folder_of(&self, place: Place) -> &str {
+        match place {
+            Place::Version(_) => self.versions(),
+            Place::Boundary => self.gc(),
+        }
     }
 
     /// The version whose file has this name in the folder of the versions. It reads exactly what `version` writes there, and

@@ -62,6 +62,35 @@ fn halted(kept: &mut Option<Fault>, halt: Halt) -> StoreError
     }
 }
 
+impl<R: Files + Drop> FolderStore<R> {
+    /// What a path names. Any other is a fault.
+    fn place(&self, path: &Path) -> Result<Place, Halt>
+        ensures { IfOk result (IsAt self.now.names self.now.boundary path.now) }
+    {
+        match place_of(&self.names, &self.boundary, path) {
+            Some(place) => Ok(place),
+            None => Err(elsewhere()),
+        }
+    }
+
+    /// The version that a listing goes on after. It has to be a listing of the versions.
+    fn above(&self, prefix: &Path, after: Option<&Path>) -> Result<Option<u64>, Halt>
+        ensures prefix { OnOk result (prefix.now ≡ self.now.names.dir) }
+        ensures after { IfOk result (λ from. option_copied after.entry ≡ option_map (version_path self.now.names) from) }
+    {
+        if *prefix != *self.names.dir() {
+            return Err(elsewhere());
+        }
+        let Some(path) = after else {
+            return Ok(None);
+        };
+        match self.names.parse_id(path) {
+            Some(id) => Ok(Some(id)),
+            None => Err(elsewhere()),
+        }
+    }
+}
+
 impl<R: Files + Clock + Alloc<A = Global> + Clone + Drop> FolderStore<R>
 where
     R::File: LockFile,
@@ -131,16 +160,6 @@ where
     /// step that fails.
     pub fn clean(&mut self, before: SystemTime) -> Result<u64, Fault> {
         self.disk.clean(before)
-    }
-
-    /// What a path names. Any other is a fault.
-    fn place(&self, path: &Path) -> Result<Place, Halt>
-        ensures { IfOk result (IsAt self.now.names self.now.boundary path.now) }
-    {
-        match place_of(&self.names, &self.boundary, path) {
-            Some(place) => Ok(place),
-            None => Err(elsewhere()),
-        }
     }
 
     fn put(
@@ -247,23 +266,6 @@ where
         match self.disk.list(alloc, &self.names, from, limit) {
             Ok(page) => Ok(page),
             Err(halt) => Err(halted(&mut self.fault, halt)),
-        }
-    }
-
-    /// The version that a listing goes on after. It has to be a listing of the versions.
-    fn above(&self, prefix: &Path, after: Option<&Path>) -> Result<Option<u64>, Halt>
-        ensures prefix { OnOk result (prefix.now ≡ self.now.names.dir) }
-        ensures after { IfOk result (λ from. option_copied after.entry ≡ option_map (version_path self.now.names) from) }
-    {
-        if *prefix != *self.names.dir() {
-            return Err(elsewhere());
-        }
-        let Some(path) = after else {
-            return Ok(None);
-        };
-        match self.names.parse_id(path) {
-            Some(id) => Ok(Some(id)),
-            None => Err(elsewhere()),
         }
     }
 }
