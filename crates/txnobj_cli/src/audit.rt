@@ -2,6 +2,7 @@
 
 use crate::ending::{Halt, NOT_ONE_HISTORY, bytes_in};
 use std::alloc::{AllocError, Global};
+use std::str;
 use txn_clients::layout::world_layout;
 use txn_effects::clock::Clock;
 use txn_entries::entry::{Entry, EntryCodec, EntryEpoch};
@@ -74,29 +75,6 @@ pub fn whole_lines(bytes: &[u8]) -> usize {
     }
 }
 
-/// The lines of a file that are whole. What follows the last line feed was cut off as its client was killed.
-fn text_of(rt: &HostRuntime, path: &str) -> Result<String, Halt> {
-    let mut bytes = bytes_in(rt, path)?;
-    let whole = whole_lines(bytes.as_slice());
-    bytes.truncate(whole);
-    match String::from_utf8(bytes) {
-        Ok(text) => Ok(text),
-        Err(_) => Err(Halt::Words("a recording is text")),
-    }
-}
-
-/// Why a row is not added: its recording did not begin.
-fn passed_over(
-    row: Row<Entry>,
-    begun: Result<bool, AllocError>,
-) -> Result<Option<&'static str>, AllocError> {
-    drop(row);
-    match begun {
-        Ok(_) => Ok(Some(NO_SOURCE)),
-        Err(error) => Err(error),
-    }
-}
-
 /// What is wrong with a line that is not read.
 fn not_taken(fault: TextFault) -> Result<Option<&'static str>, AllocError> {
     match fault {
@@ -156,17 +134,6 @@ impl Recordings {
         Ok(true)
     }
 
-    /// Adds a row to the last recording: what is wrong with that, if anything.
-    fn push_row(&mut self, row: Row<Entry>) -> Result<Option<&'static str>, AllocError> {
-        match self.rows.last_mut() {
-            None => passed_over(row, Ok(false)),
-            Some(rows) => {
-                rows.push(row)?;
-                Ok(None)
-            }
-        }
-    }
-
     /// Adds a row: to a new recording where it names a client, else to the last one. What is wrong with that, if anything.
     fn add_row(
         &mut self,
@@ -174,13 +141,16 @@ impl Recordings {
         place: (usize, usize),
         row: Row<Entry>,
     ) -> Result<Option<&'static str>, AllocError> {
-        let begun = match &row {
-            Row::Client(_, _) => self.begin(alloc, place),
-            _ => Ok(true),
-        };
-        match begun {
-            Ok(true) => self.push_row(row),
-            begun => passed_over(row, begun),
+        let names_client = matches!(&row, Row::Client(_, _));
+        if names_client && !self.begin(alloc, place)? {
+            return Ok(Some(NO_SOURCE));
+        }
+        match self.rows.last_mut() {
+            Some(rows) => {
+                rows.push(row)?;
+                Ok(None)
+            }
+            None => Ok(Some(NO_SOURCE)),
         }
     }
 
@@ -249,15 +219,20 @@ fn are_added(rt: &HostRuntime, files: &[&str], recordings: &mut Recordings) -> R
     Ok(true)
 }
 
-/// Adds the recordings of a file: the first line that is not taken, from 1, and what is wrong with it.
+/// Adds the recordings of a file: the first line that is not taken, from 1, and what is wrong with it. What follows the last
+/// line feed was cut off as its client was killed.
 fn file_added(
     rt: &HostRuntime,
     place: usize,
     file: &str,
     recordings: &mut Recordings,
 ) -> Result<Option<(usize, &'static str)>, Halt> {
-    let text = text_of(rt, file)?;
-    Ok(recordings.add_file(rt.alloc(), place, text.as_str())?)
+    let mut bytes = bytes_in(rt, file)?;
+    bytes.truncate(whole_lines(bytes.as_slice()));
+    match str::from_utf8(bytes.as_slice()) {
+        Ok(text) => Ok(recordings.add_file(rt.alloc(), place, text)?),
+        Err(_) => Err(Halt::Words("a recording is text")),
+    }
 }
 
 /// Adds the recordings of these files, and says whether they are one history: the status.

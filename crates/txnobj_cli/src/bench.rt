@@ -1,7 +1,7 @@
 //! What calls of the store in a folder take: one is added to a number again and again, or its versions are listed, by the
 //! store's calls alone.
 
-use crate::ending::Halt;
+use crate::ending::{Halt, store_failed};
 use crate::recording::nanos_of;
 use crate::session::{PAGE, store_of};
 use bytes::Bytes;
@@ -64,8 +64,13 @@ struct Calls<'a> {
 
 /// The number of a version's bytes: an epoch, a colon and the number.
 fn value_of(bytes: &[u8]) -> Option<u64> {
-    let (_, payload) = str::from_utf8(bytes).ok()?.split_once(':')?;
-    read_boundary(payload.as_bytes())
+    let Ok(text) = str::from_utf8(bytes) else {
+        return None;
+    };
+    match text.split_once(':') {
+        Some((_, payload)) => read_boundary(payload.as_bytes()),
+        None => None,
+    }
 }
 
 fn told_bytes(bytes: &[u8]) -> Told {
@@ -215,10 +220,7 @@ impl Calls<'_> {
     fn halt_of(&self, stopped: Stopped) -> Halt {
         match (stopped, self.store.fault()) {
             (Stopped::NoNumber, _) => Halt::Words("a version of this object says no number"),
-            (Stopped::Failed, Some(fault)) => match format!(in self.alloc; "{fault}") {
-                Ok(words) => Halt::Store(words),
-                Err(_) => Halt::NoMemory,
-            },
+            (Stopped::Failed, Some(fault)) => store_failed(self.alloc, fault),
             (Stopped::Failed, None) => Halt::NoMemory,
         }
     }

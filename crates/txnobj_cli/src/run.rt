@@ -2,15 +2,16 @@
 
 use crate::audit::audit;
 use crate::bench::bench;
-use crate::ending::{Halt, NOTHING};
-use crate::session::{Session, Version, store_of};
+use crate::ending::{Halt, NOTHING, store_failed};
+use crate::session::{Session, store_of};
 use crate::values::bytes_of;
+use std::fmt::Display;
 use std::io::Write;
 use std::rt::Clock;
 use std::time::{Duration, SystemTime};
 use txn_entries::entry::Entry;
 use txn_files::doctor::{Report, examine};
-use txn_history::event::{Answer, Call};
+use txn_history::event::Call;
 use txn_lines::printed::Answered;
 use txn_lines::text_form::TextForm;
 use txnobj_words::options::{Command, Options, Source};
@@ -41,15 +42,12 @@ pub fn run(rt: &HostRuntime, options: &Options<'_>) -> Result<u8, Halt> {
 /// One command of a client.
 fn once(rt: &HostRuntime, session: &mut Session, command: &Command<'_>) -> Result<u8, Halt> {
     match command {
-        Command::Init(value) => {
-            let value = bytes_of(rt, *value)?;
-            say_number(rt, session.init(value)?)
-        }
+        Command::Init(value) => say(rt, session.init(bytes_of(rt, *value)?)?),
         Command::Get { id } => get(rt, session, *id),
         Command::Put { value, base, epoch } => put(rt, session, *value, *base, *epoch),
         Command::Claim { epoch } => {
             let (id, epoch) = session.claim(*epoch)?;
-            say_two(rt, id, epoch)
+            say_version(rt, id, epoch)
         }
         Command::List => list(rt, session),
         Command::History => history(rt, session),
@@ -61,32 +59,29 @@ fn once(rt: &HostRuntime, session: &mut Session, command: &Command<'_>) -> Resul
             session.delete(*id)?;
             Ok(0)
         }
-        Command::Collect => say_number(rt, session.collect()?),
+        Command::Collect => say(rt, session.collect()?),
         _ => Err(Halt::Words("this is no command of a client")),
     }
 }
 
-fn say_number(rt: &HostRuntime, number: u64) -> Result<u8, Halt> {
-    println!(rt; "{number}")?;
+/// Prints a line: the status.
+fn say<T: Display + Drop>(rt: &HostRuntime, line: T) -> Result<u8, Halt> {
+    rt.println(line)?;
     Ok(0)
 }
 
-/// Prints an id and an epoch.
-fn say_two(rt: &HostRuntime, id: u64, epoch: u64) -> Result<u8, Halt> {
+/// Prints the id and the epoch of a version.
+fn say_version(rt: &HostRuntime, id: u64, epoch: u64) -> Result<u8, Halt> {
     println!(rt; "{id} {epoch}")?;
     Ok(0)
 }
 
-fn say_version(rt: &HostRuntime, version: &Version) -> Result<u8, Halt> {
-    say_two(rt, version.id, version.entry.epoch)
-}
-
 fn get(rt: &HostRuntime, session: &mut Session, id: bool) -> Result<u8, Halt> {
-    let newest = session.newest()?;
+    let newest = session.load()?;
     if id {
-        return say_version(rt, &newest);
+        return say_version(rt, newest.id, newest.value.epoch);
     }
-    rt.stdout().write_all(newest.entry.payload.as_slice())?;
+    rt.stdout().write_all(newest.value.payload.as_slice())?;
     Ok(0)
 }
 
@@ -102,37 +97,23 @@ fn put(
         Some(base) => session.put_on(base, epoch, value)?,
         None => session.put(epoch, &value)?,
     };
-    say_number(rt, id)
-}
-
-fn say_numbers(rt: &HostRuntime, numbers: &[u64]) -> Result<u8, Halt> {
-    for number in numbers {
-        say_number(rt, *number)?;
-    }
-    Ok(0)
+    say(rt, id)
 }
 
 fn list(rt: &HostRuntime, session: &mut Session) -> Result<u8, Halt> {
     let ids = session.ids()?;
-    say_numbers(rt, ids.as_slice())
-}
-
-fn say_entry(rt: &HostRuntime, id: u64, entry: &Entry) -> Result<u8, Halt> {
-    println!(rt; "{id} {entry}")?;
+    for id in ids.as_slice() {
+        rt.println(*id)?;
+    }
     Ok(0)
 }
 
-/// Prints a stored version, where it still stands.
-fn say_stored(rt: &HostRuntime, session: &mut Session, id: u64) -> Result<u8, Halt> {
-    match session.entry(id)? {
-        Some(entry) => say_entry(rt, id, &entry),
-        None => Ok(0),
-    }
-}
-
+/// Prints each of these versions that still stands.
 fn say_all(rt: &HostRuntime, session: &mut Session, ids: &[u64]) -> Result<u8, Halt> {
     for id in ids {
-        say_stored(rt, session, *id)?;
+        if let Some(entry) = session.entry(*id)? {
+            println!(rt; "{id} {entry}")?;
+        }
     }
     Ok(0)
 }
@@ -154,7 +135,7 @@ fn have_passed(rt: &HostRuntime, began: Duration, seconds: u64) -> Result<bool, 
 /// Looks for a version above this id: the status, where there is one.
 fn seen(rt: &HostRuntime, session: &mut Session, after: u64) -> Result<Option<u8>, Halt> {
     match session.read()? {
-        Some(newest) if after < newest.id => Ok(Some(say_version(rt, &newest)?)),
+        Some((id, epoch)) if after < id => Ok(Some(say_version(rt, id, epoch)?)),
         _ => Ok(None),
     }
 }
@@ -210,10 +191,7 @@ fn watch(rt: &HostRuntime, options: &Options<'_>, after: u64, seconds: u64) -> R
 fn take_line(rt: &HostRuntime, session: &mut Session, line: &str) -> Result<(), Halt> {
     match Call::<Entry>::read_text(rt.alloc(), line)? {
         Some(call) => make(rt, session, call),
-        None => {
-            println!(rt; "bad call")?;
-            Ok(())
-        }
+        None => Ok(rt.println("bad call")?),
     }
 }
 
@@ -226,16 +204,10 @@ fn shell(rt: &HostRuntime, session: &mut Session) -> Result<u8, Halt> {
     Ok(0)
 }
 
-fn say_answer(rt: &HostRuntime, answer: &Answer<Entry>) -> Result<(), Halt> {
-    let answered = Answered(answer);
-    println!(rt; "{answered}")?;
-    Ok(())
-}
-
 /// Makes a call, and prints its answer, or why it has none.
 fn make(rt: &HostRuntime, session: &mut Session, call: Call<Entry>) -> Result<(), Halt> {
     match session.call(call) {
-        Ok(answer) => say_answer(rt, &answer),
+        Ok(answer) => Ok(rt.println(Answered(&answer))?),
         Err(halt) => say_halt(rt, halt),
     }
 }
@@ -244,9 +216,9 @@ fn make(rt: &HostRuntime, session: &mut Session, call: Call<Entry>) -> Result<()
 fn say_halt(rt: &HostRuntime, halt: Halt) -> Result<(), Halt> {
     match &halt {
         Halt::NotPermitted(_) => println!(rt; "not permitted: {halt}")?,
-        Halt::NoEnd => println!(rt; "refused 11 TurnsExhausted")?,
+        Halt::NoEnd => rt.println("refused 11 TurnsExhausted")?,
         Halt::Store(words) => {
-            println!(rt; "refused 2 ObjectStoreError")?;
+            rt.println("refused 2 ObjectStoreError")?;
             rt.eprintln(words)?;
         }
         _ => return Err(halt),
@@ -265,7 +237,7 @@ fn doctor(rt: &HostRuntime, options: &Options<'_>) -> Result<u8, Halt> {
 
 /// Prints a report, and says whether the folder serves: the status.
 fn say_report(rt: &HostRuntime, report: &Report) -> Result<u8, Halt> {
-    print!(rt; "{report}")?;
+    rt.print(report)?;
     match report.first_failed() {
         None => Ok(0),
         Some(_) => Ok(NOTHING),
@@ -277,10 +249,10 @@ fn clean(rt: &HostRuntime, options: &Options<'_>, seconds: u64) -> Result<u8, Ha
     let mut store = store_of(rt, options)?;
     let now = SystemTime::now(rt)?;
     let Some(before) = now.checked_sub(Duration::from_secs(seconds)) else {
-        return say_number(rt, 0);
+        return say(rt, 0_u64);
     };
     match store.clean(before) {
-        Ok(removed) => say_number(rt, removed),
-        Err(fault) => Err(Halt::Store(format!(in rt.alloc(); "{fault}")?)),
+        Ok(removed) => say(rt, removed),
+        Err(fault) => Err(store_failed(rt.alloc(), &fault)),
     }
 }

@@ -1,7 +1,7 @@
 //! One client of one object in a folder.
 ghost use Rattle.std.specs.Prelude.{◌≤◌, IfOk};
 
-use crate::ending::Halt;
+use crate::ending::{Halt, store_failed};
 use crate::recording::{Recording, nanos_of};
 use bytes::Bytes;
 use std::alloc::{AllocError, Global};
@@ -42,13 +42,6 @@ impl Serve for Shared {
     fn serve(&mut self, alloc: Global, request: &Request) -> Reply {
         self.0.serve(alloc, request)
     }
-}
-
-/// A version: its id, and what it says.
-#[derive(Debug, Drop)]
-pub struct Version {
-    pub id: u64,
-    pub entry: Entry,
 }
 
 /// A client of one object.
@@ -150,46 +143,50 @@ impl Session {
     /// Why the last store call failed.
     fn store_failed(&self) -> Halt {
         match self.client.store().0.fault() {
-            Some(fault) => match format!(in self.alloc; "{fault}") {
-                Ok(words) => Halt::Store(words),
-                Err(_) => Halt::NoMemory,
-            },
+            Some(fault) => store_failed(self.alloc, fault),
             None => Halt::Refused(2),
         }
     }
 
-    /// The newest version, read into a view of this number.
-    fn load(&mut self) -> Result<(u64, Version), Halt> {
-        version_in(self.call(Call::View(ViewCall::Load))?)
+    /// A view of the newest version.
+    pub fn load(&mut self) -> Result<Viewed<Entry>, Halt> {
+        match self.call(Call::View(ViewCall::Load))? {
+            Answer::View(view, id, value) => Ok(Viewed { view, id, value }),
+            other => Err(refused(&other)),
+        }
     }
 
-    /// The newest version.
-    pub fn newest(&mut self) -> Result<Version, Halt> {
-        let (_, version) = self.load()?;
-        Ok(version)
+    /// The id and the epoch of the newest version, where there is one.
+    pub fn read(&mut self) -> Result<Option<(u64, u64)>, Halt> {
+        let answer = self.call(Call::Plain(PlainCall::Read))?;
+        match &answer {
+            Answer::Plain(PlainAnswer::Read(Some((id, entry)))) => Ok(Some((*id, entry.epoch))),
+            Answer::Plain(PlainAnswer::Read(None)) => Ok(None),
+            other => Err(refused(other)),
+        }
     }
 
-    /// The newest version, where there is one.
-    pub fn read(&mut self) -> Result<Option<Version>, Halt> {
-        match self.call(Call::Plain(PlainCall::Read))? {
-            Answer::Plain(PlainAnswer::Read(read)) => Ok(version_of(read)),
+    /// Makes a call on a view, and tells the id of the version that the view has then.
+    fn viewed(&mut self, call: ViewCall<Entry>) -> Result<u64, Halt> {
+        let answer = self.call(Call::View(call))?;
+        match &answer {
+            Answer::View(_, id, _) => Ok(*id),
             other => Err(refused(other)),
         }
     }
 
     /// Writes the first version, in epoch 0: its id.
     pub fn init(&mut self, payload: Bytes) -> Result<u64, Halt> {
-        let entry = Entry { epoch: 0, payload };
-        id_in(self.call(Call::View(ViewCall::Init(entry)))?)
+        self.viewed(ViewCall::Init(Entry { epoch: 0, payload }))
     }
 
     /// A view of the newest version, if it is this one and no greater epoch stands, and its epoch.
     fn view_on(&mut self, base: u64, epoch: Option<u64>) -> Result<(u64, u64), Halt> {
-        let (view, newest) = self.load()?;
-        let now = newest.entry.epoch;
+        let newest = self.load()?;
+        let now = newest.value.epoch;
         match fenced(epoch, now) {
-            Some(halt) => Err(halt),
-            None if newest.id == base => Ok((view, now)),
+            Some(number) => Err(Halt::Refused(number)),
+            None if newest.id == base => Ok((newest.view, now)),
             None => Err(Halt::Refused(5)),
         }
     }
@@ -201,33 +198,28 @@ impl Session {
             epoch: now,
             payload,
         };
-        id_in(self.call(Call::View(ViewCall::Update(view, entry)))?)
+        self.viewed(ViewCall::Update(view, entry))
     }
 
     /// Writes a version on the newest, in its epoch, again after each conflict: its id. A holder's is of its own epoch.
     pub fn put(&mut self, epoch: Option<u64>, payload: &Bytes) -> Result<u64, Halt> {
-        let (view, newest) = self.load()?;
-        let viewed = Viewed {
-            view,
-            id: newest.id,
-            value: newest.entry,
-        };
+        let newest = self.load()?;
         let candidate = |now: &Entry| -> Result<Option<Entry>, AllocError> {
             candidate_of(epoch, payload, now)
         };
         let applied = self
             .client
-            .maybe_apply_update(viewed, ATTEMPTS, STEPS, &candidate)?;
-        self.applied(epoch, applied)
+            .maybe_apply_update(newest, ATTEMPTS, STEPS, &candidate)?;
+        self.applied(epoch, &applied)
     }
 
     /// The id of what was written, or why nothing was.
-    fn applied(&mut self, epoch: Option<u64>, applied: Applied<Entry>) -> Result<u64, Halt> {
+    fn applied(&mut self, epoch: Option<u64>, applied: &Applied<Entry>) -> Result<u64, Halt> {
         match applied {
             Applied::Written(viewed) => Ok(viewed.id),
             Applied::Unchanged => {
-                let now = self.newest()?.entry.epoch;
-                Err(fenced(epoch, now).unwrap_or(Halt::Refused(7)))
+                let newest = self.load()?;
+                Err(Halt::Refused(fenced(epoch, newest.value.epoch).unwrap_or(7)))
             }
             Applied::Answered(Answer::Plain(PlainAnswer::Refused(2))) => Err(self.store_failed()),
             Applied::Answered(answer) => Err(refused(answer)),
@@ -237,13 +229,14 @@ impl Session {
 
     /// Claims the next epoch, or this one: the id of the version that says so, and the epoch.
     pub fn claim(&mut self, epoch: Option<u64>) -> Result<(u64, u64), Halt> {
-        let (view, _) = self.load()?;
+        let view = self.load()?.view;
         let call = match epoch {
             None => ViewCall::Claim(view),
             Some(epoch) => ViewCall::ClaimAt(view, epoch),
         };
-        match self.call(Call::View(call))? {
-            Answer::Held(_, id, _, epoch) => Ok((id, epoch)),
+        let answer = self.call(Call::View(call))?;
+        match &answer {
+            Answer::Held(_, id, _, epoch) => Ok((*id, *epoch)),
             other => Err(refused(other)),
         }
     }
@@ -253,7 +246,7 @@ impl Session {
         let call = PlainCall::ListIds(Bound::Unbounded, Bound::Unbounded);
         match self.call(Call::Plain(call))? {
             Answer::Plain(PlainAnswer::Ids(ids)) => Ok(ids),
-            other => Err(refused(other)),
+            other => Err(refused(&other)),
         }
     }
 
@@ -261,13 +254,14 @@ impl Session {
     pub fn entry(&mut self, id: u64) -> Result<Option<Entry>, Halt> {
         match self.call(Call::Plain(PlainCall::ReadUnchecked(id)))? {
             Answer::Plain(PlainAnswer::Value(entry)) => Ok(entry),
-            other => Err(refused(other)),
+            other => Err(refused(&other)),
         }
     }
 
     /// Makes a call that is answered as done.
     fn done(&mut self, call: PlainCall<Entry>) -> Result<(), Halt> {
-        match self.call(Call::Plain(call))? {
+        let answer = self.call(Call::Plain(call))?;
+        match &answer {
             Answer::Plain(PlainAnswer::Done) => Ok(()),
             other => Err(refused(other)),
         }
@@ -284,14 +278,6 @@ impl Session {
         self.done(PlainCall::Delete(id))
     }
 
-    /// The id of the newest version, 0 where there is none.
-    fn newest_id(&mut self) -> Result<u64, Halt> {
-        match self.read()? {
-            Some(newest) => Ok(newest.id),
-            None => Ok(0),
-        }
-    }
-
     /// Removes those of these versions that are below one: how many.
     fn remove_below(&mut self, newest: u64, ids: &[u64]) -> Result<u64, Halt> {
         let mut removed: u64 = 0;
@@ -306,7 +292,9 @@ impl Session {
 
     /// Removes all versions below the newest: how many.
     pub fn collect(&mut self) -> Result<u64, Halt> {
-        let newest = self.newest_id()?;
+        let Some((newest, _)) = self.read()? else {
+            return Ok(0);
+        };
         if newest <= 1 {
             return Ok(0);
         }
@@ -316,48 +304,21 @@ impl Session {
     }
 }
 
-/// The version that was read, where there was one.
-fn version_of(read: Option<(u64, Entry)>) -> Option<Version> {
-    match read {
-        Some((id, entry)) => Some(Version { id, entry }),
-        None => None,
-    }
-}
-
-/// The view that a call is answered with: its number, and its version.
-fn version_in(answer: Answer<Entry>) -> Result<(u64, Version), Halt> {
-    match answer {
-        Answer::View(view, id, entry) => Ok((view, Version { id, entry })),
-        other => Err(refused(other)),
-    }
-}
-
-/// The id of the version of the view that a call is answered with.
-fn id_in(answer: Answer<Entry>) -> Result<u64, Halt> {
-    match answer {
-        Answer::View(_, id, _) => Ok(id),
-        other => Err(refused(other)),
-    }
-}
-
 /// What the answer of a call says that was not answered as it wants.
-fn refused(answer: Answer<Entry>) -> Halt {
-    match &answer {
+fn refused(answer: &Answer<Entry>) -> Halt {
+    match answer {
         Answer::Plain(PlainAnswer::Refused(number)) => Halt::Refused(*number),
         _ => Halt::Words("the answer is of another call"),
     }
 }
 
-/// Why a holder of this epoch writes nothing where the newest version has that one.
-fn fenced(epoch: Option<u64>, now: u64) -> Option<Halt> {
-    let epoch = epoch?;
-    if epoch < now {
-        return Some(Halt::Refused(6));
+/// The number of the refusal of a holder of this epoch, where the newest version has that one.
+fn fenced(epoch: Option<u64>, now: u64) -> Option<u8> {
+    match epoch {
+        Some(epoch) if epoch < now => Some(6),
+        Some(epoch) if now < epoch => Some(7),
+        _ => None,
     }
-    if now < epoch {
-        return Some(Halt::Refused(7));
-    }
-    None
 }
 
 /// A version with this payload on that one, where the holder, if there is one, has its epoch.

@@ -7,18 +7,13 @@ use txnobj_words::options::Source;
 
 /// The bytes of a value.
 pub fn bytes_of(rt: &HostRuntime, source: Source<'_>) -> Result<Bytes, Halt> {
-    let bytes = match source {
-        Source::Text(text) => {
-            let mut bytes = Vec::new(rt.alloc());
-            bytes.extend_from_slice(text.as_bytes())?;
-            bytes
-        }
+    match source {
+        Source::Text(text) => Ok(Bytes::copy_from_slice(rt.alloc(), text.as_bytes())?),
         Source::Input => {
             let mut bytes = Vec::new(rt.alloc());
             rt.reader().read_to_end(&mut bytes)?;
-            bytes
+            Ok(Bytes::from_vec(bytes)?)
         }
-        Source::File(path) => bytes_in(rt, path)?,
-    };
-    Ok(Bytes::from_vec(bytes)?)
+        Source::File(path) => Ok(Bytes::from_vec(bytes_in(rt, path)?)?),
+    }
 }
