@@ -76,7 +76,7 @@ fn meaning(number: u8) -> &'static str {
 }
 
 /// Why the client does not permit a call.
-fn reason(fault: EventFault) -> &'static str {
+pub fn reason(fault: EventFault) -> &'static str {
     match fault {
         EventFault::UnknownNumber => "there is no such view, or it is of the other kind",
         EventFault::NotAsked => "the operation asks for something else",

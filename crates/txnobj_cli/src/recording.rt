@@ -28,7 +28,7 @@ pub struct Recording {
 
 /// Whether a file ends with a line feed, or is empty.
 fn ends_whole(file: &mut File, last: &mut Vec<u8>) -> io::Result<bool> {
-    if file.seek(SeekFrom::End(0))? == 0 {
+    if file.metadata()?.len() == 0 {
         return Ok(true);
     }
     file.seek(SeekFrom::End(-1))?;
@@ -105,14 +105,7 @@ fn clock_name(rt: &HostRuntime, client: u64) -> Result<String, Halt> {
     }
 }
 
-/// Adds the row of a client, and its page, behind the row of a source.
-fn add_client(alloc: Global, rows: &mut String, client: (u64, u64)) -> Result<(), AllocError> {
-    let row = client_row(alloc, client.0, client.1)?;
-    rows.push('\n')?;
-    rows.push_str(row.as_str())
-}
-
-/// The rows that stand before all others.
+/// The rows that stand before all others: of the source, and of the client with its page.
 fn first_rows(
     alloc: Global,
     object: &str,
@@ -120,11 +113,11 @@ fn first_rows(
     ahead: u64,
     client: (u64, u64),
 ) -> Result<String, AllocError> {
+    let row = client_row(alloc, client.0, client.1)?;
     let mut rows = source_row(alloc, object, clock, ahead)?;
-    match add_client(alloc, &mut rows, client) {
-        Ok(()) => Ok(rows),
-        Err(error) => Err(error),
-    }
+    rows.push('\n')?;
+    rows.push_str(row.as_str())?;
+    Ok(rows)
 }
 
 impl Recording {

@@ -44,6 +44,14 @@ impl Serve for Shared {
     }
 }
 
+/// A version: the view that it is in, its id, and its epoch.
+#[derive(Clone, Copy)]
+pub struct Version {
+    pub view: u64,
+    pub id: u64,
+    pub epoch: u64,
+}
+
 /// A client of one object.
 #[derive(Drop)]
 pub struct Session {
@@ -67,25 +75,13 @@ fn folder_of(alloc: Global, options: &Options<'_>) -> Result<Folder, Halt> {
     Ok(Folder::new(alloc, root, name, options.suffix)?)
 }
 
-/// The object that the options name, as recordings say it: the same on each machine, wherever the folder is mounted.
-fn object_of(alloc: Global, options: &Options<'_>) -> Result<String, AllocError> {
-    let name = options.name.unwrap_or("");
-    let suffix = options.suffix;
-    format!(in alloc; "{name}.{suffix}")
-}
-
-/// A client's number of its own: the nanoseconds since 1970.
-fn number_of(rt: &HostRuntime) -> Result<u64, Halt> {
-    Ok(nanos_of(rt.since_1970()?).max(1))
-}
-
-/// The client's number, at least 1.
+/// The client's number, at least 1. Where none is named it is one of its own: the nanoseconds since 1970.
 fn client_of(rt: &HostRuntime, options: &Options<'_>) -> Result<u64, Halt>
     ensures { IfOk result (λ number. 1 ≤ number) }
 {
     let number = match options.client {
         Some(number) => number,
-        None => number_of(rt)?,
+        None => nanos_of(rt.since_1970()?).max(1),
     };
     if number == 0 {
         return Err(Halt::Words("a client's number is at least 1"));
@@ -93,9 +89,11 @@ fn client_of(rt: &HostRuntime, options: &Options<'_>) -> Result<u64, Halt>
     Ok(number)
 }
 
-/// The recording of a client.
+/// The recording of a client. It says its object the same on each machine, wherever the folder is mounted.
 fn recording_of(rt: &HostRuntime, options: &Options<'_>, client: u64) -> Result<Recording, Halt> {
-    let object = object_of(rt.alloc(), options)?;
+    let name = options.name.unwrap_or("");
+    let suffix = options.suffix;
+    let object = format!(in rt.alloc(); "{name}.{suffix}")?;
     Recording::new(rt.clone()?, options.diary, object.as_str(), client, PAGE)
 }
 
@@ -134,10 +132,13 @@ impl Session {
 
     /// Makes a call.
     pub fn call(&mut self, call: Call<Entry>) -> Result<Answer<Entry>, Halt> {
-        match self.client.call(call, STEPS)? {
-            Answer::Plain(PlainAnswer::Refused(2)) => Err(self.store_failed()),
-            answer => Ok(answer),
+        let answer = self.client.call(call, STEPS)?;
+        if matches!(&answer, Answer::Plain(PlainAnswer::Refused(2))) {
+            // (by a call, here and below: in place, the proof would follow each answer that may be dropped)
+            drop(answer);
+            return Err(self.store_failed());
         }
+        Ok(answer)
     }
 
     /// Why the last store call failed.
@@ -148,57 +149,56 @@ impl Session {
         }
     }
 
-    /// A view of the newest version.
+    /// The newest version, with what it says.
     pub fn load(&mut self) -> Result<Viewed<Entry>, Halt> {
         match self.call(Call::View(ViewCall::Load))? {
             Answer::View(view, id, value) => Ok(Viewed { view, id, value }),
-            other => Err(refused(&other)),
+            other => Err(refused(other)),
         }
     }
 
     /// The id and the epoch of the newest version, where there is one.
     pub fn read(&mut self) -> Result<Option<(u64, u64)>, Halt> {
         let answer = self.call(Call::Plain(PlainCall::Read))?;
-        match &answer {
-            Answer::Plain(PlainAnswer::Read(Some((id, entry)))) => Ok(Some((*id, entry.epoch))),
-            Answer::Plain(PlainAnswer::Read(None)) => Ok(None),
-            other => Err(refused(other)),
-        }
+        let read = read_in(&answer);
+        drop(answer);
+        read
     }
 
-    /// Makes a call on a view, and tells the id of the version that the view has then.
-    fn viewed(&mut self, call: ViewCall<Entry>) -> Result<u64, Halt> {
+    /// Makes a call on a view: the version that the view has then.
+    pub fn viewed(&mut self, call: ViewCall<Entry>) -> Result<Version, Halt> {
         let answer = self.call(Call::View(call))?;
-        match &answer {
-            Answer::View(_, id, _) => Ok(*id),
-            other => Err(refused(other)),
-        }
+        let viewed = viewed_in(&answer);
+        drop(answer);
+        viewed
     }
 
-    /// Writes the first version, in epoch 0: its id.
-    pub fn init(&mut self, payload: Bytes) -> Result<u64, Halt> {
-        self.viewed(ViewCall::Init(Entry { epoch: 0, payload }))
+    /// Makes a call that is answered as done.
+    pub fn done(&mut self, call: PlainCall<Entry>) -> Result<(), Halt> {
+        let answer = self.call(Call::Plain(call))?;
+        let done = done_in(&answer);
+        drop(answer);
+        done
     }
 
-    /// A view of the newest version, if it is this one and no greater epoch stands, and its epoch.
-    fn view_on(&mut self, base: u64, epoch: Option<u64>) -> Result<(u64, u64), Halt> {
-        let newest = self.load()?;
-        let now = newest.value.epoch;
-        match fenced(epoch, now) {
+    /// The newest version, if it is this one and no greater epoch stands.
+    fn newest_on(&mut self, base: u64, epoch: Option<u64>) -> Result<Version, Halt> {
+        let newest = self.viewed(ViewCall::Load)?;
+        match fenced(epoch, newest.epoch) {
             Some(number) => Err(Halt::Refused(number)),
-            None if newest.id == base => Ok((newest.view, now)),
+            None if newest.id == base => Ok(newest),
             None => Err(Halt::Refused(5)),
         }
     }
 
     /// Writes a version on this one, if it is the newest, in its epoch: its id.
-    pub fn put_on(&mut self, base: u64, epoch: Option<u64>, payload: Bytes) -> Result<u64, Halt> {
-        let (view, now) = self.view_on(base, epoch)?;
+    pub fn put_on(&mut self, base: u64, epoch: Option<u64>, payload: &Bytes) -> Result<u64, Halt> {
+        let newest = self.newest_on(base, epoch)?;
         let entry = Entry {
-            epoch: now,
-            payload,
+            epoch: newest.epoch,
+            payload: payload.clone()?,
         };
-        self.viewed(ViewCall::Update(view, entry))
+        Ok(self.viewed(ViewCall::Update(newest.view, entry))?.id)
     }
 
     /// Writes a version on the newest, in its epoch, again after each conflict: its id. A holder's is of its own epoch.
@@ -210,7 +210,9 @@ impl Session {
         let applied = self
             .client
             .maybe_apply_update(newest, ATTEMPTS, STEPS, &candidate)?;
-        self.applied(epoch, &applied)
+        let id = self.applied(epoch, &applied);
+        drop(applied);
+        id
     }
 
     /// The id of what was written, or why nothing was.
@@ -218,27 +220,23 @@ impl Session {
         match applied {
             Applied::Written(viewed) => Ok(viewed.id),
             Applied::Unchanged => {
-                let newest = self.load()?;
-                Err(Halt::Refused(fenced(epoch, newest.value.epoch).unwrap_or(7)))
+                let newest = self.viewed(ViewCall::Load)?;
+                Err(Halt::Refused(fenced(epoch, newest.epoch).unwrap_or(7)))
             }
             Applied::Answered(Answer::Plain(PlainAnswer::Refused(2))) => Err(self.store_failed()),
-            Applied::Answered(answer) => Err(refused(answer)),
+            Applied::Answered(answer) => Err(refusal_in(answer)),
             Applied::AttemptsSpent => Err(Halt::NoEnd),
         }
     }
 
-    /// Claims the next epoch, or this one: the id of the version that says so, and the epoch.
-    pub fn claim(&mut self, epoch: Option<u64>) -> Result<(u64, u64), Halt> {
-        let view = self.load()?.view;
+    /// Claims the next epoch, or this one: the version that says so.
+    pub fn claim(&mut self, epoch: Option<u64>) -> Result<Version, Halt> {
+        let view = self.viewed(ViewCall::Load)?.view;
         let call = match epoch {
             None => ViewCall::Claim(view),
             Some(epoch) => ViewCall::ClaimAt(view, epoch),
         };
-        let answer = self.call(Call::View(call))?;
-        match &answer {
-            Answer::Held(_, id, _, epoch) => Ok((*id, *epoch)),
-            other => Err(refused(other)),
-        }
+        self.viewed(call)
     }
 
     /// The ids of the stored versions, ascending.
@@ -246,7 +244,7 @@ impl Session {
         let call = PlainCall::ListIds(Bound::Unbounded, Bound::Unbounded);
         match self.call(Call::Plain(call))? {
             Answer::Plain(PlainAnswer::Ids(ids)) => Ok(ids),
-            other => Err(refused(&other)),
+            other => Err(refused(other)),
         }
     }
 
@@ -254,15 +252,6 @@ impl Session {
     pub fn entry(&mut self, id: u64) -> Result<Option<Entry>, Halt> {
         match self.call(Call::Plain(PlainCall::ReadUnchecked(id)))? {
             Answer::Plain(PlainAnswer::Value(entry)) => Ok(entry),
-            other => Err(refused(&other)),
-        }
-    }
-
-    /// Makes a call that is answered as done.
-    fn done(&mut self, call: PlainCall<Entry>) -> Result<(), Halt> {
-        let answer = self.call(Call::Plain(call))?;
-        match &answer {
-            Answer::Plain(PlainAnswer::Done) => Ok(()),
             other => Err(refused(other)),
         }
     }
@@ -273,17 +262,12 @@ impl Session {
         self.done(PlainCall::Advance(id))
     }
 
-    /// Removes a version at or below the boundary.
-    pub fn delete(&mut self, id: u64) -> Result<(), Halt> {
-        self.done(PlainCall::Delete(id))
-    }
-
     /// Removes those of these versions that are below one: how many.
     fn remove_below(&mut self, newest: u64, ids: &[u64]) -> Result<u64, Halt> {
         let mut removed: u64 = 0;
         for id in ids {
             if *id < newest {
-                self.delete(*id)?;
+                self.done(PlainCall::Delete(*id))?;
                 removed = removed.saturating_add(1);
             }
         }
@@ -304,12 +288,53 @@ impl Session {
     }
 }
 
-/// What the answer of a call says that was not answered as it wants.
-fn refused(answer: &Answer<Entry>) -> Halt {
+/// The id and the epoch of the version that is read, where there is one.
+fn read_in(answer: &Answer<Entry>) -> Result<Option<(u64, u64)>, Halt> {
+    match answer {
+        Answer::Plain(PlainAnswer::Read(Some((id, entry)))) => Ok(Some((*id, entry.epoch))),
+        Answer::Plain(PlainAnswer::Read(None)) => Ok(None),
+        other => Err(refusal_in(other)),
+    }
+}
+
+/// The version of the view that a call is answered with.
+fn viewed_in(answer: &Answer<Entry>) -> Result<Version, Halt> {
+    match answer {
+        Answer::View(view, id, entry) => Ok(Version {
+            view: *view,
+            id: *id,
+            epoch: entry.epoch,
+        }),
+        Answer::Held(view, id, _, epoch) => Ok(Version {
+            view: *view,
+            id: *id,
+            epoch: *epoch,
+        }),
+        other => Err(refusal_in(other)),
+    }
+}
+
+/// Whether a call is answered as done.
+fn done_in(answer: &Answer<Entry>) -> Result<(), Halt> {
+    match answer {
+        Answer::Plain(PlainAnswer::Done) => Ok(()),
+        other => Err(refusal_in(other)),
+    }
+}
+
+/// What an answer says that is not as its call wants.
+fn refusal_in(answer: &Answer<Entry>) -> Halt {
     match answer {
         Answer::Plain(PlainAnswer::Refused(number)) => Halt::Refused(*number),
         _ => Halt::Words("the answer is of another call"),
     }
+}
+
+/// The same of an answer that is not needed any more.
+fn refused(answer: Answer<Entry>) -> Halt {
+    let halt = refusal_in(&answer);
+    drop(answer);
+    halt
 }
 
 /// The number of the refusal of a holder of this epoch, where the newest version has that one.
