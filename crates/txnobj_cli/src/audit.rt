@@ -2,6 +2,7 @@
 
 use crate::ending::{Halt, NOT_ONE_HISTORY, bytes_in};
 use std::alloc::{AllocError, Global};
+use std::str;
 use txn_clients::layout::world_layout;
 use txn_effects::clock::Clock;
 use txn_entries::entry::{Entry, EntryCodec, EntryEpoch};
@@ -40,13 +41,22 @@ enum Clocked {
     OfAnother,
 }
 
+/// Where a recording begins.
+#[derive(Clone, Copy)]
+struct Begin {
+    /// Its file, by its place among the arguments from 0.
+    file: usize,
+    /// The line of its first row, from 1.
+    line: usize,
+    /// What is added to its times.
+    ahead: u64,
+}
+
 /// What files of recordings have.
 struct Recordings {
     rows: Vec<Vec<Row<Entry>>>,
-    /// The file of each, by its place among the arguments from 0, and the line of its first row, from 1.
-    places: Vec<(usize, usize)>,
-    /// What is added to the times of each.
-    aheads: Vec<u64>,
+    /// Where each begins.
+    begins: Vec<Begin>,
     /// The clocks of the times, each as it was named first.
     clocks: Vec<Source>,
     /// What is added to the times of the recording that comes next, where that was said.
@@ -58,8 +68,7 @@ impl Drop for Recordings {
     fn drop(self) {
         let Recordings {
             rows: _,
-            places: _,
-            aheads: _,
+            begins: _,
             clocks: _,
             next: _,
         } = self;
@@ -71,29 +80,6 @@ pub fn whole_lines(bytes: &[u8]) -> usize {
     match bytes.iter().rposition(|byte| *byte == b'\n') {
         Some(place) => place.saturating_add(1),
         None => 0,
-    }
-}
-
-/// The lines of a file that are whole. What follows the last line feed was cut off as its client was killed.
-fn text_of(rt: &HostRuntime, path: &str) -> Result<String, Halt> {
-    let mut bytes = bytes_in(rt, path)?;
-    let whole = whole_lines(bytes.as_slice());
-    bytes.truncate(whole);
-    match String::from_utf8(bytes) {
-        Ok(text) => Ok(text),
-        Err(_) => Err(Halt::Words("a recording is text")),
-    }
-}
-
-/// Why a row is not added: its recording did not begin.
-fn passed_over(
-    row: Row<Entry>,
-    begun: Result<bool, AllocError>,
-) -> Result<Option<&'static str>, AllocError> {
-    drop(row);
-    match begun {
-        Ok(_) => Ok(Some(NO_SOURCE)),
-        Err(error) => Err(error),
     }
 }
 
@@ -110,8 +96,7 @@ impl Recordings {
     fn new(alloc: Global) -> Recordings {
         Recordings {
             rows: Vec::new(alloc),
-            places: Vec::new(alloc),
-            aheads: Vec::new(alloc),
+            begins: Vec::new(alloc),
             clocks: Vec::new(alloc),
             next: None,
         }
@@ -151,20 +136,12 @@ impl Recordings {
         };
         self.next = None;
         self.rows.push(Vec::new(alloc))?;
-        self.places.push(place)?;
-        self.aheads.push(ahead)?;
+        self.begins.push(Begin {
+            file: place.0,
+            line: place.1,
+            ahead,
+        })?;
         Ok(true)
-    }
-
-    /// Adds a row to the last recording: what is wrong with that, if anything.
-    fn push_row(&mut self, row: Row<Entry>) -> Result<Option<&'static str>, AllocError> {
-        match self.rows.last_mut() {
-            None => passed_over(row, Ok(false)),
-            Some(rows) => {
-                rows.push(row)?;
-                Ok(None)
-            }
-        }
     }
 
     /// Adds a row: to a new recording where it names a client, else to the last one. What is wrong with that, if anything.
@@ -174,13 +151,16 @@ impl Recordings {
         place: (usize, usize),
         row: Row<Entry>,
     ) -> Result<Option<&'static str>, AllocError> {
-        let begun = match &row {
-            Row::Client(_, _) => self.begin(alloc, place),
-            _ => Ok(true),
-        };
-        match begun {
-            Ok(true) => self.push_row(row),
-            begun => passed_over(row, begun),
+        let names_client = matches!(&row, Row::Client(_, _));
+        if names_client && !self.begin(alloc, place)? {
+            return Ok(Some(NO_SOURCE));
+        }
+        match self.rows.last_mut() {
+            Some(rows) => {
+                rows.push(row)?;
+                Ok(None)
+            }
+            None => Ok(Some(NO_SOURCE)),
         }
     }
 
@@ -211,8 +191,9 @@ impl Recordings {
         text: &str,
     ) -> Result<Option<(usize, &'static str)>, AllocError> {
         self.next = None;
-        for (line, words) in text.lines().enumerate() {
-            let line = line.saturating_add(1);
+        let mut line: usize = 0;
+        for words in text.lines() {
+            line = line.saturating_add(1);
             if let Some(wrong) = self.add_line(alloc, (file, line), words)? {
                 return Ok(Some((line, wrong)));
             }
@@ -227,10 +208,10 @@ impl Recordings {
         } else {
             0
         };
-        let mut clocks = Vec::with_capacity(alloc, self.aheads.len())?;
-        for ahead in self.aheads.as_slice() {
+        let mut clocks = Vec::with_capacity(alloc, self.begins.len())?;
+        for begin in self.begins.as_slice() {
             clocks.push(Clock {
-                ahead: *ahead,
+                ahead: begin.ahead,
                 error,
             })?;
         }
@@ -238,46 +219,48 @@ impl Recordings {
     }
 }
 
+/// Says which line is not taken, and what is wrong with it: not all are taken.
+fn not_all(rt: &HostRuntime, file: &str, line: usize, wrong: &str) -> Result<bool, Halt> {
+    println!(rt; "not one history: {file}, line {line}: {wrong}")?;
+    Ok(false)
+}
+
 /// Adds the recordings of these files. Whether all lines are taken: the first that is not is told.
 fn are_added(rt: &HostRuntime, files: &[&str], recordings: &mut Recordings) -> Result<bool, Halt> {
-    for (place, file) in files.iter().enumerate() {
+    let mut place: usize = 0;
+    for file in files {
         if let Some((line, wrong)) = file_added(rt, place, file, recordings)? {
-            println!(rt; "not one history: {file}, line {line}: {wrong}")?;
-            return Ok(false);
+            return not_all(rt, file, line, wrong);
         }
+        place = place.saturating_add(1);
     }
     Ok(true)
 }
 
-/// Adds the recordings of a file: the first line that is not taken, from 1, and what is wrong with it.
+/// Adds the recordings of a file: the first line that is not taken, from 1, and what is wrong with it. What follows the last
+/// line feed was cut off as its client was killed.
 fn file_added(
     rt: &HostRuntime,
     place: usize,
     file: &str,
     recordings: &mut Recordings,
 ) -> Result<Option<(usize, &'static str)>, Halt> {
-    let text = text_of(rt, file)?;
-    Ok(recordings.add_file(rt.alloc(), place, text.as_str())?)
-}
-
-/// Adds the recordings of these files, and says whether they are one history: the status.
-fn audit_added(
-    rt: &HostRuntime,
-    files: &[&str],
-    clock_error: u64,
-    recordings: &mut Recordings,
-) -> Result<u8, Halt> {
-    if !are_added(rt, files, recordings)? {
-        return Ok(NOT_ONE_HISTORY);
+    let mut bytes = bytes_in(rt, file)?;
+    bytes.truncate(whole_lines(bytes.as_slice()));
+    match str::from_utf8(bytes.as_slice()) {
+        Ok(text) => Ok(recordings.add_file(rt.alloc(), place, text)?),
+        Err(_) => Err(Halt::Words("a recording is text")),
     }
-    held(rt, files, recordings, clock_error)
 }
 
 /// Reads recordings and says whether they are one history, where the clocks of several machines may differ by so many milliseconds:
 /// the status.
 pub fn audit(rt: &HostRuntime, files: &[&str], clock_error: u64) -> Result<u8, Halt> {
     let mut recordings = Recordings::new(rt.alloc());
-    audit_added(rt, files, clock_error, &mut recordings)
+    if !are_added(rt, files, &mut recordings)? {
+        return Ok(NOT_ONE_HISTORY);
+    }
+    held(rt, files, &recordings, clock_error)
 }
 
 /// Says by how much the clocks of recordings may differ, where they have several.
@@ -300,8 +283,8 @@ fn not_one_history(
 ) -> Result<u8, Halt> {
     println!(rt; "not one history: {refusal}")?;
     say_rows(rt, files, recordings, refusal)?;
-    println!(rt;
-        "(an audit wants a recording of each client that wrote, from the first version on)"
+    rt.println(
+        "(an audit wants a recording of each client that wrote, from the first version on)",
     )?;
     Ok(NOT_ONE_HISTORY)
 }
@@ -341,17 +324,15 @@ fn are_twins(one: &[Row<Entry>], other: &[Row<Entry>]) -> bool {
     }
 }
 
-/// Whether a recording is of the client of another.
-fn has_twin(rows: &[Vec<Row<Entry>>], recording: usize) -> bool {
-    let Some(one) = rows.get(recording) else {
-        return false;
-    };
-    for (number, other) in rows.iter().enumerate() {
-        if number != recording && are_twins(one.as_slice(), other.as_slice()) {
-            return true;
+/// Whether several of these recordings are of the client of one.
+fn has_twin(rows: &[Vec<Row<Entry>>], one: &[Row<Entry>]) -> bool {
+    let mut of_client: usize = 0;
+    for other in rows {
+        if are_twins(one, other.as_slice()) {
+            of_client = of_client.saturating_add(1);
         }
     }
-    false
+    of_client > 1
 }
 
 /// Says where a row of a recording stands.
@@ -361,11 +342,11 @@ fn say_row(
     recordings: &Recordings,
     at: CallPlace,
 ) -> Result<(), Halt> {
-    let Some((file, line)) = recordings.places.get(at.recording) else {
+    let Some(begin) = recordings.begins.get(at.recording) else {
         return Ok(());
     };
-    if let Some(file) = files.get(*file) {
-        let line = line.saturating_add(at.row);
+    if let Some(file) = files.get(begin.file) {
+        let line = begin.line.saturating_add(at.row);
         println!(rt; "at {file}, line {line}")?;
     }
     Ok(())
@@ -373,10 +354,12 @@ fn say_row(
 
 /// Says where the first rows stand of recordings that are of one client.
 fn say_twins(rt: &HostRuntime, files: &[&str], recordings: &Recordings) -> Result<(), Halt> {
-    for recording in 0..recordings.rows.len() {
-        if has_twin(recordings.rows.as_slice(), recording) {
+    let mut recording: usize = 0;
+    for rows in recordings.rows.as_slice() {
+        if has_twin(recordings.rows.as_slice(), rows.as_slice()) {
             say_row(rt, files, recordings, CallPlace { recording, row: 0 })?;
         }
+        recording = recording.saturating_add(1);
     }
     Ok(())
 }
@@ -389,8 +372,7 @@ fn say_rows(
     refusal: &Refusal,
 ) -> Result<(), Halt> {
     match refusal {
-        Refusal::Row(at, _) => say_row(rt, files, recordings, *at),
-        Refusal::Dishonest(at, _, _) => say_row(rt, files, recordings, *at),
+        Refusal::Row(at, _) | Refusal::Dishonest(at, _, _) => say_row(rt, files, recordings, *at),
         Refusal::Circle(calls) => {
             for at in calls.as_slice() {
                 say_row(rt, files, recordings, *at)?;

@@ -1,7 +1,7 @@
 //! What calls of the store in a folder take: one is added to a number again and again, or its versions are listed, by the
 //! store's calls alone.
 
-use crate::ending::Halt;
+use crate::ending::{Halt, store_failed};
 use crate::recording::nanos_of;
 use crate::session::{PAGE, store_of};
 use bytes::Bytes;
@@ -62,14 +62,15 @@ struct Calls<'a> {
     store: &'a mut FolderStore<HostRuntime>,
 }
 
-/// The number of a version's bytes: an epoch, a colon and the number.
-fn value_of(bytes: &[u8]) -> Option<u64> {
-    let (_, payload) = str::from_utf8(bytes).ok()?.split_once(':')?;
-    read_boundary(payload.as_bytes())
-}
-
+/// What a version's bytes tell: an epoch, a colon and the number.
 fn told_bytes(bytes: &[u8]) -> Told {
-    match value_of(bytes) {
+    let Ok(text) = str::from_utf8(bytes) else {
+        return Told::Other;
+    };
+    let Some((_, payload)) = text.split_once(':') else {
+        return Told::Other;
+    };
+    match read_boundary(payload.as_bytes()) {
         Some(value) => Told::Says(value),
         None => Told::Other,
     }
@@ -86,16 +87,17 @@ fn told_by(reply: &Reply) -> Told {
     }
 }
 
-/// The bytes of a version that says a number.
-fn bytes_of(alloc: Global, value: u64) -> Result<Bytes, AllocError> {
-    Bytes::from_string(format!(in alloc; "0:{value}")?)
-}
-
 impl Calls<'_> {
     /// What the call of a request is answered.
     fn serve(&mut self, request: Result<Request, AllocError>) -> Told {
         match request {
-            Ok(request) => told_by(&self.store.serve(self.alloc, &request)),
+            Ok(request) => {
+                let reply = self.store.serve(self.alloc, &request);
+                let told = told_by(&reply);
+                // (by a call: in place, the proof would follow each reply that may be dropped)
+                drop(reply);
+                told
+            }
             Err(AllocError) => Told::Failed,
         }
     }
@@ -117,7 +119,7 @@ impl Calls<'_> {
     fn put_of(&self, id: u64, value: u64) -> Result<Request, AllocError> {
         Ok(Request::Put {
             path: self.layout.names.path_for(self.alloc, id)?,
-            bytes: bytes_of(self.alloc, value)?,
+            bytes: Bytes::from_string(format!(in self.alloc; "0:{value}")?)?,
             mode: PutMode::Create,
         })
     }
@@ -202,11 +204,12 @@ impl Calls<'_> {
             self.catch_up(number)?;
         }
         for _ in 0..times {
-            if lists {
-                self.list(number)?;
+            let done = if lists {
+                self.list(number)
             } else {
-                self.add(number)?;
-            }
+                self.add(number)
+            };
+            done?;
         }
         Ok(())
     }
@@ -215,10 +218,7 @@ impl Calls<'_> {
     fn halt_of(&self, stopped: Stopped) -> Halt {
         match (stopped, self.store.fault()) {
             (Stopped::NoNumber, _) => Halt::Words("a version of this object says no number"),
-            (Stopped::Failed, Some(fault)) => match format!(in self.alloc; "{fault}") {
-                Ok(words) => Halt::Store(words),
-                Err(_) => Halt::NoMemory,
-            },
+            (Stopped::Failed, Some(fault)) => store_failed(self.alloc, fault),
             (Stopped::Failed, None) => Halt::NoMemory,
         }
     }

@@ -4,6 +4,7 @@ use std::alloc::{AllocError, AllocFailed, Global};
 use std::io::Read;
 use std::{fmt, fs, io};
 use txn_client::stop::Stop;
+use txn_files::fault::Fault;
 use txn_history::event::EventFault;
 use txn_store::path::PathFault;
 
@@ -21,7 +22,7 @@ const REFUSED: u8 = 10;
 const NOT_PERMITTED: u8 = 30;
 
 /// Why the program goes no further.
-#[derive(Debug, Drop)]
+#[derive(Drop)]
 pub enum Halt {
     NoMemory,
     /// The system's error.
@@ -75,7 +76,7 @@ fn meaning(number: u8) -> &'static str {
 }
 
 /// Why the client does not permit a call.
-fn reason(fault: EventFault) -> &'static str {
+pub fn reason(fault: EventFault) -> &'static str {
     match fault {
         EventFault::UnknownNumber => "there is no such view, or it is of the other kind",
         EventFault::NotAsked => "the operation asks for something else",
@@ -114,10 +115,7 @@ impl fmt::Display for Halt {
                 f,
                 "writing the recording: {error}; what was asked for may have taken effect: read again"
             ),
-            halt => {
-                let words = halt.words();
-                write!(f, "{words}")
-            }
+            halt => f.write_str(halt.words()),
         }
     }
 }
@@ -126,6 +124,14 @@ impl fmt::Display for Halt {
 pub fn at_file(alloc: Global, path: &str, error: &io::Error) -> Halt {
     match format!(in alloc; "{path}: {error}") {
         Ok(words) => Halt::File(words),
+        Err(_) => Halt::NoMemory,
+    }
+}
+
+/// The fault of a store call that failed.
+pub fn store_failed(alloc: Global, fault: &Fault) -> Halt {
+    match format!(in alloc; "{fault}") {
+        Ok(words) => Halt::Store(words),
         Err(_) => Halt::NoMemory,
     }
 }

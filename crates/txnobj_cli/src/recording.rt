@@ -7,7 +7,7 @@ use std::fs::{File, OpenFile, OpenOptions, TryLockError};
 use std::io::{Read, Seek, SeekFrom, Write};
 use std::rt::Clock;
 use std::time::Duration;
-use std::{fs, io};
+use std::{fs, io, str};
 use txn_client::recorder::Recorder;
 use txn_entries::entry::Entry;
 use txn_history::event::{Answer, Call};
@@ -33,7 +33,7 @@ fn ends_whole(file: &mut File, last: &mut Vec<u8>) -> io::Result<bool> {
     }
     file.seek(SeekFrom::End(-1))?;
     file.read_to_end(last)?;
-    Ok(last.as_slice() == b"\n".as_slice())
+    Ok(whole_lines(last.as_slice()) == last.len())
 }
 
 /// The same of a file of this name.
@@ -79,17 +79,24 @@ pub fn nanos_of(time: Duration) -> u64 {
         .saturating_add(u64::from(time.subsec_nanos()))
 }
 
-/// The first line of a file, where there is one.
-fn first_line(rt: &HostRuntime, path: &str) -> Option<String> {
-    let bytes = bytes_in(rt, path).ok()?;
-    let text = String::from_utf8(bytes).ok()?;
-    let line = text.as_str().lines().next()?;
+/// The first line of these bytes, where there is one.
+fn first_line(bytes: &[u8]) -> Option<&str> {
+    match str::from_utf8(bytes) {
+        Ok(text) => text.lines().next(),
+        Err(_) => None,
+    }
+}
+
+/// The name that a machine gives to the clock since it was started, where it gives one.
+fn machine_clock(rt: &HostRuntime) -> Option<String> {
+    let bytes = bytes_in(rt, START).ok()?;
+    let line = first_line(bytes.as_slice())?;
     String::from_str(rt.alloc(), line).ok()
 }
 
 /// The name of the clock of a machine since it was started. Where the machine does not say, it is one of this client's own.
 fn clock_name(rt: &HostRuntime, client: u64) -> Result<String, Halt> {
-    match first_line(rt, START) {
+    match machine_clock(rt) {
         Some(name) => Ok(name),
         None => {
             let now = nanos_of(rt.since_1970()?);
@@ -98,14 +105,7 @@ fn clock_name(rt: &HostRuntime, client: u64) -> Result<String, Halt> {
     }
 }
 
-/// Adds the row of a client, and its page, behind the row of a source.
-fn add_client(alloc: Global, rows: &mut String, client: (u64, u64)) -> Result<(), AllocError> {
-    let row = client_row(alloc, client.0, client.1)?;
-    rows.push('\n')?;
-    rows.push_str(row.as_str())
-}
-
-/// The rows that stand before all others.
+/// The rows that stand before all others: of the source, and of the client with its page.
 fn first_rows(
     alloc: Global,
     object: &str,
@@ -113,11 +113,11 @@ fn first_rows(
     ahead: u64,
     client: (u64, u64),
 ) -> Result<String, AllocError> {
+    let row = client_row(alloc, client.0, client.1)?;
     let mut rows = source_row(alloc, object, clock, ahead)?;
-    match add_client(alloc, &mut rows, client) {
-        Ok(()) => Ok(rows),
-        Err(error) => Err(error),
-    }
+    rows.push('\n')?;
+    rows.push_str(row.as_str())?;
+    Ok(rows)
 }
 
 impl Recording {

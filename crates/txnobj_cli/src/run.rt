@@ -2,7 +2,7 @@
 
 use crate::audit::audit;
 use crate::bench::bench;
-use crate::ending::{Halt, NOTHING};
+use crate::ending::{Halt, NOTHING, reason, store_failed};
 use crate::session::{Session, Version, store_of};
 use crate::values::bytes_of;
 use std::io::Write;
@@ -10,7 +10,7 @@ use std::rt::Clock;
 use std::time::{Duration, SystemTime};
 use txn_entries::entry::Entry;
 use txn_files::doctor::{Report, examine};
-use txn_history::event::{Answer, Call};
+use txn_history::event::{Call, PlainCall, ViewCall};
 use txn_lines::printed::Answered;
 use txn_lines::text_form::TextForm;
 use txnobj_words::options::{Command, Options, Source};
@@ -32,42 +32,38 @@ pub fn run(rt: &HostRuntime, options: &Options<'_>) -> Result<u8, Halt> {
         Command::Doctor => doctor(rt, options),
         Command::Clean(seconds) => clean(rt, options, *seconds),
         Command::Bench { times, lists } => bench(rt, options, *times, *lists),
-        Command::Shell => shell(rt, &mut Session::open(rt, options)?),
         Command::Watch { after, seconds } => watch(rt, options, *after, *seconds),
-        _ => once(rt, &mut Session::open(rt, options)?, &options.command),
+        command => of_client(rt, &mut Session::open(rt, options)?, command),
     }
 }
 
-/// One command of a client.
-fn once(rt: &HostRuntime, session: &mut Session, command: &Command<'_>) -> Result<u8, Halt> {
+/// What a client does for a command.
+fn of_client(rt: &HostRuntime, session: &mut Session, command: &Command<'_>) -> Result<u8, Halt> {
     match command {
-        Command::Init(value) => {
-            let value = bytes_of(rt, *value)?;
-            say_number(rt, session.init(value)?)
-        }
-        Command::Get { id } => get(rt, session, *id),
+        Command::Init(value) => init(rt, session, *value),
+        Command::Get { id: true } => say_version(rt, session.viewed(ViewCall::Load)),
+        Command::Get { id: false } => get(rt, session),
         Command::Put { value, base, epoch } => put(rt, session, *value, *base, *epoch),
-        Command::Claim { epoch } => {
-            let (id, epoch) = session.claim(*epoch)?;
-            say_two(rt, id, epoch)
-        }
+        Command::Claim { epoch } => say_version(rt, session.claim(*epoch)),
         Command::List => list(rt, session),
         Command::History => history(rt, session),
-        Command::Advance(id) => {
-            session.advance(*id)?;
-            Ok(0)
-        }
-        Command::Delete(id) => {
-            session.delete(*id)?;
-            Ok(0)
-        }
-        Command::Collect => say_number(rt, session.collect()?),
+        Command::Advance(id) => status_of(session.advance(*id)),
+        Command::Delete(id) => status_of(session.done(PlainCall::Delete(*id))),
+        Command::Collect => say(rt, session.collect()),
+        Command::Shell => shell(rt, session),
         _ => Err(Halt::Words("this is no command of a client")),
     }
 }
 
-fn say_number(rt: &HostRuntime, number: u64) -> Result<u8, Halt> {
-    println!(rt; "{number}")?;
+/// The status of what prints nothing.
+fn status_of(done: Result<(), Halt>) -> Result<u8, Halt> {
+    done?;
+    Ok(0)
+}
+
+/// Prints a number that was answered: the status.
+fn say(rt: &HostRuntime, number: Result<u64, Halt>) -> Result<u8, Halt> {
+    rt.println(number?)?;
     Ok(0)
 }
 
@@ -77,16 +73,23 @@ fn say_two(rt: &HostRuntime, id: u64, epoch: u64) -> Result<u8, Halt> {
     Ok(0)
 }
 
-fn say_version(rt: &HostRuntime, version: &Version) -> Result<u8, Halt> {
-    say_two(rt, version.id, version.entry.epoch)
+/// Prints the id and the epoch of a version that was answered: the status.
+fn say_version(rt: &HostRuntime, version: Result<Version, Halt>) -> Result<u8, Halt> {
+    let version = version?;
+    say_two(rt, version.id, version.epoch)
 }
 
-fn get(rt: &HostRuntime, session: &mut Session, id: bool) -> Result<u8, Halt> {
-    let newest = session.newest()?;
-    if id {
-        return say_version(rt, &newest);
-    }
-    rt.stdout().write_all(newest.entry.payload.as_slice())?;
+/// Writes the first version, in epoch 0.
+fn init(rt: &HostRuntime, session: &mut Session, value: Source<'_>) -> Result<u8, Halt> {
+    let payload = bytes_of(rt, value)?;
+    let first = session.viewed(ViewCall::Init(Entry { epoch: 0, payload }))?;
+    say(rt, Ok(first.id))
+}
+
+/// Prints the bytes of the newest version.
+fn get(rt: &HostRuntime, session: &mut Session) -> Result<u8, Halt> {
+    let newest = session.load()?;
+    rt.stdout().write_all(newest.value.payload.as_slice())?;
     Ok(0)
 }
 
@@ -99,40 +102,26 @@ fn put(
 ) -> Result<u8, Halt> {
     let value = bytes_of(rt, value)?;
     let id = match base {
-        Some(base) => session.put_on(base, epoch, value)?,
-        None => session.put(epoch, &value)?,
+        Some(base) => session.put_on(base, epoch, &value),
+        None => session.put(epoch, &value),
     };
-    say_number(rt, id)
-}
-
-fn say_numbers(rt: &HostRuntime, numbers: &[u64]) -> Result<u8, Halt> {
-    for number in numbers {
-        say_number(rt, *number)?;
-    }
-    Ok(0)
+    say(rt, id)
 }
 
 fn list(rt: &HostRuntime, session: &mut Session) -> Result<u8, Halt> {
     let ids = session.ids()?;
-    say_numbers(rt, ids.as_slice())
-}
-
-fn say_entry(rt: &HostRuntime, id: u64, entry: &Entry) -> Result<u8, Halt> {
-    println!(rt; "{id} {entry}")?;
+    for id in ids.as_slice() {
+        rt.println(*id)?;
+    }
     Ok(0)
 }
 
-/// Prints a stored version, where it still stands.
-fn say_stored(rt: &HostRuntime, session: &mut Session, id: u64) -> Result<u8, Halt> {
-    match session.entry(id)? {
-        Some(entry) => say_entry(rt, id, &entry),
-        None => Ok(0),
-    }
-}
-
+/// Prints each of these versions that still stands.
 fn say_all(rt: &HostRuntime, session: &mut Session, ids: &[u64]) -> Result<u8, Halt> {
     for id in ids {
-        say_stored(rt, session, *id)?;
+        if let Some(entry) = session.entry(*id)? {
+            println!(rt; "{id} {entry}")?;
+        }
     }
     Ok(0)
 }
@@ -151,14 +140,6 @@ fn have_passed(rt: &HostRuntime, began: Duration, seconds: u64) -> Result<bool, 
     })
 }
 
-/// Looks for a version above this id: the status, where there is one.
-fn seen(rt: &HostRuntime, session: &mut Session, after: u64) -> Result<Option<u8>, Halt> {
-    match session.read()? {
-        Some(newest) if after < newest.id => Ok(Some(say_version(rt, &newest)?)),
-        _ => Ok(None),
-    }
-}
-
 /// Looks so often for a version above this id: the status, once there is one, or the time has passed.
 fn look(
     rt: &HostRuntime,
@@ -168,8 +149,9 @@ fn look(
     looks: u64,
 ) -> Result<Option<u8>, Halt> {
     for _ in 0..looks {
-        if let Some(status) = seen(rt, session, after)? {
-            return Ok(Some(status));
+        match session.read()? {
+            Some((id, epoch)) if after < id => return Ok(Some(say_two(rt, id, epoch)?)),
+            _ => {}
         }
         if have_passed(rt, until.0, until.1)? {
             return Ok(Some(NOTHING));
@@ -195,25 +177,33 @@ fn look_once(
 fn watch(rt: &HostRuntime, options: &Options<'_>, after: u64, seconds: u64) -> Result<u8, Halt> {
     let until = (rt.monotonic()?, seconds);
     let looks = seconds.saturating_mul(LOOKS).saturating_add(1);
-    if options.diary.is_some() {
-        return Ok(look_once(rt, options, after, until, looks)?.unwrap_or(NOTHING));
-    }
-    for _ in 0..(looks / LOOKS_OF_A_CLIENT).saturating_add(1) {
-        if let Some(status) = look_once(rt, options, after, until, LOOKS_OF_A_CLIENT)? {
+    let (clients, looks) = match options.diary {
+        Some(_) => (1, looks),
+        None => (
+            (looks / LOOKS_OF_A_CLIENT).saturating_add(1),
+            LOOKS_OF_A_CLIENT,
+        ),
+    };
+    for _ in 0..clients {
+        if let Some(status) = look_once(rt, options, after, until, looks)? {
             return Ok(status);
         }
     }
     Ok(NOTHING)
 }
 
-/// Makes the call of a line, and prints its answer.
+/// Makes the call of a line, and prints its answer, or why it has none.
 fn take_line(rt: &HostRuntime, session: &mut Session, line: &str) -> Result<(), Halt> {
-    match Call::<Entry>::read_text(rt.alloc(), line)? {
-        Some(call) => make(rt, session, call),
-        None => {
-            println!(rt; "bad call")?;
-            Ok(())
+    let Some(call) = Call::<Entry>::read_text(rt.alloc(), line)? else {
+        return Ok(rt.println("bad call")?);
+    };
+    match session.call(call) {
+        Ok(answer) => {
+            let said = rt.println(Answered(&answer));
+            drop(answer);
+            Ok(said?)
         }
+        Err(halt) => say_halt(rt, halt),
     }
 }
 
@@ -226,30 +216,19 @@ fn shell(rt: &HostRuntime, session: &mut Session) -> Result<u8, Halt> {
     Ok(0)
 }
 
-fn say_answer(rt: &HostRuntime, answer: &Answer<Entry>) -> Result<(), Halt> {
-    let answered = Answered(answer);
-    println!(rt; "{answered}")?;
-    Ok(())
-}
-
-/// Makes a call, and prints its answer, or why it has none.
-fn make(rt: &HostRuntime, session: &mut Session, call: Call<Entry>) -> Result<(), Halt> {
-    match session.call(call) {
-        Ok(answer) => say_answer(rt, &answer),
-        Err(halt) => say_halt(rt, halt),
-    }
-}
-
 /// Prints why a call has no answer, where the calls of other lines go on.
 fn say_halt(rt: &HostRuntime, halt: Halt) -> Result<(), Halt> {
-    match &halt {
-        Halt::NotPermitted(_) => println!(rt; "not permitted: {halt}")?,
-        Halt::NoEnd => println!(rt; "refused 11 TurnsExhausted")?,
+    match halt {
+        Halt::NotPermitted(fault) => {
+            let why = reason(fault);
+            println!(rt; "not permitted: {why}")?;
+        }
+        Halt::NoEnd => rt.println("refused 11 TurnsExhausted")?,
         Halt::Store(words) => {
-            println!(rt; "refused 2 ObjectStoreError")?;
+            rt.println("refused 2 ObjectStoreError")?;
             rt.eprintln(words)?;
         }
-        _ => return Err(halt),
+        halt => return Err(halt),
     }
     Ok(())
 }
@@ -265,7 +244,7 @@ fn doctor(rt: &HostRuntime, options: &Options<'_>) -> Result<u8, Halt> {
 
 /// Prints a report, and says whether the folder serves: the status.
 fn say_report(rt: &HostRuntime, report: &Report) -> Result<u8, Halt> {
-    print!(rt; "{report}")?;
+    rt.print(report)?;
     match report.first_failed() {
         None => Ok(0),
         Some(_) => Ok(NOTHING),
@@ -277,10 +256,10 @@ fn clean(rt: &HostRuntime, options: &Options<'_>, seconds: u64) -> Result<u8, Ha
     let mut store = store_of(rt, options)?;
     let now = SystemTime::now(rt)?;
     let Some(before) = now.checked_sub(Duration::from_secs(seconds)) else {
-        return say_number(rt, 0);
+        return say(rt, Ok(0));
     };
     match store.clean(before) {
-        Ok(removed) => say_number(rt, removed),
-        Err(fault) => Err(Halt::Store(format!(in rt.alloc(); "{fault}")?)),
+        Ok(removed) => say(rt, Ok(removed)),
+        Err(fault) => Err(store_failed(rt.alloc(), &fault)),
     }
 }

@@ -1,7 +1,7 @@
 //! One client of one object in a folder.
 ghost use Rattle.std.specs.Prelude.{◌≤◌, IfOk};
 
-use crate::ending::Halt;
+use crate::ending::{Halt, store_failed};
 use crate::recording::{Recording, nanos_of};
 use bytes::Bytes;
 use std::alloc::{AllocError, Global};
@@ -44,11 +44,12 @@ impl Serve for Shared {
     }
 }
 
-/// A version: its id, and what it says.
-#[derive(Debug, Drop)]
+/// A version: the view that it is in, its id, and its epoch.
+#[derive(Clone, Copy)]
 pub struct Version {
+    pub view: u64,
     pub id: u64,
-    pub entry: Entry,
+    pub epoch: u64,
 }
 
 /// A client of one object.
@@ -74,25 +75,13 @@ fn folder_of(alloc: Global, options: &Options<'_>) -> Result<Folder, Halt> {
     Ok(Folder::new(alloc, root, name, options.suffix)?)
 }
 
-/// The object that the options name, as recordings say it: the same on each machine, wherever the folder is mounted.
-fn object_of(alloc: Global, options: &Options<'_>) -> Result<String, AllocError> {
-    let name = options.name.unwrap_or("");
-    let suffix = options.suffix;
-    format!(in alloc; "{name}.{suffix}")
-}
-
-/// A client's number of its own: the nanoseconds since 1970.
-fn number_of(rt: &HostRuntime) -> Result<u64, Halt> {
-    Ok(nanos_of(rt.since_1970()?).max(1))
-}
-
-/// The client's number, at least 1.
+/// The client's number, at least 1. Where none is named it is one of its own: the nanoseconds since 1970.
 fn client_of(rt: &HostRuntime, options: &Options<'_>) -> Result<u64, Halt>
     ensures { IfOk result (λ number. 1 ≤ number) }
 {
     let number = match options.client {
         Some(number) => number,
-        None => number_of(rt)?,
+        None => nanos_of(rt.since_1970()?).max(1),
     };
     if number == 0 {
         return Err(Halt::Words("a client's number is at least 1"));
@@ -100,9 +89,11 @@ fn client_of(rt: &HostRuntime, options: &Options<'_>) -> Result<u64, Halt>
     Ok(number)
 }
 
-/// The recording of a client.
+/// The recording of a client. It says its object the same on each machine, wherever the folder is mounted.
 fn recording_of(rt: &HostRuntime, options: &Options<'_>, client: u64) -> Result<Recording, Halt> {
-    let object = object_of(rt.alloc(), options)?;
+    let name = options.name.unwrap_or("");
+    let suffix = options.suffix;
+    let object = format!(in rt.alloc(); "{name}.{suffix}")?;
     Recording::new(rt.clone()?, options.diary, object.as_str(), client, PAGE)
 }
 
@@ -141,111 +132,111 @@ impl Session {
 
     /// Makes a call.
     pub fn call(&mut self, call: Call<Entry>) -> Result<Answer<Entry>, Halt> {
-        match self.client.call(call, STEPS)? {
-            Answer::Plain(PlainAnswer::Refused(2)) => Err(self.store_failed()),
-            answer => Ok(answer),
+        let answer = self.client.call(call, STEPS)?;
+        if matches!(&answer, Answer::Plain(PlainAnswer::Refused(2))) {
+            // (by a call, here and below: in place, the proof would follow each answer that may be dropped)
+            drop(answer);
+            return Err(self.store_failed());
         }
+        Ok(answer)
     }
 
     /// Why the last store call failed.
     fn store_failed(&self) -> Halt {
         match self.client.store().0.fault() {
-            Some(fault) => match format!(in self.alloc; "{fault}") {
-                Ok(words) => Halt::Store(words),
-                Err(_) => Halt::NoMemory,
-            },
+            Some(fault) => store_failed(self.alloc, fault),
             None => Halt::Refused(2),
         }
     }
 
-    /// The newest version, read into a view of this number.
-    fn load(&mut self) -> Result<(u64, Version), Halt> {
-        version_in(self.call(Call::View(ViewCall::Load))?)
-    }
-
-    /// The newest version.
-    pub fn newest(&mut self) -> Result<Version, Halt> {
-        let (_, version) = self.load()?;
-        Ok(version)
-    }
-
-    /// The newest version, where there is one.
-    pub fn read(&mut self) -> Result<Option<Version>, Halt> {
-        match self.call(Call::Plain(PlainCall::Read))? {
-            Answer::Plain(PlainAnswer::Read(read)) => Ok(version_of(read)),
+    /// The newest version, with what it says.
+    pub fn load(&mut self) -> Result<Viewed<Entry>, Halt> {
+        match self.call(Call::View(ViewCall::Load))? {
+            Answer::View(view, id, value) => Ok(Viewed { view, id, value }),
             other => Err(refused(other)),
         }
     }
 
-    /// Writes the first version, in epoch 0: its id.
-    pub fn init(&mut self, payload: Bytes) -> Result<u64, Halt> {
-        let entry = Entry { epoch: 0, payload };
-        id_in(self.call(Call::View(ViewCall::Init(entry)))?)
+    /// The id and the epoch of the newest version, where there is one.
+    pub fn read(&mut self) -> Result<Option<(u64, u64)>, Halt> {
+        let answer = self.call(Call::Plain(PlainCall::Read))?;
+        let read = read_in(&answer);
+        drop(answer);
+        read
     }
 
-    /// A view of the newest version, if it is this one and no greater epoch stands, and its epoch.
-    fn view_on(&mut self, base: u64, epoch: Option<u64>) -> Result<(u64, u64), Halt> {
-        let (view, newest) = self.load()?;
-        let now = newest.entry.epoch;
-        match fenced(epoch, now) {
-            Some(halt) => Err(halt),
-            None if newest.id == base => Ok((view, now)),
+    /// Makes a call on a view: the version that the view has then.
+    pub fn viewed(&mut self, call: ViewCall<Entry>) -> Result<Version, Halt> {
+        let answer = self.call(Call::View(call))?;
+        let viewed = viewed_in(&answer);
+        drop(answer);
+        viewed
+    }
+
+    /// Makes a call that is answered as done.
+    pub fn done(&mut self, call: PlainCall<Entry>) -> Result<(), Halt> {
+        let answer = self.call(Call::Plain(call))?;
+        let done = done_in(&answer);
+        drop(answer);
+        done
+    }
+
+    /// The newest version, if it is this one and no greater epoch stands.
+    fn newest_on(&mut self, base: u64, epoch: Option<u64>) -> Result<Version, Halt> {
+        let newest = self.viewed(ViewCall::Load)?;
+        match fenced(epoch, newest.epoch) {
+            Some(number) => Err(Halt::Refused(number)),
+            None if newest.id == base => Ok(newest),
             None => Err(Halt::Refused(5)),
         }
     }
 
     /// Writes a version on this one, if it is the newest, in its epoch: its id.
-    pub fn put_on(&mut self, base: u64, epoch: Option<u64>, payload: Bytes) -> Result<u64, Halt> {
-        let (view, now) = self.view_on(base, epoch)?;
+    pub fn put_on(&mut self, base: u64, epoch: Option<u64>, payload: &Bytes) -> Result<u64, Halt> {
+        let newest = self.newest_on(base, epoch)?;
         let entry = Entry {
-            epoch: now,
-            payload,
+            epoch: newest.epoch,
+            payload: payload.clone()?,
         };
-        id_in(self.call(Call::View(ViewCall::Update(view, entry)))?)
+        Ok(self.viewed(ViewCall::Update(newest.view, entry))?.id)
     }
 
     /// Writes a version on the newest, in its epoch, again after each conflict: its id. A holder's is of its own epoch.
     pub fn put(&mut self, epoch: Option<u64>, payload: &Bytes) -> Result<u64, Halt> {
-        let (view, newest) = self.load()?;
-        let viewed = Viewed {
-            view,
-            id: newest.id,
-            value: newest.entry,
-        };
+        let newest = self.load()?;
         let candidate = |now: &Entry| -> Result<Option<Entry>, AllocError> {
             candidate_of(epoch, payload, now)
         };
         let applied = self
             .client
-            .maybe_apply_update(viewed, ATTEMPTS, STEPS, &candidate)?;
-        self.applied(epoch, applied)
+            .maybe_apply_update(newest, ATTEMPTS, STEPS, &candidate)?;
+        let id = self.applied(epoch, &applied);
+        drop(applied);
+        id
     }
 
     /// The id of what was written, or why nothing was.
-    fn applied(&mut self, epoch: Option<u64>, applied: Applied<Entry>) -> Result<u64, Halt> {
+    fn applied(&mut self, epoch: Option<u64>, applied: &Applied<Entry>) -> Result<u64, Halt> {
         match applied {
             Applied::Written(viewed) => Ok(viewed.id),
             Applied::Unchanged => {
-                let now = self.newest()?.entry.epoch;
-                Err(fenced(epoch, now).unwrap_or(Halt::Refused(7)))
+                let newest = self.viewed(ViewCall::Load)?;
+                Err(Halt::Refused(fenced(epoch, newest.epoch).unwrap_or(7)))
             }
             Applied::Answered(Answer::Plain(PlainAnswer::Refused(2))) => Err(self.store_failed()),
-            Applied::Answered(answer) => Err(refused(answer)),
+            Applied::Answered(answer) => Err(refusal_in(answer)),
             Applied::AttemptsSpent => Err(Halt::NoEnd),
         }
     }
 
-    /// Claims the next epoch, or this one: the id of the version that says so, and the epoch.
-    pub fn claim(&mut self, epoch: Option<u64>) -> Result<(u64, u64), Halt> {
-        let (view, _) = self.load()?;
+    /// Claims the next epoch, or this one: the version that says so.
+    pub fn claim(&mut self, epoch: Option<u64>) -> Result<Version, Halt> {
+        let view = self.viewed(ViewCall::Load)?.view;
         let call = match epoch {
             None => ViewCall::Claim(view),
             Some(epoch) => ViewCall::ClaimAt(view, epoch),
         };
-        match self.call(Call::View(call))? {
-            Answer::Held(_, id, _, epoch) => Ok((id, epoch)),
-            other => Err(refused(other)),
-        }
+        self.viewed(call)
     }
 
     /// The ids of the stored versions, ascending.
@@ -265,31 +256,10 @@ impl Session {
         }
     }
 
-    /// Makes a call that is answered as done.
-    fn done(&mut self, call: PlainCall<Entry>) -> Result<(), Halt> {
-        match self.call(Call::Plain(call))? {
-            Answer::Plain(PlainAnswer::Done) => Ok(()),
-            other => Err(refused(other)),
-        }
-    }
-
     /// Raises the boundary to an id below the newest.
     pub fn advance(&mut self, id: u64) -> Result<(), Halt> {
         self.read()?;
         self.done(PlainCall::Advance(id))
-    }
-
-    /// Removes a version at or below the boundary.
-    pub fn delete(&mut self, id: u64) -> Result<(), Halt> {
-        self.done(PlainCall::Delete(id))
-    }
-
-    /// The id of the newest version, 0 where there is none.
-    fn newest_id(&mut self) -> Result<u64, Halt> {
-        match self.read()? {
-            Some(newest) => Ok(newest.id),
-            None => Ok(0),
-        }
     }
 
     /// Removes those of these versions that are below one: how many.
@@ -297,7 +267,7 @@ impl Session {
         let mut removed: u64 = 0;
         for id in ids {
             if *id < newest {
-                self.delete(*id)?;
+                self.done(PlainCall::Delete(*id))?;
                 removed = removed.saturating_add(1);
             }
         }
@@ -306,7 +276,9 @@ impl Session {
 
     /// Removes all versions below the newest: how many.
     pub fn collect(&mut self) -> Result<u64, Halt> {
-        let newest = self.newest_id()?;
+        let Some((newest, _)) = self.read()? else {
+            return Ok(0);
+        };
         if newest <= 1 {
             return Ok(0);
         }
@@ -316,48 +288,62 @@ impl Session {
     }
 }
 
-/// The version that was read, where there was one.
-fn version_of(read: Option<(u64, Entry)>) -> Option<Version> {
-    match read {
-        Some((id, entry)) => Some(Version { id, entry }),
-        None => None,
-    }
-}
-
-/// The view that a call is answered with: its number, and its version.
-fn version_in(answer: Answer<Entry>) -> Result<(u64, Version), Halt> {
+/// The id and the epoch of the version that is read, where there is one.
+fn read_in(answer: &Answer<Entry>) -> Result<Option<(u64, u64)>, Halt> {
     match answer {
-        Answer::View(view, id, entry) => Ok((view, Version { id, entry })),
-        other => Err(refused(other)),
+        Answer::Plain(PlainAnswer::Read(Some((id, entry)))) => Ok(Some((*id, entry.epoch))),
+        Answer::Plain(PlainAnswer::Read(None)) => Ok(None),
+        other => Err(refusal_in(other)),
     }
 }
 
-/// The id of the version of the view that a call is answered with.
-fn id_in(answer: Answer<Entry>) -> Result<u64, Halt> {
+/// The version of the view that a call is answered with.
+fn viewed_in(answer: &Answer<Entry>) -> Result<Version, Halt> {
     match answer {
-        Answer::View(_, id, _) => Ok(id),
-        other => Err(refused(other)),
+        Answer::View(view, id, entry) => Ok(Version {
+            view: *view,
+            id: *id,
+            epoch: entry.epoch,
+        }),
+        Answer::Held(view, id, _, epoch) => Ok(Version {
+            view: *view,
+            id: *id,
+            epoch: *epoch,
+        }),
+        other => Err(refusal_in(other)),
     }
 }
 
-/// What the answer of a call says that was not answered as it wants.
-fn refused(answer: Answer<Entry>) -> Halt {
-    match &answer {
+/// Whether a call is answered as done.
+fn done_in(answer: &Answer<Entry>) -> Result<(), Halt> {
+    match answer {
+        Answer::Plain(PlainAnswer::Done) => Ok(()),
+        other => Err(refusal_in(other)),
+    }
+}
+
+/// What an answer says that is not as its call wants.
+fn refusal_in(answer: &Answer<Entry>) -> Halt {
+    match answer {
         Answer::Plain(PlainAnswer::Refused(number)) => Halt::Refused(*number),
         _ => Halt::Words("the answer is of another call"),
     }
 }
 
-/// Why a holder of this epoch writes nothing where the newest version has that one.
-fn fenced(epoch: Option<u64>, now: u64) -> Option<Halt> {
-    let epoch = epoch?;
-    if epoch < now {
-        return Some(Halt::Refused(6));
+/// The same of an answer that is not needed any more.
+fn refused(answer: Answer<Entry>) -> Halt {
+    let halt = refusal_in(&answer);
+    drop(answer);
+    halt
+}
+
+/// The number of the refusal of a holder of this epoch, where the newest version has that one.
+fn fenced(epoch: Option<u64>, now: u64) -> Option<u8> {
+    match epoch {
+        Some(epoch) if epoch < now => Some(6),
+        Some(epoch) if now < epoch => Some(7),
+        _ => None,
     }
-    if now < epoch {
-        return Some(Halt::Refused(7));
-    }
-    None
 }
 
 /// A version with this payload on that one, where the holder, if there is one, has its epoch.

@@ -5,19 +5,20 @@ use bytes::Bytes;
 use std::io::Read;
 use txnobj_words::options::Source;
 
+/// All bytes of the standard input.
+fn input(rt: &HostRuntime) -> Result<Vec<u8>, Halt> {
+    let mut bytes = Vec::new(rt.alloc());
+    match rt.reader().read_to_end(&mut bytes) {
+        Ok(_) => Ok(bytes),
+        Err(error) => Err(Halt::Io(error)),
+    }
+}
+
 /// The bytes of a value.
 pub fn bytes_of(rt: &HostRuntime, source: Source<'_>) -> Result<Bytes, Halt> {
     let bytes = match source {
-        Source::Text(text) => {
-            let mut bytes = Vec::new(rt.alloc());
-            bytes.extend_from_slice(text.as_bytes())?;
-            bytes
-        }
-        Source::Input => {
-            let mut bytes = Vec::new(rt.alloc());
-            rt.reader().read_to_end(&mut bytes)?;
-            bytes
-        }
+        Source::Text(text) => Vec::from_slice(rt.alloc(), text.as_bytes())?,
+        Source::Input => input(rt)?,
         Source::File(path) => bytes_in(rt, path)?,
     };
     Ok(Bytes::from_vec(bytes)?)
