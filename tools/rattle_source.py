@@ -29,15 +29,22 @@ class Owner:
     type_arguments: tuple = ()
     trait_name: str = ""
     trait_arguments: tuple = ()
+    # The type's name and arguments, with the impl's own parameters among them.
+    type_words: tuple = ()
 
     @property
     def label(self):
         return "".join([self.type_name, *self.type_arguments, self.trait_name, *self.trait_arguments])
 
+    @property
+    def name_in_full(self):
+        """The name by which a check knows the block: of some forms of a type alone it has all arguments, as Kept+T+Id."""
+        return "+".join(self.type_words) if self.type_arguments and not self.trait_name else self.label
+
     def fit(self, segment):
         """How many letters of a log's name of such a block this owner explains, 0 where it is not this owner."""
         if not self.trait_name:
-            # A log names the block of some forms of a type alone with all arguments, as Kept+T+Id.
+            # (see name_in_full)
             name, *arguments = segment.split("+")
             rest = iter(arguments)
             if arguments and name == self.type_name and all(it in rest for it in self.type_arguments):
@@ -66,6 +73,11 @@ class Function:
     @property
     def label(self):
         return "::".join(it for it in (self.module, self.owner.label if self.owner else "", self.name) if it)
+
+    @property
+    def name_in_full(self):
+        """The name by which a check can be asked for the function."""
+        return "::".join(it for it in (self.module, self.owner.name_in_full if self.owner else "", self.name) if it)
 
 
 @dataclass(frozen=True)
@@ -143,9 +155,10 @@ def owner_of_impl(head):
     head, parameters = without_parameters(head)
     head = re.split(r"\bwhere\b", head)[0]
     trait, between, owner = head.rpartition(" for ")
-    words = words_of_type(owner if between else head, parameters)
+    of_type = owner if between else head
+    words = words_of_type(of_type, parameters)
     of_trait = words_of_type(trait, parameters) if between else [""]
-    return Owner(words[0], tuple(words[1:]), of_trait[0], tuple(of_trait[1:]))
+    return Owner(words[0], tuple(words[1:]), of_trait[0], tuple(of_trait[1:]), tuple(words_of_type(of_type, set())))
 
 
 def homes_of(sources):

@@ -295,7 +295,7 @@ def names_to_check(edits):
     """For each function that an edit changes the names by which a check can be asked for it alone, the least first: its
     own, and its module. Of an edit of no function, its modules. None stands for the whole crate."""
     functions = sorted(functions_of(edits), key=lambda it: it.label)
-    names = [[it.label, it.module] for it in functions]
+    names = [[it.name_in_full, it.module] for it in functions]
     names += [[module] for edit in edits if not edit.functions for module in sorted(edit.modules)]
     return [[it for it in some if it] for some in names]
 
@@ -311,25 +311,27 @@ def left_open(crate, texts, changed):
     files, homes = {}, homes_of(sources_of(texts))
     for path, text in sources_of(texts).items():
         places = [it for it in places_in(text, module_of(path), homes) if it.function not in changed]
-        for place in reversed([it for it in places if is_read_by_its_contract(it, text)]):
+        for place in reversed([it for it in places if can_be_left_open(it, text)]):
             text = text[: place.body] + NO_BODY + text[place.end :]
             files.update(open_proof(crate, texts, place.function))
         files[path] = text
     return files
 
 
-def is_read_by_its_contract(place, text):
-    """Whether no other function's proof reads the body of this one, and it has one."""
-    head, is_main = text[place.start : place.body], place.function.label == "main"
+def can_be_left_open(place, text):
+    """Whether no other function's proof reads the body of this one, it has one, and `rattle` knows it by the name that it
+    has here: an impl of a trait with arguments may have words of their paths in its own."""
+    head, function = text[place.start : place.body], place.function
     has_body = text[place.body : place.body + 1] == "{"
-    return has_body and not (is_main or place.is_of_trait or READ_BY_OTHERS.search(head))
+    is_of_forms = function.owner is not None and function.owner.trait_arguments
+    is_read = function.label == "main" or place.is_of_trait or READ_BY_OTHERS.search(head)
+    return has_body and not (is_of_forms or is_read)
 
 
 def open_proof(crate, texts, function):
     """The files by path that leave the proof of a function open. Where `rattle` knows it by another name they are read by
     nobody."""
-    names = [*function.module.split("::"), function.owner.label if function.owner else "", function.name]
-    place = [it for it in names if it]
+    place = function.name_in_full.split("::")
     folder = f"proofs/{'/'.join(place)}"
     files = {f"{folder}/{it}": None for it in PROOF_FILES if f"{folder}/{it}" in texts}
     text = OPEN_PROOF.format(library=f"Rattle.{crate}", place=".".join(place), name=function.name)

@@ -8,7 +8,7 @@ sys.path.insert(0, os.path.dirname(os.path.dirname(os.path.realpath(__file__))))
 
 from rattle_source import module_of, named_in_log, owner_of_impl, places_in, without_own_bodies  # noqa: E402
 from wrong_bodies import BadEdit, Trial, applied, batches, can_be_open, functions_in, left_open  # noqa: E402
-from wrong_bodies import pairs_of, read_edit, read_log  # noqa: E402
+from wrong_bodies import names_to_check, pairs_of, read_edit, read_log  # noqa: E402
 
 PATHS = """\
 const MOST: usize = 9;
@@ -313,10 +313,21 @@ class Trials(unittest.TestCase):
         text = check.runs[0]["src/path.rt"]
         self.assertIn('text != "."', text)
         self.assertIn("pub fn fmt(&self) -> u8 {\n    unreachable!()\n}", text)
-        self.assertNotIn("Fault::First", text)
+        self.assertNotIn("let x = 1;", text)
+        # (of an impl of a trait with arguments, a check may know another name)
+        self.assertIn("Fault::First", text)
         self.assertNotIn("proofs/path/is_dots/Proof.antt", check.runs[0])
         statement = "use Rattle.made.proofs.path.Path.fmt.Statement.{statement}\n"
         self.assertIn(statement, check.runs[0]["proofs/path/Path/fmt/Proof.antt"])
+
+    def test_methods_of_some_forms_of_a_type_are_asked_for_with_all_arguments(self):
+        texts = {"src/path.rt": "impl<T: Clone> EventOf<Call<T>> {\n    fn copy(&self) {\n        self\n    }\n}\n"}
+        (copy,) = functions_in(texts)
+        self.assertEqual((copy.label, copy.name_in_full), ("path::EventOfCall::copy", "path::EventOf+Call+T::copy"))
+        self.assertEqual(named_in_log(copy.name_in_full, {copy}), {copy})
+        changed = read_edit("a", edit_text(("        self", "        other")), texts)
+        self.assertEqual(names_to_check([changed]), [["path::EventOf+Call+T::copy", "path"]])
+        self.assertIn("proofs/path/EventOf+Call+T/copy/Proof.antt", left_open("made", texts, set()))
 
     def test_what_proofs_of_open_functions_had_goes(self):
         texts = {**TEXTS, "proofs/path/Path/fmt/Answers.antt": "", "proofs/path/is_dots/Answers.antt": ""}
