@@ -145,14 +145,24 @@ fn names_with(alloc: Global, suffix: &str) -> Result<String, PathFault> {
 fn layout_of(alloc: Global, text: &str) -> Result<String, PathFault> {
     let (subdir, suffix) = text.split_once(' ').unwrap_or((text, ""));
     let root = Path::from_text(alloc, "root")?;
-    let layout = Layout::new(alloc, &root, subdir, suffix, NumberCodec)?;
-    Ok(layout_words(alloc, layout.names.dir(), &layout.boundary)?)
+    layout_words(
+        alloc,
+        Layout::new(alloc, &root, subdir, suffix, NumberCodec),
+    )
 }
 
-fn layout_words(alloc: Global, folder: &Path, boundary: &Path) -> Result<String, AllocError> {
+fn layout_words(
+    alloc: Global,
+    layout: Result<Layout<NumberCodec>, PathFault>,
+) -> Result<String, PathFault> {
+    let layout = layout?;
+    two_paths(alloc, layout.names.dir(), &layout.boundary)
+}
+
+fn two_paths(alloc: Global, folder: &Path, boundary: &Path) -> Result<String, PathFault> {
     let folder = path_words(alloc, folder)?;
     let boundary = path_words(alloc, boundary)?;
-    format!(in alloc; "{folder}, {boundary}")
+    Ok(format!(in alloc; "{folder}, {boundary}")?)
 }
 
 /// The names of versions in `root/test`.
@@ -167,14 +177,23 @@ fn version_at(alloc: Global, text: &str) -> Result<String, PathFault> {
     Ok(format!(in alloc; "{version:?}")?)
 }
 
+/// A path, and the version that it is.
+fn name_words(
+    alloc: Global,
+    names: &VersionNames,
+    path: Result<Path, AllocError>,
+) -> Result<String, PathFault> {
+    let path = path?;
+    path.is_of_plain_segments();
+    let version = names.parse_id(&path);
+    Ok(format!(in alloc; "{path} {version:?}")?)
+}
+
 /// The path of the version of this number, and the version that it is.
 fn name_of(alloc: Global, number: u64) -> Result<String, PathFault> {
     let names = names(alloc)?;
     names.one_to_one(1, 2);
-    let path = names.path_for(alloc, number)?;
-    path.is_of_plain_segments();
-    let version = names.parse_id(&path);
-    Ok(format!(in alloc; "{path} {version:?}")?)
+    name_words(alloc, &names, names.path_for(alloc, number))
 }
 
 /// The boundary file of this boundary, read as text.
@@ -217,16 +236,26 @@ fn shown(alloc: Global, what: &str, text: &str) -> Result<String, AllocError> {
     }
 }
 
+/// The first row of which something else comes, counted from 0, where there is one.
+fn other_text(alloc: Global) -> Result<Option<usize>, AllocError> {
+    for (at, row) in TEXTS.iter().enumerate() {
+        if shown(alloc, row.0, row.1)?.as_str() != row.2 {
+            return Ok(Some(at));
+        }
+    }
+    Ok(None)
+}
+
 #[test]
 fn texts_are_read_and_written(rt: HostRuntime) -> Result<(), Fail> {
-    for (what, text, want) in TEXTS {
-        let shown = shown(rt.alloc(), what, text)?;
-        assert_eq!(rt; shown.as_str(), *want, "{what} {text:?}");
-    }
-    // Bytes that are no text say no boundary.
+    assert_eq!(rt; other_text(rt.alloc())?, None);
+    Ok(())
+}
+
+#[test]
+fn bytes_that_are_no_text_say_no_boundary(rt: HostRuntime) {
     assert_eq!(rt; read_boundary(b"\xff"), None);
     twenty_digits(7);
-    Ok(())
 }
 
 /// Of `a/z`, `a-b` and `a`: the first comes before the second, after the third, and it alone is below that.

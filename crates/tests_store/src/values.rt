@@ -34,6 +34,18 @@ fn there_and_back(number: u64, id: MonotonicId) -> (u64, MonotonicId)
     (MonotonicId::from(number).into(), u64::from(id).into())
 }
 
+/// What is so of the first id, of another that is 1, and of the next.
+fn compared(first: MonotonicId, one: MonotonicId, next: MonotonicId) -> [bool; 6] {
+    [
+        first.is(1) && !first.is(2),
+        first == one,
+        is_same(first, one) && !is_same(first, next),
+        is_below(first, next),
+        !is_below(next, first),
+        MonotonicId::new(9) < MonotonicId::new(10),
+    ]
+}
+
 /// How many different ids these are.
 fn different(alloc: Global, ids: &[MonotonicId]) -> Result<usize, AllocError> {
     let mut set = HashSet::new(alloc);
@@ -46,20 +58,28 @@ fn different(alloc: Global, ids: &[MonotonicId]) -> Result<usize, AllocError> {
 #[test]
 fn ids_compare_and_add_as_numbers(rt: HostRuntime) -> Result<(), Fail> {
     let first = MonotonicId::initial();
-    let (one, two) = (MonotonicId::new(1), MonotonicId::new(2));
-    assert!(rt; first.is(1) && !first.is(2));
-    assert_eq!(rt; (first, first.next()), (one, two));
     assert_eq!(rt;
-        ((first + 6).id(), (first + (u64::MAX - 1)).id()),
-        (7, u64::MAX)
+        [first.next(), first + 6],
+        [MonotonicId::new(2), MonotonicId::new(7)]
     );
-    assert!(rt; is_same(first, one) && !is_same(first, first.next()));
-    assert!(rt; is_below(first, first.next()) && !is_below(first.next(), first));
-    assert!(rt; MonotonicId::new(9) < MonotonicId::new(10));
+    assert!(rt; (first + (u64::MAX - 1)).is(u64::MAX));
+    assert_eq!(rt;
+        compared(first, MonotonicId::new(1), first.next()),
+        [true; 6]
+    );
     assert_eq!(rt; there_and_back(7, first), (7, first));
+    assert_eq!(rt;
+        different(rt.alloc(), &[first, MonotonicId::new(1), first.next()])?,
+        2
+    );
+    Ok(())
+}
+
+#[test]
+fn an_id_shows_its_number(rt: HostRuntime) -> Result<(), Fail> {
+    let first = MonotonicId::initial();
     let shown = format!(in rt.alloc(); "{first:?}")?;
     assert_eq!(rt; shown.as_str(), "MonotonicId { id: 1 }");
-    assert_eq!(rt; different(rt.alloc(), &[first, one, first.next()])?, 2);
     Ok(())
 }
 
