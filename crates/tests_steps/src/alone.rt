@@ -159,10 +159,18 @@ const SCENARIOS: &[(&str, &[Row])] = &[
     ),
 ];
 
+/// The first of these that goes otherwise, counted from 0, with the row that does, where there is one.
+fn other_of(alloc: Global) -> Result<Option<(usize, usize, Told)>, PathFault> {
+    for (at, (_, rows)) in SCENARIOS.iter().enumerate() {
+        if let Some((row, told)) = other(alloc, rows)? {
+            return Ok(Some((at, row, told)));
+        }
+    }
+    Ok(None)
+}
+
 #[test]
 fn operations_that_run_alone_answer(rt: HostRuntime) -> Result<(), Fail> {
-    for (name, rows) in SCENARIOS {
-        assert_eq!(rt; other(rt.alloc(), rows)?, None, "{name}");
-    }
+    assert_eq!(rt; other_of(rt.alloc())?, None);
     Ok(())
 }

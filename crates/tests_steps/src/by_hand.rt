@@ -318,11 +318,19 @@ const SCENARIOS: &[(&str, &[Row])] = &[
     ),
 ];
 
+/// The first of these that goes otherwise, counted from 0, with the row that does, where there is one.
+fn other_of(alloc: Global) -> Result<Option<(usize, usize, Played)>, Fail> {
+    for (at, (_, rows)) in SCENARIOS.iter().enumerate() {
+        if let Some((row, played)) = other(alloc, rows)? {
+            return Ok(Some((at, row, played)));
+        }
+    }
+    Ok(None)
+}
+
 #[test]
 fn each_reply_leads_on(rt: HostRuntime) -> Result<(), Fail> {
-    for (name, rows) in SCENARIOS {
-        assert_eq!(rt; other(rt.alloc(), rows)?, None, "{name}");
-    }
+    assert_eq!(rt; other_of(rt.alloc())?, None);
     Ok(())
 }
 
@@ -377,18 +385,36 @@ fn test_try_read_latest_retries_missing_listed_file(rt: HostRuntime) -> Result<(
 /// The file did not change.
 const UNCHANGED: &[Made] = &[Refuses(NotModified)];
 
+/// A check of an id.
+fn checked(
+    alloc: Global,
+    script: &mut Script,
+    caches: &mut Caches,
+    id: u64,
+) -> Result<Played, Fail> {
+    let layout = a_layout(alloc, PAGE, NumberCodec)?;
+    perform(alloc, script, &layout, caches, Check(id))
+}
+
+fn checked_words(
+    alloc: Global,
+    script: &Script,
+    played: Played,
+    known: Option<(u64, u64)>,
+) -> Result<String, Fail> {
+    let got = script.got.as_str();
+    Ok(format!(in alloc; "{got}: {played:?}, {known:?}")?)
+}
+
 /// The get of a check of an id where a boundary of this number and token is cached, what the check says and takes, and the
 /// cached boundary and its token then.
 fn checked_with(alloc: Global, id: u64, number: u64, token: u64) -> Result<String, Fail> {
-    let layout = a_layout(alloc, PAGE, NumberCodec)?;
     let mut script = a_script(alloc, UNCHANGED);
     let mut caches = Caches::new();
     let token = Token::new(token);
     caches.boundary = Some(CachedBoundary { number, token });
-    let played = perform(alloc, &mut script, &layout, &mut caches, Check(id))?;
-    let got = script.got;
-    let known = known(&caches);
-    Ok(format!(in alloc; "{got}: {played:?}, {known:?}")?)
+    let played = checked(alloc, &mut script, &mut caches, id)?;
+    checked_words(alloc, &script, played, known(&caches))
 }
 
 #[test]

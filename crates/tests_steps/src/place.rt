@@ -15,7 +15,7 @@ use txn_store::in_memory::InMemory;
 use txn_store::path::{Path, PathFault};
 use txn_store::store::{ObjectStore, PutMode};
 use txn_types::id::MonotonicId;
-use txn_types::layout::Layout;
+use txn_types::layout::{Layout, PAGE};
 
 /// A layout whose pages have so many files at most.
 pub(crate) fn a_layout<C: Drop>(alloc: Global, page: u64, codec: C) -> Result<Layout<C>, PathFault>
@@ -238,4 +238,18 @@ pub(crate) fn other<C: Drop, K: Play<C> + Copy>(
 {
     let layout = a_layout(alloc, page, codec)?;
     Ok(other_in(alloc, &layout, &mut a_place(alloc, nth), rows))
+}
+
+/// The first of these scenarios that goes otherwise, counted from 0, with the row that does, where there is one.
+pub(crate) fn other_of<C: Drop + Copy, K: Play<C> + Copy>(
+    alloc: Global,
+    codec: C,
+    scenarios: &[Scenario<K>],
+) -> Result<Option<(usize, usize, Played)>, PathFault> {
+    for (at, scenario) in scenarios.iter().enumerate() {
+        if let Some((row, played)) = other(alloc, PAGE, codec, 0, scenario.1)? {
+            return Ok(Some((at, row, played)));
+        }
+    }
+    Ok(None)
 }

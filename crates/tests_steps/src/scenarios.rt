@@ -6,10 +6,12 @@ use crate::operations::Call::{
     ReadUnchecked, Write, WriteUnchecked,
 };
 use crate::place::Seat::{A, B};
-use crate::place::{Row, Scenario, other};
+use crate::place::{Row, Scenario, other, other_of};
 use crate::told::Told::{Did, Fails, Is, Newest, Value, Wrote};
+use std::alloc::Global;
 use std::ops::Bound::{Excluded, Included, Unbounded};
 use std::test::Fail;
+use txn_store::path::PathFault;
 use txn_types::layout::PAGE;
 use txn_types::test_utils::NumberCodec;
 
@@ -308,13 +310,7 @@ const SCENARIOS: &[Scenario<Call>] = &[
 
 #[test]
 fn each_call_takes_its_steps(rt: HostRuntime) -> Result<(), Fail> {
-    for (name, rows) in SCENARIOS {
-        assert_eq!(rt;
-            other(rt.alloc(), PAGE, NumberCodec, 0, rows)?,
-            None,
-            "{name}"
-        );
-    }
+    assert_eq!(rt; other_of(rt.alloc(), NumberCodec, SCENARIOS)?, None);
     Ok(())
 }
 
@@ -432,14 +428,18 @@ const FAILING: &[(u64, &[Row<Call>])] = &[
     ),
 ];
 
+/// The first of these that goes otherwise, counted from 0, and the row that does, where there is one.
+fn other_failing(alloc: Global) -> Result<Option<(usize, usize)>, PathFault> {
+    for (at, (nth, rows)) in FAILING.iter().enumerate() {
+        if let Some((row, _)) = other(alloc, PAGE, NumberCodec, *nth, rows)? {
+            return Ok(Some((at, row)));
+        }
+    }
+    Ok(None)
+}
+
 #[test]
 fn a_failing_store_ends_a_call(rt: HostRuntime) -> Result<(), Fail> {
-    for (at, (nth, rows)) in FAILING.iter().enumerate() {
-        assert_eq!(rt;
-            other(rt.alloc(), PAGE, NumberCodec, *nth, rows)?,
-            None,
-            "scenario {at}"
-        );
-    }
+    assert_eq!(rt; other_failing(rt.alloc())?, None);
     Ok(())
 }

@@ -1,5 +1,6 @@
 //! Calls on views that run alone, as values.
-ghost use Rattle.std.specs.Prelude.{◌≤◌};
+ghost use Rattle.std.specs.Prelude.{◌≤◌, IfOk};
+ghost use Rattle.txn_view_drivers.specs.ClaimSteps.{CanClaim};
 
 use crate::place::{Place, Play, View, driven};
 use crate::told::Told::{Fails, GoesOn, Held, Is, Shut, Viewed};
@@ -87,6 +88,51 @@ fn view_read(
     Ok(said(driven(alloc, layout, place, WithEpochs { op, epochs }, steps)))
 }
 
+/// A step that writes a record on the version of this id, or the first one.
+fn written(
+    alloc: Global,
+    layout: &Layout<RecordCodec>,
+    place: &mut Place,
+    on: Option<MonotonicId>,
+    value: Record,
+    steps: u64,
+) -> Result<Told, Error> {
+    let op = EntryOp::start(alloc, layout, on, &value)?;
+    Ok(said(driven(alloc, layout, place, ViewCall { op }, steps)))
+}
+
+/// A step that claims a view, once the claim is started.
+fn claimed(
+    alloc: Global,
+    layout: &Layout<RecordCodec>,
+    place: &mut Place,
+    op: Result<ClaimOp<Record>, Error>,
+    beside: Beside,
+    steps: u64,
+) -> Result<Told, Error>
+    requires page { 1 ≤ layout.now.page }
+    requires asks { IfOk op (λ op. CanClaim op.claiming) }
+{
+    let op = op?;
+    let epochs = RecordEpoch;
+    overtake(alloc, layout, place, beside);
+    Ok(said(driven(alloc, layout, place, WithEpochs { op, epochs }, steps)))
+}
+
+/// A step that writes a record on a holder's view.
+fn written_by_holder(
+    alloc: Global,
+    layout: &Layout<RecordCodec>,
+    place: &mut Place,
+    view: View,
+    next: Record,
+    steps: u64,
+) -> Result<Told, Error> {
+    let View { id, value, held } = view;
+    let op = EntryOp::start_for_holder(alloc, layout, &RecordEpoch, held, id, &value, &next)?;
+    Ok(said(driven(alloc, layout, place, ViewCall { op }, steps)))
+}
+
 /// A step that uses a view.
 fn on_view(
     alloc: Global,
@@ -98,33 +144,46 @@ fn on_view(
 ) -> Result<Told, Error>
     requires { 1 ≤ layout.now.page }
 {
-    let View { id, value, held } = view;
-    let epochs = RecordEpoch;
-    Ok(match step {
+    match step {
         Step::Update(epoch, payload) => {
-            let op = EntryOp::start(alloc, layout, Some(id), &Record { epoch, payload })?;
-            said(driven(alloc, layout, place, ViewCall { op }, steps))
+            written(
+                alloc,
+                layout,
+                place,
+                Some(view.id),
+                Record { epoch, payload },
+                steps,
+            )
         }
         Step::Claim(beside) => {
-            let op = ClaimOp::start(alloc, layout, &epochs, None, id, &value)?;
-            overtake(alloc, layout, place, beside);
-            said(driven(alloc, layout, place, WithEpochs { op, epochs }, steps))
+            let op = ClaimOp::start(alloc, layout, &RecordEpoch, None, view.id, &view.value);
+            claimed(alloc, layout, place, op, beside, steps)
         }
         Step::ClaimAt(epoch, beside) => {
-            let op = ClaimOp::start(alloc, layout, &epochs, Some(epoch), id, &value)?;
-            overtake(alloc, layout, place, beside);
-            said(driven(alloc, layout, place, WithEpochs { op, epochs }, steps))
+            let op = ClaimOp::start(
+                alloc,
+                layout,
+                &RecordEpoch,
+                Some(epoch),
+                view.id,
+                &view.value,
+            );
+            claimed(alloc, layout, place, op, beside, steps)
         }
         Step::HolderRefresh => {
-            view_read(alloc, layout, place, Purpose::HolderRefresh(held), steps)?
+            view_read(
+                alloc,
+                layout,
+                place,
+                Purpose::HolderRefresh(view.held),
+                steps,
+            )
         }
         Step::HolderUpdate(epoch, payload) => {
-            let next = Record { epoch, payload };
-            let op = EntryOp::start_for_holder(alloc, layout, &epochs, held, id, &value, &next)?;
-            said(driven(alloc, layout, place, ViewCall { op }, steps))
+            written_by_holder(alloc, layout, place, view, Record { epoch, payload }, steps)
         }
-        _ => GoesOn,
-    })
+        _ => Ok(GoesOn),
+    }
 }
 
 /// What a step says, or why it is not started. One that lacks its view goes on, as no row says.
@@ -137,20 +196,19 @@ fn stepped(
 ) -> Result<Told, Error>
     requires { 1 ≤ layout.now.page }
 {
-    Ok(match step {
-        Step::Has(id, epoch, payload) => Viewed(id, epoch, payload),
-        Step::Boundary(bytes) => Is(place.put(&layout.boundary, bytes)),
+    match step {
+        Step::Has(id, epoch, payload) => Ok(Viewed(id, epoch, payload)),
+        Step::Boundary(bytes) => Ok(Is(place.put(&layout.boundary, bytes))),
         Step::Init(epoch, payload) => {
-            let op = EntryOp::start(alloc, layout, None, &Record { epoch, payload })?;
-            said(driven(alloc, layout, place, ViewCall { op }, steps))
+            written(alloc, layout, place, None, Record { epoch, payload }, steps)
         }
-        Step::Load => view_read(alloc, layout, place, Purpose::Load, steps)?,
-        Step::Refresh => view_read(alloc, layout, place, Purpose::Refresh, steps)?,
+        Step::Load => view_read(alloc, layout, place, Purpose::Load, steps),
+        Step::Refresh => view_read(alloc, layout, place, Purpose::Refresh, steps),
         _ => match place.client.view {
-            Some(view) => return on_view(alloc, layout, place, view, step, steps),
-            None => GoesOn,
+            Some(view) => on_view(alloc, layout, place, view, step, steps),
+            None => Ok(GoesOn),
         },
-    })
+    }
 }
 
 /// The client's view follows what its step says.
