@@ -1,12 +1,12 @@
 //! The calls of a client that no world's script has.
 use crate::boundaries::boundary_call;
 use crate::objects::{Change, Object};
-use crate::plain::{delete_unchecked, latest_unchecked, said_of};
+use crate::plain::{done, newest, said_of};
 use crate::reading::{first_word, read_update_at};
 use crate::said::Said;
 use crate::setting::{Client, Desk, Store};
 use crate::views::{apply, fences, place, try_load, update};
-use slatedb_txn_obj::SequencedStorageProtocol;
+use slatedb_txn_obj::{MonotonicId, SequencedStorageProtocol};
 use std::alloc::AllocError;
 use txn_lines::numerals::{read_decimal, read_pair};
 use txn_lines::record::Record;
@@ -16,8 +16,10 @@ fn read_unchecked<S: ObjectStore, P: SequencedStorageProtocol<Record, S>>(
     protocol: &mut P,
     desk: &mut Desk<S>,
 ) -> Said {
-    let Desk { store, turns, .. } = desk;
-    said_of(latest_unchecked(protocol, store, turns))
+    match protocol.try_read_latest_unchecked(&mut desk.store, &mut desk.turns) {
+        Ok(found) => said_of(Ok(newest(found))),
+        Err(error) => Said::Refused(error),
+    }
 }
 
 fn remove_unchecked<S: ObjectStore, P: SequencedStorageProtocol<Record, S>>(
@@ -25,8 +27,8 @@ fn remove_unchecked<S: ObjectStore, P: SequencedStorageProtocol<Record, S>>(
     desk: &mut Desk<S>,
     words: &str,
 ) -> Option<Said> {
-    let id = read_decimal(words)?;
-    Some(said_of(delete_unchecked(protocol, &mut desk.store, id)))
+    let id = MonotonicId::new(read_decimal(words)?);
+    Some(done(protocol.delete_unchecked(&mut desk.store, id)))
 }
 
 /// A view, and how much its mutator adds, or, where nothing is said of that, that it counts its attempts.

@@ -1,31 +1,12 @@
 //! The calls of a boundary object, and what it has cached.
-use crate::plain::{advance, check, said_of};
+use crate::plain::done;
 use crate::said::Said;
 use crate::setting::Desk;
 use slatedb_txn_obj::object_store::ObjectStoreBoundaryObject;
+use slatedb_txn_obj::{BoundaryObject, MonotonicId};
 use txn_caches::caches::CachedBoundary;
 use txn_lines::numerals::{read_decimal, read_pair};
 use txn_store::store::{ObjectStore, Token};
-
-/// A check of an id.
-fn checked<S: ObjectStore>(
-    boundary: &mut ObjectStoreBoundaryObject,
-    desk: &mut Desk<S>,
-    words: &str,
-) -> Option<Said> {
-    let id = read_decimal(words)?;
-    Some(said_of(check(boundary, &mut desk.store, id)))
-}
-
-/// An advance to an id.
-fn advanced<S: ObjectStore>(
-    boundary: &mut ObjectStoreBoundaryObject,
-    desk: &mut Desk<S>,
-    words: &str,
-) -> Option<Said> {
-    let id = read_decimal(words)?;
-    Some(said_of(advance(boundary, &mut desk.store, &mut desk.turns, id)))
-}
 
 /// A boundary is cached from here on, with a token.
 fn learn(boundary: &mut ObjectStoreBoundaryObject, words: &str) -> Option<Said> {
@@ -42,9 +23,16 @@ pub(crate) fn boundary_call<S: ObjectStore>(
     word: &str,
     rest: &str,
 ) -> Option<Said> {
+    let Desk { store, turns, .. } = desk;
     match word {
-        "boundary_check" => checked(boundary, desk, rest),
-        "boundary_advance" => advanced(boundary, desk, rest),
+        "boundary_check" => {
+            let id = MonotonicId::new(read_decimal(rest)?);
+            Some(done(boundary.check(store, id)))
+        }
+        "boundary_advance" => {
+            let id = MonotonicId::new(read_decimal(rest)?);
+            Some(done(boundary.advance(store, id, turns)))
+        }
         "boundary_learn" => learn(boundary, rest),
         "boundary_cached" => Some(Said::Cached(boundary.cached)),
         _ => None,

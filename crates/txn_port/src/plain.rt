@@ -1,8 +1,8 @@
-//! The calls of a protocol and of a boundary object.
+//! The calls of a protocol.
 use crate::said::Said;
 use slatedb_txn_obj::{
-    BoundaryObject, IdentifiedObjectMetadata, MonotonicId, SequencedStorageProtocol,
-    TransactionalObjectError, TransactionalStorageProtocol, Turns,
+    IdentifiedObjectMetadata, MonotonicId, SequencedStorageProtocol, TransactionalObjectError,
+    TransactionalStorageProtocol, Turns,
 };
 use std::alloc::{AllocError, Global};
 use std::ops::Bound;
@@ -18,6 +18,14 @@ pub(crate) type PlainResult = Result<PlainAnswer<Record>, TransactionalObjectErr
 pub(crate) fn said_of(answer: PlainResult) -> Said {
     match answer {
         Ok(answer) => Said::Answered(Answer::Plain(answer)),
+        Err(error) => Said::Refused(error),
+    }
+}
+
+/// What a call says that answers nothing, or its error.
+pub(crate) fn done(answer: Result<(), TransactionalObjectError>) -> Said {
+    match answer {
+        Ok(()) => Said::Answered(Answer::Plain(PlainAnswer::Done)),
         Err(error) => Said::Refused(error),
     }
 }
@@ -118,44 +126,4 @@ pub(crate) fn perform<S: ObjectStore, P: SequencedStorageProtocol<Record, S>>(
         PlainCall::ListIds(from, to) => list(alloc, protocol, store, from, to),
         _ => change(protocol, store, turns, call),
     }
-}
-
-/// The newest version, which may be behind the boundary.
-pub(crate) fn latest_unchecked<S: ObjectStore, P: SequencedStorageProtocol<Record, S>>(
-    protocol: &mut P,
-    store: &mut S,
-    turns: &mut Turns,
-) -> PlainResult {
-    Ok(newest(protocol.try_read_latest_unchecked(store, turns)?))
-}
-
-/// A version is removed, whatever the boundary is.
-pub(crate) fn delete_unchecked<S: ObjectStore, P: SequencedStorageProtocol<Record, S>>(
-    protocol: &mut P,
-    store: &mut S,
-    id: u64,
-) -> PlainResult {
-    protocol.delete_unchecked(store, MonotonicId::new(id))?;
-    Ok(PlainAnswer::Done)
-}
-
-/// A check by a boundary.
-pub(crate) fn check<S: ObjectStore, B: BoundaryObject<S>>(
-    boundary: &mut B,
-    store: &mut S,
-    id: u64,
-) -> PlainResult {
-    boundary.check(store, MonotonicId::new(id))?;
-    Ok(PlainAnswer::Done)
-}
-
-/// An advance of a boundary.
-pub(crate) fn advance<S: ObjectStore, B: BoundaryObject<S>>(
-    boundary: &mut B,
-    store: &mut S,
-    turns: &mut Turns,
-    id: u64,
-) -> PlainResult {
-    boundary.advance(store, MonotonicId::new(id), turns)?;
-    Ok(PlainAnswer::Done)
 }

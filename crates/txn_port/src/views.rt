@@ -30,37 +30,12 @@ fn enter(objects: &mut Vec<Object>, view: View) -> Result<Said, AllocError> {
     Ok(said)
 }
 
-/// A view that a call made, where it did, gets the next number.
-fn opened(
+/// A view that a call made gets the next number.
+fn entered(
     objects: &mut Vec<Object>,
-    answer: Result<Option<View>, TransactionalObjectError>,
+    answer: Result<View, TransactionalObjectError>,
 ) -> Result<Said, AllocError> {
     match answer {
-        Ok(Some(view)) => enter(objects, view),
-        Ok(None) => Ok(Said::Answered(Answer::Plain(newest(None)))),
-        Err(error) => Ok(Said::Refused(error)),
-    }
-}
-
-/// A view of the first version, which it writes.
-fn init<S: ObjectStore, P: TransactionalStorageProtocol<Record, MonotonicId, S>>(
-    objects: &mut Vec<Object>,
-    protocol: &mut P,
-    desk: &mut Desk<S>,
-    value: Record,
-) -> Result<Said, AllocError> {
-    match View::init(desk.alloc, protocol, &mut desk.store, value) {
-        Ok(view) => enter(objects, view),
-        Err(error) => Ok(Said::Refused(error)),
-    }
-}
-
-fn load<S: ObjectStore, P: TransactionalStorageProtocol<Record, MonotonicId, S>>(
-    objects: &mut Vec<Object>,
-    protocol: &mut P,
-    desk: &mut Desk<S>,
-) -> Result<Said, AllocError> {
-    match View::load(desk.alloc, protocol, &mut desk.store, &mut desk.turns) {
         Ok(view) => enter(objects, view),
         Err(error) => Ok(Said::Refused(error)),
     }
@@ -72,8 +47,17 @@ pub(crate) fn try_load<S: ObjectStore, P: TransactionalStorageProtocol<Record, M
     protocol: &mut P,
     desk: &mut Desk<S>,
 ) -> Result<Said, AllocError> {
-    let answer = View::try_load(desk.alloc, protocol, &mut desk.store, &mut desk.turns);
-    opened(objects, answer)
+    let Desk {
+        alloc,
+        store,
+        turns,
+        ..
+    } = desk;
+    match View::try_load(*alloc, protocol, store, turns) {
+        Ok(Some(view)) => enter(objects, view),
+        Ok(None) => Ok(Said::Answered(Answer::Plain(newest(None)))),
+        Err(error) => Ok(Said::Refused(error)),
+    }
 }
 
 /// The view of a place, which it leaves.
@@ -200,9 +184,15 @@ pub(crate) fn view_call<S: ObjectStore, P: TransactionalStorageProtocol<Record, 
     desk: &mut Desk<S>,
     call: ViewCall<Record>,
 ) -> Result<Said, AllocError> {
+    let alloc = desk.alloc;
     match call {
-        ViewCall::Init(value) => init(objects, protocol, desk, value),
-        ViewCall::Load => load(objects, protocol, desk),
+        ViewCall::Init(value) => {
+            entered(objects, View::init(alloc, protocol, &mut desk.store, value))
+        }
+        ViewCall::Load => {
+            let Desk { store, turns, .. } = desk;
+            entered(objects, View::load(alloc, protocol, store, turns))
+        }
         call => {
             let number = number_of(&call);
             match objects.get_mut(place(number)) {
