@@ -21,7 +21,6 @@ use txn_types::layout::PAGE;
 const TURNS: u64 = 20;
 
 /// The clients of a script, what their calls are lent, and the objects that they made, by number.
-#[derive(Drop)]
 pub struct Player {
     desk: Desk<Store>,
     clients: Vec<Client>,
@@ -32,6 +31,20 @@ pub struct Player {
     turns: u64,
     /// Whether what a line took is printed.
     shows_costs: bool,
+}
+
+impl Drop for Player {
+    /// Drops what the player keeps: here, so that no function that owns one has to prove how each part is dropped.
+    fn drop(self) {
+        let Player {
+            desk: _,
+            clients: _,
+            objects: _,
+            page: _,
+            turns: _,
+            shows_costs: _,
+        } = self;
+    }
 }
 
 /// The calls of the store between two counts.

@@ -27,13 +27,25 @@ use txn_types::layout::Layout;
 
 /// Versions of an object as files of a folder, each created by one client, over a boundary. It holds at most eight of the
 /// versions that it read or wrote.
-#[derive(Drop)]
 pub struct ObjectStoreSequencedStorageProtocol<T, C, B> {
     alloc: Global,
     layout: Layout<C>,
     latest: Window,
     boundary: B,
     of: PhantomData<T>,
+}
+
+impl<T, C: Drop, B: Drop> Drop for ObjectStoreSequencedStorageProtocol<T, C, B> {
+    /// Drops what the protocol keeps: here, so that no crate above has to prove how each part is dropped.
+    fn drop(self) {
+        let ObjectStoreSequencedStorageProtocol {
+            alloc: _,
+            layout: _,
+            latest: _,
+            boundary: _,
+            of: _,
+        } = self;
+    }
 }
 
 impl<T, C, B> Model for ObjectStoreSequencedStorageProtocol<T, C, B> {
