@@ -110,17 +110,23 @@ fn newest_with<S: ObjectStore, P: TransactionalStorageProtocol<u64, MonotonicId,
     Ok([before, after])
 }
 
-/// The same of two folders of a store.
-fn newest_beside(alloc: Global) -> Result<[Option<(MonotonicId, u64)>; 2], Fail> {
-    let mut one = a_protocol(alloc, "test")?;
+/// The same of one protocol and of another folder of a store in memory.
+fn newest_beside(
+    alloc: Global,
+    one: &mut Protocol,
+) -> Result<[Option<(MonotonicId, u64)>; 2], Fail> {
     let mut other = a_protocol(alloc, "other")?;
-    let mut store = InMemory::new(alloc);
-    Ok(newest_with(&mut one, &mut other, &mut store)?)
+    Ok(newest_with(one, &mut other, &mut InMemory::new(alloc))?)
+}
+
+/// The same of two folders.
+fn newest_of_two(alloc: Global) -> Result<[Option<(MonotonicId, u64)>; 2], Fail> {
+    newest_beside(alloc, &mut a_protocol(alloc, "test")?)
 }
 
 #[test]
 fn two_folders_of_a_store_leave_each_other_alone(rt: HostRuntime) -> Result<(), Fail> {
-    let newest = newest_beside(rt.alloc())?;
+    let newest = newest_of_two(rt.alloc())?;
     assert_eq!(rt; newest, [None, Some((MonotonicId::new(1), 20))]);
     Ok(())
 }
@@ -189,34 +195,45 @@ enum Told {
     Fails(u8),
 }
 
-fn did(answer: Result<(), TransactionalObjectError>) -> Told {
+fn did(answer: &Result<(), TransactionalObjectError>) -> Told {
     match answer {
         Ok(()) => Told::Did,
         Err(error) => Told::Fails(error.number()),
     }
 }
 
-fn wrote(answer: Result<MonotonicId, TransactionalObjectError>) -> Told {
+fn wrote(answer: &Result<MonotonicId, TransactionalObjectError>) -> Told {
     match answer {
         Ok(id) => Told::Wrote(id.id()),
         Err(error) => Told::Fails(error.number()),
     }
 }
 
-fn found(answer: Result<Option<(MonotonicId, u64)>, TransactionalObjectError>) -> Told {
+fn found(answer: &Result<Option<(MonotonicId, u64)>, TransactionalObjectError>) -> Told {
     match answer {
-        Ok(Some((id, value))) => Told::Found(id.id(), value),
+        Ok(Some((id, value))) => Told::Found(id.id(), *value),
         Ok(None) => Told::Nothing,
         Err(error) => Told::Fails(error.number()),
     }
 }
 
-fn told_by(reply: Reply<u64>) -> Told {
+fn told_by(reply: &Reply<u64>) -> Told {
     match reply {
         Reply::Wrote(answer) => wrote(answer),
         Reply::Newest(answer) => found(answer),
         Reply::Done(answer) => did(answer),
     }
+}
+
+/// The first reply that says something else, counted from 0, with what it says, where there is one.
+fn other_told(replies: &[Reply<u64>], told: &[Told]) -> Option<(usize, Told)> {
+    for (at, (reply, told)) in replies.iter().zip(told).enumerate() {
+        let said = told_by(reply);
+        if said != *told {
+            return Some((at, said));
+        }
+    }
+    None
 }
 
 /// How many replies there are to these calls, made one after another, and the first that says something else, counted from
@@ -229,14 +246,7 @@ fn other_reply<S: ObjectStore>(
     told: &[Told],
 ) -> Result<(usize, Option<(usize, Told)>), Fail> {
     let replies = perform_all(alloc, protocol, store, &mut Turns::new(20), calls)?;
-    let count = replies.len();
-    for (at, (reply, told)) in replies.into_iter().zip(told).enumerate() {
-        let said = told_by(reply);
-        if said != *told {
-            return Ok((count, Some((at, said))));
-        }
-    }
-    Ok((count, None))
+    Ok((replies.len(), other_told(replies.as_slice(), told)))
 }
 
 /// What the calls of `calls_are_made_one_after_another` say.

@@ -37,7 +37,22 @@ pub(crate) fn client(alloc: Global, number: u64) -> Result<Records, AllocError>
     Diary::new(alloc, number, RecordCodec, RecordEpoch, PAGE)
 }
 
-/// Gives an operation what it asks for, the store's replies by receipts of client 1, until it is answered or asks for
+/// Gives an operation what it asks for, the store's reply by a receipt of client 1, where it asks for anything.
+fn told_next(
+    rt: &(impl Wait + AllocGlobal),
+    store: &Mutex<LoggedStore>,
+    diary: &mut Records,
+    op: u64,
+) -> Result<Option<Taken>, AllocError> {
+    let receipt = match diary.asks(op) {
+        Some(Ask::Store(request)) => serve_shared(rt, rt.alloc(), store, 1, request)?,
+        Some(Ask::Look) => return Ok(Some(diary.look(op))),
+        None => return Ok(None),
+    };
+    Ok(Some(diary.receive(op, receipt)))
+}
+
+/// Gives an operation what it asks for until it is answered or asks for
 /// nothing; says whether it was answered within 50 acts.
 fn received(
     rt: &(impl Wait + AllocGlobal),
@@ -46,18 +61,9 @@ fn received(
     op: u64,
 ) -> Result<bool, AllocError> {
     for _ in 0..50 {
-        let receipt = match diary.asks(op) {
-            Some(Ask::Store(request)) => Some(serve_shared(rt, rt.alloc(), store, 1, request)?),
-            Some(Ask::Look) => None,
-            None => return Ok(false),
-        };
-        let told = match receipt {
-            Some(receipt) => diary.receive(op, receipt),
-            None => diary.look(op),
-        };
-        match told {
-            Ok(Told::Went(_)) => {}
-            Ok(Told::Answered(_, _)) => return Ok(true),
+        match told_next(rt, store, diary, op)? {
+            Some(Ok(Told::Went(_))) => {}
+            Some(Ok(Told::Answered(_, _))) => return Ok(true),
             _ => return Ok(false),
         }
     }
@@ -82,6 +88,10 @@ fn is_unknown(told: Taken) -> bool {
     matches!(told, Err(EventFault::UnknownNumber))
 }
 
+fn begin(diary: &mut Records, call: PlainCall<Record>) {
+    drop(diary.begin(Call::Plain(call)));
+}
+
 /// What client 1 is told that gives up a read, writes by receipts, has a call fail, and is killed: whether each was as it
 /// should be.
 fn acts(
@@ -89,11 +99,11 @@ fn acts(
     store: &Mutex<LoggedStore>,
     diary: &mut Records,
 ) -> Result<[bool; 5], AllocError> {
-    drop(diary.begin(Call::Plain(PlainCall::Read)));
+    begin(diary, PlainCall::Read);
     let gave_up = gave_up(diary.give_up(1));
-    drop(diary.begin(Call::Plain(PlainCall::Write(None, ONE))));
+    begin(diary, PlainCall::Write(None, ONE));
     let wrote = received(rt, store, diary, 2)?;
-    drop(diary.begin(Call::Plain(PlainCall::ReadUnchecked(1))));
+    begin(diary, PlainCall::ReadUnchecked(1));
     let failed = failed(diary.failed(3));
     let killed = diary.killed().is_ok();
     let refused = is_unknown(diary.begin(Call::Plain(PlainCall::Read)));
@@ -102,7 +112,9 @@ fn acts(
 
 /// How many answers and receipts a client has.
 fn counts(alloc: Global, diary: &Records) -> Result<[usize; 2], AllocError> {
-    Ok([diary.answers(alloc)?.len(), diary.receipts(alloc)?.len()])
+    let answers = diary.answers(alloc)?.len();
+    let receipts = diary.receipts(alloc)?.len();
+    Ok([answers, receipts])
 }
 
 /// What client 1 is told, how many answers and receipts it has then, and what an audit finds.
@@ -117,9 +129,7 @@ fn ways(rt: &(impl Wait + AllocGlobal)) -> Result<([bool; 5], [usize; 2], u8), A
 
 #[test]
 fn clients_note_what_they_do(rt: HostRuntime) -> Result<(), Fail> {
-    let (told, [answers, receipts], found) = ways(&rt)?;
-    assert_eq!(rt; told, [true; 5]);
-    assert_eq!(rt; [answers, receipts], [2, 2]);
-    assert_eq!(rt; found, 0);
+    let (told, counts, found) = ways(&rt)?;
+    assert!(rt; told == [true; 5] && counts == [2, 2] && found == 0);
     Ok(())
 }

@@ -2,6 +2,7 @@
 
 use crate::calls::{reply, request};
 use std::alloc::{AllocError, Global};
+use std::fmt::Write;
 use std::test::Fail;
 use txn_journals::audited::Logged;
 use txn_journals::rows::LogRow;
@@ -46,7 +47,10 @@ const TAKEN: usize = 12;
 
 /// The row of a call and its reply.
 fn row(alloc: Global, asked: &str, told: &str) -> Result<Option<LogRow>, AllocError> {
-    let (Some(request), Some(reply)) = (request(alloc, asked)?, reply(alloc, told)?) else {
+    let Some(reply) = reply(alloc, told)? else {
+        return Ok(None);
+    };
+    let Some(request) = request(alloc, asked)? else {
         return Ok(None);
     };
     Ok(Some(LogRow {
@@ -68,6 +72,12 @@ fn pushed(alloc: Global, log: &mut HonestLog, row: Option<LogRow>) -> Result<Str
     }
 }
 
+/// Adds a row, with what the log says of it.
+fn add_said(text: &mut String, asked: &str, told: &str, said: &str) -> Result<(), AllocError> {
+    write!(text, "{asked} = {told}: {said}\n")?;
+    Ok(())
+}
+
 /// The rows of a table, with what the log says of them.
 fn played(alloc: Global, log: &mut HonestLog, table: &str) -> Result<String, AllocError> {
     let mut text = String::new(alloc);
@@ -75,9 +85,7 @@ fn played(alloc: Global, log: &mut HonestLog, table: &str) -> Result<String, All
         let (asked, rest) = line.split_once(" = ").unwrap_or((line, ""));
         let (told, _) = rest.rsplit_once(": ").unwrap_or((rest, ""));
         let row = row(alloc, asked, told)?;
-        let said = pushed(alloc, log, row)?;
-        let line = format!(in alloc; "{asked} = {told}: {said}\n")?;
-        text.push_str(line.as_str())?;
+        add_said(&mut text, asked, told, pushed(alloc, log, row)?.as_str())?;
     }
     Ok(text)
 }

@@ -322,12 +322,21 @@ fn add_others(alloc: Global, transcripts: &[&str], text: &mut String) -> Result<
     Ok(())
 }
 
+/// All that come otherwise.
+fn others(alloc: Global) -> Result<String, AllocError> {
+    let mut others = String::new(alloc);
+    for transcripts in [
+        worlds::TRANSCRIPTS,
+        schedules::TRANSCRIPTS,
+        refused::TRANSCRIPTS,
+    ] {
+        add_others(alloc, transcripts, &mut others)?;
+    }
+    Ok(others)
+}
+
 #[test]
 fn transcripts_come_as_they_stand(rt: HostRuntime) -> Result<(), Fail> {
-    let mut others = String::new(rt.alloc());
-    add_others(rt.alloc(), worlds::TRANSCRIPTS, &mut others)?;
-    add_others(rt.alloc(), schedules::TRANSCRIPTS, &mut others)?;
-    add_others(rt.alloc(), refused::TRANSCRIPTS, &mut others)?;
-    assert_eq!(rt; others.as_str(), "");
+    assert_eq!(rt; others(rt.alloc())?.as_str(), "");
     Ok(())
 }

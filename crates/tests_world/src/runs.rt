@@ -66,6 +66,13 @@ fn row_of(client: u64, receipt: &Receipt) -> Result<LogRow, AllocError> {
     })
 }
 
+/// The client notes its receipt: the row of the log.
+fn noted_row(noted: &mut Noted, receipt: Receipt) -> Result<LogRow, AllocError> {
+    let row = row_of(noted.client, &receipt)?;
+    note(noted, receipt)?;
+    Ok(row)
+}
+
 /// The store serves what a client asks for, and the client notes its receipt: the row of the log, none where nothing is asked.
 fn serves(
     alloc: Global,
@@ -76,10 +83,10 @@ fn serves(
     let Some(request) = request(alloc, asked)? else {
         return Ok(None);
     };
-    let receipt = store.serve_logged(alloc, noted.client, &request)?;
-    let row = row_of(noted.client, &receipt)?;
-    note(noted, receipt)?;
-    Ok(Some(row))
+    match store.serve_logged(alloc, noted.client, &request) {
+        Ok(receipt) => Ok(Some(noted_row(noted, receipt)?)),
+        Err(error) => Err(error),
+    }
 }
 
 /// The run, and whether the log took each row.
