@@ -191,9 +191,8 @@ impl Recordings {
         text: &str,
     ) -> Result<Option<(usize, &'static str)>, AllocError> {
         self.next = None;
-        let mut line: usize = 0;
-        for words in text.lines() {
-            line = line.saturating_add(1);
+        for (place, words) in text.lines().enumerate() {
+            let line = place.saturating_add(1);
             if let Some(wrong) = self.add_line(alloc, (file, line), words)? {
                 return Ok(Some((line, wrong)));
             }
@@ -227,12 +226,10 @@ fn not_all(rt: &HostRuntime, file: &str, line: usize, wrong: &str) -> Result<boo
 
 /// Adds the recordings of these files. Whether all lines are taken: the first that is not is told.
 fn are_added(rt: &HostRuntime, files: &[&str], recordings: &mut Recordings) -> Result<bool, Halt> {
-    let mut place: usize = 0;
-    for file in files {
+    for (place, file) in files.iter().enumerate() {
         if let Some((line, wrong)) = file_added(rt, place, file, recordings)? {
             return not_all(rt, file, line, wrong);
         }
-        place = place.saturating_add(1);
     }
     Ok(true)
 }
@@ -354,12 +351,10 @@ fn say_row(
 
 /// Says where the first rows stand of recordings that are of one client.
 fn say_twins(rt: &HostRuntime, files: &[&str], recordings: &Recordings) -> Result<(), Halt> {
-    let mut recording: usize = 0;
-    for rows in recordings.rows.as_slice() {
+    for (recording, rows) in recordings.rows.iter().enumerate() {
         if has_twin(recordings.rows.as_slice(), rows.as_slice()) {
             say_row(rt, files, recordings, CallPlace { recording, row: 0 })?;
         }
-        recording = recording.saturating_add(1);
     }
     Ok(())
 }

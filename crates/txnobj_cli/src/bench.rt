@@ -204,12 +204,11 @@ impl Calls<'_> {
             self.catch_up(number)?;
         }
         for _ in 0..times {
-            let done = if lists {
-                self.list(number)
+            if lists {
+                self.list(number)?;
             } else {
-                self.add(number)
-            };
-            done?;
+                self.add(number)?;
+            }
         }
         Ok(())
     }

@@ -33,7 +33,7 @@ fn ends_whole(file: &mut File, last: &mut Vec<u8>) -> io::Result<bool> {
     }
     file.seek(SeekFrom::End(-1))?;
     file.read_to_end(last)?;
-    Ok(whole_lines(last.as_slice()) == last.len())
+    Ok(last.as_slice() == b"\n".as_slice())
 }
 
 /// The same of a file of this name.

@@ -41,41 +41,40 @@ pub fn run(rt: &HostRuntime, options: &Options<'_>) -> Result<u8, Halt> {
 fn of_client(rt: &HostRuntime, session: &mut Session, command: &Command<'_>) -> Result<u8, Halt> {
     match command {
         Command::Init(value) => init(rt, session, *value),
-        Command::Get { id: true } => say_version(rt, session.viewed(ViewCall::Load)),
+        Command::Get { id: true } => say_version(rt, session.viewed(ViewCall::Load)?),
         Command::Get { id: false } => get(rt, session),
         Command::Put { value, base, epoch } => put(rt, session, *value, *base, *epoch),
-        Command::Claim { epoch } => say_version(rt, session.claim(*epoch)),
+        Command::Claim { epoch } => say_version(rt, session.claim(*epoch)?),
         Command::List => list(rt, session),
         Command::History => history(rt, session),
-        Command::Advance(id) => status_of(session.advance(*id)),
-        Command::Delete(id) => status_of(session.done(PlainCall::Delete(*id))),
-        Command::Collect => say(rt, session.collect()),
+        Command::Advance(id) => {
+            session.advance(*id)?;
+            Ok(0)
+        }
+        Command::Delete(id) => {
+            session.done(PlainCall::Delete(*id))?;
+            Ok(0)
+        }
+        Command::Collect => say(rt, session.collect()?),
         Command::Shell => shell(rt, session),
         _ => Err(Halt::Words("this is no command of a client")),
     }
 }
 
-/// The status of what prints nothing.
-fn status_of(done: Result<(), Halt>) -> Result<u8, Halt> {
-    done?;
+/// Prints a number: the status.
+fn say(rt: &HostRuntime, number: u64) -> Result<u8, Halt> {
+    rt.println(number)?;
     Ok(0)
 }
 
-/// Prints a number that was answered: the status.
-fn say(rt: &HostRuntime, number: Result<u64, Halt>) -> Result<u8, Halt> {
-    rt.println(number?)?;
-    Ok(0)
-}
-
-/// Prints an id and an epoch.
+/// Prints an id and an epoch: the status.
 fn say_two(rt: &HostRuntime, id: u64, epoch: u64) -> Result<u8, Halt> {
     println!(rt; "{id} {epoch}")?;
     Ok(0)
 }
 
-/// Prints the id and the epoch of a version that was answered: the status.
-fn say_version(rt: &HostRuntime, version: Result<Version, Halt>) -> Result<u8, Halt> {
-    let version = version?;
+/// Prints the id and the epoch of a version: the status.
+fn say_version(rt: &HostRuntime, version: Version) -> Result<u8, Halt> {
     say_two(rt, version.id, version.epoch)
 }
 
@@ -83,7 +82,7 @@ fn say_version(rt: &HostRuntime, version: Result<Version, Halt>) -> Result<u8, H
 fn init(rt: &HostRuntime, session: &mut Session, value: Source<'_>) -> Result<u8, Halt> {
     let payload = bytes_of(rt, value)?;
     let first = session.viewed(ViewCall::Init(Entry { epoch: 0, payload }))?;
-    say(rt, Ok(first.id))
+    say(rt, first.id)
 }
 
 /// Prints the bytes of the newest version.
@@ -102,8 +101,8 @@ fn put(
 ) -> Result<u8, Halt> {
     let value = bytes_of(rt, value)?;
     let id = match base {
-        Some(base) => session.put_on(base, epoch, &value),
-        None => session.put(epoch, &value),
+        Some(base) => session.put_on(base, epoch, &value)?,
+        None => session.put(epoch, &value)?,
     };
     say(rt, id)
 }
@@ -256,10 +255,10 @@ fn clean(rt: &HostRuntime, options: &Options<'_>, seconds: u64) -> Result<u8, Ha
     let mut store = store_of(rt, options)?;
     let now = SystemTime::now(rt)?;
     let Some(before) = now.checked_sub(Duration::from_secs(seconds)) else {
-        return say(rt, Ok(0));
+        return say(rt, 0);
     };
     match store.clean(before) {
-        Ok(removed) => say(rt, Ok(removed)),
+        Ok(removed) => say(rt, removed),
         Err(fault) => Err(store_failed(rt.alloc(), &fault)),
     }
 }

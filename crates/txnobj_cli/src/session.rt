@@ -165,7 +165,7 @@ impl Session {
         read
     }
 
-    /// Makes a call on a view: the version that the view has then.
+    /// Makes a call that gives a view, or leaves one: the version that the view has then.
     pub fn viewed(&mut self, call: ViewCall<Entry>) -> Result<Version, Halt> {
         let answer = self.call(Call::View(call))?;
         let viewed = viewed_in(&answer);
@@ -236,7 +236,10 @@ impl Session {
             None => ViewCall::Claim(view),
             Some(epoch) => ViewCall::ClaimAt(view, epoch),
         };
-        self.viewed(call)
+        let answer = self.call(Call::View(call))?;
+        let held = held_in(&answer);
+        drop(answer);
+        held
     }
 
     /// The ids of the stored versions, ascending.
@@ -305,6 +308,13 @@ fn viewed_in(answer: &Answer<Entry>) -> Result<Version, Halt> {
             id: *id,
             epoch: entry.epoch,
         }),
+        other => Err(refusal_in(other)),
+    }
+}
+
+/// The version of the holder that a call is answered with.
+fn held_in(answer: &Answer<Entry>) -> Result<Version, Halt> {
+    match answer {
         Answer::Held(view, id, _, epoch) => Ok(Version {
             view: *view,
             id: *id,
