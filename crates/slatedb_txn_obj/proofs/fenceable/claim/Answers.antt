@@ -1,5 +1,5 @@
 -- What a refused attempt leaves, and what the one that succeeded has read of the clock.
-use Rattle.std.proofs.Common.{rules, arith, true, true≢false, refl, sym, subst, ap, ◌∙◌, ◌≡◌, ◌⊎◌, All, Err, inl, inr, ℕ, ◌+◌, ◌-◌, ◌^◌, ◌≤◌, List, [], ◌∷◌, ◌++◌, length}
+use Rattle.std.proofs.Common.{rules, arith, true, true≢false, refl, sym, subst, ap, ◌∙◌, ◌≡◌, ◌⊎◌, All, Err, inl, inr, ℕ, ◌+◌, ◌-◌, ◌^◌, ◌≤◌, List, [], ◌∷◌, ◌++◌}
 use Rattle.std.proofs.lemmas.List.{length_push}
 use Rattle.std.proofs.lemmas.Result.{err_from_is_err_and, IfErr-at_err}
 use Rattle.txn_types.specs.declared.error.TransactionalObjectError.{TransactionalObjectError}
@@ -81,12 +81,17 @@ returns-in_err-check-in-Err g c =
     ] in
     let p = err_from_is_err_and c.from_residual.result c.from_residual.ensures.1 in
     record {
-      claimed = search rules;
-      holder = search rules;
-      timely = search rules;
-      failed = search rules;
-      spends = search rules;
-      few = search rules;
+      claimed = rw p.1 tt;
+      holder = rw p.1 tt;
+      timely = rw p.1 tt;
+      failed = rw p.1 (λ h b stands version.
+          let here = inv.unmoved h b stands version in
+          inl ((conflict.conflict (ap Err is_conflict)).stands h b here.0 here.1.within));
+      spends = spends-update _ _ _ _ _ _ c.loop-asked-test.ensures.spent inv.spends conflict.spends;
+      few = λ h b stands version. elim (inv.timed.2 h b stands version) [
+        | inl first ↦ (omega (arith, first.0, c.loop-asked-test.ensures.spent), omega (arith, first.2, conflict.spends.left_least))
+        | inr second ↦ (omega (arith, second.0, c.loop-asked-test.ensures.spent), omega (arith, second.2, conflict.spends.left_least))
+      ];
       enough = search rules;
       cause =
           let late = c.in_err-check-in-Err.ensures.late in
@@ -131,11 +136,13 @@ returns-in_err-refresh-in-Err g c =
     let told = rw c.in_err-refresh-in-Err.was at c.refresh.follows.holds-at-none in
     let failures : (g.S.ObjectStore.state c.args.store.now).failures ≤ (g.S.ObjectStore.state c.attempt.new.store).failures = omega (arith, inv.spends.failures_rise, conflict.spends.failures_rise) in
     record {
-      claimed = search rules;
-      holder = search rules;
-      timely = search rules;
-      failed = search rules;
-      spends = search rules;
+      claimed = rw p.1 tt;
+      holder = rw p.1 tt;
+      timely = rw p.1 tt;
+      failed = rw p.1 (λ h b stands version.
+          let here = inv.unmoved h b stands version in
+          inl (refresh.kept h b (overtaken.stands h b here.0 here.1.within)));
+      spends = spends-refresh _ _ _ _ _ _ (spends-update _ _ _ _ _ _ c.loop-asked-test.ensures.spent inv.spends conflict.spends) refresh.spends;
       few = search rules;
       enough = search rules;
       cause = rw p.1 (rw p.2 (elim told [
@@ -177,8 +184,11 @@ returns-in-Err-2 g c =
             | inl after ↦ inl after
             | inr written ↦ inr (g.P.TransactionalStorageProtocol.number c.loop-asked.view.id, c.loop-asked.view.object, written.0, here.1, written.1, written.2)
           ];
-      spends = search rules;
-      few = search rules;
+      spends = spends-update _ _ _ _ _ _ c.loop-asked-test.ensures.spent inv.spends attempt.spends;
+      few = λ h b stands version. elim (inv.timed.2 h b stands version) [
+        | inl first ↦ (omega (arith, first.0, c.loop-asked-test.ensures.spent), omega (arith, first.2, attempt.spends.left_least))
+        | inr second ↦ (omega (arith, second.0, c.loop-asked-test.ensures.spent), omega (arith, second.2, attempt.spends.left_least))
+      ];
       enough = search rules;
       cause =
           let stood = g.P.TransactionalStorageProtocol.stands c.args.protocol.now c.args.store.now in
@@ -267,8 +277,11 @@ returns-in-Ok g c = record {
             ],
       );
   failed = tt;
-  spends = search rules;
-  few = search rules;
+  spends = spends-update _ _ _ _ _ _ c.loop-asked-test.ensures.spent c.loop-asked.invariant.spends c.in-Ok.ensures.spends;
+  few = λ h b stands version. elim (c.loop-asked.invariant.timed.2 h b stands version) [
+    | inl first ↦ (omega (arith, first.0, c.loop-asked-test.ensures.spent), omega (arith, first.2, c.in-Ok.ensures.spends.left_least))
+    | inr second ↦ (omega (arith, second.0, c.loop-asked-test.ensures.spent), omega (arith, second.2, c.in-Ok.ensures.spends.left_least))
+  ];
   enough = search rules;
   cause = tt;
   refused = tt;
