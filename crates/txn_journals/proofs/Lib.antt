@@ -12,6 +12,8 @@ pub mod Ties
 pub mod Begun
 pub mod Begins
 pub mod Stages
+pub mod ClientRows
+pub mod Landings
 pub mod Runs
 pub mod Woven
 pub mod Once

@@ -24,7 +24,9 @@ use Rattle.txn_journals.specs.Logs.{IsLog}
 use Rattle.txn_journals.specs.Merged.{Landing, Did, Lands, Merged, part_of, clients_of, landing_row, with_receipt, log_of, CanLand, IsMerged}
 use Rattle.txn_journals.specs.Traces.{failed_of, taken_of}
 use Rattle.txn_journals.specs.Runs.{IsRun}
-use Rattle.txn_journals.proofs.Stages.{History, Stage, look_more, got_more, left_more, fail_more, lack_more, kill_more, new_more, land_more}
+use Rattle.txn_journals.proofs.Stages.{History, Stage}
+use Rattle.txn_journals.proofs.ClientRows.{look_more, got_more, left_more, fail_more, lack_more, kill_more, new_more}
+use Rattle.txn_journals.proofs.Landings.{land_more}
 
 module _ {T : Type 0} (page : ℕ) (encode : T → List ℕ) (decode : List ℕ → Option T) (get_epoch : T → ℕ) (set_epoch : T → ℕ → T) where
   abbrev Journal : ℕ → List (JournalRow T) → Part T → Type 0
