@@ -145,17 +145,7 @@ fn names_with(alloc: Global, suffix: &str) -> Result<String, PathFault> {
 fn layout_of(alloc: Global, text: &str) -> Result<String, PathFault> {
     let (subdir, suffix) = text.split_once(' ').unwrap_or((text, ""));
     let root = Path::from_text(alloc, "root")?;
-    layout_words(
-        alloc,
-        Layout::new(alloc, &root, subdir, suffix, NumberCodec),
-    )
-}
-
-fn layout_words(
-    alloc: Global,
-    layout: Result<Layout<NumberCodec>, PathFault>,
-) -> Result<String, PathFault> {
-    let layout = layout?;
+    let layout = Layout::new(alloc, &root, subdir, suffix, NumberCodec)?;
     two_paths(alloc, layout.names.dir(), &layout.boundary)
 }
 
@@ -178,22 +168,18 @@ fn version_at(alloc: Global, text: &str) -> Result<String, PathFault> {
 }
 
 /// A path, and the version that it is.
-fn name_words(
-    alloc: Global,
-    names: &VersionNames,
-    path: Result<Path, AllocError>,
-) -> Result<String, PathFault> {
-    let path = path?;
+fn name_words(alloc: Global, names: &VersionNames, path: &Path) -> Result<String, AllocError> {
     path.is_of_plain_segments();
-    let version = names.parse_id(&path);
-    Ok(format!(in alloc; "{path} {version:?}")?)
+    let version = names.parse_id(path);
+    format!(in alloc; "{path} {version:?}")
 }
 
 /// The path of the version of this number, and the version that it is.
 fn name_of(alloc: Global, number: u64) -> Result<String, PathFault> {
     let names = names(alloc)?;
     names.one_to_one(1, 2);
-    name_words(alloc, &names, names.path_for(alloc, number))
+    let path = names.path_for(alloc, number)?;
+    Ok(name_words(alloc, &names, &path)?)
 }
 
 /// The boundary file of this boundary, read as text.

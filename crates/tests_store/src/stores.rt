@@ -130,27 +130,16 @@ fn reply_to<S: ObjectStore>(
     }
 }
 
-/// Whether a request is answered so.
-fn is_reply<S: ObjectStore>(
-    alloc: Global,
-    store: &mut S,
-    request: &Request,
-    want: &str,
-) -> Result<bool, Fail> {
-    let reply = reply_to(alloc, store, request)?;
-    Ok(words(alloc, reply)?.as_str() == want)
-}
-
 /// Whether a step is answered so.
 fn is_answered<S: ObjectStore>(alloc: Global, store: &mut S, step: &Step) -> Result<bool, Fail> {
     let (path, asked, want) = *step;
     let request = request_of(alloc, Path::from_text(alloc, path)?, asked)?;
-    is_reply(alloc, store, &request, want)
+    is_said(alloc, reply_to(alloc, store, &request)?, want)
 }
 
 /// Whether a reply says this.
-fn is_said(alloc: Global, reply: Result<Reply, AllocError>, want: &str) -> Result<bool, Fail> {
-    Ok(words(alloc, reply?)?.as_str() == want)
+fn is_said(alloc: Global, reply: Reply, want: &str) -> Result<bool, Fail> {
+    Ok(words(alloc, reply)?.as_str() == want)
 }
 
 /// Whether a copy of the reply to a request is this.
@@ -161,7 +150,7 @@ fn is_copy(
     want: &str,
 ) -> Result<bool, Fail> {
     let reply = store.try_serve(alloc, request)?;
-    is_said(alloc, reply.try_clone(), want)
+    is_said(alloc, reply.try_clone()?, want)
 }
 
 /// Whether the copy of a request is answered so, by a copy of the reply.
@@ -367,14 +356,15 @@ fn is_copied(alloc: Global, row: &InMemoryRow) -> Result<bool, Fail> {
     Ok(other_copy(alloc, &mut store, row.steps)?.is_none())
 }
 
-fn is_played_twice(alloc: Global, row: &InMemoryRow) -> Result<bool, Fail> {
+/// Whether its steps and copies of them are answered so.
+fn is_played_and_copied(alloc: Global, row: &InMemoryRow) -> Result<bool, Fail> {
     Ok(is_played(alloc, row)? && is_copied(alloc, row)?)
 }
 
 /// The first row that is played otherwise, where there is one.
 fn other_row(alloc: Global) -> Result<Option<&'static str>, Fail> {
     for row in IN_MEMORY {
-        if !is_played_twice(alloc, row)? {
+        if !is_played_and_copied(alloc, row)? {
             return Ok(Some(row.name));
         }
     }
