@@ -1,8 +1,10 @@
 -- Why an attempt of an update by a mutator, or of a claim, failed, by the part that did.
-use Rattle.std.proofs.Common.{refl, sym, subst, ◌∙◌, inl, inr, ◌≡◌, ℕ, ◌+◌, ◌^◌, ◌≤◌, List, Option, Some, None}
+use Rattle.std.proofs.Common.{arith, true≢false, refl, sym, subst, ap, ◌∙◌, inl, inr, ◌≡◌, ◌⊎◌, ℕ, ◌+◌, ◌^◌, ◌≤◌, List, Option, Some, None, Result, Ok, Err, is_ok, IfErr, IsErrOf, if◌then◌else◌}
+use Rattle.std.proofs.lemmas.Bool.{eq-eqb, le-leb}
+use Rattle.std.proofs.lemmas.Result.{IfErr-at_err}
 use Rattle.txn_store.specs.Store.{State}
 use Rattle.txn_types.specs.Callbacks.{error_of_callback}
-use Rattle.txn_types.specs.Epochs.{NextEpoch, HasNoEpoch}
+use Rattle.txn_types.specs.Epochs.{claimed_epoch, NextEpoch, HasNoEpoch}
 use Rattle.txn_types.specs.declared.callback.CallbackFault.{CallbackFault}
 use Rattle.txn_types.specs.declared.callback.CallbackFault.TheVariants.{Refused}
 use Rattle.txn_types.specs.declared.callback.CallbackFault.TheVariants as callback
@@ -76,6 +78,33 @@ blocked-no_conflict asked stored error none is = no_epoch asked (subst (HasNoEpo
     no_epoch None none = none
     no_epoch (Some asked) none = none
 
+-- it is the answer where there is none
+pub claimed-none : (asked : Option ℕ) (stored : ℕ) (error : TransactionalObjectError) → HasNoEpoch asked stored error → claimed_epoch asked stored ≡ Err error
+claimed-none None stored IdExhausted none = ap (λ b. if b then Err IdExhausted else Ok (stored + 1)) (eq-eqb stored 18446744073709551615 (omega (arith, none)))
+claimed-none (Some asked) stored Fenced none = ap (λ b. if b then Err Fenced else Ok asked) (le-leb asked stored none)
+claimed-none None stored error none = absurd none
+claimed-none (Some asked) stored error none = absurd none
+
+pub claimed-some : (asked : Option ℕ) (stored epoch : ℕ) (error : TransactionalObjectError) → Ok epoch ≡ claimed_epoch asked stored → HasNoEpoch asked stored error → ⊥
+claimed-some asked stored epoch error claimed none = true≢false (ap is_ok (claimed ∙ claimed-none asked stored error none))
+
+-- an error that was handed on
+pub same_error : {A : Type 0} {result : Result A TransactionalObjectError} {x y z : TransactionalObjectError} → result ≡ Err x → x ≡ y → result ≡ Err z → y ≡ z
+same_error {y = y} given made is = IfErr-at_err (λ e. y ≡ e) (ap Err (sym made) ∙ sym given ∙ is) refl
+
+-- an object that nothing shuts
+pub not_shut : {A : Type 0} → A ⊎ ⊥ → A
+not_shut (inl lacking) = lacking
+not_shut (inr shut) = absurd shut
+
+-- another error than a conflict, or none
+abbrev pub IsNoConflict : TransactionalObjectError → Type 0
+IsNoConflict ObjectVersionExists = ⊥
+IsNoConflict error = Unit {0}
+
+pub no_conflict : {A : Type 0} (result : Result A TransactionalObjectError) → IfErr result IsNoConflict → IsErrOf result ObjectVersionExists → ⊥
+no_conflict result other is = subst (λ r. IfErr r IsNoConflict) is other
+
 -- there is no next epoch
 pub attempt-blocked : (asked : Option ℕ) (stored timeout number : ℕ) (late : Type 0) (fails : TransactionalObjectError → Type 0) (unheld : Type 0) (old new : State) (error : TransactionalObjectError) → HasNoEpoch asked stored error → HasCauseOfAttempt asked stored timeout number late fails unheld old new error
 attempt-blocked None stored timeout number late fails unheld old new IdExhausted h = inl h
@@ -111,3 +140,13 @@ module _ {I : Type 0} (holds : I → Type 0) (tests : I → CallbackFault → Ty
   attempt-update asked stored timeout number late fails unheld old new gives NoMemory cause = cause
   attempt-update asked stored timeout number late fails unheld old new gives (ObjectStoreError error) cause = cause
   attempt-update asked stored timeout number late fails unheld old new gives error cause = absurd cause
+
+  -- an update that fails for want of an id moves nothing, and none fails for want of an epoch
+  pub update-idle : {A : Type 0} (unheld : Type 0) (number : ℕ) (old new : State) (error : TransactionalObjectError) → HasCauseOfUpdate (IsTestFailure holds tests invariants) unheld number old new error → (IsErrOf {T = A} (Err error) IdExhausted → new ≡ old) → IsBlocking error → new ≡ old
+  update-idle unheld number old new Fenced cause exhausted blocks = absurd (of_test cause)
+  update-idle unheld number old new IdExhausted cause exhausted blocks = exhausted refl
+  update-idle unheld number old new error cause exhausted blocks = absurd blocks
+
+-- it is for no want of a turn that a mutator refuses
+pub mutator-not_spent : (fault : CallbackFault) (error : TransactionalObjectError) → error ≡ error_of_callback fault → error ≡ TurnsExhausted → ⊥
+mutator-not_spent fault error is spent = subst IsOfCallback (sym (sym spent ∙ is)) (of_callback fault)

@@ -6,3 +6,4 @@ pub mod Views
 pub mod Attempts
 pub mod AttemptCauses
 pub mod Claiming
+pub mod Updates

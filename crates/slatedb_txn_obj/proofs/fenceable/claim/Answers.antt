@@ -1,18 +1,18 @@
 -- What a refused attempt leaves, and what the one that succeeded has read of the clock.
-use Rattle.std.proofs.Common.{rules, arith, true, true≢false, refl, sym, subst, ap, ◌∙◌, ◌≡◌, ◌⊎◌, All, Err, inl, inr, ℕ, ◌+◌, ◌-◌, ◌^◌, ◌≤◌, List, [], ◌∷◌, ◌++◌}
+use Rattle.std.proofs.Common.{arith, true, true≢false, refl, sym, subst, ap, ◌∙◌, ◌≡◌, ◌⊎◌, All, Err, inl, inr, ℕ, ◌+◌, ◌-◌, ◌*◌, ◌^◌, ◌≤◌, List, [], ◌∷◌, ◌++◌}
 use Rattle.std.proofs.lemmas.List.{length_push}
-use Rattle.std.proofs.lemmas.Result.{err_from_is_err_and, IfErr-at_err}
+use Rattle.std.proofs.lemmas.Result.{err_from_is_err_and}
 use Rattle.txn_types.specs.declared.error.TransactionalObjectError.{TransactionalObjectError}
 use Rattle.txn_types.specs.Epochs.{NextEpoch, HasNoEpoch}
 use Rattle.txn_store.specs.Store.{State}
 use Rattle.txn_drivers.specs.LatestReads.{IsLatest}
 use Rattle.slatedb_txn_obj.specs.Claims.{ReadsOne, ReadsInTime, ReadsLate, HasCauseOfClaim}
 use Rattle.slatedb_txn_obj.specs.Protocol.{UnheldAt}
-use Rattle.slatedb_txn_obj.specs.Views.{IsVersion, IsTestFailure}
-use Rattle.slatedb_txn_obj.proofs.AttemptCauses.{blocked-no_conflict, claim-refresh, refresh-not_blocking}
+use Rattle.slatedb_txn_obj.specs.Views.{IsVersion, IsTestFailure, HasCauseOfRefresh}
+use Rattle.slatedb_txn_obj.proofs.AttemptCauses.{claim-refresh, refresh-not_blocking}
 use Rattle.slatedb_txn_obj.proofs.Leaving.{others-trans, others-same, others-placed}
-use Rattle.slatedb_txn_obj.proofs.Attempts.{paged-after, pages-most, spends-update, spends-refresh, first-spent, latest-not_overtaken}
-use Rattle.slatedb_txn_obj.proofs.Claiming.{reads-more, reads-late, claim-cause}
+use Rattle.slatedb_txn_obj.proofs.Attempts.{paged-after, pages-most, spends-update, spends-refresh, attempt-few, conflict-few, conflict-spent, conflict-next, conflict-left, idle-spent, reads-for, latest-not_overtaken}
+use Rattle.slatedb_txn_obj.proofs.Claiming.{reads-more, reads-late, claim-cause, not_exhausted, attempt-other, refresh-exhausted, has_begun, ok_begun, not_begun, not_passed}
 use Rattle.slatedb_txn_obj.proofs.Views.{version-of_latest, none-empty}
 use Rattle.slatedb_txn_obj.proofs.fenceable.claim.Goals as goal
 
@@ -38,15 +38,7 @@ loop-asked-preserved g c =
           shown.2 h b (overtaken.stands h b here.0 here.1.within));
       placed = refresh.placed ∙ conflict.placed ∙ inv.placed;
       others = others-trans (others-placed (λ at. g.P.TransactionalStorageProtocol.owns at) (λ at n. g.P.TransactionalStorageProtocol.version_file at n) (λ at n. g.met.P.TransactionalStorageProtocol.owns_version at n) (g.P.TransactionalStorageProtocol.number c.loop-asked.view.id + 1) inv.placed inv.others conflict.creates) (others-same refresh.files);
-      first = elim inv.first [
-        | inl same ↦ inr (
-          (λ e none.
-              let blocked = (rw same.0 at conflict.blocked) e none in
-              blocked-no_conflict _ _ e none (sym (IfErr-at_err (λ error. c.in-Err.error ≡ error) blocked.0 refl) ∙ c.is_sequenced_write_conflict.ensures.kind.0 c.if-is_sequenced_write_conflict.true)),
-          (λ e next fails. ((rw same.0 at conflict.barred) e next fails).2 exists),
-        )
-        | inr began ↦ inr began
-      ];
+      first = inr (has_begun (λ v. g.X.EpochField.epoch_of c.args.epochs v.object) (λ v e. All (λ i. g.I.Invariant.holds i (g.X.EpochField.with_epoch c.args.epochs v.object e) v.object) v.invariants.items) c.args.asked _ _ _ _ _ _ _ inv.first conflict.blocked conflict.barred (c.is_sequenced_write_conflict.ensures.kind.0 c.if-is_sequenced_write_conflict.true));
       paged = λ h b stands version.
           let here = inv.unmoved h b stands version in
           let after = overtaken.stands h b here.0 here.1.within in
@@ -58,11 +50,7 @@ loop-asked-preserved g c =
         λ h b stands version.
             let here = inv.unmoved h b stands version in
             let after = overtaken.stands h b here.0 here.1.within in
-            elim (inv.timed.2 h b stands version) [
-              | inl first ↦ (let spent = first-spent _ _ _ _ _ _ _ _ _ _ _ (first.0, first.1, first.2) c.loop-asked-test.ensures.spent (conflict.paged h b here.0 here.1.within) (refresh.few h b after) conflict.spends.left_least refresh.spends.left_least in
-                  inr (spent.0, shown.2 h b after, spent.1, omega (arith, first.3, overtaken.newer h b here.0 here.1.within), omega (arith, first.4, length_push inv.timed.0 one.0, length_push (inv.timed.0 ++ one.0 ∷ []) two.0)))
-              | inr second ↦ absurd (latest-not_overtaken _ _ _ h b _ overtaken here.0 here.1 second.1)
-            ],
+            conflict-next _ _ _ _ _ _ _ _ _ _ _ _ _ _ _ _ _ _ _ _ _ (inv.timed.2 h b stands version) (λ latest. latest-not_overtaken _ _ _ h b _ overtaken here.0 here.1 latest) c.loop-asked-test.ensures.spent (conflict.paged h b here.0 here.1.within) (refresh.few h b after) conflict.spends.left_least refresh.spends.left_least (shown.2 h b after) (overtaken.newer h b here.0 here.1.within) (length_push inv.timed.0 one.0) (length_push (inv.timed.0 ++ one.0 ∷ []) two.0),
       );
     }
 
@@ -71,15 +59,9 @@ returns-in_err-check-in-Err g c =
     let inv = c.loop-asked.invariant in
     let conflict = c.in-Err.ensures in
     let is_conflict = c.is_sequenced_write_conflict.ensures.kind.0 c.if-is_sequenced_write_conflict.true in
-    let none : (e : TransactionalObjectError) → HasNoEpoch c.args.asked (g.X.EpochField.epoch_of c.args.epochs c.args.view.object) e → ⊥ = λ e no. elim inv.first [
-      | inl same ↦ blocked-no_conflict _ _ e no (sym (IfErr-at_err (λ error. c.in-Err.error ≡ error) ((rw same.0 at conflict.blocked) e no).0 refl) ∙ is_conflict)
-      | inr began ↦ began.0 e no
-    ] in
-    let failing : (e : ℕ) → NextEpoch c.args.asked (g.X.EpochField.epoch_of c.args.epochs c.args.view.object) e → (All (λ i. g.I.Invariant.holds i (g.X.EpochField.with_epoch c.args.epochs c.args.view.object e) c.args.view.object) c.args.view.invariants.items → ⊥) → ⊥ = λ e next fails. elim inv.first [
-      | inl same ↦ ((rw same.0 at conflict.barred) e next fails).2 (ap Err is_conflict)
-      | inr began ↦ began.1 e next fails
-    ] in
+    let begun = has_begun (λ v. g.X.EpochField.epoch_of c.args.epochs v.object) (λ v e. All (λ i. g.I.Invariant.holds i (g.X.EpochField.with_epoch c.args.epochs v.object e) v.object) v.invariants.items) c.args.asked _ _ _ _ _ _ _ inv.first conflict.blocked conflict.barred is_conflict in
     let p = err_from_is_err_and c.from_residual.result c.from_residual.ensures.1 in
+    let late = c.in_err-check-in-Err.ensures.late in
     record {
       claimed = rw p.1 tt;
       holder = rw p.1 tt;
@@ -88,18 +70,13 @@ returns-in_err-check-in-Err g c =
           let here = inv.unmoved h b stands version in
           inl ((conflict.conflict (ap Err is_conflict)).stands h b here.0 here.1.within));
       spends = spends-update _ _ _ _ _ _ c.loop-asked-test.ensures.spent inv.spends conflict.spends;
-      few = λ h b stands version. elim (inv.timed.2 h b stands version) [
-        | inl first ↦ (omega (arith, first.0, c.loop-asked-test.ensures.spent), omega (arith, first.2, conflict.spends.left_least))
-        | inr second ↦ (omega (arith, second.0, c.loop-asked-test.ensures.spent), omega (arith, second.2, conflict.spends.left_least))
-      ];
-      enough = search rules;
-      cause =
-          let late = c.in_err-check-in-Err.ensures.late in
-          rw p.1 (rw p.2 (rw late.0 (inv.timeout, subst (λ n. ReadsLate n (g.K.SystemClock.readings c.args.clock.now) (g.K.SystemClock.readings c.check.new.clock)) inv.timeout (reads-late _ _ _ _ _ _ (reads-more _ _ inv.timed.0 _ _ _ inv.timed.1 (conflict.conflict_in_time (ap Err is_conflict))) late.1))));
-      refused = search rules;
-      blocked = λ e no some. absurd (none e no);
-      barred = λ e next fails. absurd (failing e next fails);
-      idle = search rules;
+      few = λ h b stands version. attempt-few _ _ _ _ _ _ _ _ _ _ _ _ _ (inv.timed.2 h b stands version) c.loop-asked-test.ensures.spent conflict.spends.left_least;
+      enough = λ h b stands version most is. not_exhausted _ (rw p.1 (rw p.2 (rw late.0 tt))) is;
+      cause = rw p.1 (rw p.2 (rw late.0 (inv.timeout, subst (λ n. ReadsLate n (g.K.SystemClock.readings c.args.clock.now) (g.K.SystemClock.readings c.check.new.clock)) inv.timeout (reads-late _ _ _ _ _ _ (reads-more _ _ inv.timed.0 _ _ _ inv.timed.1 (conflict.conflict_in_time (ap Err is_conflict))) late.1))));
+      refused = rw p.1 (rw p.2 (rw late.0 (λ callback. absurd callback)));
+      blocked = λ e none some. absurd (begun.0 e none);
+      barred = λ e next fails. absurd (begun.1 e next fails);
+      idle = rw p.1 (rw p.2 (rw late.0 (λ blocks. absurd blocks)));
       paged = λ h b stands version.
           let here = inv.unmoved h b stands version in
           pages-most _ _ _ _ (conflict.paged h b here.0 here.1.within) (inv.paged h b stands version);
@@ -112,14 +89,7 @@ returns-in_err-refresh-in-Err g c =
     let inv = c.loop-asked.invariant in
     let conflict = c.in-Err.ensures in
     let is_conflict = c.is_sequenced_write_conflict.ensures.kind.0 c.if-is_sequenced_write_conflict.true in
-    let none : (e : TransactionalObjectError) → HasNoEpoch c.args.asked (g.X.EpochField.epoch_of c.args.epochs c.args.view.object) e → ⊥ = λ e no. elim inv.first [
-      | inl same ↦ blocked-no_conflict _ _ e no (sym (IfErr-at_err (λ error. c.in-Err.error ≡ error) ((rw same.0 at conflict.blocked) e no).0 refl) ∙ is_conflict)
-      | inr began ↦ began.0 e no
-    ] in
-    let failing : (e : ℕ) → NextEpoch c.args.asked (g.X.EpochField.epoch_of c.args.epochs c.args.view.object) e → (All (λ i. g.I.Invariant.holds i (g.X.EpochField.with_epoch c.args.epochs c.args.view.object e) c.args.view.object) c.args.view.invariants.items → ⊥) → ⊥ = λ e next fails. elim inv.first [
-      | inl same ↦ ((rw same.0 at conflict.barred) e next fails).2 (ap Err is_conflict)
-      | inr began ↦ began.1 e next fails
-    ] in
+    let begun = has_begun (λ v. g.X.EpochField.epoch_of c.args.epochs v.object) (λ v e. All (λ i. g.I.Invariant.holds i (g.X.EpochField.with_epoch c.args.epochs v.object e) v.object) v.invariants.items) c.args.asked _ _ _ _ _ _ _ inv.first conflict.blocked conflict.barred is_conflict in
     let refresh = c.refresh.ensures in
     let overtaken = conflict.conflict (ap Err is_conflict) in
     let p = err_from_is_err_and c.from_residual-in_err-refresh-in-Err.result c.from_residual-in_err-refresh-in-Err.ensures.1 in
@@ -134,7 +104,11 @@ returns-in_err-refresh-in-Err g c =
     let full : Type 0 = (n : ℕ) × (v : g.row.T.Denot) × met n v × (n + 1 ≡ 2 ^ 64) in
     let unheld : Type 0 = (h : List g.row.T.Denot) (b : ℕ) → stood h b → IsVersion h number c.args.view.object → ⊥ in
     let told = rw c.in_err-refresh-in-Err.was at c.refresh.follows.holds-at-none in
+    let told_cause : HasCauseOfRefresh (g.P.TransactionalStorageProtocol.stands c.attempt.new.protocol c.attempt.new.store) c.refresh.new.turns (g.S.ObjectStore.state c.attempt.new.store) (g.S.ObjectStore.state c.refresh.new.store) c.in_err-refresh-in-Err.field-0.0 = elim told [ inl same ↦ same.1 | inr shuts ↦ absurd shuts.1 ] in
     let failures : (g.S.ObjectStore.state c.args.store.now).failures ≤ (g.S.ObjectStore.state c.attempt.new.store).failures = omega (arith, inv.spends.failures_rise, conflict.spends.failures_rise) in
+    let spent : (h : List g.row.T.Denot) (b : ℕ) → stood h b → IsVersion h number c.args.view.object → (c.args.turns.now ≤ c.refresh.new.turns + 3 + 2 * g.P.TransactionalStorageProtocol.pages c.args.protocol.now c.args.store.now) × ((g.S.ObjectStore.state c.args.store.now).left ≤ (g.S.ObjectStore.state c.refresh.new.store).left + 1) = λ h b stands version.
+    let here = inv.unmoved h b stands version in
+    conflict-spent _ _ _ _ _ _ _ _ _ _ _ _ _ _ _ _ (inv.timed.2 h b stands version) (λ latest. latest-not_overtaken _ _ _ h b _ overtaken here.0 here.1 latest) c.loop-asked-test.ensures.spent (conflict.paged h b here.0 here.1.within) (refresh.few h b (overtaken.stands h b here.0 here.1.within)) conflict.spends.left_least refresh.spends.left_least in
     record {
       claimed = rw p.1 tt;
       holder = rw p.1 tt;
@@ -143,25 +117,24 @@ returns-in_err-refresh-in-Err g c =
           let here = inv.unmoved h b stands version in
           inl (refresh.kept h b (overtaken.stands h b here.0 here.1.within)));
       spends = spends-refresh _ _ _ _ _ _ (spends-update _ _ _ _ _ _ c.loop-asked-test.ensures.spent inv.spends conflict.spends) refresh.spends;
-      few = search rules;
-      enough = search rules;
-      cause = rw p.1 (rw p.2 (elim told [
-        | inl same ↦ claim-refresh c.args.timeout late fails blocked full unheld c.refresh.new.turns (g.S.ObjectStore.state c.args.store.now) (g.S.ObjectStore.state c.attempt.new.store) (g.S.ObjectStore.state c.refresh.new.store) (g.P.TransactionalStorageProtocol.stands c.attempt.new.protocol c.attempt.new.store) failures
-            (λ empty h b stands version.
-            let here = inv.unmoved h b stands version in
-            none-empty h (empty h b (overtaken.stands h b here.0 here.1.within)) version)
-            (λ unheld h b stands version.
-            let here = inv.unmoved h b stands version in
-            unheld h b (overtaken.stands h b here.0 here.1.within))
-            _ same.1
-        | inr shuts ↦ absurd shuts.1
-      ]));
+      few = λ h b stands version.
+          let most = spent h b stands version in
+          conflict-few _ _ _ _ _ most.0 most.1;
+      enough = λ h b stands version most is. conflict-left _ _ _ (spent h b stands version).0 (refresh-exhausted (g.P.TransactionalStorageProtocol.stands c.attempt.new.protocol c.attempt.new.store) c.refresh.new.turns (g.S.ObjectStore.state c.attempt.new.store) (g.S.ObjectStore.state c.refresh.new.store) _ told_cause (ap Err (sym p.2) ∙ sym p.1 ∙ is)) most;
+      cause = rw p.1 (rw p.2 (claim-refresh c.args.timeout late fails blocked full unheld c.refresh.new.turns (g.S.ObjectStore.state c.args.store.now) (g.S.ObjectStore.state c.attempt.new.store) (g.S.ObjectStore.state c.refresh.new.store) (g.P.TransactionalStorageProtocol.stands c.attempt.new.protocol c.attempt.new.store) failures
+          (λ empty h b stands version.
+          let here = inv.unmoved h b stands version in
+          none-empty h (empty h b (overtaken.stands h b here.0 here.1.within)) version)
+          (λ unheld h b stands version.
+          let here = inv.unmoved h b stands version in
+          unheld h b (overtaken.stands h b here.0 here.1.within))
+          _ told_cause));
       refused = rw p.1 (rw p.2 (λ callback h b stands version.
           let here = inv.unmoved h b stands version in
           refresh.kept h b (overtaken.stands h b here.0 here.1.within)));
-      blocked = λ e no some. absurd (none e no);
-      barred = λ e next fails. absurd (failing e next fails);
-      idle = rw p.1 (rw p.2 (λ blocks. elim told [ inl same ↦ absurd (refresh-not_blocking (g.P.TransactionalStorageProtocol.stands c.attempt.new.protocol c.attempt.new.store) c.refresh.new.turns (g.S.ObjectStore.state c.attempt.new.store) (g.S.ObjectStore.state c.refresh.new.store) _ blocks same.1) | inr shuts ↦ absurd shuts.1 ]));
+      blocked = λ e none some. absurd (begun.0 e none);
+      barred = λ e next fails. absurd (begun.1 e next fails);
+      idle = rw p.1 (rw p.2 (λ blocks. absurd (refresh-not_blocking (g.P.TransactionalStorageProtocol.stands c.attempt.new.protocol c.attempt.new.store) c.refresh.new.turns (g.S.ObjectStore.state c.attempt.new.store) (g.S.ObjectStore.state c.refresh.new.store) _ blocks told_cause)));
       paged = λ h b stands version.
           let here = inv.unmoved h b stands version in
           let read = refresh.paged h b (overtaken.stands h b here.0 here.1.within) in
@@ -185,11 +158,8 @@ returns-in-Err-2 g c =
             | inr written ↦ inr (g.P.TransactionalStorageProtocol.number c.loop-asked.view.id, c.loop-asked.view.object, written.0, here.1, written.1, written.2)
           ];
       spends = spends-update _ _ _ _ _ _ c.loop-asked-test.ensures.spent inv.spends attempt.spends;
-      few = λ h b stands version. elim (inv.timed.2 h b stands version) [
-        | inl first ↦ (omega (arith, first.0, c.loop-asked-test.ensures.spent), omega (arith, first.2, attempt.spends.left_least))
-        | inr second ↦ (omega (arith, second.0, c.loop-asked-test.ensures.spent), omega (arith, second.2, attempt.spends.left_least))
-      ];
-      enough = search rules;
+      few = λ h b stands version. attempt-few _ _ _ _ _ _ _ _ _ _ _ _ _ (inv.timed.2 h b stands version) c.loop-asked-test.ensures.spent attempt.spends.left_least;
+      enough = λ h b stands version most is. not_exhausted _ (attempt-other _ _ _ (g.P.TransactionalStorageProtocol.number c.loop-asked.view.id) _ (λ error. (e : ℕ) × NextEpoch c.args.asked (g.X.EpochField.epoch_of c.args.epochs c.loop-asked.view.object) e × IsTestFailure (λ i. g.I.Invariant.holds i (g.X.EpochField.with_epoch c.args.epochs c.loop-asked.view.object e) c.loop-asked.view.object) (λ i. g.I.Invariant.fails i (g.X.EpochField.with_epoch c.args.epochs c.loop-asked.view.object e) c.loop-asked.view.object) c.loop-asked.view.invariants.items error) _ (g.S.ObjectStore.state c.loop-asked.store) (g.S.ObjectStore.state c.attempt.new.store) _ attempt.cause) is;
       cause =
           let stood = g.P.TransactionalStorageProtocol.stands c.args.protocol.now c.args.store.now in
           let number = g.P.TransactionalStorageProtocol.number c.args.view.id in
@@ -224,17 +194,12 @@ returns-in-Err-2 g c =
       refused = λ callback h b stands version.
           let same = attempt.refused callback in
           rw same.0 (rw same.1 (inv.unmoved h b stands version).0);
-      blocked = λ e no some. elim inv.first [
-        | inl same ↦ (let blocked = (rw same.0 at attempt.blocked) e no in (ap Err (IfErr-at_err (λ error. c.in-Err.error ≡ error) blocked.0 refl), blocked.1 ∙ same.1))
-        | inr began ↦ absurd (began.0 e no)
-      ];
-      barred = λ e next fails. elim inv.first [
-        | inl same ↦ (refl, ((rw same.0 at attempt.barred) e next fails).1 ∙ same.1)
-        | inr began ↦ absurd (began.1 e next fails)
-      ];
+      blocked = λ e none some.
+          let told = not_begun (λ v. g.X.EpochField.epoch_of c.args.epochs v.object) (λ v e. All (λ i. g.I.Invariant.holds i (g.X.EpochField.with_epoch c.args.epochs v.object e) v.object) v.invariants.items) c.args.asked _ _ _ (g.S.ObjectStore.state c.args.store.now) (g.S.ObjectStore.state c.loop-asked.store) (g.S.ObjectStore.state c.attempt.new.store) _ inv.first attempt.blocked e none in
+          (ap Err told.0, told.1);
+      barred = λ e next fails. (refl, not_passed (λ v. g.X.EpochField.epoch_of c.args.epochs v.object) (λ v e. All (λ i. g.I.Invariant.holds i (g.X.EpochField.with_epoch c.args.epochs v.object e) v.object) v.invariants.items) c.args.asked _ _ _ (g.S.ObjectStore.state c.args.store.now) (g.S.ObjectStore.state c.loop-asked.store) (g.S.ObjectStore.state c.attempt.new.store) inv.first attempt.barred e next fails);
       idle = λ blocks.
-          let calls = ap (λ (s : State). s.calls) (attempt.idle blocks) in
-          omega (arith, calls, inv.spends.calls_most, c.loop-asked-test.ensures.spent);
+          idle-spent _ _ _ _ _ _ (ap (λ (s : State). s.calls) (attempt.idle blocks)) inv.spends.calls_most c.loop-asked-test.ensures.spent;
       paged = λ h b stands version.
           let here = inv.unmoved h b stands version in
           pages-most _ _ _ _ (attempt.paged h b here.0 here.1.within) (inv.paged h b stands version);
@@ -260,7 +225,7 @@ returns-in-Ok g c = record {
         stands = rw value (ok.updated.stands h b here.0 here.1);
         at = rw value (ok.updated.next h b here.0 here.1);
       };
-  holder = search rules;
+  holder = (refl, ap (λ v. v.invariants) c.in-Ok.ensures.moved.0 ∙ c.loop-asked.invariant.invariants);
   timely =
       let inv = c.loop-asked.invariant in
       let one = c.in-Ok.ensures.in_time in
@@ -270,29 +235,16 @@ returns-in-Ok g c = record {
         subst (λ n. ReadsInTime c.starting-deadline.result.start n (inv.timed.0 ++ one.0 ∷ []) (g.K.SystemClock.readings c.args.clock.now) (g.K.SystemClock.readings c.attempt.new.clock)) inv.timeout more,
         λ h b stands version.
             let here = inv.unmoved h b stands version in
-            let newest = (c.in-Ok.ensures.updated.newest h b here.0 here.1).id_is in
-            elim (inv.timed.2 h b stands version) [
-              | inl first ↦ ((λ is. omega (arith, first.4, length_push inv.timed.0 one.0)), (λ less. absurd (omega (arith, first.3, newest, less))))
-              | inr second ↦ ((λ is. absurd (omega (arith, is, second.3))), (λ less. omega (arith, second.4, length_push inv.timed.0 one.0)))
-            ],
+            reads-for _ _ _ _ _ _ _ _ _ _ _ _ (inv.timed.2 h b stands version) (length_push inv.timed.0 one.0) (c.in-Ok.ensures.updated.newest h b here.0 here.1).id_is,
       );
   failed = tt;
   spends = spends-update _ _ _ _ _ _ c.loop-asked-test.ensures.spent c.loop-asked.invariant.spends c.in-Ok.ensures.spends;
-  few = λ h b stands version. elim (c.loop-asked.invariant.timed.2 h b stands version) [
-    | inl first ↦ (omega (arith, first.0, c.loop-asked-test.ensures.spent), omega (arith, first.2, c.in-Ok.ensures.spends.left_least))
-    | inr second ↦ (omega (arith, second.0, c.loop-asked-test.ensures.spent), omega (arith, second.2, c.in-Ok.ensures.spends.left_least))
-  ];
-  enough = search rules;
+  few = λ h b stands version. attempt-few _ _ _ _ _ _ _ _ _ _ _ _ _ (c.loop-asked.invariant.timed.2 h b stands version) c.loop-asked-test.ensures.spent c.in-Ok.ensures.spends.left_least;
+  enough = λ h b stands version most is. not_exhausted _ tt is;
   cause = tt;
   refused = tt;
-  blocked = λ e no some. elim c.loop-asked.invariant.first [
-    | inl same ↦ (let bad = ((rw same.0 at c.in-Ok.ensures.blocked) e no).0 in absurd (cc))
-    | inr began ↦ absurd (began.0 e no)
-  ];
-  barred = λ e next fails. elim c.loop-asked.invariant.first [
-    | inl same ↦ (let bad = ((rw same.0 at c.in-Ok.ensures.barred) e next fails).0 in absurd (cc))
-    | inr began ↦ absurd (began.1 e next fails)
-  ];
+  blocked = λ e none some. absurd ((ok_begun (λ v. g.X.EpochField.epoch_of c.args.epochs v.object) (λ v e. All (λ i. g.I.Invariant.holds i (g.X.EpochField.with_epoch c.args.epochs v.object e) v.object) v.invariants.items) c.args.asked _ _ _ _ _ _ _ _ c.loop-asked.invariant.first c.in-Ok.ensures.blocked c.in-Ok.ensures.barred).0 e none);
+  barred = λ e next fails. absurd ((ok_begun (λ v. g.X.EpochField.epoch_of c.args.epochs v.object) (λ v e. All (λ i. g.I.Invariant.holds i (g.X.EpochField.with_epoch c.args.epochs v.object e) v.object) v.invariants.items) c.args.asked _ _ _ _ _ _ _ _ c.loop-asked.invariant.first c.in-Ok.ensures.blocked c.in-Ok.ensures.barred).1 e next fails);
   idle = tt;
   paged = λ h b stands version.
       let inv = c.loop-asked.invariant in
