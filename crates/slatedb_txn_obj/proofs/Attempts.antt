@@ -63,24 +63,57 @@ module _ {T Id View : Type 0} (answers : View → Result (Option (DirtyObject T 
   candidate-first start view B C D dirty (inl first) answered = (dirty, subst (λ v. answers v (Ok (Some dirty))) first.0 answered)
   candidate-first start view B C D dirty (inr earlier) answered = earlier
 
+-- by turns, pages and tokens left: the first attempt comes, or the second, which is on the newest version
+abbrev Attempted : (t0 t p0 p l0 l : ℕ) → Type 0 → Type 0
+Attempted t0 t p0 p l0 l Latest = ((t ≡ t0) × (p ≡ p0) × (l0 ≤ l)) ⊎ ((t0 ≤ t + 3 + 2 * p0) × Latest × (l0 ≤ l + 1))
+
 -- what a first attempt has spent after a conflict and its refresh, by turns, pages and tokens left
 pub first-spent : (t0 t t1 t2 p0 p p1 l0 l l1 l2 : ℕ) → (t ≡ t0) × (p ≡ p0) × (l0 ≤ l) → t ≡ t1 + 1 → p1 ≤ p + 1 → t1 ≤ t2 + 2 * p1 → l ≤ l1 + 1 → l1 ≤ l2 + 0 → (t0 ≤ t2 + 3 + 2 * p0) × (l0 ≤ l2 + 1)
 first-spent t0 t t1 t2 p0 p p1 l0 l l1 l2 first spent paged few took took' = (omega (arith, first.0, first.1, spent, paged, few), omega (arith, first.2, took, took'))
 
--- by turns, pages and tokens left, the newest number and readings: the first attempt comes, or the second, which is on the newest version
+-- what the first attempt or the second has spent, by turns, pages and tokens left
+pub few-spent : (t0 t t1 p0 p l0 l l1 : ℕ) (Latest : Type 0) → t ≤ t1 + 1 → l ≤ l1 + 1 → Attempted t0 t p0 p l0 l Latest → (t0 ≤ t1 + 4 + 2 * p0) × (l0 ≤ l1 + 2)
+few-spent t0 t t1 p0 p l0 l l1 Latest spent took (inl first) = (omega (arith, spent, first.0), omega (arith, took, first.2))
+few-spent t0 t t1 p0 p l0 l l1 Latest spent took (inr second) = (omega (arith, spent, second.0), omega (arith, took, second.2))
+
+-- so a turn is left for each
+pub turn-left : (t0 t p0 p l0 l : ℕ) (Latest : Type 0) → 4 + 2 * p0 ≤ t0 → t ≡ 0 → Attempted t0 t p0 p l0 l Latest → ⊥
+turn-left t0 t p0 p l0 l Latest many none (inl first) = omega (arith, many, none, first.0)
+turn-left t0 t p0 p l0 l Latest many none (inr second) = omega (arith, many, none, second.0)
+
+-- what attempts have spent after a conflict and its refresh, where one on the newest version is no conflict
+pub attempts-after : (t0 t t1 t2 p0 p p1 l0 l l1 l2 : ℕ) (Latest : Type 0) → (Latest → ⊥) → t ≡ t1 + 1 → p1 ≤ p + 1 → t1 ≤ t2 + 2 * p1 → l ≤ l1 + 1 → l1 ≤ l2 + 0 → Attempted t0 t p0 p l0 l Latest → (t0 ≤ t2 + 3 + 2 * p0) × (l0 ≤ l2 + 1)
+attempts-after t0 t t1 t2 p0 p p1 l0 l l1 l2 Latest over spent paged few took took' (inl first) = first-spent t0 t t1 t2 p0 p p1 l0 l l1 l2 first spent paged few took took'
+attempts-after t0 t t1 t2 p0 p p1 l0 l l1 l2 Latest over spent paged few took took' (inr second) = absurd (over second.1)
+
+-- which is no more than what two have
+pub conflict-few : (t0 t2 p0 l0 l2 : ℕ) → t0 ≤ t2 + 3 + 2 * p0 → l0 ≤ l2 + 1 → (t0 ≤ t2 + 4 + 2 * p0) × (l0 ≤ l2 + 2)
+conflict-few t0 t2 p0 l0 l2 few took = (omega (arith, few), omega (arith, took))
+
+pub few-after : (t0 t t1 t2 p0 p p1 l0 l l1 l2 : ℕ) (Latest : Type 0) → (Latest → ⊥) → t ≡ t1 + 1 → p1 ≤ p + 1 → t1 ≤ t2 + 2 * p1 → l ≤ l1 + 1 → l1 ≤ l2 + 0 → Attempted t0 t p0 p l0 l Latest → (t0 ≤ t2 + 4 + 2 * p0) × (l0 ≤ l2 + 2)
+few-after t0 t t1 t2 p0 p p1 l0 l l1 l2 Latest over spent paged few took took' before = let after = attempts-after t0 t t1 t2 p0 p p1 l0 l l1 l2 Latest over spent paged few took took' before in conflict-few t0 t2 p0 l0 l2 after.0 after.1
+
+-- and the refresh has the turns that it needs
+pub enough-after : (t0 t t1 p0 p p1 l0 l : ℕ) (Latest : Type 0) → (Latest → ⊥) → 4 + 2 * p0 ≤ t0 → t ≡ t1 + 1 → p1 ≤ p + 1 → Attempted t0 t p0 p l0 l Latest → 2 * p1 ≤ t1
+enough-after t0 t t1 p0 p p1 l0 l Latest over many spent paged (inl first) = omega (arith, many, spent, paged, first.0, first.1)
+enough-after t0 t t1 p0 p p1 l0 l Latest over many spent paged (inr second) = absurd (over second.1)
+
+-- the same beside the newest number and the readings of a clock
 module _ (t0 t p0 p l0 l n0 n m k : ℕ) (Latest : Type 0) where
   abbrev pub IsAttempt : Type 0
   IsAttempt = ((t ≡ t0) × (p ≡ p0) × (l0 ≤ l) × (n ≡ n0) × (k ≡ 0)) ⊎ ((t0 ≤ t + 3 + 2 * p0) × Latest × (l0 ≤ l + 1) × (n0 < m) × (k ≡ 2))
 
+  without-readings : IsAttempt → Attempted t0 t p0 p l0 l Latest
+  without-readings (inl first) = inl (first.0, first.1, first.2)
+  without-readings (inr second) = inr (second.0, second.1, second.2)
+
   -- what is spent after it
   pub attempt-few : (t1 l1 : ℕ) → IsAttempt → t ≡ t1 + 1 → l ≤ l1 + 1 → (t0 ≤ t1 + 4 + 2 * p0) × (l0 ≤ l1 + 2)
-  attempt-few t1 l1 (inl first) spent took = (omega (arith, first.0, spent), omega (arith, first.2, took))
-  attempt-few t1 l1 (inr second) spent took = (omega (arith, second.0, spent), omega (arith, second.2, took))
+  attempt-few t1 l1 attempt spent took = few-spent t0 t t1 p0 p l0 l l1 Latest (omega (arith, spent)) took (without-readings attempt)
 
   -- and after its refresh where it was a conflict: it was the first, since the newest version is not overtaken
   pub conflict-spent : (t1 t2 p1 l1 l2 : ℕ) → IsAttempt → (Latest → ⊥) → t ≡ t1 + 1 → p1 ≤ p + 1 → t1 ≤ t2 + 2 * p1 → l ≤ l1 + 1 → l1 ≤ l2 + 0 → (t0 ≤ t2 + 3 + 2 * p0) × (l0 ≤ l2 + 1)
-  conflict-spent t1 t2 p1 l1 l2 (inl first) over spent paged few took took' = first-spent t0 t t1 t2 p0 p p1 l0 l l1 l2 (first.0, first.1, first.2) spent paged few took took'
-  conflict-spent t1 t2 p1 l1 l2 (inr second) over spent paged few took took' = absurd (over second.1)
+  conflict-spent t1 t2 p1 l1 l2 attempt over spent paged few took took' = attempts-after t0 t t1 t2 p0 p p1 l0 l l1 l2 Latest over spent paged few took took' (without-readings attempt)
 
   -- so the second comes, with two readings more
   pub conflict-next : (t1 t2 p1 p2 l1 l2 n' k' k'' : ℕ) (Newest : Type 0) → IsAttempt → (Latest → ⊥) → t ≡ t1 + 1 → p1 ≤ p + 1 → t1 ≤ t2 + 2 * p1 → l ≤ l1 + 1 → l1 ≤ l2 + 0 → Newest → n < m → k' ≡ k + 1 → k'' ≡ k' + 1 → ((t2 ≡ t0) × (p2 ≡ p0) × (l0 ≤ l2) × (n' ≡ n0) × (k'' ≡ 0)) ⊎ ((t0 ≤ t2 + 3 + 2 * p0) × Newest × (l0 ≤ l2 + 1) × (n0 < m) × (k'' ≡ 2))
@@ -99,10 +132,6 @@ idle-spent t0 t t1 c0 c c1 calls most spent = omega (arith, calls, most, spent)
 -- turns that were enough for two attempts are not all spent after one
 pub conflict-left : (t0 t2 p0 : ℕ) → t0 ≤ t2 + 3 + 2 * p0 → t2 ≡ 0 → 4 + 2 * p0 ≤ t0 → ⊥
 conflict-left t0 t2 p0 few none enough = omega (arith, few, none, enough)
-
--- and what one has spent is no more than what two have
-pub conflict-few : (t0 t2 p0 l0 l2 : ℕ) → t0 ≤ t2 + 3 + 2 * p0 → l0 ≤ l2 + 1 → (t0 ≤ t2 + 4 + 2 * p0) × (l0 ≤ l2 + 2)
-conflict-few t0 t2 p0 l0 l2 few took = (omega (arith, few), omega (arith, took))
 
 -- The pages after an attempt that was a conflict, and its refresh. So far there were as many as at first, or one more at most and the attempt was made on the newest version.
 pub paged-after : (same : Bool) (p0 p p1 p2 : ℕ) (Latest Newest : Type 0) → (same ≡ false → p1 ≡ p) → (same ≡ true → Latest → ⊥) → p1 ≤ p + 1 → p2 ≡ p1 → Newest → (p ≡ p0) ⊎ ((p ≤ p0 + 1) × Latest) → (p2 ≡ p0) ⊎ ((p2 ≤ p0 + 1) × Newest)
@@ -130,26 +159,3 @@ spends-turn first turns left old new spent before = record {
 -- no turn that was left
 pub spends-none : (first turns left : ℕ) (old new : State) → (turns ≡ 0) × (left ≡ 0) → SpendsTurns 7 0 (first - turns) first turns old new → SpendsTurns 7 0 (first - left) first left old new
 spends-none first turns left old new none before = subst (λ n. SpendsTurns 7 0 (first - n) first n old new) (none.0 ∙ sym none.1) before
-
--- what the first attempt or the second has spent, by turns, pages and tokens left
-pub few-spent : (t0 t t1 p0 p l0 l l1 : ℕ) (Latest : Type 0) → t ≤ t1 + 1 → l ≤ l1 + 1 → ((t ≡ t0) × (p ≡ p0) × (l0 ≤ l)) ⊎ ((t0 ≤ t + 3 + 2 * p0) × Latest × (l0 ≤ l + 1)) → (t0 ≤ t1 + 4 + 2 * p0) × (l0 ≤ l1 + 2)
-few-spent t0 t t1 p0 p l0 l l1 Latest spent took (inl first) = (omega (arith, spent, first.0), omega (arith, took, first.2))
-few-spent t0 t t1 p0 p l0 l l1 Latest spent took (inr second) = (omega (arith, spent, second.0), omega (arith, took, second.2))
-
--- so a turn is left for each
-pub turn-left : (t0 t p0 p l0 l : ℕ) (Latest : Type 0) → 4 + 2 * p0 ≤ t0 → t ≡ 0 → ((t ≡ t0) × (p ≡ p0) × (l0 ≤ l)) ⊎ ((t0 ≤ t + 3 + 2 * p0) × Latest × (l0 ≤ l + 1)) → ⊥
-turn-left t0 t p0 p l0 l Latest many none (inl first) = omega (arith, many, none, first.0)
-turn-left t0 t p0 p l0 l Latest many none (inr second) = omega (arith, many, none, second.0)
-
--- what attempts have spent after a conflict and its refresh, where one on the newest version is no conflict
-pub attempts-after : (t0 t t1 t2 p0 p p1 l0 l l1 l2 : ℕ) (Latest : Type 0) → (Latest → ⊥) → t ≡ t1 + 1 → p1 ≤ p + 1 → t1 ≤ t2 + 2 * p1 → l ≤ l1 + 1 → l1 ≤ l2 + 0 → ((t ≡ t0) × (p ≡ p0) × (l0 ≤ l)) ⊎ ((t0 ≤ t + 3 + 2 * p0) × Latest × (l0 ≤ l + 1)) → (t0 ≤ t2 + 3 + 2 * p0) × (l0 ≤ l2 + 1)
-attempts-after t0 t t1 t2 p0 p p1 l0 l l1 l2 Latest over spent paged few took took' (inl first) = first-spent t0 t t1 t2 p0 p p1 l0 l l1 l2 first spent paged few took took'
-attempts-after t0 t t1 t2 p0 p p1 l0 l l1 l2 Latest over spent paged few took took' (inr second) = absurd (over second.1)
-
-pub few-after : (t0 t t1 t2 p0 p p1 l0 l l1 l2 : ℕ) (Latest : Type 0) → (Latest → ⊥) → t ≡ t1 + 1 → p1 ≤ p + 1 → t1 ≤ t2 + 2 * p1 → l ≤ l1 + 1 → l1 ≤ l2 + 0 → ((t ≡ t0) × (p ≡ p0) × (l0 ≤ l)) ⊎ ((t0 ≤ t + 3 + 2 * p0) × Latest × (l0 ≤ l + 1)) → (t0 ≤ t2 + 4 + 2 * p0) × (l0 ≤ l2 + 2)
-few-after t0 t t1 t2 p0 p p1 l0 l l1 l2 Latest over spent paged few took took' before = let after = attempts-after t0 t t1 t2 p0 p p1 l0 l l1 l2 Latest over spent paged few took took' before in (omega (arith, after.0), omega (arith, after.1))
-
--- and the refresh has the turns that it needs
-pub enough-after : (t0 t t1 p0 p p1 l0 l : ℕ) (Latest : Type 0) → (Latest → ⊥) → 4 + 2 * p0 ≤ t0 → t ≡ t1 + 1 → p1 ≤ p + 1 → ((t ≡ t0) × (p ≡ p0) × (l0 ≤ l)) ⊎ ((t0 ≤ t + 3 + 2 * p0) × Latest × (l0 ≤ l + 1)) → 2 * p1 ≤ t1
-enough-after t0 t t1 p0 p p1 l0 l Latest over many spent paged (inl first) = omega (arith, many, spent, paged, first.0, first.1)
-enough-after t0 t t1 p0 p p1 l0 l Latest over many spent paged (inr second) = absurd (over second.1)
