@@ -41,11 +41,13 @@ impl<T, I, X> FenceableTransactionalObject<T, I, X> {
 
 impl<T: Clone, I: Invariant<T> + Drop, X: EpochField<T>> FenceableTransactionalObject<T, I, X> {
     /// Claims the object: its newest version with the next epoch in it is written straight on it, and the holder is at that.
-    /// An attempt that is overtaken refreshes, and makes another. Each attempt spends a turn, and so does each pass and page of a
-    /// refresh; where one is due and none is left, it is `TurnsExhausted`. The clock is read at the start and before each update
-    /// and each refresh: at the start plus the timeout (in milliseconds) or later it is `ObjectUpdateTimeout`. Where the epoch
-    /// is the greatest it is `IdExhausted`. A failed claim drops the delegate; its value may have been written. It asks that a
-    /// clone is the same value.
+    /// An attempt that is overtaken refreshes, and makes another. Each attempt spends a turn, and so does each pass of a refresh
+    /// and each page after a pass's first; where one is due and none is left, it is `TurnsExhausted`. The clock is read at the
+    /// start and before each update and each refresh: at the start plus the timeout (in milliseconds) or later it is
+    /// `ObjectUpdateTimeout`. Where the epoch or the version's id is the greatest it is `IdExhausted`. An invariant that fails
+    /// is `CallbackError`, and writes nothing; the other errors are those of a write and a read: `InvalidObjectState`,
+    /// `ObjectStoreError`, `NoMemory`, and `CallbackError` of the codec where nothing stood. A failed claim drops the delegate;
+    /// its value may have been written. It asks that a clone is the same value.
     pub fn init<S: ObjectStore, P: TransactionalStorageProtocol<T, MonotonicId, S>, K: SystemClock>(
         delegate: SimpleTransactionalObject<T, MonotonicId, I>,
         protocol: &mut P,

@@ -17,18 +17,22 @@
 //!   and `maybe_apply_update` asks a mutator, and once more after each conflict.
 //! - [`SimpleTransactionalObject`]: such an object, with [`Invariant`]s that each update keeps.
 //! - [`FenceableTransactionalObject`]: such an object in the hands of a holder. A claim (`init`) writes the newest value once
-//!   more with a greater epoch in it, by an [`EpochField`]; from then on older holders are `Fenced`.
-//! - [`ObjectCodec`]: how a value is written as bytes. [`MonotonicId`]: the id of a version. [`Turns`]: how many passes and
-//!   pages a call may still begin. [`SystemClock`]: by which a claim ends in time.
+//!   more with a greater epoch in it, by an [`EpochField`]; from then on an older holder's update is a conflict, and its
+//!   refresh finds it `Fenced`.
+//! - [`ObjectCodec`]: how a value is written as bytes. [`MonotonicId`]: the id of a version. [`Turns`]: how many passes of a
+//!   read, pages after the first, puts of an advance and attempts of an update a call may still begin. [`SystemClock`]: by
+//!   which a claim ends in time.
 //!
 //! ## Errors
 //! An error is a [`TransactionalObjectError`], and each contract says which come, why, and what they leave.
 //! - `ObjectVersionExists` is a conflict: the version that was to be written stands already, or it is at or below the
-//!   boundary. Refresh and try again, or let `maybe_apply_update` do so.
-//! - `Fenced`: a holder with a greater epoch has claimed the object. This holder writes nothing more.
-//! - `InvalidObjectState`: what stands, or what is given, is not what the call needs: a file that has to be there is missing
-//!   or says no number, a refresh finds no version, an id to be deleted is above the boundary, or a holder's version has a
-//!   smaller epoch than its own, or its candidate another one.
+//!   boundary, or a candidate is of another version than the object is at. Refresh and try again, or let
+//!   `maybe_apply_update` do so.
+//! - `Fenced`: a holder with a greater epoch has claimed the object, and this holder writes nothing more; or a claim asked for
+//!   an epoch that is not above the one that stands.
+//! - `InvalidObjectState`: what stands, or what is given, is not what the call needs: a boundary file says no number, a refresh
+//!   finds no version, an id to be deleted is above the boundary, or a holder's version has a smaller epoch than its own, or
+//!   its candidate another one.
 //! - `LatestRecordMissing`: a load found no version. `ObjectUpdateTimeout`, `TurnsExhausted`: a claim's time, or the turns
 //!   that were lent, ran out; what was written stands. `IdExhausted`: no greater id or epoch is left.
 //! - `CallbackError` passes on what a codec, an invariant or a mutator refused, `ObjectStoreError` what the store did, and
@@ -39,7 +43,7 @@
 //!
 //! ## Example
 //! A holder claims an object, writes on it, and is fenced once another has claimed it (a part of `fences_older_holder` of
-//! `slatedb_txn_obj_uses`, which is proved for every protocol, store and codec):
+//! `slatedb_txn_obj_uses`, which is proved for every value, field of epochs, clock, protocol and store):
 //! ```text
 //! let view: SimpleTransactionalObject<T, MonotonicId, NoInvariant> =
 //!     SimpleTransactionalObject::load(alloc, protocol, store, turns)?;

@@ -118,9 +118,9 @@ pub trait TransactionalObject<T: Clone, Id: Copy + Eq> {
 
     /// Asks the mutator for a candidate made of the object, and updates by it. After a conflict it refreshes, and asks once
     /// more. Nothing asked for is Ok, and the mutator's refusal is `CallbackError`, or `NoMemory`, and writes nothing. Each
-    /// attempt spends a turn, and so does each pass and page of a refresh; where one is due and none is left, it is
-    /// `TurnsExhausted`. After any other error the last candidate may have been written. An error names what the version met
-    /// that the object is at then, the one that it was at or the newest, which a refresh read.
+    /// attempt spends a turn, and so does each pass of a refresh and each page after a pass's first; where one is due and none
+    /// is left, it is `TurnsExhausted`. After any other error of an update the last candidate may have been written. An error
+    /// names what the version met that the object is at then, the one that it was at or the newest, which a refresh read.
     final fn maybe_apply_update<
         S: ObjectStore,
         P: TransactionalStorageProtocol<T, Id, S>,

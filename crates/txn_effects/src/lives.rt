@@ -51,30 +51,41 @@ impl Drop for Lives {
     }
 }
 
-/// A version that a call saw, with its token, and its bytes where it told them.
+/// What a call saw of a version that stood.
+#[derive(Clone, Copy)]
+enum Seen<'a> {
+    /// Its bytes.
+    Bytes(&'a Bytes),
+    /// How many bytes it has.
+    Size(u64),
+    /// No more than that it stood.
+    Stood,
+}
+
+/// A version that a call saw, with its token.
 #[derive(Clone, Copy)]
 struct Sight<'a> {
     id: u64,
     token: u64,
-    bytes: Option<&'a Bytes>,
+    seen: Seen<'a>,
     at: u64,
     /// When its reply was there.
     until: u64,
 }
 
-/// Adds that a call saw a version, where the file was one, with this token and these bytes.
+/// Adds that a call saw a version so, where the file was one, with this token.
 fn add_sight<'a>(
     sights: &mut Vec<Sight<'a>>,
     call: &Asked<'a>,
     id: Option<u64>,
     token: Token,
-    bytes: Option<&'a Bytes>,
+    seen: Seen<'a>,
 ) -> Result<(), AllocError> {
     if let Some(id) = id {
         sights.push(Sight {
             id,
             token: token.number(),
-            bytes,
+            seen,
             at: call.from,
             until: call.until,
         })?;
@@ -89,7 +100,8 @@ fn add_page<'a>(
     page: &Page,
 ) -> Result<(), AllocError> {
     for meta in page.metas.as_slice() {
-        add_sight(sights, call, version_of(&meta.location), meta.token, None)?;
+        let seen = Seen::Size(meta.size);
+        add_sight(sights, call, version_of(&meta.location), meta.token, seen)?;
     }
     Ok(())
 }
@@ -98,7 +110,13 @@ fn add_page<'a>(
 fn add_sights<'a>(sights: &mut Vec<Sight<'a>>, call: &Asked<'a>) -> Result<(), AllocError> {
     match (call.request, call.reply) {
         (Request::Get { path, .. }, Some(Reply::Get(Ok(got)))) => {
-            add_sight(sights, call, version_of(path), got.token, Some(&got.bytes))
+            add_sight(
+                sights,
+                call,
+                version_of(path),
+                got.token,
+                Seen::Bytes(&got.bytes),
+            )
         }
         (_, Some(Reply::List(Ok(page)))) => add_page(sights, call, page),
         _ => Ok(()),
@@ -115,12 +133,13 @@ fn taken_for(call: &Asked<'_>) -> Option<u64> {
 }
 
 /// Whether a call may have made what was seen.
-fn may_make(call: &Asked<'_>, id: u64, bytes: Option<&Bytes>) -> bool {
+fn may_make(call: &Asked<'_>, id: u64, seen: Seen<'_>) -> bool {
     if call.creates() != Some(id) {
         return false;
     }
-    match (bytes, call.puts()) {
-        (Some(seen), Some(put)) => seen == put,
+    match (seen, call.puts()) {
+        (Seen::Bytes(seen), Some(put)) => seen == put,
+        (Seen::Size(size), Some(put)) => put.len() as u64 == size,
         _ => true,
     }
 }
@@ -132,13 +151,13 @@ fn loose_maker(
     fates: &[Fate],
     loose: &[(u64, usize)],
     id: u64,
-    bytes: Option<&Bytes>,
+    seen: Seen<'_>,
     until: u64,
 ) -> Option<usize> {
     for (_, place) in loose {
         if let Some(call) = calls.get(*place) {
             let in_time = call.from <= until;
-            if in_time && !has_place(fates, *place) && may_make(call, id, bytes) {
+            if in_time && !has_place(fates, *place) && may_make(call, id, seen) {
                 return Some(*place);
             }
         }
@@ -207,7 +226,7 @@ impl Lives {
                     fates.as_slice(),
                     loose,
                     sight.id,
-                    sight.bytes,
+                    sight.seen,
                     sight.until,
                 );
                 if let Some(place) = maker {
@@ -248,7 +267,7 @@ impl Lives {
         if ids.contains_key(&id) {
             return Ok(());
         }
-        if let Some(place) = loose_maker(calls, fates.as_slice(), loose, id, None, until) {
+        if let Some(place) = loose_maker(calls, fates.as_slice(), loose, id, Seen::Stood, until) {
             land(fates, place, None);
             self.add(calls, id, None, place)?;
             ids.insert(id, ())?;

@@ -9,11 +9,13 @@ use crate::fault::RowFault;
 use crate::rebuild::rebuild;
 use crate::refusal::Refusal;
 use crate::replay::{places_of, replay};
-use std::alloc::Global;
+use std::alloc::{AllocError, Global};
+use std::collections::HashMap;
 use txn_audit::audit::audit;
 use txn_diary::diary::Diary;
 use txn_effects::clock::Clock;
 use txn_journals::audited::Logged;
+use txn_journals::fault::AuditFault;
 use txn_journals::laws::clients_share_only_the_store;
 use txn_lines::text_form::LineValue;
 use txn_logged::honest::HonestLog;
@@ -106,6 +108,19 @@ fn diaries_of<T: Clone + LineValue, C: ObjectCodec<T> + Copy + Drop, E: EpochFie
     Ok(diaries)
 }
 
+/// Whether two recordings are of one client.
+fn has_twins<T>(alloc: Global, recordings: &[Vec<Row<T>>]) -> Result<bool, AllocError> {
+    let mut clients = HashMap::new(alloc);
+    for rows in recordings {
+        if let Some(Row::Client(client, _)) = rows.as_slice().first() {
+            if clients.insert(*client, ())?.is_some() {
+                return Ok(true);
+            }
+        }
+    }
+    Ok(false)
+}
+
 /// Holds an order of the recorded calls on an honest store against the diaries made from the recordings.
 ///
 /// Each recording is the rows of one client, from the first; its times are of its clock in `clocks`, or of the clock of all where
@@ -114,9 +129,9 @@ fn diaries_of<T: Clone + LineValue, C: ObjectCodec<T> + Copy + Drop, E: EpochFie
 ///
 /// # Errors
 ///
-/// `Circle` where the calls have no order; `Row` for the first row of a recording that its client cannot have made;
-/// `Dishonest` for the first reply in the order that no honest store gave; `Differs` where the diaries and the log differ, as where
-/// two recordings are of one client; `NoMemory` where a growth was refused.
+/// `Differs` where two recordings are of one client, before anything else, and where the diaries and the log differ; `Circle` where
+/// the calls have no order; `Row` for the first row of a recording that its client cannot have made; `Dishonest` for the first reply
+/// in the order that no honest store gave; `NoMemory` where a growth was refused.
 pub fn audit_recordings<
     T: Clone + LineValue,
     C: ObjectCodec<T> + Copy + Drop,
@@ -131,6 +146,9 @@ pub fn audit_recordings<
     requires { IsExactClone T.is_clone }
     ensures { IfOk result (λ found. IsOneHistoryOf T.text (C.encoded codec) (C.decoded codec) (E.epoch_of epochs) (E.with_epoch epochs) (map (λ rows. rows.items) recordings.now) found.log (map as_diary found.diaries.items)) }
 {
+    if has_twins(alloc, recordings)? {
+        return Err(Refusal::Differs(AuditFault::ClientTwice));
+    }
     let page = page_of(recordings);
     let order = order(alloc, recordings, clocks)?;
     let places = places_of(alloc, recordings.len(), order.as_slice())?;

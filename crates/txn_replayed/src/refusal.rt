@@ -13,9 +13,9 @@ use txn_ordered::order::{CallPlace, OrderFault};
 pub enum Refusal {
     /// The client cannot have made this row of its recording. A row past the last one stands for the end.
     Row(CallPlace, RowFault),
-    /// Store calls wait for each other in a circle: no order explains all replies and times.
+    /// Store calls wait for each other in a circle: no order was found that explains all replies and times.
     Circle(Vec<CallPlace>),
-    /// No honest store gave this reply at this place in the order.
+    /// No honest store gives this reply at this place in the order, be it recorded or that of a call that landed.
     Dishonest(CallPlace, u64, LogFault),
     /// The diaries and the log differ.
     Differs(AuditFault),
@@ -71,14 +71,14 @@ fn difference(fault: AuditFault) -> &'static str {
     }
 }
 
-/// A line that says it. Recordings are named by their places and rows by their lines, both counted from 1.
+/// A line that says it. Recordings, the rows of each and the calls of the order are counted from 1.
 impl fmt::Display for Refusal {
     fn fmt<W: fmt::Write>(&self, f: &mut fmt::Formatter<W>) -> fmt::Result {
         match self {
             Refusal::Row(at, fault) => {
                 let recording = at.recording.saturating_add(1);
                 let row = at.row.saturating_add(1);
-                write!(f, "recording {recording}, line {row}: {fault}")
+                write!(f, "recording {recording}, row {row}: {fault}")
             }
             Refusal::Circle(calls) => {
                 write!(
@@ -88,17 +88,18 @@ impl fmt::Display for Refusal {
                 for call in calls.as_slice() {
                     let recording = call.recording.saturating_add(1);
                     let row = call.row.saturating_add(1);
-                    write!(f, " recording {recording}, line {row};")?;
+                    write!(f, " recording {recording}, row {row};")?;
                 }
                 Ok(())
             }
             Refusal::Dishonest(at, place, fault) => {
                 let recording = at.recording.saturating_add(1);
                 let row = at.row.saturating_add(1);
+                let call = place.saturating_add(1);
                 let name = name_of(*fault);
                 write!(
                     f,
-                    "recording {recording}, line {row}: no honest store replied so to call {place}: {name}"
+                    "recording {recording}, row {row}: no honest store replies so to call {call} of the order: {name}"
                 )
             }
             Refusal::Differs(fault) => {

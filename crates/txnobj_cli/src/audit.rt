@@ -28,6 +28,8 @@ const NO_ROW: &str = "this is no row of a recording";
 
 const NO_SOURCE: &str = "the row before does not say of which object the recording is";
 
+const NO_RECORDING: &str = "no recording goes on here: one begins with its object and its client";
+
 const OTHER_OBJECT: &str = "this recording is of another object than the first";
 
 /// What is known of a clock that a recording names.
@@ -35,8 +37,8 @@ const OTHER_OBJECT: &str = "this recording is of another object than the first";
 enum Clocked {
     /// It is named first.
     New,
-    /// It was named before; this is added to its times.
-    Known(u64),
+    /// It was named before: its place among the clocks.
+    Known(usize),
     /// It is of a recording of another object than the first.
     OfAnother,
 }
@@ -48,8 +50,8 @@ struct Begin {
     file: usize,
     /// The line of its first row, from 1.
     line: usize,
-    /// What is added to its times.
-    ahead: u64,
+    /// The clock of its times, by its place among the clocks.
+    clock: usize,
 }
 
 /// What files of recordings have.
@@ -59,8 +61,8 @@ struct Recordings {
     begins: Vec<Begin>,
     /// The clocks of the times, each as it was named first.
     clocks: Vec<Source>,
-    /// What is added to the times of the recording that comes next, where that was said.
-    next: Option<u64>,
+    /// The clock of the recording that comes next, where that was said.
+    next: Option<usize>,
 }
 
 impl Drop for Recordings {
@@ -102,15 +104,15 @@ impl Recordings {
         }
     }
 
-    /// What is known of a clock: what is added to its times, where it was named before.
+    /// What is known of a clock: its place, where it was named before.
     fn known(&self, source: &Source) -> Clocked {
         let mut known = Clocked::New;
-        for clock in self.clocks.as_slice() {
+        for (place, clock) in self.clocks.iter().enumerate() {
             if clock.object.as_str() != source.object.as_str() {
                 return Clocked::OfAnother;
             }
             if clock.clock.as_str() == source.clock.as_str() {
-                known = Clocked::Known(clock.ahead);
+                known = Clocked::Known(place);
             }
         }
         known
@@ -120,9 +122,9 @@ impl Recordings {
     fn add_source(&mut self, source: Source) -> Result<Option<&'static str>, AllocError> {
         match self.known(&source) {
             Clocked::OfAnother => return Ok(Some(OTHER_OBJECT)),
-            Clocked::Known(ahead) => self.next = Some(ahead),
+            Clocked::Known(clock) => self.next = Some(clock),
             Clocked::New => {
-                self.next = Some(source.ahead);
+                self.next = Some(self.clocks.len());
                 self.clocks.push(source)?;
             }
         }
@@ -131,7 +133,7 @@ impl Recordings {
 
     /// Begins a recording, where its source was noted. Whether it was.
     fn begin(&mut self, alloc: Global, place: (usize, usize)) -> Result<bool, AllocError> {
-        let Some(ahead) = self.next else {
+        let Some(clock) = self.next else {
             return Ok(false);
         };
         self.next = None;
@@ -139,9 +141,17 @@ impl Recordings {
         self.begins.push(Begin {
             file: place.0,
             line: place.1,
-            ahead,
+            clock,
         })?;
         Ok(true)
+    }
+
+    /// Whether a row of this file that names no client is of the last recording: that began there, and no other is to begin.
+    fn goes_on(&self, file: usize) -> bool {
+        match self.begins.last() {
+            Some(begin) => begin.file == file && self.next.is_none(),
+            None => false,
+        }
     }
 
     /// Adds a row: to a new recording where it names a client, else to the last one. What is wrong with that, if anything.
@@ -151,17 +161,17 @@ impl Recordings {
         place: (usize, usize),
         row: Row<Entry>,
     ) -> Result<Option<&'static str>, AllocError> {
-        let names_client = matches!(&row, Row::Client(_, _));
-        if names_client && !self.begin(alloc, place)? {
-            return Ok(Some(NO_SOURCE));
-        }
-        match self.rows.last_mut() {
-            Some(rows) => {
-                rows.push(row)?;
-                Ok(None)
+        if matches!(&row, Row::Client(_, _)) {
+            if !self.begin(alloc, place)? {
+                return Ok(Some(NO_SOURCE));
             }
-            None => Ok(Some(NO_SOURCE)),
+        } else if !self.goes_on(place.0) {
+            return Ok(Some(NO_RECORDING));
         }
+        if let Some(rows) = self.rows.last_mut() {
+            rows.push(row)?;
+        }
+        Ok(None)
     }
 
     /// Adds a line of a file: what is wrong with it, if anything.
@@ -200,19 +210,24 @@ impl Recordings {
         Ok(None)
     }
 
-    /// The clock of each, where the clocks of several machines may differ by so many milliseconds.
-    fn clocks(&self, alloc: Global, error: u64) -> Result<Vec<Clock>, AllocError> {
-        let error = if self.clocks.len() > 1 {
-            error.saturating_mul(MILLISECOND)
-        } else {
-            0
+    /// A clock by its place: the first is right, and each other may be off by so many milliseconds.
+    fn clock(&self, place: usize, error: u64) -> Clock {
+        let ahead = match self.clocks.get(place) {
+            Some(source) => source.ahead,
+            None => 0,
         };
+        let error = match place {
+            0 => 0,
+            _ => error.saturating_mul(MILLISECOND),
+        };
+        Clock { ahead, error }
+    }
+
+    /// The clock of each recording, where each clock but the first may be off by so many milliseconds.
+    fn clocks(&self, alloc: Global, error: u64) -> Result<Vec<Clock>, AllocError> {
         let mut clocks = Vec::with_capacity(alloc, self.begins.len())?;
         for begin in self.begins.as_slice() {
-            clocks.push(Clock {
-                ahead: begin.ahead,
-                error,
-            })?;
+            clocks.push(self.clock(begin.clock, error))?;
         }
         Ok(clocks)
     }
@@ -250,22 +265,26 @@ fn file_added(
     }
 }
 
-/// Reads recordings and says whether they are one history, where the clocks of several machines may differ by so many milliseconds:
-/// the status.
+/// Reads recordings and says whether they are one history, where each clock but the first may be off by so many milliseconds: the
+/// status. Files without a recording are none.
 pub fn audit(rt: &HostRuntime, files: &[&str], clock_error: u64) -> Result<u8, Halt> {
     let mut recordings = Recordings::new(rt.alloc());
     if !are_added(rt, files, &mut recordings)? {
         return Ok(NOT_ONE_HISTORY);
     }
+    if recordings.begins.is_empty() {
+        rt.println("not one history: there is no recording")?;
+        return Ok(NOT_ONE_HISTORY);
+    }
     held(rt, files, &recordings, clock_error)
 }
 
-/// Says by how much the clocks of recordings may differ, where they have several.
+/// Says by how much the clocks of recordings may be off, where they have several.
 fn say_clocks(rt: &HostRuntime, recordings: &Recordings, clock_error: u64) -> Result<(), Halt> {
     let clocks = recordings.clocks.len();
     if clocks > 1 {
         println!(rt;
-            "(the times are of {clocks} clocks, taken as at most {clock_error} milliseconds apart: --clock-error N says otherwise)"
+            "(the times are of {clocks} clocks, each taken as at most {clock_error} milliseconds from the first: --clock-error N says otherwise)"
         )?;
     }
     Ok(())
