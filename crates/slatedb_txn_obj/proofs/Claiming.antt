@@ -1,7 +1,8 @@
 -- What claims leave, and why they fail.
-use Rattle.std.proofs.Common.{true≢false, refl, sym, subst, ap, ◌∙◌, inl, inr, ◌≡◌, ◌⊎◌, ℕ, ◌+◌, ◌-◌, ◌^◌, ◌<◌, ◌≤◌, List, [], ◌∷◌, ◌++◌, Option, Result, Ok, Err, is_ok, IfErr, IsErr, IsErrOf}
+use Rattle.std.proofs.Common.{true≢false, refl, sym, subst, ap, ◌∙◌, inl, inr, ◌≡◌, ◌⊎◌, ℕ, ◌+◌, ◌-◌, ◌^◌, ◌<◌, ◌≤◌, List, [], ◌∷◌, ◌++◌, Option, Some, None, is_some, Result, Ok, Err, is_ok, IfErr, IsErr, IsErrOf}
 use Rattle.std.proofs.lemmas.List.{append_assoc}
 use Rattle.std.proofs.lemmas.List.Elements.{All-append, All-cons, All-nil}
+use Rattle.std.proofs.lemmas.Option.{same_Some}
 use Rattle.std.proofs.lemmas.Result.{IfErr-at_err}
 use Rattle.txn_store.specs.Store.{State}
 use Rattle.txn_types.specs.declared.error.TransactionalObjectError.{TransactionalObjectError}
@@ -11,6 +12,11 @@ use Rattle.slatedb_txn_obj.specs.Claims.{ReadsOne, ReadsInTime, ReadsLate, HasCa
 use Rattle.slatedb_txn_obj.specs.Views.{HasCauseOfRefresh}
 use Rattle.slatedb_txn_obj.proofs.AttemptCauses.{blocked-no_conflict}
 use Rattle.slatedb_txn_obj.proofs.Causes.{HasCause-later}
+
+-- the next epoch is the one that was asked for
+pub next-asked : (asked : Option ℕ) (stored epoch : ℕ) → NextEpoch asked stored epoch → (e : ℕ) → asked ≡ Some e → epoch ≡ e
+next-asked None stored epoch next e is = absurd (true≢false (sym (ap is_some is)))
+next-asked (Some asked) stored epoch next e is = next.0 ∙ same_Some asked e is
 
 -- one reading more, in time
 pub reads-more : (start timeout : ℕ) (later old middle new : List ℕ) → ReadsInTime start timeout later old middle → (one : ReadsOne (λ r. r - start < timeout) middle new) → ReadsInTime start timeout (later ++ one.0 ∷ []) old new

@@ -2,6 +2,7 @@
 use Rattle.std.proofs.Common.{suc, zero, ◌≡◌, ℕ, ◌+◌, ◌<◌, List, [], ◌∷◌, ◌++◌, length, take, drop, All, Err, refl, sym, ap, subst, arith}
 use Rattle.std.proofs.Math.ListN.{get_or}
 use Rattle.std.proofs.lemmas.List.{get_or-take, length-take}
+use Rattle.txn_types.specs.Callbacks.{OnRefusal}
 use Rattle.txn_types.specs.declared.callback.CallbackFault.{CallbackFault}
 use Rattle.txn_drivers.specs.LatestReads.{IsLatest}
 use Rattle.slatedb_txn_obj.specs.Views.{IsVersion, Tested}
@@ -19,10 +20,10 @@ split_at {X} [] k d within = absurd (omega (arith, within))
 split_at (x ∷ xs) zero d within = refl
 split_at (x ∷ xs) (suc k) d within = ap (λ rest. x ∷ rest) (split_at xs k d (omega (arith, within)))
 
--- each invariant before this place holds, and the one there fails
-pub failed_at : {I : Type 0} (holds : I → Type 0) (fails : I → CallbackFault → Type 0) (xs : List I) (k : ℕ) (it : I) (fault : CallbackFault) → k < length xs → it ≡ get_or xs k it → ((j : ℕ) (d : I) → j < k → holds (get_or xs j d)) → fails it fault → Tested holds fails xs (Err fault)
-failed_at holds fails xs k it fault within is so_far failed =
-    (take k xs, it, drop (suc k) xs, subst (λ x. xs ≡ take k xs ++ x ∷ drop (suc k) xs) (sym is) (split_at xs k it within), before, failed)
+-- each invariant before this place holds, and the one there fails, which does not hold where it refuses
+pub failed_at : {I : Type 0} (holds : I → Type 0) (fails : I → CallbackFault → Type 0) (xs : List I) (k : ℕ) (it : I) (fault : CallbackFault) → k < length xs → it ≡ get_or xs k it → ((j : ℕ) (d : I) → j < k → holds (get_or xs j d)) → fails it fault → OnRefusal (holds it → ⊥) fault → Tested holds fails xs (Err fault)
+failed_at holds fails xs k it fault within is so_far failed refused =
+    (take k xs, it, drop (suc k) xs, subst (λ x. xs ≡ take k xs ++ x ∷ drop (suc k) xs) (sym is) (split_at xs k it within), before, failed, refused)
   where
     before : All holds (take k xs)
     before j d below =

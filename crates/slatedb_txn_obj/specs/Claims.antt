@@ -1,5 +1,5 @@
 -- The claims of holders.
-use Rattle.std.specs.Prelude.{◌≡◌, ◌⊎◌, ℕ, ◌+◌, ◌-◌, ◌*◌, ◌^◌, ◌<◌, ◌≤◌, List, [], ◌∷◌, ◌++◌, All, length, Option, Result, IfOk, IfErr, IsErr, IsErrOf}
+use Rattle.std.specs.Prelude.{◌≡◌, ◌⊎◌, ℕ, ◌+◌, ◌-◌, ◌*◌, ◌^◌, ◌<◌, ◌≤◌, List, [], ◌∷◌, ◌++◌, All, length, Option, Some, Result, IfOk, IfErr, IsErr, IsErrOf}
 use Rattle.txn_types.specs.declared.error.TransactionalObjectError.{TransactionalObjectError}
 use Rattle.txn_types.specs.declared.error.TransactionalObjectError.TheVariants.{Fenced, InvalidObjectState, ObjectVersionExists, ObjectUpdateTimeout, CallbackError, IdExhausted, TurnsExhausted}
 use Rattle.txn_types.specs.Callbacks.{IsCallback}
@@ -108,8 +108,8 @@ module _ {T I X Place : Type 0} (epoch_of : X → T → ℕ) (with_epoch : X →
   pub record ClaimEnds (asked : Option ℕ) (timeout pages pages' turns left : ℕ) (old new : State) (readings readings' : List ℕ) (result : Result (FenceableTransactionalObject T I X) TransactionalObjectError) : Type 0 where
     -- the newest value, with the holder's epoch in it, stands straight on it, and the holder is at that
     pub claimed : IfOk result (λ holder. WhereItStood (λ h b. Claimed (epoch_of epochs) (with_epoch epochs) (λ v c. All (λ i. holds i v c) view.invariants.items) h b after asked (number_of holder.delegate.id) holder.delegate.object holder.local_epoch))
-    -- it has the view's invariants, and what reads and sets epochs
-    pub holder : IfOk result (λ holder. (holder.epochs ≡ epochs) × (holder.delegate.invariants ≡ view.invariants))
+    -- it has the view's invariants, and what reads and sets epochs; its own epoch is its value's, and the one that was asked for
+    pub holder : IfOk result (λ holder. (holder.epochs ≡ epochs) × (holder.delegate.invariants ≡ view.invariants) × (epoch_of epochs holder.delegate.object ≡ holder.local_epoch) × ((epoch : ℕ) → asked ≡ Some epoch → holder.local_epoch ≡ epoch))
     -- the clock was read as often as it has to be, each time before the end
     pub timely : IfOk result (λ _. (start : ℕ) × (later : List ℕ) × ReadsInTime start timeout later readings readings' × WhereItStood (λ h b. IsReadFor (number_of view.id) (length h) (length later)))
     -- nothing moved, or a version's value was written with its next epoch

@@ -2,7 +2,7 @@
 -- `before` and `after` say for which histories and boundaries a protocol and its store stand, before a call and after it.
 use Rattle.std.specs.Prelude.{◌≡◌, ◌⊎◌, ℕ, ◌-◌, ◌≤◌, Bool, true, List, [], ◌∷◌, ◌++◌, All, length, slice_get, Option, Some, None, Result, Ok, Err}
 use Rattle.txn_store.specs.Store.{State}
-use Rattle.txn_types.specs.Callbacks.{error_of_callback}
+use Rattle.txn_types.specs.Callbacks.{error_of_callback, OnRefusal}
 use Rattle.txn_types.specs.declared.callback.CallbackFault.{CallbackFault}
 use Rattle.txn_types.specs.declared.dirty.DirtyObject.{DirtyObject}
 use Rattle.txn_types.specs.declared.error.TransactionalObjectError.{TransactionalObjectError}
@@ -38,10 +38,10 @@ module _ {T : Type 0} where
   HasCauseOfRefresh before left old new (CallbackError error) = Unheld before
   HasCauseOfRefresh before left old new error = HasCauseOfLatest ⊥ left old new error
 
--- every invariant holds; or each one before some does, which fails with this
+-- every invariant holds; or each one before some does, which fails with this, and does not hold where that is a refusal
 abbrev pub Tested : {I : Type 0} → (I → Type 0) → (I → CallbackFault → Type 0) → List I → Result (Unit {0}) CallbackFault → Type 0
 Tested holds fails invariants (Ok _) = All holds invariants
-Tested {I} holds fails invariants (Err fault) = (front : List I) × (it : I) × (rest : List I) × (invariants ≡ front ++ it ∷ rest) × All holds front × fails it fault
+Tested {I} holds fails invariants (Err fault) = (front : List I) × (it : I) × (rest : List I) × (invariants ≡ front ++ it ∷ rest) × All holds front × fails it fault × OnRefusal (holds it → ⊥) fault
 
 -- the first invariant that does not hold fails with what this error is made of
 abbrev pub IsTestFailure : {I : Type 0} → (I → Type 0) → (I → CallbackFault → Type 0) → List I → TransactionalObjectError → Type 0

@@ -57,11 +57,12 @@ pub trait TransactionalObject<T: Clone, Id: Copy + Eq> {
         ensures { result.now ≡ value self.now };
 
     /// A copy of the value, with its id, to be changed and given to `update`. It asks that a clone is the same value.
-    /// It is an error where the object is shut, and `NoMemory` where a growth was refused.
+    /// Where the object is shut it is that error; `NoMemory` comes of an open one, where a growth was refused.
     fn prepare_dirty(&self) -> Result<DirtyObject<T, Id>, TransactionalObjectError>
         requires { IsExactClone T.is_clone }
         ensures dirty { IfOk result (λ dirty. (dirty.id ≡ at self.now) × (dirty.value ≡ value self.now) × is_open self.now) }
-        ensures err { IfErr result (λ e. (e ≡ TransactionalObjectError.NoMemory) ⊎ is_shut self.now e) };
+        ensures err { IfErr result (λ e. (e ≡ TransactionalObjectError.NoMemory) ⊎ is_shut self.now e) }
+        ensures shut { (is_open self.now → ⊥) → IfErr result (is_shut self.now) × IsErr result };
 
     /// Reads the newest version, and is at it then. Each pass of the read spends a turn, and so does each page after the
     /// first that it lists; where one is due and none is left, it is `TurnsExhausted`. Where nothing is stored, it is
@@ -87,7 +88,7 @@ pub trait TransactionalObject<T: Clone, Id: Copy + Eq> {
         ensures files { SameFiles (S.state store.old) (S.state store.new) };
 
     /// Writes the candidate's value on the version that the object is at, and is at the new version then. A candidate of
-    /// another id, and a version that isn't the newest, is `ObjectVersionExists`. A candidate that the object refuses, as one
+    /// another id, where the object is not shut, and a version that isn't the newest, is `ObjectVersionExists`. A candidate that the object refuses, as one
     /// that an invariant fails for, is that error, and nothing is written. Its other errors are those of the write:
     /// `IdExhausted` where the version has the greatest id, `InvalidObjectState` where the boundary file says no number,
     /// `ObjectStoreError` and `NoMemory`. After an error the object is as it was; the value may have been written, unless the

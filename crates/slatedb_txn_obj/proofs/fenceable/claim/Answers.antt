@@ -12,7 +12,7 @@ use Rattle.slatedb_txn_obj.specs.Views.{IsVersion, IsTestFailure, HasCauseOfRefr
 use Rattle.slatedb_txn_obj.proofs.AttemptCauses.{claim-refresh, refresh-not_blocking}
 use Rattle.slatedb_txn_obj.proofs.Leaving.{others-trans, others-same, others-placed}
 use Rattle.slatedb_txn_obj.proofs.Attempts.{paged-after, pages-most, spends-update, spends-refresh, attempt-few, conflict-few, conflict-spent, conflict-next, conflict-left, idle-spent, reads-for, latest-not_overtaken}
-use Rattle.slatedb_txn_obj.proofs.Claiming.{reads-more, reads-late, claim-cause, not_exhausted, attempt-other, refresh-exhausted, has_begun, ok_begun, not_begun, not_passed}
+use Rattle.slatedb_txn_obj.proofs.Claiming.{next-asked, reads-more, reads-late, claim-cause, not_exhausted, attempt-other, refresh-exhausted, has_begun, ok_begun, not_begun, not_passed}
 use Rattle.slatedb_txn_obj.proofs.Views.{version-of_latest, none-empty}
 use Rattle.slatedb_txn_obj.proofs.fenceable.claim.Goals as goal
 
@@ -225,7 +225,7 @@ returns-in-Ok g c = record {
         stands = rw value (ok.updated.stands h b here.0 here.1);
         at = rw value (ok.updated.next h b here.0 here.1);
       };
-  holder = (refl, ap (λ v. v.invariants) c.in-Ok.ensures.moved.0 ∙ c.loop-asked.invariant.invariants);
+  holder = (refl, ap (λ v. v.invariants) c.in-Ok.ensures.moved.0 ∙ c.loop-asked.invariant.invariants, c.in-Ok.ensures.moved.1, next-asked _ _ _ c.in-Ok.ensures.next);
   timely =
       let inv = c.loop-asked.invariant in
       let one = c.in-Ok.ensures.in_time in

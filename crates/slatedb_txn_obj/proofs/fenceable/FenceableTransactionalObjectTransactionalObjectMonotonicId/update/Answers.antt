@@ -26,6 +26,9 @@ returns-in_err-check_epoch-clause-refused g c =
 pub returns-in_err-check_epoch-clause-other : goal.returns-in_err-check_epoch-clause-other
 returns-in_err-check_epoch-clause-other g c other = (c.from_residual.ensures.0, refl, refl)
 
+pub returns-in_err-check_epoch-clause-unequal : goal.returns-in_err-check_epoch-clause-unequal
+returns-in_err-check_epoch-clause-unequal g c own like other = absurd (own-no_error _ _ c.in_err-check_epoch.field-0.0 own c.in_err-check_epoch.ensures.other)
+
 pub returns-in_err-check_epoch-clause-barred : goal.returns-in_err-check_epoch-clause-barred
 returns-in_err-check_epoch-clause-barred g c not_allowed = (c.from_residual.ensures.0, refl, refl)
 
@@ -70,6 +73,9 @@ returns-then-get_epoch-self-clause-unlike g c own other = (refl, refl, refl)
 pub returns-then-get_epoch-self-clause-other : goal.returns-then-get_epoch-self-clause-other
 returns-then-get_epoch-self-clause-other g c other = (refl, refl, refl)
 
+pub returns-then-get_epoch-self-clause-unequal : goal.returns-then-get_epoch-self-clause-unequal
+returns-then-get_epoch-self-clause-unequal g c own like other = absurd (c.if-get_epoch-self.true (c.get_epoch.ensures ∙ like))
+
 pub returns-then-get_epoch-self-clause-barred : goal.returns-then-get_epoch-self-clause-barred
 returns-then-get_epoch-self-clause-barred g c not_allowed = (refl, refl, refl)
 
@@ -107,6 +113,9 @@ pub returns-clause-other : goal.returns-clause-other
 returns-clause-other g c other =
     let left = c.update.ensures.other other in
     (ap is_err left.0, left.1, left.2)
+
+pub returns-clause-unequal : goal.returns-clause-unequal
+returns-clause-unequal g c own like other = (c.update.ensures.other other).0
 
 pub returns-clause-barred : goal.returns-clause-barred
 returns-clause-barred g c not_allowed = c.update.ensures.barred (λ all. not_allowed (c.in_ok-check_epoch.ensures.own, sym c.get_epoch.ensures ∙ c.if-get_epoch-self.false, all))
