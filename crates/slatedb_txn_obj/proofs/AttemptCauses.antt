@@ -9,10 +9,10 @@ use Rattle.txn_types.specs.declared.callback.CallbackFault.{CallbackFault}
 use Rattle.txn_types.specs.declared.callback.CallbackFault.TheVariants.{Refused}
 use Rattle.txn_types.specs.declared.callback.CallbackFault.TheVariants as callback
 use Rattle.txn_types.specs.declared.error.TransactionalObjectError.{TransactionalObjectError}
-use Rattle.txn_types.specs.declared.error.TransactionalObjectError.TheVariants.{ObjectStoreError, ObjectVersionExists, Fenced, InvalidObjectState, CallbackError, NoMemory, IdExhausted, TurnsExhausted}
-use Rattle.slatedb_txn_obj.specs.Claims.{HasCauseOfAttempt, HasCauseOfClaim, IsBlocking}
+use Rattle.txn_types.specs.declared.error.TransactionalObjectError.TheVariants.{ObjectStoreError, ObjectUpdateTimeout, ObjectVersionExists, Fenced, InvalidObjectState, CallbackError, NoMemory, IdExhausted, TurnsExhausted}
+use Rattle.slatedb_txn_obj.specs.Claims.{HasCauseOfAttempt, HasCauseOfClaim, IsBlocking, IsLate, IsUnwritten}
 use Rattle.slatedb_txn_obj.specs.Protocol.{Unheld}
-use Rattle.slatedb_txn_obj.specs.Views.{IsTestFailure, IsEmpty, IsShutting, HasCauseOfUpdate, HasCauseOfRefresh, HasCauseOfApply}
+use Rattle.slatedb_txn_obj.specs.Views.{IsTestFailure, IsRefusal, IsEmpty, IsShutting, HasCauseOfUpdate, HasCauseOfRefresh, HasCauseOfApply}
 use Rattle.slatedb_txn_obj.proofs.Causes.{HasCause-later}
 
 module _ (stopped : TransactionalObjectError → Type 0) (full unheld : Type 0) (left : ℕ) (old middle new : State) where
@@ -64,6 +64,21 @@ pub refresh-not_blocking : {T : Type 0} (before : List T → ℕ → Type 0) (le
 refresh-not_blocking before left old new Fenced blocks cause = cause
 refresh-not_blocking before left old new IdExhausted blocks cause = cause
 refresh-not_blocking before left old new error blocks cause = absurd blocks
+
+-- nor want of time
+pub refresh-not_late : {T : Type 0} (before : List T → ℕ → Type 0) (left : ℕ) (old new : State) (error : TransactionalObjectError) → IsLate error → HasCauseOfRefresh before left old new error → ⊥
+refresh-not_late before left old new (ObjectUpdateTimeout timeout) late cause = cause
+refresh-not_late before left old new error late cause = absurd late
+
+-- both are errors of no write
+pub blocking-unwritten : (error : TransactionalObjectError) → IsBlocking error → IsUnwritten error
+blocking-unwritten Fenced blocks = tt
+blocking-unwritten IdExhausted blocks = tt
+blocking-unwritten error blocks = absurd blocks
+
+pub late-unwritten : (error : TransactionalObjectError) → IsLate error → IsUnwritten error
+late-unwritten (ObjectUpdateTimeout timeout) late = tt
+late-unwritten error late = absurd late
 
 -- there is one next epoch at most
 pub one_epoch : (asked : Option ℕ) (stored e e' : ℕ) → NextEpoch asked stored e → NextEpoch asked stored e' → e ≡ e'
@@ -141,11 +156,14 @@ module _ {I : Type 0} (holds : I → Type 0) (tests : I → CallbackFault → Ty
   attempt-update asked stored timeout number late fails unheld old new gives (ObjectStoreError error) cause = cause
   attempt-update asked stored timeout number late fails unheld old new gives error cause = absurd cause
 
-  -- an update that fails for want of an id moves nothing, and none fails for want of an epoch
-  pub update-idle : {A : Type 0} (unheld : Type 0) (number : ℕ) (old new : State) (error : TransactionalObjectError) → HasCauseOfUpdate (IsTestFailure holds tests invariants) unheld number old new error → (IsErrOf {T = A} (Err error) IdExhausted → new ≡ old) → IsBlocking error → new ≡ old
-  update-idle unheld number old new Fenced cause exhausted blocks = absurd (of_test cause)
-  update-idle unheld number old new IdExhausted cause exhausted blocks = exhausted refl
-  update-idle unheld number old new error cause exhausted blocks = absurd blocks
+  -- an update that fails by an error of no write moves nothing, where one for want of an id does not, and none that a test refuses
+  pub update-unwritten : {A Moved : Type 0} (unheld : Type 0) (number : ℕ) (old new : State) (error : TransactionalObjectError) → HasCauseOfUpdate (IsTestFailure holds tests invariants) unheld number old new error → (IsErrOf {T = A} (Err error) IdExhausted → Moved) → (IsRefusal error → IsTestFailure holds tests invariants error → Moved) → IsUnwritten error → Moved
+  update-unwritten unheld number old new Fenced cause exhausted refused unwritten = absurd (of_test cause)
+  update-unwritten unheld number old new IdExhausted cause exhausted refused unwritten = exhausted refl
+  update-unwritten unheld number old new (CallbackError error) cause exhausted refused unwritten = refused tt cause
+  update-unwritten unheld number old new (ObjectUpdateTimeout timeout) cause exhausted refused unwritten = absurd cause
+  update-unwritten unheld number old new TurnsExhausted cause exhausted refused unwritten = absurd cause
+  update-unwritten unheld number old new error cause exhausted refused unwritten = absurd unwritten
 
 -- it is for no want of a turn that a mutator refuses
 pub mutator-not_spent : (fault : CallbackFault) (error : TransactionalObjectError) → error ≡ error_of_callback fault → error ≡ TurnsExhausted → ⊥

@@ -129,6 +129,13 @@ module _ (t0 t p0 p l0 l n0 n m k : ℕ) (Latest : Type 0) where
 pub idle-spent : (t0 t t1 c0 c c1 : ℕ) → c1 ≡ c → c + 7 * t ≤ c0 + 0 + 7 * t0 → t ≡ t1 + 1 → c1 + 7 * t1 + 7 ≤ c0 + 7 * t0
 idle-spent t0 t t1 c0 c c1 calls most spent = omega (arith, calls, most, spent)
 
+-- one that had an update's two calls at most, and one that had none
+pub late-spent : (t0 t t1 c0 c c1 : ℕ) → c1 ≤ c + 2 → c + 7 * t ≤ c0 + 0 + 7 * t0 → t ≡ t1 + 1 → c1 + 7 * t1 + 5 ≤ c0 + 7 * t0
+late-spent t0 t t1 c0 c c1 calls most spent = omega (arith, calls, most, spent)
+
+pub late-idle : (t0 t t1 c0 c c1 : ℕ) → c1 ≡ c → c + 7 * t ≤ c0 + 0 + 7 * t0 → t ≡ t1 + 1 → c1 + 7 * t1 + 5 ≤ c0 + 7 * t0
+late-idle t0 t t1 c0 c c1 calls most spent = omega (arith, calls, most, spent)
+
 -- turns that were enough for two attempts are not all spent after one
 pub conflict-left : (t0 t2 p0 : ℕ) → t0 ≤ t2 + 3 + 2 * p0 → t2 ≡ 0 → 4 + 2 * p0 ≤ t0 → ⊥
 conflict-left t0 t2 p0 few none enough = omega (arith, few, none, enough)

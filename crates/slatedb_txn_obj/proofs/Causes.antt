@@ -1,11 +1,11 @@
 -- A cause that came in a later part of a call.
-use Rattle.std.proofs.Common.{◌≤◌, arith}
+use Rattle.std.proofs.Common.{◌≡◌, ◌≤◌, arith, subst}
 use Rattle.txn_store.specs.Store.{State}
 use Rattle.txn_store.specs.declared.store.StoreError.{StoreError}
 use Rattle.txn_store.specs.declared.store.StoreError.TheVariants.{Failed, TokensExhausted}
 use Rattle.txn_types.specs.declared.error.TransactionalObjectError.{TransactionalObjectError}
-use Rattle.txn_types.specs.declared.error.TransactionalObjectError.TheVariants.{ObjectStoreError, NoMemory}
-use Rattle.txn_drivers.specs.Calls.{HasStoreCause, HasCause}
+use Rattle.txn_types.specs.declared.error.TransactionalObjectError.TheVariants.{ObjectStoreError, NoMemory, IdExhausted}
+use Rattle.txn_drivers.specs.Calls.{HasStoreCause, HasCause, HasCauseOfCheck}
 
 module _ (old middle new : State) (failures : old.failures ≤ middle.failures) where
   pub HasStoreCause-later : (error : StoreError) → HasStoreCause middle new error → HasStoreCause old new error
@@ -17,5 +17,9 @@ module _ (old middle new : State) (failures : old.failures ≤ middle.failures) 
   HasCause-later (ObjectStoreError error) h = HasStoreCause-later error h
   HasCause-later NoMemory h = h
   HasCause-later error h = absurd h
+
+-- a check never wants an id
+pub check-not_exhausted : (unheld : Type 0) (old new : State) (error : TransactionalObjectError) → HasCauseOfCheck unheld old new error → error ≡ IdExhausted → ⊥
+check-not_exhausted unheld old new error cause is = subst (λ e. HasCauseOfCheck unheld old new e) is cause
 
 pub ruleset later = (HasCause-later)

@@ -28,7 +28,7 @@ reads-more start timeout later old middle new reads one = (
 -- one reading more, too late
 pub reads-late : (start timeout : ℕ) (later old middle new : List ℕ) → ReadsInTime start timeout later old middle → ReadsOne (λ r. timeout ≤ r - start) middle new → ReadsLate timeout old new
 reads-late start timeout later old middle new reads one =
-    (start, later, one.0, one.1 ∙ ap (λ xs. xs ++ one.0 ∷ []) reads.0, one.2)
+    (start, later, one.0, one.1 ∙ ap (λ xs. xs ++ one.0 ∷ []) reads.0, reads.1, one.2)
 
 module _ (asked : Option ℕ) (stored timeout number : ℕ) (late : Type 0) (fails : TransactionalObjectError → Type 0) (unheld : Type 0) (old middle new : State) (late' : Type 0) (fails' blocked : TransactionalObjectError → Type 0) (full unheld' : Type 0) (left : ℕ)
     (failures : old.failures ≤ middle.failures) (lates : late → late') (tests : (error : TransactionalObjectError) → fails error → fails' error) (blocks : (error : TransactionalObjectError) → HasNoEpoch asked stored error → blocked error) (fills : number + 1 ≡ 2 ^ 64 → full) (holds : unheld → unheld') where

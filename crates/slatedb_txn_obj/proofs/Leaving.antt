@@ -1,5 +1,5 @@
 -- What calls leave of the files, one after another.
-use Rattle.std.proofs.Common.{◌≡◌, ◌⊎◌, ℕ, ◌+◌, List, Contains, Option, Result, Ok, Err, refl, sym, ap, subst, ◌∙◌, inl, inr}
+use Rattle.std.proofs.Common.{◌≡◌, ℕ, ◌+◌, List, Contains, Option, Result, Ok, Err, refl, sym, ap, subst, ◌∙◌, inl, inr}
 use Rattle.std.specs.FinMap as map
 use Rattle.txn_store.specs.Paths.{Segments}
 use Rattle.txn_store.specs.VersionName.{Names, version_path}
@@ -9,9 +9,9 @@ use Rattle.txn_store.proofs.FileLemmas.{get-insert_other, get-remove_other}
 use Rattle.txn_types.specs.declared.error.TransactionalObjectError.{TransactionalObjectError}
 use Rattle.txn_types.specs.declared.error.TransactionalObjectError.TheVariants as kinds
 use Rattle.txn_caches.specs.declared.caches.Cached.{Cached}
-use Rattle.txn_drivers.specs.WriteRuns.{Creates, WriteLeaves, Written}
+use Rattle.txn_drivers.specs.WriteRuns.{WriteLeaves, Written}
 use Rattle.txn_drivers.specs.RemovalRuns.{DeleteLeaves, Deleted}
-use Rattle.slatedb_txn_obj.specs.Leaves.{KeepsTokens, SameFiles, CreatesFile, RemovesFile, MayCreate, MayRemove, LeavesOthers, SameOwn, AreApart}
+use Rattle.slatedb_txn_obj.specs.Leaves.{KeepsTokens, SameFiles, MayCreate, MayRemove, LeavesOthers, SameOwn, AreApart}
 use Rattle.slatedb_txn_obj.specs.Protocol.{base_number}
 use Rattle.slatedb_txn_obj.proofs.Wholes.{base_is}
 
@@ -85,6 +85,11 @@ module _ (path : Segments) (old new : State) (latest latest' : List Cached) (giv
 module _ {T : Type 0} {names : Names} {decode : List ℕ → Option T} {old new : State} {latest latest' : List Cached} where
   pub written-creates : {bytes : List ℕ} {value : T} (base : Option ℕ) (result : Result ℕ TransactionalObjectError) → Written names decode base bytes value old new latest latest' result → MayCreate (version_path names (base_number (λ n. n) base + 1)) old new
   written-creates {bytes} base result written = rw (base_is base) (created-as _ old new latest latest' written.given bytes _ result written.ends.leaves)
+
+  -- a name that is taken is left
+  pub written-stood : {bytes : List ℕ} {value : T} {base : Option ℕ} (result : Result ℕ TransactionalObjectError) → Written names decode base bytes value old new latest latest' result → result ≡ Err kinds.ObjectVersionExists → SameFiles old new
+  written-stood {bytes} {value} {base} result written is =
+      let told : Written names decode base bytes value old new latest latest' (Err kinds.ObjectVersionExists) = subst (λ (r : Result ℕ TransactionalObjectError). Written names decode base bytes value old new latest latest' r) is written in same-kept told.ends.leaves.0
 
   pub deleted-removes : (id : ℕ) (result : Result (Unit {0}) TransactionalObjectError) → Deleted names decode id old new latest latest' result → MayRemove (version_path names id) old new
   deleted-removes id result deleted = removed-as _ old new latest latest' deleted.ends.given id result deleted.ends.leaves

@@ -1,8 +1,8 @@
 -- What an update gives, of what its tests and its write give.
-use Rattle.std.proofs.Common.{refl, sym, subst, ap, ◌∙◌, inl, inr, arith, ◌≡◌, ◌⊎◌, ℕ, ◌-◌, List, [], ◌∷◌, ◌++◌, length, slice_get, Some, Result, Err, IsErrAnd}
+use Rattle.std.proofs.Common.{refl, sym, subst, ap, ◌∙◌, inl, inr, arith, ◌≡◌, ◌⊎◌, ℕ, ◌-◌, List, [], ◌∷◌, ◌++◌, length, slice_get, Some, Result, Err, IsErrAnd, IsErrOf}
 use Rattle.std.proofs.lemmas.List.{length_push}
 use Rattle.txn_store.specs.Store.{State}
-use Rattle.txn_types.specs.Callbacks.{error_of_callback, IsCallback}
+use Rattle.txn_types.specs.Callbacks.{error_of_callback}
 use Rattle.txn_types.specs.declared.callback.CallbackFault.{CallbackFault}
 use Rattle.txn_types.specs.declared.callback.CallbackFault.TheVariants.{Refused}
 use Rattle.txn_types.specs.declared.callback.CallbackFault.TheVariants as callback
@@ -11,7 +11,8 @@ use Rattle.txn_types.specs.declared.error.TransactionalObjectError.TheVariants.{
 use Rattle.txn_types.specs.Epochs.{IsEpochError}
 use Rattle.txn_drivers.specs.Calls.{Spends}
 use Rattle.slatedb_txn_obj.specs.Protocol.{Appended, HasCauseOfWrite}
-use Rattle.slatedb_txn_obj.specs.Views.{Tested, IsTestFailure, Updated, HasCauseOfUpdate}
+use Rattle.slatedb_txn_obj.specs.Claims.{IsUnlike}
+use Rattle.slatedb_txn_obj.specs.Views.{Tested, IsTestFailure, IsRefusal, MayBeWritten, Updated, HasCauseOfUpdate}
 
 -- an entry that is put at the end
 entry_push : {T : Type 0} (h : List T) (value : T) → slice_get (h ++ value ∷ []) (length h) ≡ Some value
@@ -54,10 +55,21 @@ callback-no_conflict callback.NoMemory is = subst (λ e. IsConflict e) is tt
 pub error_is : {T E : Type 0} {x : E} (r : Result T E) (e : E) → IsErrAnd r (λ y. y ≡ x) → r ≡ Err e → x ≡ e
 error_is {x = x} r e passed is = sym (subst (λ s. IsErrAnd s (λ y. y ≡ x)) is passed)
 
--- a write asks no callback
-pub write-no_callback : (unheld : Type 0) (number : ℕ) (old new : State) (error : TransactionalObjectError) → HasCauseOfWrite unheld number old new error → IsCallback error → ⊥
-write-no_callback unheld number old new (CallbackError error) cause callback = cause
-write-no_callback unheld number old new error cause callback = absurd callback
+-- no test answers that a state is invalid
+abbrev IsValid : TransactionalObjectError → Type 0
+IsValid InvalidObjectState = ⊥
+IsValid error = Unit {0}
+
+test-valid : (fault : CallbackFault) → IsValid (error_of_callback fault)
+test-valid (Refused error) = tt
+test-valid callback.NoMemory = tt
+
+-- a write that failed was no refusal by a test
+pub write-no_refusal : {I : Type 0} (holds : I → Type 0) (fails : I → CallbackFault → Type 0) (invariants : List I) (unheld : Type 0) (number : ℕ) (old new : State) (error : TransactionalObjectError) → HasCauseOfWrite unheld number old new error → IsRefusal error → IsTestFailure holds fails invariants error → ⊥
+write-no_refusal holds fails invariants unheld number old new (CallbackError error) cause refusal failure = cause
+write-no_refusal holds fails invariants unheld number old new Fenced cause refusal failure = cause
+write-no_refusal holds fails invariants unheld number old new InvalidObjectState cause refusal failure = subst (λ e. IsValid e) (sym failure.1) (test-valid failure.0)
+write-no_refusal holds fails invariants unheld number old new error cause refusal failure = absurd refusal
 
 module _ (unheld : Type 0) (number : ℕ) (old new : State) where
   -- a test failed
@@ -90,8 +102,28 @@ module _ (unheld : Type 0) (number : ℕ) (old new : State) where
   update-epoch local stored others InvalidObjectState cause = inl (inl cause)
   update-epoch local stored others error cause = absurd cause
 
+-- Where what stood had the version, only the store's errors and want of memory leave it open whether an update was written: a refusal and want of an id leave what stood.
+pub update-left : {A Left Written : Type 0} (refuses : TransactionalObjectError → Type 0) (unheld : Type 0) (number : ℕ) (old new : State) (error : TransactionalObjectError) → HasCauseOfUpdate refuses unheld number old new error → (error ≡ ObjectVersionExists → ⊥) → (unheld → ⊥)
+    → (IsErrOf {T = A} (Err error) IdExhausted → Left) → (IsRefusal error → refuses error → Left) → Left ⊎ Written → Left ⊎ (MayBeWritten error × Written)
+update-left refuses unheld number old new (ObjectStoreError error) cause other held exhausted refused (inl left) = inl left
+update-left refuses unheld number old new (ObjectStoreError error) cause other held exhausted refused (inr written) = inr (tt, written)
+update-left refuses unheld number old new NoMemory cause other held exhausted refused (inl left) = inl left
+update-left refuses unheld number old new NoMemory cause other held exhausted refused (inr written) = inr (tt, written)
+update-left refuses unheld number old new ObjectVersionExists cause other held exhausted refused may = absurd (other refl)
+update-left refuses unheld number old new IdExhausted cause other held exhausted refused may = inl (exhausted refl)
+update-left refuses unheld number old new (CallbackError error) cause other held exhausted refused may = inl (refused tt cause)
+update-left refuses unheld number old new Fenced cause other held exhausted refused may = inl (refused tt cause)
+update-left refuses unheld number old new InvalidObjectState (inl cause) other held exhausted refused may = inl (refused tt cause)
+update-left refuses unheld number old new InvalidObjectState (inr cause) other held exhausted refused may = absurd (held cause)
+update-left refuses unheld number old new error cause other held exhausted refused may = absurd cause
+
 -- the holder's own epoch is no error
 pub own-no_error : (local stored : ℕ) (error : TransactionalObjectError) → stored ≡ local → IsEpochError local stored error → ⊥
 own-no_error local stored Fenced own cause = omega (arith, own, cause)
 own-no_error local stored InvalidObjectState own cause = omega (arith, own, cause)
 own-no_error local stored error own cause = absurd cause
+
+-- nor is a candidate that has it
+pub like-no_error : (local epoch : ℕ) (error : TransactionalObjectError) → epoch ≡ local → IsUnlike local epoch error → ⊥
+like-no_error local epoch InvalidObjectState like unlike = unlike like
+like-no_error local epoch error like unlike = absurd unlike

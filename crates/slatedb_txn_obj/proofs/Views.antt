@@ -1,5 +1,5 @@
 -- What the calls of an object give, of what those of its protocol give.
-use Rattle.std.proofs.Common.{suc, zero, ◌≡◌, ℕ, ◌+◌, ◌<◌, List, [], ◌∷◌, ◌++◌, length, take, drop, All, Err, refl, sym, ap, subst, arith}
+use Rattle.std.proofs.Common.{suc, zero, ◌≡◌, ℕ, ◌<◌, List, [], ◌∷◌, ◌++◌, length, take, drop, All, Err, refl, sym, ap, subst, arith}
 use Rattle.std.proofs.Math.ListN.{get_or}
 use Rattle.std.proofs.lemmas.List.{get_or-take, length-take}
 use Rattle.txn_types.specs.Callbacks.{OnRefusal}

@@ -29,7 +29,7 @@ use Rattle.txn_drivers.proofs.LatestStands.{stored_carried}
 use Rattle.txn_drivers.proofs.LatestWindows.{every_carried, every_one}
 use Rattle.txn_drivers.proofs.NextPages.{has_pages}
 use Rattle.txn_drivers.proofs.Frames.{same_at-kept, kept-refl, FilesStand-kept}
-use Rattle.slatedb_txn_obj.specs.Protocol.{base_number, Entered, Overtaken, MayAppend, LatestOrFenced, IsEntry, AreListed, IsWarmRead, Unheld, HasCauseOfLatestUnchecked, HasCauseOfVersion}
+use Rattle.slatedb_txn_obj.specs.Protocol.{base_number, Entered, Overtaken, MayAppend, Stays, LatestOrFenced, IsEntry, AreListed, IsWarmRead, Unheld, HasCauseOfLatestUnchecked, HasCauseOfVersion}
 use Rattle.slatedb_txn_obj.specs.Whole.{Whole, IsGreatestHeld, IsMissing, probe_calls}
 
 -- the number of a base, both ways
@@ -130,6 +130,22 @@ module _ {T : Type 0} (names : Names) (decode : List ℕ → Option T) (bounds b
 
   pub whole-conflict : (result : Result ℕ TransactionalObjectError) → Written names decode base bytes value old new latest latest' result → result ≡ Err kinds.ObjectVersionExists → Overtaken before after (base_number (λ n. n) base)
   whole-conflict result written is = whole-overtaken (subst (λ (r : Result ℕ TransactionalObjectError). Written names decode base bytes value old new latest latest' r) is written)
+
+  -- want of an id comes of the greatest base, and moves nothing
+  pub whole-full : (result : Result ℕ TransactionalObjectError) → Written names decode base bytes value old new latest latest' result → base_number (λ n. n) base + 1 ≡ 2 ^ 64 → result ≡ Err kinds.IdExhausted
+  whole-full result written full = written.exhausted (ap (λ n. n + 1) (sym (base_is base)) ∙ full)
+
+  pub whole-exhausted : (result : Result ℕ TransactionalObjectError) → Written names decode base bytes value old new latest latest' result → result ≡ Err kinds.IdExhausted → (new ≡ old) × Stays before after
+  whole-exhausted result written is =
+      let told : Written names decode base bytes value old new latest latest' (Err kinds.IdExhausted) = subst (λ (r : Result ℕ TransactionalObjectError). Written names decode base bytes value old new latest latest' r) is written in
+      let left = told.ends.leaves in (
+        left.0,
+        λ h b whole. record {
+          bounded = keeps b (same_at-kept file old new (kept-refl old new left.0)) whole.bounded;
+          apart = whole.apart;
+          versions = rw left.0 (rw left.1 whole.versions);
+        },
+      )
 
   pub whole-refused : (result : Result ℕ TransactionalObjectError) → Written names decode base bytes value old new latest latest' result → IfErr result (λ error. MayAppend before after (base_number (λ n. n) base) value)
   whole-refused (Ok n) written = tt
@@ -290,6 +306,12 @@ whole-removed names decode id old new latest latest' (Err error) deleted = tt
 pub whole-version : {T : Type 0} (names : Names) (decode : List ℕ → Option T) (bounds : ℕ → Type 0) (file : Segments) (old new : State) (latest : List Cached) (id : ℕ) (result : Result (Option T) TransactionalObjectError) → VersionRead names decode old new id result → IfOk result (λ answer. (h : List T) (b : ℕ) → Whole bounds file names decode latest old.files h b → IsEntry h b id answer)
 whole-version names decode bounds file old new latest id (Ok answer) read = λ h b whole. (read.stands h b whole.versions.files_stand).1
 whole-version names decode bounds file old new latest id (Err error) read = tt
+
+-- none is read where no file stands
+pub version-absent : {T : Type 0} (names : Names) (decode : List ℕ → Option T) (old new : State) (id : ℕ) (result : Result (Option T) TransactionalObjectError) → VersionRead names decode old new id result → IsMissing names old.files id → IfOk result (λ answer. answer ≡ None)
+version-absent names decode old new id (Ok None) read missing = refl
+version-absent names decode old new id (Ok (Some value)) read missing = let none : None ≡ Some read.value.0 = sym missing ∙ read.value.1 in absurd (cc)
+version-absent names decode old new id (Err error) read missing = tt
 
 -- what a listing answers
 pub whole-listed : {T : Type 0} (names : Names) (page : ℕ) (decode : List ℕ → Option T) (from to : Bound ℕ) (old new : State) (bounds : ℕ → Type 0) (file : Segments) (latest : List Cached) (found : List Listed) → VersionsListed names page decode from to old new (Ok found)

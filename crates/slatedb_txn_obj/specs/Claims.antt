@@ -2,7 +2,6 @@
 use Rattle.std.specs.Prelude.{◌≡◌, ◌⊎◌, ℕ, ◌+◌, ◌-◌, ◌*◌, ◌^◌, ◌<◌, ◌≤◌, List, [], ◌∷◌, ◌++◌, All, length, Option, Some, Result, IfOk, IfErr, IsErr, IsErrOf}
 use Rattle.txn_types.specs.declared.error.TransactionalObjectError.{TransactionalObjectError}
 use Rattle.txn_types.specs.declared.error.TransactionalObjectError.TheVariants.{Fenced, InvalidObjectState, ObjectVersionExists, ObjectUpdateTimeout, CallbackError, IdExhausted, TurnsExhausted}
-use Rattle.txn_types.specs.Callbacks.{IsCallback}
 use Rattle.txn_types.specs.declared.callback.CallbackFault.{CallbackFault}
 use Rattle.txn_types.specs.Epochs.{NextEpoch, HasNoEpoch}
 use Rattle.txn_store.specs.Paths.{Segments}
@@ -31,9 +30,9 @@ ReadsInTime start timeout later old new = (new ≡ old ++ start ∷ later) × Al
 abbrev pub IsReadFor : ℕ → ℕ → ℕ → Type 0
 IsReadFor number newest times = (number ≡ newest → times ≡ 1) × (number < newest → times ≡ 3)
 
--- the last reading was at its end or past it
+-- so it was, and a last reading was at its end or past it
 abbrev pub ReadsLate : ℕ → List ℕ → List ℕ → Type 0
-ReadsLate timeout old new = (start : ℕ) × (later : List ℕ) × (last : ℕ) × (new ≡ old ++ start ∷ later ++ last ∷ []) × (timeout ≤ last - start)
+ReadsLate timeout old new = (start : ℕ) × (later : List ℕ) × (last : ℕ) × (new ≡ old ++ start ∷ later ++ last ∷ []) × All (λ r. r - start < timeout) later × (timeout ≤ last - start)
 
 -- Why an attempt of a claim failed: its time was over, there is no next epoch, or its update failed. `fails` says why an invariant did.
 abbrev pub HasCauseOfAttempt : (asked : Option ℕ) (stored timeout number : ℕ) (late : Type 0) (fails : TransactionalObjectError → Type 0) (unheld : Type 0) → State → State → TransactionalObjectError → Type 0
@@ -60,6 +59,20 @@ abbrev pub IsBlocking : TransactionalObjectError → Type 0
 IsBlocking Fenced = Unit {0}
 IsBlocking IdExhausted = Unit {0}
 IsBlocking error = ⊥
+
+-- the time was over
+abbrev pub IsLate : TransactionalObjectError → Type 0
+IsLate (ObjectUpdateTimeout t) = Unit {0}
+IsLate error = ⊥
+
+-- an error of no write: one of these, or an invariant or a codec refused, or the turns were spent
+abbrev pub IsUnwritten : TransactionalObjectError → Type 0
+IsUnwritten (ObjectUpdateTimeout t) = Unit {0}
+IsUnwritten Fenced = Unit {0}
+IsUnwritten IdExhausted = Unit {0}
+IsUnwritten (CallbackError error) = Unit {0}
+IsUnwritten TurnsExhausted = Unit {0}
+IsUnwritten error = ⊥
 
 -- `epoch_of` and `with_epoch` read and set the epoch of a value.
 module _ {T : Type 0} (epoch_of : T → ℕ) (with_epoch : T → ℕ → T) where
@@ -119,13 +132,15 @@ module _ {T I X Place : Type 0} (epoch_of : X → T → ℕ) (with_epoch : X →
     pub few : WhereItStood (λ h b. (turns ≤ left + 4 + 2 * pages) × (old.left ≤ new.left + 2))
     pub enough : WhereItStood (λ h b. 4 + 2 * pages ≤ turns → IsErrOf result TurnsExhausted → ⊥)
     pub cause : IfErr result (HasCauseOfClaim timeout (ReadsLate timeout readings readings') (MetFailing asked) (MetBlocked asked) MetFull (WhereItStood (λ h b. ⊥)) left old new)
-    -- an invariant that fails ends it without a move
-    pub refused : IfErr result (λ e. IsCallback e → WhereItStood after)
+    -- an error of no write ends it without a move
+    pub unwritten : IfErr result (λ e. IsUnwritten e → WhereItStood after)
     -- where the view's own version has no next epoch, that is the answer, and where an invariant fails for it, an error is; the store is not called
     pub blocked : (e : TransactionalObjectError) → HasNoEpoch asked (epoch_of epochs view.object) e → 1 ≤ turns → IsErrOf result e × (new ≡ old)
     pub barred : (e : ℕ) → NextEpoch asked (epoch_of epochs view.object) e → (All (λ i. holds i (with_epoch epochs view.object e) view.object) view.invariants.items → ⊥) → IsErr result × (new ≡ old)
     -- the attempt that has no next epoch, or no next number, makes no call: its turn has none
     pub idle : IfErr result (λ e. IsBlocking e → new.calls + 7 * left + 7 ≤ old.calls + 7 * turns)
+    -- and one that is late has two at most
+    pub late : IfErr result (λ e. IsLate e → new.calls + 7 * left + 5 ≤ old.calls + 7 * turns)
     -- two versions at most were created
     pub paged : WhereItStood (λ h b. pages' ≤ pages + 2)
     -- the files lie where they lay, and no other was changed

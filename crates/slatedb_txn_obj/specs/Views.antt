@@ -6,7 +6,7 @@ use Rattle.txn_types.specs.Callbacks.{error_of_callback, OnRefusal}
 use Rattle.txn_types.specs.declared.callback.CallbackFault.{CallbackFault}
 use Rattle.txn_types.specs.declared.dirty.DirtyObject.{DirtyObject}
 use Rattle.txn_types.specs.declared.error.TransactionalObjectError.{TransactionalObjectError}
-use Rattle.txn_types.specs.declared.error.TransactionalObjectError.TheVariants.{Fenced, InvalidObjectState, CallbackError, LatestRecordMissing, IdExhausted, TurnsExhausted}
+use Rattle.txn_types.specs.declared.error.TransactionalObjectError.TheVariants.{ObjectStoreError, Fenced, InvalidObjectState, CallbackError, LatestRecordMissing, NoMemory, IdExhausted, TurnsExhausted}
 use Rattle.txn_drivers.specs.Calls.{HasCause}
 use Rattle.txn_drivers.specs.LatestReads.{IsLatest}
 use Rattle.slatedb_txn_obj.specs.Protocol.{Unheld, HasCauseOfWrite, HasCauseOfLatest}
@@ -65,14 +65,27 @@ abbrev pub HasCauseOfLoad : Type 0 → ℕ → State → State → Transactional
 HasCauseOfLoad unheld left old new LatestRecordMissing = Unit {0}
 HasCauseOfLoad unheld left old new error = HasCauseOfLatest unheld left old new error
 
+-- a refusal by an epoch, an invariant or a mutator
+abbrev pub IsRefusal : TransactionalObjectError → Type 0
+IsRefusal (CallbackError error) = Unit {0}
+IsRefusal Fenced = Unit {0}
+IsRefusal InvalidObjectState = Unit {0}
+IsRefusal error = ⊥
+
+-- an error after which what was to be written may stand
+abbrev pub MayBeWritten : TransactionalObjectError → Type 0
+MayBeWritten (ObjectStoreError error) = Unit {0}
+MayBeWritten NoMemory = Unit {0}
+MayBeWritten error = ⊥
+
 -- An object is a view of a version: `at` says of which number, `value` of which value. `answers` says what a mutator may answer to a view.
 module _ {T Id View : Type 0} (answers : View → Result (Option (DirtyObject T Id)) CallbackFault → Type 0) (at : View → ℕ) (value : View → T) where
-  -- what stands after a mutator was applied, and which version is viewed then
-  pub data Applied (h : List T) (b : ℕ) (after : List T → ℕ → Type 0) (now : View) : Type 0 where
-    -- it answered nothing to a version of the history
-    Nothing : IsVersion h (at now) (value now) → answers now (Ok None) → after h b → Applied h b after now
-    -- its candidate, made of the newest version, stands straight on it
-    Entered : (view : View) (dirty : DirtyObject T Id) → IsLatest h (at view) (value view) → answers view (Ok (Some dirty)) → after (h ++ dirty.value ∷ []) b → IsLatest (h ++ dirty.value ∷ []) (at now) (value now) → Applied h b after now
+  -- What stands after a mutator was applied to an object, and which version is viewed then. `same` says that a view is of this object, and `allows` which value may follow it.
+  pub data Applied (start : View) (same : View → Type 0) (allows : View → T → Type 0) (h : List T) (b : ℕ) (after : List T → ℕ → Type 0) (now : View) : Type 0 where
+    -- it answered nothing to the version that was viewed first, or to the newest, which a refresh read
+    Nothing : IsVersion h (at now) (value now) → (now ≡ start) ⊎ IsLatest h (at now) (value now) → answers now (Ok None) → after h b → Applied start same allows h b after now
+    -- its candidate, made of this object at the newest version, and allowed to follow it, stands straight on it
+    Entered : (view : View) (dirty : DirtyObject T Id) → same view → IsLatest h (at view) (value view) → answers view (Ok (Some dirty)) → allows view dirty.value → after (h ++ dirty.value ∷ []) b → IsLatest (h ++ dirty.value ∷ []) (at now) (value now) → Applied start same allows h b after now
 
   -- Why applying it failed, what stands then, and which version is viewed, the last that it was asked about or the one read after it. `shut` says why a version shuts its holder out.
   pub data NotApplied (shut : View → TransactionalObjectError → Type 0) (h : List T) (b : ℕ) (after : List T → ℕ → Type 0) (now : View) (error : TransactionalObjectError) : Type 0 where
@@ -82,8 +95,8 @@ module _ {T Id View : Type 0} (answers : View → Result (Option (DirtyObject T 
     Shut : IsLatest h (at now) (value now) → IsShutting error → shut now error → after h b → NotApplied shut h b after now error
     -- it refused that version
     Refused : (fault : CallbackFault) → IsVersion h (at now) (value now) → answers now (Err fault) → error ≡ error_of_callback fault → after h b → NotApplied shut h b after now error
-    -- its candidate for that version was not written, or it was, and an error followed
-    Failed : (dirty : DirtyObject T Id) → IsVersion h (at now) (value now) → answers now (Ok (Some dirty)) → after h b ⊎ after (h ++ dirty.value ∷ []) b → NotApplied shut h b after now error
+    -- its candidate for that version was not written, or it was, and an error of the store or want of memory followed
+    Failed : (dirty : DirtyObject T Id) → IsVersion h (at now) (value now) → answers now (Ok (Some dirty)) → after h b ⊎ (MayBeWritten error × after (h ++ dirty.value ∷ []) b) → NotApplied shut h b after now error
 
   -- each candidate that it answers has the id of what it was made of
   abbrev pub KeepsIds : (id : View → Id) (eq : Id → Id → Bool) → Type 0

@@ -1,14 +1,13 @@
 //! The fenced holder: an object whose value has the holder's epoch.
-ghost use Rattle.std.specs.Prelude.{ℕ, List, length, true, false, nat_eq, None, Some, ◌≡◌, ◌⊎◌, ◌+◌, ◌-◌, ◌*◌, ◌^◌, ◌<◌, ◌≤◌, [], ◌∷◌, ◌++◌, All, OnOk, OnErr, IfOk, IfErr, IsErr, IsErrOf};
-ghost use Rattle.txn_types.specs.Callbacks.{IsCallback};
+ghost use Rattle.std.specs.Prelude.{ℕ, List, length, true, false, nat_eq, None, Some, Ok, ◌≡◌, ◌⊎◌, ◌+◌, ◌-◌, ◌*◌, ◌^◌, ◌<◌, ◌≤◌, [], ◌∷◌, ◌++◌, All, OnOk, OnErr, IfOk, IfErr, IsErr, IsErrOf};
 ghost use Rattle.txn_types.specs.Clones.{IsExactClone};
 ghost use Rattle.txn_types.specs.Epochs.{IsEpochError, NextEpoch, HasNoEpoch};
 ghost use Rattle.txn_types.specs.declared.error.TransactionalObjectError.{TransactionalObjectError};
 ghost use Rattle.txn_drivers.specs.Calls.{Spends, SpendsTurns};
-ghost use Rattle.slatedb_txn_obj.specs.Claims.{IsUnlike, ReadsOne, HasCauseOfAttempt, IsBlocking, MayClaim, ClaimEnds};
+ghost use Rattle.slatedb_txn_obj.specs.Claims.{IsUnlike, ReadsOne, HasCauseOfAttempt, IsUnwritten, MayClaim, ClaimEnds};
 ghost use Rattle.slatedb_txn_obj.specs.Leaves.{MayCreate};
-ghost use Rattle.slatedb_txn_obj.specs.Protocol.{Overtaken, MayAppend, UnheldAt};
-ghost use Rattle.slatedb_txn_obj.specs.Views.{IsVersion, Updated, IsTestFailure, HasCauseOfUpdate};
+ghost use Rattle.slatedb_txn_obj.specs.Protocol.{Overtaken, MayAppend, Stays, UnheldAt};
+ghost use Rattle.slatedb_txn_obj.specs.Views.{IsRefusal, IsVersion, Updated, IsTestFailure, HasCauseOfUpdate};
 
 use crate::clock::{Deadline, SystemClock};
 use crate::object::TransactionalObject;
@@ -146,8 +145,7 @@ fn attempt<
     ensures placed { P.place protocol.new ≡ P.place protocol.old }
     ensures creates { MayCreate (P.version_file (P.place protocol.old) (P.number view.old.id + 1)) (S.state store.old) (S.state store.new) }
     ensures blocked { (e : TransactionalObjectError) → HasNoEpoch asked (X.epoch_of epochs.now view.old.object) e → IsErrOf result e × (S.state store.new ≡ S.state store.old) }
-    ensures idle { IfErr result (λ e. IsBlocking e → S.state store.new ≡ S.state store.old) }
-    ensures refused { IfErr result (λ e. IsCallback e → (protocol.new ≡ protocol.old) × (store.new ≡ store.old)) }
+    ensures unwritten { IfErr result (λ e. IsUnwritten e → (S.state store.new ≡ S.state store.old) × Stays (P.stands protocol.old store.old) (P.stands protocol.new store.new)) }
     ensures barred { (e : ℕ) → NextEpoch asked (X.epoch_of epochs.now view.old.object) e → (All (λ i. I.holds i (X.with_epoch epochs.now view.old.object e) view.old.object) view.old.invariants.items → ⊥) → IsErr result × (S.state store.new ≡ S.state store.old) × (IsErrOf result TransactionalObjectError.ObjectVersionExists → ⊥) }
 {
     let epoch = next_epoch(asked, epochs.get_epoch(view.object()))?;
@@ -255,11 +253,12 @@ impl<T: Clone, I: Invariant<T> + Drop, X: EpochField<T>> TransactionalObject<T, 
     ) -> Result<(), TransactionalObjectError>
         ensures updated { OnOk result (Updated (P.stands protocol.old store.old) (P.stands protocol.new store.new) (P.number self.old.delegate.id) (P.number self.new.delegate.id) self.old.delegate.object dirty.value) }
         ensures moved { OnOk result ((self.new ≡ record self.old { delegate = record self.old.delegate { id = self.new.delegate.id; object = dirty.value } }) × (self.new.delegate.object ≡ dirty.value)) }
+        ensures written { OnOk result (P.writes_to protocol.old store.old (Some self.old.delegate.id) dirty.value (Ok self.new.delegate.id) protocol.new store.new) }
         ensures allowed { OnOk result ((X.epoch_of self.old.epochs self.old.delegate.object ≡ self.old.local_epoch) × (X.epoch_of self.old.epochs dirty.value ≡ self.old.local_epoch) × All (λ i. I.holds i dirty.value self.old.delegate.object) self.old.delegate.invariants.items) }
         ensures left { OnErr result (self.new ≡ self.old) }
         ensures shut { (X.epoch_of self.old.epochs self.old.delegate.object ≡ self.old.local_epoch → ⊥) → IfErr result (IsEpochError self.old.local_epoch (X.epoch_of self.old.epochs self.old.delegate.object)) × IsErr result × (protocol.new ≡ protocol.old) × (store.new ≡ store.old) }
         ensures unlike { X.epoch_of self.old.epochs self.old.delegate.object ≡ self.old.local_epoch → (X.epoch_of self.old.epochs dirty.value ≡ self.old.local_epoch → ⊥) → IsErrOf result TransactionalObjectError.InvalidObjectState × (protocol.new ≡ protocol.old) × (store.new ≡ store.old) }
-        ensures refused { IfErr result (λ e. IsCallback e → (protocol.new ≡ protocol.old) × (store.new ≡ store.old)) }
+        ensures refused { IfErr result (λ e. IsRefusal e → IsEpochError self.old.local_epoch (X.epoch_of self.old.epochs self.old.delegate.object) e ⊎ (IsUnlike self.old.local_epoch (X.epoch_of self.old.epochs dirty.value) e ⊎ IsTestFailure (λ i. I.holds i dirty.value self.old.delegate.object) (λ i. I.fails i dirty.value self.old.delegate.object) self.old.delegate.invariants.items e) → (protocol.new ≡ protocol.old) × (store.new ≡ store.old)) }
         ensures other { nat_eq dirty.id self.old.delegate.id ≡ false → IsErr result × (protocol.new ≡ protocol.old) × (store.new ≡ store.old) }
         ensures unequal { X.epoch_of self.old.epochs self.old.delegate.object ≡ self.old.local_epoch → X.epoch_of self.old.epochs dirty.value ≡ self.old.local_epoch → nat_eq dirty.id self.old.delegate.id ≡ false → IsErrOf result TransactionalObjectError.ObjectVersionExists }
         ensures barred { ((X.epoch_of self.old.epochs self.old.delegate.object ≡ self.old.local_epoch) × (X.epoch_of self.old.epochs dirty.value ≡ self.old.local_epoch) × All (λ i. I.holds i dirty.value self.old.delegate.object) self.old.delegate.invariants.items → ⊥) → IsErr result × (protocol.new ≡ protocol.old) × (store.new ≡ store.old) }
@@ -271,7 +270,7 @@ impl<T: Clone, I: Invariant<T> + Drop, X: EpochField<T>> TransactionalObject<T, 
         ensures paged { (h : List T) (b : ℕ) → P.stands protocol.old store.old h b → P.number self.old.delegate.id ≤ length h → P.pages protocol.new store.new ≤ P.pages protocol.old store.old + 1 }
         ensures placed { P.place protocol.new ≡ P.place protocol.old }
         ensures creates { MayCreate (P.version_file (P.place protocol.old) (P.number self.old.delegate.id + 1)) (S.state store.old) (S.state store.new) }
-        ensures exhausted { IsErrOf result TransactionalObjectError.IdExhausted → S.state store.new ≡ S.state store.old }
+        ensures exhausted { IsErrOf result TransactionalObjectError.IdExhausted → (S.state store.new ≡ S.state store.old) × Stays (P.stands protocol.old store.old) (P.stands protocol.new store.new) }
     {
         self.check_epoch()?;
         if self.epochs.get_epoch(&dirty.value) != self.local_epoch {

@@ -13,19 +13,18 @@ use txn_types::error::TransactionalObjectError;
 /// It holds no protocol and no store: each call is lent them. Where they stand for a history that has the object's value
 /// under its id, they stand afterwards for one that has the new value under the new id.
 pub trait TransactionalObject<T: Clone, Id: Copy + Eq> {
-    ghost use Rattle.std.specs.Prelude.{ℕ, List, length, true, false, ⊤, ◌≡◌, ◌⊎◌, ◌+◌, ◌-◌, ◌*◌, ◌^◌, ◌≤◌, IfOk, IfErr, OnOk, OnErr, IsErr, IsErrOf, MatchResult};
+    ghost use Rattle.std.specs.Prelude.{ℕ, List, length, true, false, ⊤, ◌≡◌, ◌⊎◌, ◌+◌, ◌-◌, ◌*◌, ◌^◌, ◌≤◌, Some, Ok, IfOk, IfErr, OnOk, OnErr, IsErr, IsErrOf, MatchResult};
     ghost use Rattle.std.specs.Borrow.{sem};
     ghost use Rattle.std.specs.Fn.{FnReturnsAt};
     ghost use denote.Follow.{follows_so};
     ghost use mathlib.Core.Option.{none};
-    ghost use Rattle.txn_types.specs.Callbacks.{IsCallback};
     ghost use Rattle.txn_types.specs.Clones.{IsExactClone};
     ghost use Rattle.txn_types.specs.declared.error.TransactionalObjectError.{TransactionalObjectError};
     ghost use Rattle.txn_drivers.specs.Calls.{Spends, SpendsTurns};
     ghost use Rattle.txn_drivers.specs.LatestReads.{IsLatest};
     ghost use Rattle.slatedb_txn_obj.specs.Leaves.{SameFiles, MayCreate, LeavesOthers};
     ghost use Rattle.slatedb_txn_obj.specs.Protocol.{Overtaken, MayAppend, Stays, UnheldAt};
-    ghost use Rattle.slatedb_txn_obj.specs.Views.{IsVersion, Updated, ShowsLatest, IsShutting, HasCauseOfUpdate, HasCauseOfRefresh, Applied, NotApplied, DecidedBy, KeepsIds, Stopped, HasCauseOfApply};
+    ghost use Rattle.slatedb_txn_obj.specs.Views.{IsRefusal, IsVersion, Updated, ShowsLatest, IsShutting, HasCauseOfUpdate, HasCauseOfRefresh, Applied, NotApplied, DecidedBy, KeepsIds, Stopped, HasCauseOfApply};
 
     /// The id that the object is at.
     ghost at: { Self → Id };
@@ -102,12 +101,13 @@ pub trait TransactionalObject<T: Clone, Id: Copy + Eq> {
     ) -> Result<(), TransactionalObjectError>
         ensures updated { OnOk result (Updated (P.stands protocol.old store.old) (P.stands protocol.new store.new) (P.number (at self.old)) (P.number (at self.new)) (value self.old) dirty.value) }
         ensures moved { OnOk result ((self.new ≡ moved self.old (at self.new) dirty.value) × (value self.new ≡ dirty.value)) }
+        ensures written { OnOk result (P.writes_to protocol.old store.old (Some (at self.old)) dirty.value (Ok (at self.new)) protocol.new store.new) }
         ensures allowed { OnOk result (allows self.old dirty.value) }
         ensures left { OnErr result (self.new ≡ self.old) }
         ensures other { Id.eq dirty.id (at self.old) ≡ false → IsErr result × (protocol.new ≡ protocol.old) × (store.new ≡ store.old) }
         ensures barred { (allows self.old dirty.value → ⊥) → IsErr result × (protocol.new ≡ protocol.old) × (store.new ≡ store.old) }
         ensures answered { (allows self.old dirty.value → ⊥) → Id.eq dirty.id (at self.old) ≡ true → IfErr result (refuses self.old dirty.value) }
-        ensures refused { IfErr result (λ e. IsCallback e → (protocol.new ≡ protocol.old) × (store.new ≡ store.old)) }
+        ensures refused { IfErr result (λ e. IsRefusal e → refuses self.old dirty.value e → (protocol.new ≡ protocol.old) × (store.new ≡ store.old)) }
         ensures conflict { IsErrOf result TransactionalObjectError.ObjectVersionExists → Id.eq dirty.id (at self.old) ≡ true → Overtaken (P.stands protocol.old store.old) (P.stands protocol.new store.new) (P.number (at self.old)) }
         ensures err { IfErr result (λ _. MayAppend (P.stands protocol.old store.old) (P.stands protocol.new store.new) (P.number (at self.old)) dirty.value) }
         ensures cause { IfErr result (HasCauseOfUpdate (refuses self.old dirty.value) (UnheldAt (P.stands protocol.old store.old) (P.number (at self.old))) (P.number (at self.old)) (S.state store.old) (S.state store.new)) }
@@ -115,7 +115,7 @@ pub trait TransactionalObject<T: Clone, Id: Copy + Eq> {
         ensures paged { (h : List T) (b : ℕ) → P.stands protocol.old store.old h b → P.number (at self.old) ≤ length h → P.pages protocol.new store.new ≤ P.pages protocol.old store.old + 1 }
         ensures placed { P.place protocol.new ≡ P.place protocol.old }
         ensures creates { MayCreate (P.version_file (P.place protocol.old) (P.number (at self.old) + 1)) (S.state store.old) (S.state store.new) }
-        ensures exhausted { IsErrOf result TransactionalObjectError.IdExhausted → S.state store.new ≡ S.state store.old };
+        ensures exhausted { IsErrOf result TransactionalObjectError.IdExhausted → (S.state store.new ≡ S.state store.old) × Stays (P.stands protocol.old store.old) (P.stands protocol.new store.new) };
 
     /// Asks the mutator for a candidate made of the object, and updates by it. After a conflict it refreshes, and asks once
     /// more. Nothing asked for is Ok, and the mutator's refusal is `CallbackError`, or `NoMemory`, and writes nothing. Each
@@ -135,7 +135,7 @@ pub trait TransactionalObject<T: Clone, Id: Copy + Eq> {
     ) -> Result<(), TransactionalObjectError>
         requires { F.IsAlwaysCallable mutator.now }
         ensures applied { OnOk result ((h : List T) (b : ℕ) → P.stands protocol.old store.old h b → IsVersion h (P.number (at self.old)) (value self.old)
-            → Applied (λ v r. FnReturnsAt F.Fn mutator.now v r) (λ v. P.number (at v)) value h b (P.stands protocol.new store.new) self.new) }
+            → Applied (λ v r. FnReturnsAt F.Fn mutator.now v r) (λ v. P.number (at v)) value self.old (λ v. v ≡ moved self.old (at v) (value v)) allows h b (P.stands protocol.new store.new) self.new) }
         ensures failed { IfErr result (λ e. (h : List T) (b : ℕ) → P.stands protocol.old store.old h b → IsVersion h (P.number (at self.old)) (value self.old)
             → NotApplied (λ v r. FnReturnsAt F.Fn mutator.now v r) (λ v. P.number (at v)) value is_shut h b (P.stands protocol.new store.new) self.new e) }
         ensures first { 1 ≤ turns.old → (answer : _) × FnReturnsAt F.Fn mutator.now self.old answer × DecidedBy answer ((self.new ≡ self.old) × (protocol.new ≡ protocol.old) × (store.new ≡ store.old) × (turns.old ≡ turns.new + 1)) result }

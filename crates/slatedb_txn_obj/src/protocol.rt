@@ -1,5 +1,5 @@
 //! The protocols whose calls are checked against the boundary.
-ghost use Rattle.std.specs.Prelude.{◌≡◌, ◌+◌, ◌*◌, ◌<◌, ◌≤◌, IfOk, IfErr, IsErrOf};
+ghost use Rattle.std.specs.Prelude.{◌≡◌, ◌+◌, ◌*◌, ◌^◌, ◌<◌, ◌≤◌, IfOk, IfErr, IsErrOf};
 
 use crate::sequenced::SequencedStorageProtocol;
 use txn_drivers::turns::Turns;
@@ -12,7 +12,7 @@ use txn_types::id::MonotonicId;
 /// `ObjectStoreError(Failed)` comes only where the store failed, `ObjectStoreError(TokensExhausted)` only where the store has
 /// no token left, and `NoMemory` where a growth was refused.
 pub trait TransactionalStorageProtocol<T, Id, S: ObjectStore> {
-    ghost use Rattle.std.specs.Prelude.{ℕ, List, length, ◌≡◌, ◌+◌, ◌*◌, ◌<◌, ◌≤◌, Option, Result, OnOk, IfOk, IfErr, IsErrOf};
+    ghost use Rattle.std.specs.Prelude.{ℕ, List, length, ◌≡◌, ◌+◌, ◌*◌, ◌^◌, ◌<◌, ◌≤◌, Option, Result, OnOk, IfOk, IfErr, IsErrOf};
     ghost use Rattle.txn_store.specs.Paths.{Segments};
     ghost use Rattle.txn_types.specs.declared.error.TransactionalObjectError.{TransactionalObjectError};
     ghost use Rattle.txn_drivers.specs.Calls.{Spends, SpendsTurns};
@@ -53,8 +53,8 @@ pub trait TransactionalStorageProtocol<T, Id, S: ObjectStore> {
     /// most two calls of the store, takes at most one token, and creates at most the file of that version.
     ///
     /// Where the base isn't the newest version it is `ObjectVersionExists`, and what stood stands. A sequenced protocol may
-    /// then have created a version, whose id the boundary had reached; no checked read answers it. The greatest id as base is
-    /// `IdExhausted`, without a call of the store. After any other error the value may have been written:
+    /// then have created a version, whose id the boundary had reached; no checked read answers it. The greatest id as base, and
+    /// no other, is `IdExhausted`, without a call of the store, and nothing moved. After any other error the value may have been written:
     /// `InvalidObjectState`, where the boundary file says no number, `ObjectStoreError` and `NoMemory`.
     fn write(
         &mut self,
@@ -70,7 +70,8 @@ pub trait TransactionalStorageProtocol<T, Id, S: ObjectStore> {
         ensures paged { (h : List T) (b : ℕ) → stands self.old store.old h b → base_number number base ≤ length h → pages self.new store.new ≤ pages self.old store.old + 1 }
         ensures placed { place self.new ≡ place self.old }
         ensures creates { MayCreate (version_file (place self.old) (base_number number base + 1)) (S.state store.old) (S.state store.new) }
-        ensures exhausted { IsErrOf result TransactionalObjectError.IdExhausted → S.state store.new ≡ S.state store.old }
+        ensures full { base_number number base + 1 ≡ 2 ^ 64 → IsErrOf result TransactionalObjectError.IdExhausted }
+        ensures exhausted { IsErrOf result TransactionalObjectError.IdExhausted → (S.state store.new ≡ S.state store.old) × Stays (stands self.old store.old) (stands self.new store.new) }
         ensures moved { writes_to self.old store.old base value.now result self.new store.new };
 
     /// The newest version and its value, or nothing where there is none. Each pass, and each page after the first that a pass
@@ -117,7 +118,7 @@ impl<T: Drop, S: ObjectStore, P: SequencedStorageProtocol<T, S>> TransactionalSt
     MonotonicId,
     S,
 > for P {
-    ghost use Rattle.std.specs.Prelude.{ℕ, List, length, ◌≡◌, ◌+◌, ◌*◌, ◌<◌, ◌≤◌, IfOk, IfErr, IsErrOf};
+    ghost use Rattle.std.specs.Prelude.{ℕ, List, length, ◌≡◌, ◌+◌, ◌*◌, ◌^◌, ◌<◌, ◌≤◌, IfOk, IfErr, IsErrOf};
     ghost use Rattle.txn_drivers.specs.Calls.{Spends, SpendsTurns};
     ghost use Rattle.slatedb_txn_obj.specs.Checked.{CheckedWrite};
     ghost use Rattle.slatedb_txn_obj.specs.Leaves.{SameFiles, MayCreate};
@@ -168,7 +169,8 @@ impl<T: Drop, S: ObjectStore, P: SequencedStorageProtocol<T, S>> TransactionalSt
         ensures paged { (h : List T) (b : ℕ) → P.stands self.old store.old h b → base_number (λ n. n) base ≤ length h → P.pages self.new store.new ≤ P.pages self.old store.old + 1 }
         ensures placed { P.place self.new ≡ P.place self.old }
         ensures creates { MayCreate (P.version_file (P.place self.old) (base_number (λ n. n) base + 1)) (S.state store.old) (S.state store.new) }
-        ensures exhausted { IsErrOf result TransactionalObjectError.IdExhausted → S.state store.new ≡ S.state store.old }
+        ensures full { base_number (λ n. n) base + 1 ≡ 2 ^ 64 → IsErrOf result TransactionalObjectError.IdExhausted }
+        ensures exhausted { IsErrOf result TransactionalObjectError.IdExhausted → (S.state store.new ≡ S.state store.old) × Stays (P.stands self.old store.old) (P.stands self.new store.new) }
         ensures moved { CheckedWrite result self.new store.new (λ answer p s. P.writes_to self.old store.old base value.now answer p s) (λ p s id answer q t. P.checks_to p s id answer q t) }
     {
         let id = self.write_unchecked(store, base, value)?;

@@ -1,5 +1,5 @@
 //! The trait of versions in sequence over a boundary, unchecked, and of their checked delete.
-ghost use Rattle.std.specs.Prelude.{◌≡◌, ◌+◌, ◌<◌, ◌≤◌, map, OnOk, IfOk, IfErr, IsErrOf};
+ghost use Rattle.std.specs.Prelude.{◌≡◌, ◌+◌, ◌^◌, ◌<◌, ◌≤◌, None, map, OnOk, IfOk, IfErr, IsErrOf};
 
 use crate::boundary::BoundaryObject;
 use std::ops::Bound;
@@ -19,8 +19,8 @@ use txn_types::identified::IdentifiedObjectMetadata;
 /// value that the codec refuses is `CallbackError`: where a history stands no version has such bytes. Each call says which
 /// other errors it has, and what an error leaves.
 pub trait SequencedStorageProtocol<T, S: ObjectStore>: BoundaryObject<S> {
-    ghost use Rattle.std.specs.Prelude.{ℕ, List, length, map, ◌≡◌, ◌⊎◌, ◌+◌, ◌<◌, ◌≤◌, OnOk, IfOk, IfErr, IsErrOf};
-    ghost use Rattle.std.specs.Prelude.{Option, Result, Err};
+    ghost use Rattle.std.specs.Prelude.{ℕ, List, length, map, ◌≡◌, ◌⊎◌, ◌+◌, ◌^◌, ◌<◌, ◌≤◌, OnOk, IfOk, IfErr, IsErrOf};
+    ghost use Rattle.std.specs.Prelude.{Option, None, Result, Err};
     ghost use Rattle.txn_store.specs.Paths.{Segments};
     ghost use Rattle.txn_types.specs.declared.error.TransactionalObjectError.{TransactionalObjectError};
     ghost use Rattle.txn_types.specs.declared.error.TransactionalObjectError.TheVariants.{ObjectVersionExists};
@@ -73,7 +73,7 @@ pub trait SequencedStorageProtocol<T, S: ObjectStore>: BoundaryObject<S> {
     /// the store, takes at most one token, and creates at most the file of that version.
     ///
     /// `ObjectVersionExists` comes where a version of that id stands already, and `IdExhausted` where the base is the greatest id,
-    /// without a call of the store. After any other error, as `ObjectStoreError` or
+    /// and only there, without a call of the store; after both nothing moved. After any other error, as `ObjectStoreError` or
     /// `NoMemory`, the version may have been created, and nothing else moved.
     fn write_unchecked(
         &mut self,
@@ -89,7 +89,9 @@ pub trait SequencedStorageProtocol<T, S: ObjectStore>: BoundaryObject<S> {
         ensures paged { pages self.new store.new ≤ pages self.old store.old + 1 }
         ensures placed { place self.new ≡ place self.old }
         ensures creates { MayCreate (version_file (place self.old) (base_number (λ n. n) base + 1)) (S.state store.old) (S.state store.new) }
-        ensures exhausted { IsErrOf result TransactionalObjectError.IdExhausted → S.state store.new ≡ S.state store.old }
+        ensures stood { IsErrOf result TransactionalObjectError.ObjectVersionExists → SameFiles (S.state store.old) (S.state store.new) }
+        ensures full { base_number (λ n. n) base + 1 ≡ 2 ^ 64 → IsErrOf result TransactionalObjectError.IdExhausted }
+        ensures exhausted { IsErrOf result TransactionalObjectError.IdExhausted → (S.state store.new ≡ S.state store.old) × Stays (stands self.old store.old) (stands self.new store.new) }
         ensures moved { writes_to self.old store.old base value.now result self.new store.new };
 
     /// The version of the greatest id, and its value, or nothing where there is none. It may be fenced, and where what is held
@@ -115,7 +117,7 @@ pub trait SequencedStorageProtocol<T, S: ObjectStore>: BoundaryObject<S> {
         ensures placed { place self.new ≡ place self.old }
         ensures files { SameFiles (S.state store.old) (S.state store.new) };
 
-    /// The value of a version, or nothing where it isn't stored. It makes at most one call of the store. Its errors are
+    /// The value of a version, or nothing where it isn't stored, as after a delete. It makes at most one call of the store. Its errors are
     /// `CallbackError`, `ObjectStoreError` and `NoMemory`; what it stood for stands, and no file is changed, also after an
     /// error.
     fn try_read_unchecked(
@@ -124,6 +126,7 @@ pub trait SequencedStorageProtocol<T, S: ObjectStore>: BoundaryObject<S> {
         id: MonotonicId,
     ) -> Result<Option<T>, TransactionalObjectError>
         ensures found { IfOk result (λ r. (h : List T) (b : ℕ) → stands self.old store.old h b → IsEntry h b id r) }
+        ensures absent { lacks self.old store.old id → IfOk result (λ r. r ≡ None) }
         ensures kept { Stays (stands self.old store.old) (stands self.new store.new) }
         ensures spends { Spends 1 0 (S.state store.old) (S.state store.new) }
         ensures paged { pages self.new store.new ≡ pages self.old store.old }

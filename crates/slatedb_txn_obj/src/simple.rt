@@ -1,11 +1,11 @@
 //! The simple object: a version of a value, with invariants on what may follow it.
-ghost use Rattle.std.specs.Prelude.{ℕ, List, length, true, false, ◌≡◌, ◌+◌, ◌*◌, ◌≤◌, [], All, OnOk, OnErr, IfOk, IfErr, IsErr, IsErrOf, MatchOption};
-ghost use Rattle.txn_types.specs.Callbacks.{IsCallback, OnRefusal};
+ghost use Rattle.std.specs.Prelude.{ℕ, List, length, true, false, ◌≡◌, ◌+◌, ◌*◌, ◌≤◌, [], None, Some, Ok, Err, All, OnOk, OnErr, IfOk, IfErr, IsErr, IsErrOf, MatchOption};
+ghost use Rattle.txn_types.specs.Callbacks.{OnRefusal};
 ghost use Rattle.txn_types.specs.Clones.{IsExactClone};
 ghost use Rattle.txn_drivers.specs.Calls.{Spends, SpendsTurns};
 ghost use Rattle.slatedb_txn_obj.specs.Leaves.{SameFiles, MayCreate};
 ghost use Rattle.slatedb_txn_obj.specs.Protocol.{Appended, Overtaken, MayAppend, Unheld, UnheldAt, HasCauseOfWrite, HasCauseOfLatest, Stays};
-ghost use Rattle.slatedb_txn_obj.specs.Views.{Updated, ShowsLatest, IsEmpty, Tested, IsTestFailure, HasCauseOfUpdate, HasCauseOfLoad};
+ghost use Rattle.slatedb_txn_obj.specs.Views.{IsRefusal, Updated, ShowsLatest, IsEmpty, Tested, IsTestFailure, HasCauseOfUpdate, HasCauseOfLoad};
 
 use crate::object::TransactionalObject;
 use crate::protocol::TransactionalStorageProtocol;
@@ -36,6 +36,8 @@ impl<T: Drop, Id: Drop, I> SimpleTransactionalObject<T, Id, I> {
     ) -> Result<SimpleTransactionalObject<T, Id, I>, TransactionalObjectError>
         ensures object { IfOk result (λ view. (view.object ≡ value) × (view.invariants.items ≡ [])) }
         ensures appended { IfOk result (λ view. Appended (P.stands protocol.old store.old) (P.stands protocol.new store.new) 0 value (P.number view.id)) }
+        ensures written { IfOk result (λ view. P.writes_to protocol.old store.old None value (Ok view.id) protocol.new store.new) }
+        ensures unwritten { IfErr result (λ e. P.writes_to protocol.old store.old None value (Err e) protocol.new store.new) }
         ensures conflict { IsErrOf result TransactionalObjectError.ObjectVersionExists → Overtaken (P.stands protocol.old store.old) (P.stands protocol.new store.new) 0 }
         ensures err { IfErr result (λ _. MayAppend (P.stands protocol.old store.old) (P.stands protocol.new store.new) 0 value) }
         ensures cause { IfErr result (HasCauseOfWrite (UnheldAt (P.stands protocol.old store.old) 0) 0 (S.state store.old) (S.state store.new)) }
@@ -200,10 +202,11 @@ impl<T: Clone, Id: Copy + Eq, I: Invariant<T> + Drop> TransactionalObject<T, Id>
     ) -> Result<(), TransactionalObjectError>
         ensures updated { OnOk result (Updated (P.stands protocol.old store.old) (P.stands protocol.new store.new) (P.number self.old.id) (P.number self.new.id) self.old.object dirty.value) }
         ensures moved { OnOk result ((self.new ≡ record self.old { id = self.new.id; object = dirty.value }) × (self.new.object ≡ dirty.value)) }
+        ensures written { OnOk result (P.writes_to protocol.old store.old (Some self.old.id) dirty.value (Ok self.new.id) protocol.new store.new) }
         ensures allowed { OnOk result (All (λ i. I.holds i dirty.value self.old.object) self.old.invariants.items) }
         ensures left { OnErr result (self.new ≡ self.old) }
         ensures other { Id.eq dirty.id self.old.id ≡ false → IsErrOf result TransactionalObjectError.ObjectVersionExists × (protocol.new ≡ protocol.old) × (store.new ≡ store.old) }
-        ensures refused { IfErr result (λ e. IsCallback e → (protocol.new ≡ protocol.old) × (store.new ≡ store.old)) }
+        ensures refused { IfErr result (λ e. IsRefusal e → IsTestFailure (λ i. I.holds i dirty.value self.old.object) (λ i. I.fails i dirty.value self.old.object) self.old.invariants.items e → (protocol.new ≡ protocol.old) × (store.new ≡ store.old)) }
         ensures barred { (All (λ i. I.holds i dirty.value self.old.object) self.old.invariants.items → ⊥) → IsErr result × (protocol.new ≡ protocol.old) × (store.new ≡ store.old) }
         ensures answered { (All (λ i. I.holds i dirty.value self.old.object) self.old.invariants.items → ⊥) → Id.eq dirty.id self.old.id ≡ true → IfErr result (IsTestFailure (λ i. I.holds i dirty.value self.old.object) (λ i. I.fails i dirty.value self.old.object) self.old.invariants.items) }
         ensures conflict { IsErrOf result TransactionalObjectError.ObjectVersionExists → Id.eq dirty.id self.old.id ≡ true → Overtaken (P.stands protocol.old store.old) (P.stands protocol.new store.new) (P.number self.old.id) }
@@ -213,7 +216,7 @@ impl<T: Clone, Id: Copy + Eq, I: Invariant<T> + Drop> TransactionalObject<T, Id>
         ensures paged { (h : List T) (b : ℕ) → P.stands protocol.old store.old h b → P.number self.old.id ≤ length h → P.pages protocol.new store.new ≤ P.pages protocol.old store.old + 1 }
         ensures placed { P.place protocol.new ≡ P.place protocol.old }
         ensures creates { MayCreate (P.version_file (P.place protocol.old) (P.number self.old.id + 1)) (S.state store.old) (S.state store.new) }
-        ensures exhausted { IsErrOf result TransactionalObjectError.IdExhausted → S.state store.new ≡ S.state store.old }
+        ensures exhausted { IsErrOf result TransactionalObjectError.IdExhausted → (S.state store.new ≡ S.state store.old) × Stays (P.stands protocol.old store.old) (P.stands protocol.new store.new) }
     {
         if dirty.id != self.id {
             return Err(TransactionalObjectError::ObjectVersionExists);

@@ -1,3 +1,4 @@
 pub mod Gathering
 pub mod Telling
 pub mod Following
+pub mod Landing

@@ -1,6 +1,7 @@
 -- What an audit of recordings promises where it agrees. All lists have the oldest first.
-use Rattle.std.specs.Prelude.{◌≡◌, ◌≤◌, ℕ, List, [], ◌∷◌, Option, Some, Ok, reverse, slice_get}
+use Rattle.std.specs.Prelude.{◌≡◌, ◌≤◌, ℕ, List, [], ◌∷◌, Option, Some, None, Ok, reverse, slice_get}
 use Rattle.txn_store.specs.Store.{State as StoreState}
+use Rattle.txn_store.specs.declared.request.Request.{Request}
 use Rattle.txn_journals.specs.declared.rows.LogRow.{LogRow}
 use Rattle.txn_journals.specs.Logs.{IsLog}
 use Rattle.txn_journals.specs.Verdict.{Diary, IsDue, clients_in}
@@ -27,14 +28,37 @@ module _ {T : Type 0} (page : ℕ) (text : T → List ℕ) where
   AreOf (rows ∷ recordings) (d ∷ ds) = IsOf rows d × AreOf recordings ds
   AreOf _ _ = ⊥
 
+module _ {T : Type 0} where
+  -- A recording of this client has a row by which this operation asks this.
+  pub record WasAsked (recordings : List (List (Row T))) (client op : ℕ) (request : Request) : Type 0 where
+    pub recording : ℕ
+    pub rows : List (Row T)
+    pub is_recorded : slice_get recordings recording ≡ Some rows
+    pub page : ℕ
+    pub its : slice_get rows 0 ≡ Some (kinds.Client client page)
+    pub place : ℕ
+    pub at : ℕ
+    pub asks : slice_get rows place ≡ Some (kinds.Ask op at request)
+
+  -- A row of the log that is a landing of an operation is of what that asked.
+  abbrev pub IsRecorded : List (List (Row T)) → LogRow → Option ℕ → Type 0
+  IsRecorded recordings row None = Unit {0}
+  IsRecorded recordings row (Some op) = WasAsked recordings row.client op row.request
+
+  -- so is each
+  abbrev pub AreRecorded : List (List (Row T)) → List LogRow → Type 0
+  AreRecorded recordings [] = Unit {0}
+  AreRecorded recordings (row ∷ log) = IsRecorded recordings row row.landed × AreRecorded recordings log
+
 module _ {T : Type 0} (text : T → List ℕ) (encode : T → List ℕ) (decode : List ℕ → Option T) (get_epoch : T → ℕ) (set_epoch : T → ℕ → T) where
-  -- The recordings are one history: there are diaries, one for each recording, that tell what the recordings tell, and a log that an honest store has, whose rows of each client are the replies that its recording has, and whose landings are of what the clients left; and so the clients shared only the store.
+  -- The recordings are one history: there are diaries, one for each recording, that tell what the recordings tell, and a log that an honest store has, whose rows of each client are the replies that its recording has, and whose landings are of what the clients left, each of what its recording asks; and so the clients shared only the store.
   pub record IsOneHistoryOf (recordings : List (List (Row T))) (log : List LogRow) (ds : List (Diary T)) : Type 0 where
     pub page : ℕ
     pub paged : 1 ≤ page
     pub store : StoreState
     pub is_log : IsLog (reverse log) store
     pub told : AreOf page text recordings ds
+    pub recorded : AreRecorded recordings log
     pub diaries : AreDiaries page encode decode get_epoch set_epoch ds
     pub agrees : IsDue log ds (Ok tt)
     pub shares : ShareOnlyTheStore page encode decode get_epoch set_epoch (clients_in ds) log ds store

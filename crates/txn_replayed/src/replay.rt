@@ -1,4 +1,7 @@
 //! The recorded calls on an honest store, in their order.
+ghost use Rattle.std.specs.Prelude.{◌≡◌, ◌⊎◌, None, Some, IfOk, IfSome, map, slice_get};
+ghost use Rattle.txn_recorded.specs.declared.row.Row.TheVariants as kinds;
+ghost use Rattle.txn_replayed.specs.OneHistory.{WasAsked, AreRecorded};
 
 use crate::fault::RowFault;
 use crate::refusal::Refusal;
@@ -20,32 +23,52 @@ struct RecordedCall<'a> {
     reply: Option<&'a Reply>,
 }
 
+/// The client that the first row names, and its page.
+fn named_by<T>(rows: &[Row<T>]) -> Option<(u64, u64)>
+    ensures { IfSome result (λ named. slice_get rows.now 0 ≡ Some (kinds.Client named.0 named.1)) }
+{
+    match rows.first() {
+        Some(Row::Client(client, page)) => Some((*client, *page)),
+        _ => None,
+    }
+}
+
+/// The operation that asks in a row, when, and what.
+fn asked_at<T>(rows: &[Row<T>], place: usize) -> Option<(u64, u64, &Request)>
+    ensures { IfSome result (λ asked. slice_get rows.now place ≡ Some (kinds.Ask asked.0 asked.1 asked.2.now)) }
+{
+    match rows.get(place) {
+        Some(Row::Ask(op, at, request)) => Some((*op, *at, request)),
+        _ => None,
+    }
+}
+
 /// The recorded call at a place.
-fn recorded<T>(recordings: &[Vec<Row<T>>], call: CallPlace) -> Option<RecordedCall<'_>> {
+fn recorded<T>(recordings: &[Vec<Row<T>>], call: CallPlace) -> Option<RecordedCall<'_>>
+    ensures { IfSome result (λ found. WasAsked (map (λ rows. rows.items) recordings.now) found.client found.op found.request.now) }
+{
     let rows = recordings.get(call.recording)?.as_slice();
-    let Some(Row::Client(client, _)) = rows.first() else {
-        return None;
-    };
-    let Some(Row::Ask(op, _, request)) = rows.get(call.row) else {
-        return None;
-    };
+    let (client, _) = named_by(rows)?;
+    let (op, _, request) = asked_at(rows, call.row)?;
     let reply = match rows.get(call.row.saturating_add(1)) {
         Some(Row::Reply(_, _, reply)) => Some(reply),
         _ => None,
     };
     Some(RecordedCall {
-        client: *client,
-        op: *op,
+        client,
+        op,
         request,
         reply,
     })
 }
 
-/// The row of the log that a call is: a landing where nobody saw its reply.
-fn log_row(recorded: RecordedCall<'_>, landed: Option<Reply>) -> Result<Option<LogRow>, Refusal> {
+/// The row of the log that a call is: a landing where nobody saw its reply. None where it landed and has a reply, or neither.
+fn log_row(recorded: RecordedCall<'_>, landed: Option<Reply>) -> Result<Option<LogRow>, Refusal>
+    ensures { IfOk result (λ row. IfSome row (λ row. (row.client ≡ recorded.entry.client) × (row.request ≡ recorded.entry.request.now) × ((row.landed ≡ None) ⊎ (row.landed ≡ Some recorded.entry.op)))) }
+{
     let request = recorded.request.try_clone()?;
     match (landed, recorded.reply) {
-        (Some(reply), _) => Ok(Some(LogRow {
+        (Some(reply), None) => Ok(Some(LogRow {
             client: recorded.client,
             request,
             reply,
@@ -57,7 +80,7 @@ fn log_row(recorded: RecordedCall<'_>, landed: Option<Reply>) -> Result<Option<L
             reply: reply.try_clone()?,
             landed: None,
         })),
-        (None, None) => Ok(None),
+        _ => Ok(None),
     }
 }
 
@@ -92,7 +115,9 @@ pub(crate) fn replay<T>(
     alloc: Global,
     recordings: &[Vec<Row<T>>],
     order: Vec<Placed>,
-) -> Result<HonestLog, Refusal> {
+) -> Result<HonestLog, Refusal>
+    ensures { IfOk result (λ log. AreRecorded (map (λ rows. rows.items) recordings.now) log) }
+{
     let mut log = HonestLog::new(alloc);
     for placed in order {
         let call = placed.call;

@@ -211,7 +211,7 @@ impl<T: Drop, S: ObjectStore, C: ObjectCodec<T>, B: BoundaryObject<S>> Sequenced
     T,
     S,
 > for ObjectStoreSequencedStorageProtocol<T, C, B> {
-    ghost use Rattle.std.specs.Prelude.{ℕ, List, [], length, map, ◌≡◌, ◌+◌, ◌<◌, ◌≤◌, Ok, Err, IfOk, IfErr, IsErrOf, OnOk};
+    ghost use Rattle.std.specs.Prelude.{ℕ, List, [], length, map, ◌≡◌, ◌+◌, ◌^◌, ◌<◌, ◌≤◌, None, Ok, Err, IfOk, IfErr, IsErrOf, OnOk};
     ghost use Rattle.txn_types.specs.declared.error.TransactionalObjectError.TheVariants.{ObjectVersionExists};
     ghost use Rattle.txn_drivers.specs.Calls.{HasCause, HasCauseOfPut, Spends, SpendsTurns};
     ghost use Rattle.txn_drivers.specs.LatestReads.{UpTo, Ended};
@@ -302,7 +302,9 @@ impl<T: Drop, S: ObjectStore, C: ObjectCodec<T>, B: BoundaryObject<S>> Sequenced
         ensures unmoved { self.new ≡ record { layout = self.old.layout; latest = self.new.latest; boundary = self.old.boundary } }
         ensures placed { laid self.new (B.file self.new.boundary) ≡ laid self.old (B.file self.old.boundary) }
         ensures creates { MayCreate (version_path self.old.layout.names (base_number (λ n. n) base + 1)) (S.state store.old) (S.state store.new) }
-        ensures exhausted { IsErrOf result TransactionalObjectError.IdExhausted → S.state store.new ≡ S.state store.old }
+        ensures stood { IsErrOf result TransactionalObjectError.ObjectVersionExists → SameFiles (S.state store.old) (S.state store.new) }
+        ensures full { base_number (λ n. n) base + 1 ≡ 2 ^ 64 → IsErrOf result TransactionalObjectError.IdExhausted }
+        ensures exhausted { IsErrOf result TransactionalObjectError.IdExhausted → (S.state store.new ≡ S.state store.old) × Stays (StandsFor (B.bounds self.old.boundary store.old) (B.file self.old.boundary) C.decoded self.old (S.state store.old).files) (StandsFor (B.bounds self.new.boundary store.new) (B.file self.new.boundary) C.decoded self.new (S.state store.new).files) }
     {
         write_version(
             self.alloc,
@@ -343,6 +345,7 @@ impl<T: Drop, S: ObjectStore, C: ObjectCodec<T>, B: BoundaryObject<S>> Sequenced
         id: MonotonicId,
     ) -> Result<Option<T>, TransactionalObjectError>
         ensures found { IfOk result (λ r. (h : List T) (b : ℕ) → (StandsFor (B.bounds self.old.boundary store.old) (B.file self.old.boundary) C.decoded self.old (S.state store.old).files) h b → IsEntry h b id r) }
+        ensures absent { IsMissing self.old.layout.names (S.state store.old).files id → IfOk result (λ r. r ≡ None) }
         ensures kept { Stays (StandsFor (B.bounds self.old.boundary store.old) (B.file self.old.boundary) C.decoded self.old (S.state store.old).files) (StandsFor (B.bounds self.new.boundary store.new) (B.file self.new.boundary) C.decoded self.new (S.state store.new).files) }
         ensures spends { Spends 1 0 (S.state store.old) (S.state store.new) }
         ensures paged { pages_below self.new.layout.names self.new.layout.page (S.state store.new).files ≡ pages_below self.old.layout.names self.old.layout.page (S.state store.old).files }

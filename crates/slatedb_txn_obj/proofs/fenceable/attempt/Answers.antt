@@ -6,7 +6,7 @@ use Rattle.txn_types.specs.Epochs.{NextEpoch}
 use Rattle.slatedb_txn_obj.specs.Claims.{ReadsOne}
 use Rattle.slatedb_txn_obj.specs.Protocol.{UnheldAt}
 use Rattle.slatedb_txn_obj.specs.Views.{IsTestFailure}
-use Rattle.slatedb_txn_obj.proofs.AttemptCauses.{attempt-blocked, attempt-update, one_epoch, test-no_conflict, blocked-no_conflict, same_error, no_conflict, claimed-none, claimed-some, not_shut, update-idle}
+use Rattle.slatedb_txn_obj.proofs.AttemptCauses.{attempt-blocked, attempt-update, one_epoch, test-no_conflict, blocked-no_conflict, same_error, no_conflict, claimed-none, claimed-some, not_shut, update-unwritten}
 use Rattle.slatedb_txn_obj.proofs.Attempts.{spends-nothing, le-more}
 use Rattle.slatedb_txn_obj.proofs.Leaving.{same-refl}
 use Rattle.slatedb_txn_obj.proofs.fenceable.attempt.Goals as goal
@@ -178,15 +178,25 @@ returns-in_err-update-clause-conflict g c is =
     let p = err_from_is_err_and c.from_residual-in_err-update.result c.from_residual-in_err-update.ensures.1 in
     c.in_err-update.ensures.conflict (ap Err (same_error p.1 p.2 is)) (eq-eqb _ _ c.in_ok-dirty.ensures.dirty.0)
 
-pub returns-in_err-update-clause-refused : goal.returns-in_err-update-clause-refused
-returns-in_err-update-clause-refused g c =
-    let p = err_from_is_err_and c.from_residual-in_err-update.result c.from_residual-in_err-update.ensures.1 in
-    rw p.1 (rw p.2 c.in_err-update.ensures.refused)
+pub returns-in_err-epoch-clause-unwritten : goal.returns-in_err-epoch-clause-unwritten
+returns-in_err-epoch-clause-unwritten g c =
+    let p = err_from_is_err_and c.from_residual.result c.from_residual.ensures.1 in
+    rw p.1 (λ unwritten. (refl, λ h b stands. stands))
 
-pub returns-in_err-update-clause-idle : goal.returns-in_err-update-clause-idle
-returns-in_err-update-clause-idle g c =
+pub returns-in_err-dirty-clause-unwritten : goal.returns-in_err-dirty-clause-unwritten
+returns-in_err-dirty-clause-unwritten g c =
+    let p = err_from_is_err_and c.from_residual-in_err-dirty.result c.from_residual-in_err-dirty.ensures.1 in
+    rw p.1 (λ unwritten. (refl, λ h b stands. stands))
+
+pub returns-in_err-check-clause-unwritten : goal.returns-in_err-check-clause-unwritten
+returns-in_err-check-clause-unwritten g c =
+    let p = err_from_is_err_and c.from_residual-in_err-check.result c.from_residual-in_err-check.ensures.1 in
+    rw p.1 (λ unwritten. (refl, λ h b stands. stands))
+
+pub returns-in_err-update-clause-unwritten : goal.returns-in_err-update-clause-unwritten
+returns-in_err-update-clause-unwritten g c =
     let p = err_from_is_err_and c.from_residual-in_err-update.result c.from_residual-in_err-update.ensures.1 in
-    rw p.1 (rw p.2 (λ blocks. update-idle (λ i. g.I.Invariant.holds i c.set_epoch.new.value c.args.view.now.object) (λ i. g.I.Invariant.fails i c.set_epoch.new.value c.args.view.now.object) _ (UnheldAt (g.P.TransactionalStorageProtocol.stands c.args.protocol.now c.args.store.now) (g.P.TransactionalStorageProtocol.number c.args.view.now.id)) (g.P.TransactionalStorageProtocol.number c.args.view.now.id) _ _ _ c.in_err-update.ensures.cause c.in_err-update.ensures.exhausted blocks))
+    rw p.1 (rw p.2 (update-unwritten (λ i. g.I.Invariant.holds i c.set_epoch.new.value c.args.view.now.object) (λ i. g.I.Invariant.fails i c.set_epoch.new.value c.args.view.now.object) _ (UnheldAt (g.P.TransactionalStorageProtocol.stands c.args.protocol.now c.args.store.now) (g.P.TransactionalStorageProtocol.number c.args.view.now.id)) (g.P.TransactionalStorageProtocol.number c.args.view.now.id) (g.S.ObjectStore.state c.args.store.now) (g.S.ObjectStore.state c.update.new.store) _ c.in_err-update.ensures.cause c.in_err-update.ensures.exhausted (λ refusal failure. let same = c.in_err-update.ensures.refused refusal failure in (ap (λ s. g.S.ObjectStore.state s) same.1, λ h b stands. rw same.0 (rw same.1 stands)))))
 
 pub returns-clause-next : goal.returns-clause-next
 returns-clause-next g c =

@@ -9,9 +9,9 @@ use Rattle.txn_drivers.specs.LatestReads.{IsLatest}
 use Rattle.slatedb_txn_obj.specs.Claims.{ReadsOne, ReadsInTime, ReadsLate, HasCauseOfClaim}
 use Rattle.slatedb_txn_obj.specs.Protocol.{UnheldAt}
 use Rattle.slatedb_txn_obj.specs.Views.{IsVersion, IsTestFailure, HasCauseOfRefresh}
-use Rattle.slatedb_txn_obj.proofs.AttemptCauses.{claim-refresh, refresh-not_blocking}
+use Rattle.slatedb_txn_obj.proofs.AttemptCauses.{claim-refresh, refresh-not_blocking, refresh-not_late, blocking-unwritten, late-unwritten}
 use Rattle.slatedb_txn_obj.proofs.Leaving.{others-trans, others-same, others-placed}
-use Rattle.slatedb_txn_obj.proofs.Attempts.{paged-after, pages-most, spends-update, spends-refresh, attempt-few, conflict-few, conflict-spent, conflict-next, conflict-left, idle-spent, reads-for, latest-not_overtaken}
+use Rattle.slatedb_txn_obj.proofs.Attempts.{paged-after, pages-most, spends-update, spends-refresh, attempt-few, conflict-few, conflict-spent, conflict-next, conflict-left, idle-spent, late-spent, late-idle, reads-for, latest-not_overtaken}
 use Rattle.slatedb_txn_obj.proofs.Claiming.{next-asked, reads-more, reads-late, claim-cause, not_exhausted, attempt-other, refresh-exhausted, has_begun, ok_begun, not_begun, not_passed}
 use Rattle.slatedb_txn_obj.proofs.Views.{version-of_latest, none-empty}
 use Rattle.slatedb_txn_obj.proofs.fenceable.claim.Goals as goal
@@ -73,10 +73,13 @@ returns-in_err-check-in-Err g c =
       few = λ h b stands version. attempt-few _ _ _ _ _ _ _ _ _ _ _ _ _ (inv.timed.2 h b stands version) c.loop-asked-test.ensures.spent conflict.spends.left_least;
       enough = λ h b stands version most is. not_exhausted _ (rw p.1 (rw p.2 (rw late.0 tt))) is;
       cause = rw p.1 (rw p.2 (rw late.0 (inv.timeout, subst (λ n. ReadsLate n (g.K.SystemClock.readings c.args.clock.now) (g.K.SystemClock.readings c.check.new.clock)) inv.timeout (reads-late _ _ _ _ _ _ (reads-more _ _ inv.timed.0 _ _ _ inv.timed.1 (conflict.conflict_in_time (ap Err is_conflict))) late.1))));
-      refused = rw p.1 (rw p.2 (rw late.0 (λ callback. absurd callback)));
+      unwritten = rw p.1 (rw p.2 (rw late.0 (λ unwritten h b stands version.
+          let here = inv.unmoved h b stands version in
+          (conflict.conflict (ap Err is_conflict)).stands h b here.0 here.1.within)));
       blocked = λ e none some. absurd (begun.0 e none);
       barred = λ e next fails. absurd (begun.1 e next fails);
       idle = rw p.1 (rw p.2 (rw late.0 (λ blocks. absurd blocks)));
+      late = rw p.1 (rw p.2 (rw late.0 (λ late. late-spent _ _ _ _ _ _ conflict.spends.calls_most inv.spends.calls_most c.loop-asked-test.ensures.spent)));
       paged = λ h b stands version.
           let here = inv.unmoved h b stands version in
           pages-most _ _ _ _ (conflict.paged h b here.0 here.1.within) (inv.paged h b stands version);
@@ -129,12 +132,13 @@ returns-in_err-refresh-in-Err g c =
           let here = inv.unmoved h b stands version in
           unheld h b (overtaken.stands h b here.0 here.1.within))
           _ told_cause));
-      refused = rw p.1 (rw p.2 (λ callback h b stands version.
+      unwritten = rw p.1 (rw p.2 (λ unwritten h b stands version.
           let here = inv.unmoved h b stands version in
           refresh.kept h b (overtaken.stands h b here.0 here.1.within)));
       blocked = λ e none some. absurd (begun.0 e none);
       barred = λ e next fails. absurd (begun.1 e next fails);
       idle = rw p.1 (rw p.2 (λ blocks. absurd (refresh-not_blocking (g.P.TransactionalStorageProtocol.stands c.attempt.new.protocol c.attempt.new.store) c.refresh.new.turns (g.S.ObjectStore.state c.attempt.new.store) (g.S.ObjectStore.state c.refresh.new.store) _ blocks told_cause)));
+      late = rw p.1 (rw p.2 (λ late. absurd (refresh-not_late (g.P.TransactionalStorageProtocol.stands c.attempt.new.protocol c.attempt.new.store) c.refresh.new.turns (g.S.ObjectStore.state c.attempt.new.store) (g.S.ObjectStore.state c.refresh.new.store) _ late told_cause)));
       paged = λ h b stands version.
           let here = inv.unmoved h b stands version in
           let read = refresh.paged h b (overtaken.stands h b here.0 here.1.within) in
@@ -191,15 +195,15 @@ returns-in-Err-2 g c =
           (λ fills. (at, c.loop-asked.view.object, inv.met, fills))
           (λ none h b stands version. none h b (inv.unmoved h b stands version).0 (inv.unmoved h b stands version).1.within)
           _ (λ is. true≢false (sym (c.is_sequenced_write_conflict.ensures.kind.1 is) ∙ c.if-is_sequenced_write_conflict.false)) c.in-Err.ensures.cause);
-      refused = λ callback h b stands version.
-          let same = attempt.refused callback in
-          rw same.0 (rw same.1 (inv.unmoved h b stands version).0);
+      unwritten = λ unwritten h b stands version. (attempt.unwritten unwritten).1 h b (inv.unmoved h b stands version).0;
       blocked = λ e none some.
           let told = not_begun (λ v. g.X.EpochField.epoch_of c.args.epochs v.object) (λ v e. All (λ i. g.I.Invariant.holds i (g.X.EpochField.with_epoch c.args.epochs v.object e) v.object) v.invariants.items) c.args.asked _ _ _ (g.S.ObjectStore.state c.args.store.now) (g.S.ObjectStore.state c.loop-asked.store) (g.S.ObjectStore.state c.attempt.new.store) _ inv.first attempt.blocked e none in
           (ap Err told.0, told.1);
       barred = λ e next fails. (refl, not_passed (λ v. g.X.EpochField.epoch_of c.args.epochs v.object) (λ v e. All (λ i. g.I.Invariant.holds i (g.X.EpochField.with_epoch c.args.epochs v.object e) v.object) v.invariants.items) c.args.asked _ _ _ (g.S.ObjectStore.state c.args.store.now) (g.S.ObjectStore.state c.loop-asked.store) (g.S.ObjectStore.state c.attempt.new.store) inv.first attempt.barred e next fails);
       idle = λ blocks.
-          idle-spent _ _ _ _ _ _ (ap (λ (s : State). s.calls) (attempt.idle blocks)) inv.spends.calls_most c.loop-asked-test.ensures.spent;
+          idle-spent _ _ _ _ _ _ (ap (λ (s : State). s.calls) (attempt.unwritten (blocking-unwritten _ blocks)).0) inv.spends.calls_most c.loop-asked-test.ensures.spent;
+      late = λ late.
+          late-idle _ _ _ _ _ _ (ap (λ (s : State). s.calls) (attempt.unwritten (late-unwritten _ late)).0) inv.spends.calls_most c.loop-asked-test.ensures.spent;
       paged = λ h b stands version.
           let here = inv.unmoved h b stands version in
           pages-most _ _ _ _ (attempt.paged h b here.0 here.1.within) (inv.paged h b stands version);
@@ -242,10 +246,11 @@ returns-in-Ok g c = record {
   few = λ h b stands version. attempt-few _ _ _ _ _ _ _ _ _ _ _ _ _ (c.loop-asked.invariant.timed.2 h b stands version) c.loop-asked-test.ensures.spent c.in-Ok.ensures.spends.left_least;
   enough = λ h b stands version most is. not_exhausted _ tt is;
   cause = tt;
-  refused = tt;
+  unwritten = tt;
   blocked = λ e none some. absurd ((ok_begun (λ v. g.X.EpochField.epoch_of c.args.epochs v.object) (λ v e. All (λ i. g.I.Invariant.holds i (g.X.EpochField.with_epoch c.args.epochs v.object e) v.object) v.invariants.items) c.args.asked _ _ _ _ _ _ _ _ c.loop-asked.invariant.first c.in-Ok.ensures.blocked c.in-Ok.ensures.barred).0 e none);
   barred = λ e next fails. absurd ((ok_begun (λ v. g.X.EpochField.epoch_of c.args.epochs v.object) (λ v e. All (λ i. g.I.Invariant.holds i (g.X.EpochField.with_epoch c.args.epochs v.object e) v.object) v.invariants.items) c.args.asked _ _ _ _ _ _ _ _ c.loop-asked.invariant.first c.in-Ok.ensures.blocked c.in-Ok.ensures.barred).1 e next fails);
   idle = tt;
+  late = tt;
   paged = λ h b stands version.
       let inv = c.loop-asked.invariant in
       let here = inv.unmoved h b stands version in

@@ -18,6 +18,7 @@ returns g c =
       store = store;
       is_log = is_log;
       told = c.in_ok-diaries.ensures.told;
+      recorded = c.in_ok-log.ensures;
       diaries = c.in_ok-diaries.ensures.diaries;
       agrees = agrees;
       shares = c.clients_share_only_the_store.ensures page (clients_in ds) log ds store c.page_of-page.ensures (omega arith) is_log c.in_ok-diaries.ensures.diaries agrees;

@@ -1,13 +1,13 @@
 -- What an update answers after the tests of its epochs, and what the update of the simple object gives.
-use Rattle.std.proofs.Common.{refl, sym, subst, ap, ◌∙◌, inl, inr, ◌⊎◌, is_err}
+use Rattle.std.proofs.Common.{refl, sym, subst, ap, ◌∙◌, inl, inr, ◌⊎◌, ◌≡◌, is_err}
 use Rattle.std.proofs.lemmas.Result.{err_from_is_err_and, IfErr-weaker, on_ok_weaker, on_err_weaker}
 use Rattle.txn_types.specs.Epochs.{IsEpochError}
 use Rattle.txn_types.specs.declared.error.TransactionalObjectError.{TransactionalObjectError}
 use Rattle.slatedb_txn_obj.specs.Claims.{IsUnlike}
 use Rattle.slatedb_txn_obj.specs.Protocol.{UnheldAt}
-use Rattle.slatedb_txn_obj.specs.Views.{IsTestFailure, HasCauseOfUpdate}
+use Rattle.slatedb_txn_obj.specs.Views.{IsTestFailure, IsRefusal, HasCauseOfUpdate}
 use Rattle.slatedb_txn_obj.proofs.Leaving.{same-refl}
-use Rattle.slatedb_txn_obj.proofs.Updates.{spends_none, error_is, own-no_error, update-epoch, update-wider}
+use Rattle.slatedb_txn_obj.proofs.Updates.{spends_none, error_is, own-no_error, like-no_error, update-epoch, update-wider}
 use Rattle.slatedb_txn_obj.proofs.fenceable.FenceableTransactionalObjectTransactionalObjectMonotonicId.update.Goals as goal
 
 pub returns-in_err-check_epoch-clause-shut : goal.returns-in_err-check_epoch-clause-shut
@@ -21,7 +21,7 @@ returns-in_err-check_epoch-clause-unlike g c own other = absurd (own-no_error _ 
 pub returns-in_err-check_epoch-clause-refused : goal.returns-in_err-check_epoch-clause-refused
 returns-in_err-check_epoch-clause-refused g c =
     let p = err_from_is_err_and c.from_residual.result c.from_residual.ensures.1 in
-    rw p.1 (λ _. (refl, refl))
+    rw p.1 (λ refusal refuses. (refl, refl))
 
 pub returns-in_err-check_epoch-clause-other : goal.returns-in_err-check_epoch-clause-other
 returns-in_err-check_epoch-clause-other g c other = (c.from_residual.ensures.0, refl, refl)
@@ -107,7 +107,22 @@ pub returns-clause-unlike : goal.returns-clause-unlike
 returns-clause-unlike g c own other = absurd (other (sym c.get_epoch.ensures ∙ c.if-get_epoch-self.false))
 
 pub returns-clause-refused : goal.returns-clause-refused
-returns-clause-refused g c = c.update.ensures.refused
+returns-clause-refused g c =
+    let local = c.args.self.now.local_epoch in
+    let stored = g.X.EpochField.epoch_of c.args.self.now.epochs c.args.self.now.delegate.object in
+    let candidate = g.X.EpochField.epoch_of c.args.self.now.epochs c.args.dirty.value in
+    let failure : TransactionalObjectError → Type 0 = IsTestFailure (λ i. g.I.Invariant.holds i c.args.dirty.value c.args.self.now.delegate.object) (λ i. g.I.Invariant.fails i c.args.dirty.value c.args.self.now.delegate.object) c.args.self.now.delegate.invariants.items in
+    let refuses : TransactionalObjectError → Type 0 = λ e. IsEpochError local stored e ⊎ (IsUnlike local candidate e ⊎ failure e) in
+    let like : candidate ≡ local = sym c.get_epoch.ensures ∙ c.if-get_epoch-self.false in
+    let same : Type 0 = (c.update.new.protocol ≡ c.args.protocol.now) × (c.update.new.store ≡ c.args.store.now) in
+    IfErr-weaker c.update.result (λ e. IsRefusal e → failure e → same) (λ e. IsRefusal e → refuses e → same) (λ e refused refusal why. elim why [
+      | inl shut ↦ absurd (own-no_error local stored e c.in_ok-check_epoch.ensures.own shut)
+      | inr (inl unlike) ↦ absurd (like-no_error local candidate e like unlike)
+      | inr (inr failed) ↦ refused refusal failed
+    ]) c.update.ensures.refused
+
+pub returns-then-get_epoch-self-clause-refused : goal.returns-then-get_epoch-self-clause-refused
+returns-then-get_epoch-self-clause-refused g c = λ refusal refuses. (refl, refl)
 
 pub returns-clause-other : goal.returns-clause-other
 returns-clause-other g c other =
@@ -167,3 +182,12 @@ returns-clause-creates g c = c.update.ensures.creates
 
 pub returns-clause-exhausted : goal.returns-clause-exhausted
 returns-clause-exhausted g c = c.update.ensures.exhausted
+
+pub returns-in_err-check_epoch-clause-exhausted : goal.returns-in_err-check_epoch-clause-exhausted
+returns-in_err-check_epoch-clause-exhausted g c is = (refl, λ h b stands. stands)
+
+pub returns-then-get_epoch-self-clause-exhausted : goal.returns-then-get_epoch-self-clause-exhausted
+returns-then-get_epoch-self-clause-exhausted g c is = (refl, λ h b stands. stands)
+
+pub returns-clause-written : goal.returns-clause-written
+returns-clause-written g c = c.update.ensures.written

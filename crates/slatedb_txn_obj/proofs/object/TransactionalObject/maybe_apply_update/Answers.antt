@@ -6,6 +6,7 @@ use Rattle.txn_types.specs.declared.error.TransactionalObjectError.{Transactiona
 use Rattle.slatedb_txn_obj.specs.Protocol.{UnheldAt}
 use Rattle.slatedb_txn_obj.specs.Views.{IsVersion, Nothing, Entered, Shut, Refused, Failed, Spent, Stopped, HasCauseOfUpdate, ByVersion, ByMutator, ByObject}
 use Rattle.slatedb_txn_obj.proofs.AttemptCauses.{apply-shut, apply-mutator, apply-refresh, apply-update, mutator-not_spent}
+use Rattle.slatedb_txn_obj.proofs.Updates.{update-left}
 use Rattle.slatedb_txn_obj.proofs.Leaving.{others-trans, others-same, others-placed}
 use Rattle.slatedb_txn_obj.proofs.Attempts.{spends-turn, spends-none, spends-update, spends-refresh, few-spent, turn-left, attempts-after, few-after, enough-after, paged-after, pages-most, conflict-stays, latest-not_overtaken, candidate-first}
 use Rattle.slatedb_txn_obj.proofs.Views.{version-of_latest, none-empty}
@@ -53,7 +54,7 @@ returns-in-Ok-None g c =
     record {
       applied = λ h b stands version.
           let here = inv.unmoved h b stands version in
-          Nothing here.1 (record { shown = _; shows = refl; says = record { met = rw c.in-Ok-None.field-0-is at c.in-Ok-None.ensures } }) here.0;
+          Nothing here.1 (elim inv.met [ inl same ↦ inl same | inr latest ↦ inr (latest h b stands version) ]) (record { shown = _; shows = refl; says = record { met = rw c.in-Ok-None.field-0-is at c.in-Ok-None.ensures } }) here.0;
       failed = tt;
       first = λ some.
           elim inv.first [
@@ -83,7 +84,7 @@ returns-in-Ok g c =
     record {
       applied = λ h b stands version.
           let here = inv.unmoved h b stands version in
-          Entered c.loop-self.self c.in-Ok-Some.dirty (update.updated.newest h b here.0 here.1) answered (update.updated.stands h b here.0 here.1) (rw update.moved.1 (update.updated.next h b here.0 here.1));
+          Entered c.loop-self.self c.in-Ok-Some.dirty inv.same (update.updated.newest h b here.0 here.1) answered update.allowed (update.updated.stands h b here.0 here.1) (rw update.moved.1 (update.updated.next h b here.0 here.1));
       failed = tt;
       first = λ some.
           let candidate = candidate-first (λ v r. FnReturnsAt g.F.Fn c.args.mutator.now v r) _ _ _ _ _ c.in-Ok-Some.dirty inv.first answered in
@@ -151,7 +152,16 @@ returns-in-Err-2 g c =
       failed = λ h b stands version.
           let here = inv.unmoved h b stands version in
           let now : IsVersion h (g.P.TransactionalStorageProtocol.number (g.Self.TransactionalObject.at c.update.new.self)) (g.Self.TransactionalObject.value c.update.new.self) = rw update.left here.1 in
-          Failed c.in-Ok-Some.dirty now (rw update.left answered) (update.err h b here.0 here.1.within);
+          let object = g.Self.TransactionalObject in
+          let protocol = g.P.TransactionalStorageProtocol in
+          let state = g.S.ObjectStore.state in
+          let at = protocol.number (object.at c.loop-self.self) in
+          Failed c.in-Ok-Some.dirty now (rw update.left answered) (update-left (λ e. object.refuses c.loop-self.self c.in-Ok-Some.dirty.value e) (UnheldAt (protocol.stands c.loop-self.protocol c.loop-self.store) at) at (state c.loop-self.store) (state c.update.new.store) _ update.cause
+          (λ is. true≢false (sym (c.is_sequenced_write_conflict.ensures.kind.1 is) ∙ c.if-is_sequenced_write_conflict.false))
+          (λ none. none h b here.0 here.1.within)
+          (λ is. (update.exhausted is).1 h b here.0)
+          (λ refusal refuses. let same = update.refused refusal refuses in rw same.0 (rw same.1 here.0))
+          (update.err h b here.0 here.1.within));
       first = λ some.
           let candidate = candidate-first (λ v r. FnReturnsAt g.F.Fn c.args.mutator.now v r) _ _ _ _ _ c.in-Ok-Some.dirty inv.first answered in
           (Ok (Some candidate.0), candidate.1, tt);

@@ -1,8 +1,10 @@
 -- A check changes no file, and nothing is undone after it.
-use Rattle.std.proofs.Common.{refl, Ok, Err}
+use Rattle.std.proofs.Common.{refl, ap, true≢false, is_ok, ℕ, Ok, Err}
 use Rattle.std.proofs.lemmas.Result.{err_from_is_err_and}
 use Rattle.slatedb_txn_obj.specs.Checked.{Refused, Entered}
 use Rattle.slatedb_txn_obj.proofs.Leaving.{create-same}
+use Rattle.slatedb_txn_obj.proofs.Causes.{check-not_exhausted}
+use Rattle.slatedb_txn_obj.proofs.Updates.{error_is}
 use Rattle.slatedb_txn_obj.proofs.protocol.AnyTransactionalStorageProtocolMonotonicId.write.Goals as goal
 
 pub returns-in_err-id-clause-moved : goal.returns-in_err-id-clause-moved
@@ -29,3 +31,23 @@ returns-clause-creates g c = create-same c.in_ok-id.ensures.creates (record {
 
 pub returns-clause-moved : goal.returns-clause-moved
 returns-clause-moved g c = Entered c.in_ok-id.id c.write_unchecked.new.self c.write_unchecked.new.store (Ok tt) c.in_ok-id.ensures.moved c.in_ok-check.ensures.moved refl
+
+pub returns-in_err-id-clause-full : goal.returns-in_err-id-clause-full
+returns-in_err-id-clause-full g c =
+    let p = err_from_is_err_and c.from_residual.result c.from_residual.ensures.1 in
+    rw p.1 (rw p.2 (λ full. c.in_err-id.ensures.full full))
+
+pub returns-in_err-id-clause-exhausted : goal.returns-in_err-id-clause-exhausted
+returns-in_err-id-clause-exhausted g c is = c.in_err-id.ensures.exhausted (ap Err (error_is c.from_residual.result _ c.from_residual.ensures.1 is))
+
+pub returns-in_err-check-clause-full : goal.returns-in_err-check-clause-full
+returns-in_err-check-clause-full g c full = absurd (true≢false (ap is_ok (c.in_ok-id.ensures.full full)))
+
+pub returns-in_err-check-clause-exhausted : goal.returns-in_err-check-clause-exhausted
+returns-in_err-check-clause-exhausted g c is = absurd (check-not_exhausted ((b : ℕ) → g.P.BoundaryObject.bounds c.write_unchecked.new.self c.write_unchecked.new.store b → ⊥) (g.S.ObjectStore.state c.write_unchecked.new.store) (g.S.ObjectStore.state c.check.new.store) _ c.in_err-check.ensures.cause (error_is c.from_residual-in_err-check.result _ c.from_residual-in_err-check.ensures.1 is))
+
+pub returns-clause-full : goal.returns-clause-full
+returns-clause-full g c full = absurd (true≢false (ap is_ok (c.in_ok-id.ensures.full full)))
+
+pub returns-clause-exhausted : goal.returns-clause-exhausted
+returns-clause-exhausted g c is = absurd (true≢false (ap is_ok is))

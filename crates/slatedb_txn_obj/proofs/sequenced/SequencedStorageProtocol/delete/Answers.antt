@@ -1,7 +1,7 @@
 -- A check changes no file, and a delete of the version follows it at most.
 use Rattle.std.proofs.Common.{rules, refl, subst, inl}
 use Rattle.slatedb_txn_obj.specs.Checked.{Unfenced, Fenced, Failed}
-use Rattle.slatedb_txn_obj.specs.Leaves.{SameFiles, MayRemove}
+use Rattle.slatedb_txn_obj.specs.Leaves.{MayRemove}
 use Rattle.slatedb_txn_obj.proofs.Leaving.{same-remove}
 use Rattle.slatedb_txn_obj.proofs.sequenced.SequencedStorageProtocol.delete.Goals as goal
 

@@ -4,14 +4,14 @@ use Rattle.std.proofs.lemmas.Result.{err_from_is_err_and}
 use Rattle.slatedb_txn_obj.specs.Protocol.{UnheldAt}
 use Rattle.slatedb_txn_obj.specs.Views.{IsTestFailure}
 use Rattle.slatedb_txn_obj.proofs.Leaving.{same-refl}
-use Rattle.slatedb_txn_obj.proofs.Updates.{updated-by_write, error_is, spends_none, callback-no_conflict, write-no_callback, update-test, update-write}
+use Rattle.slatedb_txn_obj.proofs.Updates.{updated-by_write, error_is, spends_none, callback-no_conflict, write-no_refusal, update-test, update-write}
 use Rattle.slatedb_txn_obj.proofs.simple.SimpleTransactionalObjectTransactionalObject.update.Goals as goal
 
 pub returns-then-ne-clause-other : goal.returns-then-ne-clause-other
 returns-then-ne-clause-other g c = λ _. (refl, refl, refl)
 
 pub returns-then-ne-clause-refused : goal.returns-then-ne-clause-refused
-returns-then-ne-clause-refused g c = λ callback. absurd callback
+returns-then-ne-clause-refused g c = λ refusal failure. absurd refusal
 
 pub returns-then-ne-clause-barred : goal.returns-then-ne-clause-barred
 returns-then-ne-clause-barred g c = λ _. (refl, refl, refl)
@@ -40,7 +40,7 @@ returns-in_err-test_all-clause-other g c other = absurd (true≢false (sym (c.if
 pub returns-in_err-test_all-clause-refused : goal.returns-in_err-test_all-clause-refused
 returns-in_err-test_all-clause-refused g c =
     let p = err_from_is_err_and c.from_residual.result c.from_residual.ensures.1 in
-    rw p.1 (λ _. (refl, refl))
+    rw p.1 (λ refusal failure. (refl, refl))
 
 pub returns-in_err-test_all-clause-barred : goal.returns-in_err-test_all-clause-barred
 returns-in_err-test_all-clause-barred g c fails = (c.from_residual.ensures.0, refl, refl)
@@ -90,8 +90,10 @@ returns-in_err-id-clause-refused g c =
     let number = protocol.number c.args.self.now.id in
     let unheld : Type 0 = UnheldAt (protocol.stands c.args.protocol.now c.args.store.now) number in
     let p = err_from_is_err_and c.from_residual-in_err-id.result c.from_residual-in_err-id.ensures.1 in
-    rw p.1 (rw p.2 (λ callback.
-    let none = write-no_callback unheld number (state c.args.store.now) (state c.write.new.store) c.in_err-id.field-0.0 c.in_err-id.ensures.cause callback in
+    let holds = λ (i : g.row.I.Denot). g.I.Invariant.holds i c.args.dirty.value c.args.self.now.object in
+    let fails = λ (i : g.row.I.Denot). g.I.Invariant.fails i c.args.dirty.value c.args.self.now.object in
+    rw p.1 (rw p.2 (λ refusal failure.
+    let none = write-no_refusal holds fails c.args.self.now.invariants.items unheld number (state c.args.store.now) (state c.write.new.store) c.in_err-id.field-0.0 c.in_err-id.ensures.cause refusal failure in
     (absurd none, absurd none)))
 
 pub returns-in_err-id-clause-barred : goal.returns-in_err-id-clause-barred
@@ -166,3 +168,12 @@ returns-clause-creates g c = c.in_ok-id.ensures.creates
 
 pub returns-clause-exhausted : goal.returns-clause-exhausted
 returns-clause-exhausted g c is = absurd (true≢false (ap is_ok is))
+
+pub returns-then-ne-clause-exhausted : goal.returns-then-ne-clause-exhausted
+returns-then-ne-clause-exhausted g c is = (refl, λ h b stands. stands)
+
+pub returns-in_err-test_all-clause-exhausted : goal.returns-in_err-test_all-clause-exhausted
+returns-in_err-test_all-clause-exhausted g c is = (refl, λ h b stands. stands)
+
+pub returns-clause-written : goal.returns-clause-written
+returns-clause-written g c = c.in_ok-id.ensures.moved

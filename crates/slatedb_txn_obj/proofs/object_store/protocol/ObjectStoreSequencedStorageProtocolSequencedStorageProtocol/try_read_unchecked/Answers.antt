@@ -1,5 +1,5 @@
 use Rattle.slatedb_txn_obj.proofs.Leaving.{same-kept}
-use Rattle.slatedb_txn_obj.proofs.Wholes.{whole-version, whole-version_cause}
+use Rattle.slatedb_txn_obj.proofs.Wholes.{whole-version, whole-version_cause, version-absent}
 use Rattle.slatedb_txn_obj.proofs.object_store.protocol.ObjectStoreSequencedStorageProtocolSequencedStorageProtocol.try_read_unchecked.Goals as goal
 
 pub returns-clause-found : goal.returns-clause-found
@@ -10,3 +10,6 @@ returns-clause-cause g c = rw (← c.self.view_is) (whole-version_cause _ _ _ _ 
 
 pub returns-clause-files : goal.returns-clause-files
 returns-clause-files g c = same-kept c.read_version.ensures.kept
+
+pub returns-clause-absent : goal.returns-clause-absent
+returns-clause-absent g c = rw (← c.self.view_is) (version-absent _ _ _ _ c.args.id c.read_version.result c.read_version.ensures)

@@ -1,7 +1,7 @@
 -- A write leaves the file of the boundary.
 use Rattle.txn_drivers.proofs.PageCounts.{pages_written}
-use Rattle.slatedb_txn_obj.proofs.Leaving.{written-creates}
-use Rattle.slatedb_txn_obj.proofs.Wholes.{whole-answered, whole-conflict, whole-refused}
+use Rattle.slatedb_txn_obj.proofs.Leaving.{written-creates, written-stood}
+use Rattle.slatedb_txn_obj.proofs.Wholes.{whole-answered, whole-conflict, whole-refused, whole-full, whole-exhausted}
 use Rattle.slatedb_txn_obj.proofs.object_store.protocol.ObjectStoreSequencedStorageProtocolSequencedStorageProtocol.write_unchecked.Goals as goal
 
 pub returns-clause-entered : goal.returns-clause-entered
@@ -18,3 +18,12 @@ returns-clause-paged g c = rw (← c.self.view_is) (pages_written _ c.self.insid
 
 pub returns-clause-creates : goal.returns-clause-creates
 returns-clause-creates g c = rw (← c.self.view_is) (written-creates c.args.base c.write_version.result c.write_version.ensures)
+
+pub returns-clause-stood : goal.returns-clause-stood
+returns-clause-stood g c = written-stood c.write_version.result c.write_version.ensures
+
+pub returns-clause-full : goal.returns-clause-full
+returns-clause-full g c = whole-full _ _ _ _ _ _ _ _ _ _ _ _ (λ b same bounds. g.met.B.BoundaryObject.bounds_frame c.self.inside.boundary c.args.store.now c.write_version.new.store b same bounds) c.write_version.result c.write_version.ensures
+
+pub returns-clause-exhausted : goal.returns-clause-exhausted
+returns-clause-exhausted g c = rw (← c.self.view_is) (whole-exhausted _ _ _ _ _ _ _ _ _ _ _ _ (λ b same bounds. g.met.B.BoundaryObject.bounds_frame c.self.inside.boundary c.args.store.now c.write_version.new.store b same bounds) c.write_version.result c.write_version.ensures)
