@@ -1,8 +1,7 @@
 -- The rows of the recording that say so.
-use Rattle.std.proofs.Common.{arith, refl, length, ap, subst, ◌≡◌, ◌∙◌, Some, slice_get}
+use Rattle.std.proofs.Common.{refl, length, ap, ◌∙◌}
 use Rattle.std.proofs.lemmas.Option.{slice_get-map, slice_get_read}
 use Rattle.std.specs.Option.{option_map}
-use Rattle.txn_recorded.specs.declared.row.Row.TheVariants as kinds
 use Rattle.txn_replayed.proofs.replay.recorded.Goals as goal
 
 pub returns : goal.returns
