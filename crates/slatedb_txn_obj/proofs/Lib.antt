@@ -7,3 +7,4 @@ pub mod Attempts
 pub mod AttemptCauses
 pub mod Claiming
 pub mod Updates
+pub mod AtHand

@@ -253,6 +253,7 @@ impl<T: Clone, I: Invariant<T> + Drop, X: EpochField<T>> TransactionalObject<T, 
     ) -> Result<(), TransactionalObjectError>
         ensures updated { OnOk result (Updated (P.stands protocol.old store.old) (P.stands protocol.new store.new) (P.number self.old.delegate.id) (P.number self.new.delegate.id) self.old.delegate.object dirty.value) }
         ensures moved { OnOk result ((self.new ≡ record self.old { delegate = record self.old.delegate { id = self.new.delegate.id; object = dirty.value } }) × (self.new.delegate.object ≡ dirty.value)) }
+        ensures held { OnOk result ((h : List T) (b : ℕ) → P.stands protocol.old store.old h b → IsVersion h (P.number self.old.delegate.id) self.old.delegate.object → P.at_hand protocol.new (P.number self.new.delegate.id)) }
         ensures written { OnOk result (P.writes_to protocol.old store.old (Some self.old.delegate.id) dirty.value (Ok self.new.delegate.id) protocol.new store.new) }
         ensures allowed { OnOk result ((X.epoch_of self.old.epochs self.old.delegate.object ≡ self.old.local_epoch) × (X.epoch_of self.old.epochs dirty.value ≡ self.old.local_epoch) × All (λ i. I.holds i dirty.value self.old.delegate.object) self.old.delegate.invariants.items) }
         ensures left { OnErr result (self.new ≡ self.old) }

@@ -74,6 +74,7 @@ pub trait TransactionalObject<T: Clone, Id: Copy + Eq> {
         store: &mut S,
         turns: &mut Turns,
     ) -> Result<&T, TransactionalObjectError>
+        ensures held { OnOk result ((h : List T) (b : ℕ) → P.stands protocol.old store.old h b → P.at_hand protocol.new (length h)) }
         ensures* after { sem 𝓛 (follows_so Self.row Self.row self.entry.ghost_name none (λ _ _. ⊤) (λ object. MatchResult result
             (λ shown. (shown.now ≡ value object) × (object ≡ moved self.old (at object) (value object)) × ShowsLatest (P.stands protocol.old store.old) (P.number (at object)) (value object) × is_open object)
             (λ e. ((object ≡ self.old) × HasCauseOfRefresh (P.stands protocol.old store.old) turns.new (S.state store.old) (S.state store.new) e)
@@ -101,6 +102,7 @@ pub trait TransactionalObject<T: Clone, Id: Copy + Eq> {
     ) -> Result<(), TransactionalObjectError>
         ensures updated { OnOk result (Updated (P.stands protocol.old store.old) (P.stands protocol.new store.new) (P.number (at self.old)) (P.number (at self.new)) (value self.old) dirty.value) }
         ensures moved { OnOk result ((self.new ≡ moved self.old (at self.new) dirty.value) × (value self.new ≡ dirty.value)) }
+        ensures held { OnOk result ((h : List T) (b : ℕ) → P.stands protocol.old store.old h b → IsVersion h (P.number (at self.old)) (value self.old) → P.at_hand protocol.new (P.number (at self.new))) }
         ensures written { OnOk result (P.writes_to protocol.old store.old (Some (at self.old)) dirty.value (Ok (at self.new)) protocol.new store.new) }
         ensures allowed { OnOk result (allows self.old dirty.value) }
         ensures left { OnErr result (self.new ≡ self.old) }

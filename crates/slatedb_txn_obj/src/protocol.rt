@@ -1,5 +1,5 @@
 //! The protocols whose calls are checked against the boundary.
-ghost use Rattle.std.specs.Prelude.{◌≡◌, ◌+◌, ◌*◌, ◌^◌, ◌<◌, ◌≤◌, IfOk, IfErr, IsErrOf};
+ghost use Rattle.std.specs.Prelude.{◌≡◌, ◌+◌, ◌*◌, ◌^◌, ◌<◌, ◌≤◌, IfOk, IfErr, IfSome, IsErrOf};
 
 use crate::sequenced::SequencedStorageProtocol;
 use txn_drivers::turns::Turns;
@@ -12,7 +12,7 @@ use txn_types::id::MonotonicId;
 /// `ObjectStoreError(Failed)` comes only where the store failed, `ObjectStoreError(TokensExhausted)` only where the store has
 /// no token left, and `NoMemory` where a growth was refused.
 pub trait TransactionalStorageProtocol<T, Id, S: ObjectStore> {
-    ghost use Rattle.std.specs.Prelude.{ℕ, List, length, ◌≡◌, ◌+◌, ◌*◌, ◌^◌, ◌<◌, ◌≤◌, Option, Result, OnOk, IfOk, IfErr, IsErrOf};
+    ghost use Rattle.std.specs.Prelude.{ℕ, List, length, ◌≡◌, ◌+◌, ◌*◌, ◌^◌, ◌<◌, ◌≤◌, Option, Result, OnOk, IfOk, IfErr, IfSome, IsErrOf};
     ghost use Rattle.txn_store.specs.Paths.{Segments};
     ghost use Rattle.txn_types.specs.declared.error.TransactionalObjectError.{TransactionalObjectError};
     ghost use Rattle.txn_drivers.specs.Calls.{Spends, SpendsTurns};
@@ -70,11 +70,12 @@ pub trait TransactionalStorageProtocol<T, Id, S: ObjectStore> {
         ensures paged { (h : List T) (b : ℕ) → stands self.old store.old h b → base_number number base ≤ length h → pages self.new store.new ≤ pages self.old store.old + 1 }
         ensures placed { place self.new ≡ place self.old }
         ensures creates { MayCreate (version_file (place self.old) (base_number number base + 1)) (S.state store.old) (S.state store.new) }
+        ensures held { IfOk result (λ id. (h : List T) (b : ℕ) → stands self.old store.old h b → base_number number base ≤ length h → at_hand self.new (number id)) }
         ensures full { base_number number base + 1 ≡ 2 ^ 64 → IsErrOf result TransactionalObjectError.IdExhausted }
         ensures exhausted { IsErrOf result TransactionalObjectError.IdExhausted → (S.state store.new ≡ S.state store.old) × Stays (stands self.old store.old) (stands self.new store.new) }
         ensures moved { writes_to self.old store.old base value.now result self.new store.new };
 
-    /// The newest version and its value, or nothing where there is none. Each pass, and each page after the first that a pass
+    /// The newest version and its value, or nothing where there is none. It is at hand then. Each pass, and each page after the first that a pass
     /// lists, spends a turn. It makes at most seven calls of the store for each turn that it spends; where the newest version
     /// is at hand, it is `warm_calls` where it answers, and one turn.
     ///
@@ -87,6 +88,7 @@ pub trait TransactionalStorageProtocol<T, Id, S: ObjectStore> {
         turns: &mut Turns,
     ) -> Result<Option<(Id, T)>, TransactionalObjectError>
         ensures latest { IfOk result (λ r. (h : List T) (b : ℕ) → stands self.old store.old h b → LatestBy number h r) }
+        ensures held { IfOk result (λ r. IfSome r (λ read. at_hand self.new (number read.0))) }
         ensures kept { Stays (stands self.old store.old) (stands self.new store.new) }
         ensures few { (h : List T) (b : ℕ) → stands self.old store.old h b → turns.old ≤ turns.new + 2 * pages self.old store.old }
         ensures enough { (h : List T) (b : ℕ) → stands self.old store.old h b → 2 * pages self.old store.old ≤ turns.old → IsErrOf result TransactionalObjectError.TurnsExhausted → ⊥ }
@@ -118,7 +120,7 @@ impl<T: Drop, S: ObjectStore, P: SequencedStorageProtocol<T, S>> TransactionalSt
     MonotonicId,
     S,
 > for P {
-    ghost use Rattle.std.specs.Prelude.{ℕ, List, length, ◌≡◌, ◌+◌, ◌*◌, ◌^◌, ◌<◌, ◌≤◌, IfOk, IfErr, IsErrOf};
+    ghost use Rattle.std.specs.Prelude.{ℕ, List, length, ◌≡◌, ◌+◌, ◌*◌, ◌^◌, ◌<◌, ◌≤◌, IfOk, IfErr, IfSome, IsErrOf};
     ghost use Rattle.txn_drivers.specs.Calls.{Spends, SpendsTurns};
     ghost use Rattle.slatedb_txn_obj.specs.Checked.{CheckedWrite};
     ghost use Rattle.slatedb_txn_obj.specs.Leaves.{SameFiles, MayCreate};
@@ -169,6 +171,7 @@ impl<T: Drop, S: ObjectStore, P: SequencedStorageProtocol<T, S>> TransactionalSt
         ensures paged { (h : List T) (b : ℕ) → P.stands self.old store.old h b → base_number (λ n. n) base ≤ length h → P.pages self.new store.new ≤ P.pages self.old store.old + 1 }
         ensures placed { P.place self.new ≡ P.place self.old }
         ensures creates { MayCreate (P.version_file (P.place self.old) (base_number (λ n. n) base + 1)) (S.state store.old) (S.state store.new) }
+        ensures held { IfOk result (λ id. (h : List T) (b : ℕ) → P.stands self.old store.old h b → base_number (λ n. n) base ≤ length h → P.at_hand self.new id) }
         ensures full { base_number (λ n. n) base + 1 ≡ 2 ^ 64 → IsErrOf result TransactionalObjectError.IdExhausted }
         ensures exhausted { IsErrOf result TransactionalObjectError.IdExhausted → (S.state store.new ≡ S.state store.old) × Stays (P.stands self.old store.old) (P.stands self.new store.new) }
         ensures moved { CheckedWrite result self.new store.new (λ answer p s. P.writes_to self.old store.old base value.now answer p s) (λ p s id answer q t. P.checks_to p s id answer q t) }
@@ -184,6 +187,7 @@ impl<T: Drop, S: ObjectStore, P: SequencedStorageProtocol<T, S>> TransactionalSt
         turns: &mut Turns,
     ) -> Result<Option<(MonotonicId, T)>, TransactionalObjectError>
         ensures latest { IfOk result (λ r. (h : List T) (b : ℕ) → P.stands self.old store.old h b → LatestBy (λ n. n) h r) }
+        ensures held { IfOk result (λ r. IfSome r (λ read. P.at_hand self.new read.0)) }
         ensures kept { Stays (P.stands self.old store.old) (P.stands self.new store.new) }
         ensures few { (h : List T) (b : ℕ) → P.stands self.old store.old h b → turns.old ≤ turns.new + 2 * P.pages self.old store.old }
         ensures enough { (h : List T) (b : ℕ) → P.stands self.old store.old h b → 2 * P.pages self.old store.old ≤ turns.old → IsErrOf result TransactionalObjectError.TurnsExhausted → ⊥ }

@@ -1,5 +1,5 @@
 //! The trait of versions in sequence over a boundary, unchecked, and of their checked delete.
-ghost use Rattle.std.specs.Prelude.{◌≡◌, ◌+◌, ◌^◌, ◌<◌, ◌≤◌, None, map, OnOk, IfOk, IfErr, IsErrOf};
+ghost use Rattle.std.specs.Prelude.{◌≡◌, ◌+◌, ◌^◌, ◌<◌, ◌≤◌, None, IfSome, length, map, OnOk, IfOk, IfErr, IsErrOf};
 
 use crate::boundary::BoundaryObject;
 use std::ops::Bound;
@@ -20,7 +20,7 @@ use txn_types::identified::IdentifiedObjectMetadata;
 /// other errors it has, and what an error leaves.
 pub trait SequencedStorageProtocol<T, S: ObjectStore>: BoundaryObject<S> {
     ghost use Rattle.std.specs.Prelude.{ℕ, List, length, map, ◌≡◌, ◌⊎◌, ◌+◌, ◌^◌, ◌<◌, ◌≤◌, OnOk, IfOk, IfErr, IsErrOf};
-    ghost use Rattle.std.specs.Prelude.{Option, None, Result, Err};
+    ghost use Rattle.std.specs.Prelude.{Option, None, Result, Ok, Err, IfSome};
     ghost use Rattle.txn_store.specs.Paths.{Segments};
     ghost use Rattle.txn_types.specs.declared.error.TransactionalObjectError.{TransactionalObjectError};
     ghost use Rattle.txn_types.specs.declared.error.TransactionalObjectError.TheVariants.{ObjectVersionExists};
@@ -89,12 +89,13 @@ pub trait SequencedStorageProtocol<T, S: ObjectStore>: BoundaryObject<S> {
         ensures paged { pages self.new store.new ≤ pages self.old store.old + 1 }
         ensures placed { place self.new ≡ place self.old }
         ensures creates { MayCreate (version_file (place self.old) (base_number (λ n. n) base + 1)) (S.state store.old) (S.state store.new) }
+        ensures held { IfOk result (λ id. (h : List T) (b : ℕ) → stands self.old store.old h b → length h ≤ base_number (λ n. n) base → at_hand self.new id) }
         ensures stood { IsErrOf result TransactionalObjectError.ObjectVersionExists → SameFiles (S.state store.old) (S.state store.new) }
         ensures full { base_number (λ n. n) base + 1 ≡ 2 ^ 64 → IsErrOf result TransactionalObjectError.IdExhausted }
         ensures exhausted { IsErrOf result TransactionalObjectError.IdExhausted → (S.state store.new ≡ S.state store.old) × Stays (stands self.old store.old) (stands self.new store.new) }
         ensures moved { writes_to self.old store.old base value.now result self.new store.new };
 
-    /// The version of the greatest id, and its value, or nothing where there is none. It may be fenced, and where what is held
+    /// The version of the greatest id, and its value, or nothing where there is none. It is at hand then. It may be fenced, and where what is held
     /// is, an older one than the newest. Each page after the first that it lists spends a turn. It makes at most six calls of
     /// the store, and two for each turn that it spends; where the newest version is at hand, it is `warm_calls` where it
     /// answers.
@@ -107,6 +108,7 @@ pub trait SequencedStorageProtocol<T, S: ObjectStore>: BoundaryObject<S> {
         turns: &mut Turns,
     ) -> Result<Option<(MonotonicId, T)>, TransactionalObjectError>
         ensures found { IfOk result (λ r. (h : List T) (b : ℕ) → stands self.old store.old h b → LatestOrFenced h b (is_fresh self.old) (freshens self.new) r) }
+        ensures held { IfOk result (λ r. IfSome r (λ read. at_hand self.new read.0)) }
         ensures kept { Stays (stands self.old store.old) (stands self.new store.new) }
         ensures few { (h : List T) (b : ℕ) → stands self.old store.old h b → turns.old + 1 ≤ turns.new + pages self.old store.old }
         ensures enough { (h : List T) (b : ℕ) → stands self.old store.old h b → pages self.old store.old ≤ turns.old + 1 → IsErrOf result TransactionalObjectError.TurnsExhausted → ⊥ }
@@ -215,6 +217,9 @@ pub trait SequencedStorageProtocol<T, S: ObjectStore>: BoundaryObject<S> {
 
     /// A check leaves what stands.
     ghost stands_checked: { (p q : Self) (s t : S) (id : ℕ) (r : Result (Unit {0}) TransactionalObjectError) (h : List T) (b : ℕ) → Self.checks_to p s id r q t → stands p s h b → stands q t h b };
+
+    /// A check that accepts leaves what is at hand.
+    ghost at_hand_checked: { (p q : Self) (s t : S) (id n : ℕ) → Self.checks_to p s id (Ok tt) q t → at_hand p n → at_hand q n };
 
     /// They are one at most.
     ghost warm_calls_few: { (n : ℕ) → warm_calls n ≤ 1 };

@@ -1,11 +1,11 @@
 //! The simple object: a version of a value, with invariants on what may follow it.
-ghost use Rattle.std.specs.Prelude.{ℕ, List, length, true, false, ◌≡◌, ◌+◌, ◌*◌, ◌≤◌, [], None, Some, Ok, Err, All, OnOk, OnErr, IfOk, IfErr, IsErr, IsErrOf, MatchOption};
+ghost use Rattle.std.specs.Prelude.{ℕ, List, length, true, false, ◌≡◌, ◌+◌, ◌*◌, ◌≤◌, [], None, Some, Ok, Err, All, OnOk, OnErr, IfOk, IfErr, IsErr, IsErrOf, IfSome, MatchOption};
 ghost use Rattle.txn_types.specs.Callbacks.{OnRefusal};
 ghost use Rattle.txn_types.specs.Clones.{IsExactClone};
 ghost use Rattle.txn_drivers.specs.Calls.{Spends, SpendsTurns};
 ghost use Rattle.slatedb_txn_obj.specs.Leaves.{SameFiles, MayCreate};
 ghost use Rattle.slatedb_txn_obj.specs.Protocol.{Appended, Overtaken, MayAppend, Unheld, UnheldAt, HasCauseOfWrite, HasCauseOfLatest, Stays};
-ghost use Rattle.slatedb_txn_obj.specs.Views.{IsRefusal, Updated, ShowsLatest, IsEmpty, Tested, IsTestFailure, HasCauseOfUpdate, HasCauseOfLoad};
+ghost use Rattle.slatedb_txn_obj.specs.Views.{IsRefusal, IsVersion, Updated, ShowsLatest, IsEmpty, Tested, IsTestFailure, HasCauseOfUpdate, HasCauseOfLoad};
 
 use crate::object::TransactionalObject;
 use crate::protocol::TransactionalStorageProtocol;
@@ -62,6 +62,7 @@ impl<T: Drop, Id: Drop, I> SimpleTransactionalObject<T, Id, I> {
         store: &mut S,
         turns: &mut Turns,
     ) -> Result<Option<SimpleTransactionalObject<T, Id, I>>, TransactionalObjectError>
+        ensures held { IfOk result (λ read. IfSome read (λ view. P.at_hand protocol.new (P.number view.id))) }
         ensures shown { IfOk result (λ read. MatchOption read (IsEmpty (P.stands protocol.old store.old)) (λ view. ShowsLatest (P.stands protocol.old store.old) (P.number view.id) view.object × (view.invariants.items ≡ []))) }
         ensures kept { Stays (P.stands protocol.old store.old) (P.stands protocol.new store.new) }
         ensures few { (h : List T) (b : ℕ) → P.stands protocol.old store.old h b → turns.old ≤ turns.new + 2 * P.pages protocol.old store.old }
@@ -89,6 +90,7 @@ impl<T: Drop, Id: Drop, I> SimpleTransactionalObject<T, Id, I> {
         store: &mut S,
         turns: &mut Turns,
     ) -> Result<SimpleTransactionalObject<T, Id, I>, TransactionalObjectError>
+        ensures held { IfOk result (λ view. P.at_hand protocol.new (P.number view.id)) }
         ensures shown { IfOk result (λ view. ShowsLatest (P.stands protocol.old store.old) (P.number view.id) view.object × (view.invariants.items ≡ [])) }
         ensures missing { IsErrOf result TransactionalObjectError.LatestRecordMissing → IsEmpty (P.stands protocol.old store.old) }
         ensures kept { Stays (P.stands protocol.old store.old) (P.stands protocol.new store.new) }
@@ -202,6 +204,7 @@ impl<T: Clone, Id: Copy + Eq, I: Invariant<T> + Drop> TransactionalObject<T, Id>
     ) -> Result<(), TransactionalObjectError>
         ensures updated { OnOk result (Updated (P.stands protocol.old store.old) (P.stands protocol.new store.new) (P.number self.old.id) (P.number self.new.id) self.old.object dirty.value) }
         ensures moved { OnOk result ((self.new ≡ record self.old { id = self.new.id; object = dirty.value }) × (self.new.object ≡ dirty.value)) }
+        ensures held { OnOk result ((h : List T) (b : ℕ) → P.stands protocol.old store.old h b → IsVersion h (P.number self.old.id) self.old.object → P.at_hand protocol.new (P.number self.new.id)) }
         ensures written { OnOk result (P.writes_to protocol.old store.old (Some self.old.id) dirty.value (Ok self.new.id) protocol.new store.new) }
         ensures allowed { OnOk result (All (λ i. I.holds i dirty.value self.old.object) self.old.invariants.items) }
         ensures left { OnErr result (self.new ≡ self.old) }

@@ -58,20 +58,32 @@ pub(crate) fn was_refused(call: &Asked<'_>, error: StoreError) -> bool {
     }
 }
 
-/// The call asked first of which nobody knows whether it took effect and which this holds of.
-fn loose<F: Fn(&Asked<'_>) -> bool>(calls: &[Asked<'_>], fates: &[Fate], is: &F) -> Option<usize>
-    requires { F.IsAlwaysCallable is.now }
+/// Whether a call of this rank, asked then, is rather the one than another: it has the greater rank, or was asked first.
+fn is_rather(rank: u64, from: u64, than: u64, than_from: u64) -> bool {
+    rank > than || rank == than && from < than_from
+}
+
+/// Of the calls that have a rank and of which nobody knows whether they took effect, the one of the greatest rank, and of those
+/// the one asked first.
+fn loose<F: Fn(&Asked<'_>) -> Option<u64>>(
+    calls: &[Asked<'_>],
+    fates: &[Fate],
+    rank_of: &F,
+) -> Option<usize>
+    requires { F.IsAlwaysCallable rank_of.now }
 {
-    let mut first: Option<(u64, usize)> = None;
+    let mut best: Option<(u64, u64, usize)> = None;
     for place in 0..calls.len() {
-        if !has_place(fates, place) && is(&calls[place]) {
+        if !has_place(fates, place) {
             let from = calls[place].from;
-            if first.is_none_or(|(before, _)| from < before) {
-                first = Some((from, place));
+            if let Some(rank) = rank_of(&calls[place]) {
+                if best.is_none_or(|(than, than_from, _)| is_rather(rank, from, than, than_from)) {
+                    best = Some((rank, from, place));
+                }
             }
         }
     }
-    first.map(|(_, place)| place)
+    best.map(|(_, _, place)| place)
 }
 
 impl Boundaries {
@@ -102,7 +114,16 @@ impl Boundaries {
         Ok(())
     }
 
-    /// A boundary that was read, and that no call was told to have written, a loose one wrote.
+    /// The boundary over which a call writes its own, 0 where it creates the file or nobody knows it.
+    fn base_of(&self, call: &Asked<'_>) -> u64 {
+        match expected(call) {
+            Some(token) => self.of_token.get(&token.number()).copied().unwrap_or(0),
+            None => 0,
+        }
+    }
+
+    /// A boundary that was read, and that no call was told to have written, a loose one wrote: of several the one over the
+    /// greatest boundary, since that stood last before.
     fn land_read(
         &mut self,
         calls: &[Asked<'_>],
@@ -118,7 +139,7 @@ impl Boundaries {
         let place = loose(
             calls,
             fates.as_slice(),
-            &|call| call.raises() == Some(number),
+            &|call| if call.raises() == Some(number) { Some(self.base_of(call)) } else { None },
         );
         self.land(fates, place, number, Some(token))
     }
@@ -142,7 +163,7 @@ impl Boundaries {
             if !self.writers.is_empty() {
                 return Ok(());
             }
-            loose(calls, fates.as_slice(), &|call| creates(call))
+            loose(calls, fates.as_slice(), &|call| creates(call).then_some(0))
         } else if was_refused(call, StoreError::Precondition) {
             let Some(token) = expected(call) else {
                 return Ok(());
@@ -154,7 +175,7 @@ impl Boundaries {
             loose(
                 calls,
                 fates.as_slice(),
-                &|call| expected(call) == Some(token),
+                &|call| (expected(call) == Some(token)).then_some(0),
             )
         } else {
             return Ok(());

@@ -211,7 +211,7 @@ impl<T: Drop, S: ObjectStore, C: ObjectCodec<T>, B: BoundaryObject<S>> Sequenced
     T,
     S,
 > for ObjectStoreSequencedStorageProtocol<T, C, B> {
-    ghost use Rattle.std.specs.Prelude.{ℕ, List, [], length, map, ◌≡◌, ◌+◌, ◌^◌, ◌<◌, ◌≤◌, None, Ok, Err, IfOk, IfErr, IsErrOf, OnOk};
+    ghost use Rattle.std.specs.Prelude.{ℕ, List, [], length, map, ◌≡◌, ◌+◌, ◌^◌, ◌<◌, ◌≤◌, None, Ok, Err, IfOk, IfErr, IfSome, IsErrOf, OnOk};
     ghost use Rattle.txn_types.specs.declared.error.TransactionalObjectError.TheVariants.{ObjectVersionExists};
     ghost use Rattle.txn_drivers.specs.Calls.{HasCause, HasCauseOfPut, Spends, SpendsTurns};
     ghost use Rattle.txn_drivers.specs.LatestReads.{UpTo, Ended};
@@ -224,7 +224,7 @@ impl<T: Drop, S: ObjectStore, C: ObjectCodec<T>, B: BoundaryObject<S>> Sequenced
     ghost use Rattle.slatedb_txn_obj.specs.Whole.{Whole, StandsFor, IsGreatestHeld, IsMissing, Laid, Owned, laid, probe_calls};
     ghost use Rattle.slatedb_txn_obj.specs.Protocol.{base_number, LatestOrFenced, IsEntry, AreListed, Entered, Overtaken, MayAppend, Stays, IsWarmRead, Unheld, HasCauseOfLatestUnchecked, HasCauseOfVersion};
     ghost use Rattle.slatedb_txn_obj.specs.WholeLaws.{whole-checked, whole-advanced, whole-frame, refused-fresh, pages-checked, laid-same, probe_few};
-    ghost use Rattle.std.proofs.Common.{refl, inl, inr};
+    ghost use Rattle.std.proofs.Common.{refl, sym, subst, inl, inr};
     ghost use Rattle.txn_store.specs.VersionName.{version_path};
     ghost use Rattle.txn_drivers.proofs.Standings.{some_page};
 
@@ -251,6 +251,8 @@ impl<T: Drop, S: ObjectStore, C: ObjectCodec<T>, B: BoundaryObject<S>> Sequenced
     ghost warm_calls = { λ n. probe_calls n };
 
     ghost warm_calls_few = { λ n. probe_few n };
+
+    ghost at_hand_checked = { λ p q s t id n checks at. subst (λ latest. IsGreatestHeld latest n) (sym checks.latest_is) at };
 
     ghost lacks = { λ p s id. IsMissing p.layout.names (S.state s).files id };
 
@@ -302,18 +304,21 @@ impl<T: Drop, S: ObjectStore, C: ObjectCodec<T>, B: BoundaryObject<S>> Sequenced
         ensures unmoved { self.new ≡ record { layout = self.old.layout; latest = self.new.latest; boundary = self.old.boundary } }
         ensures placed { laid self.new (B.file self.new.boundary) ≡ laid self.old (B.file self.old.boundary) }
         ensures creates { MayCreate (version_path self.old.layout.names (base_number (λ n. n) base + 1)) (S.state store.old) (S.state store.new) }
+        ensures held { IfOk result (λ id. (h : List T) (b : ℕ) → (StandsFor (B.bounds self.old.boundary store.old) (B.file self.old.boundary) C.decoded self.old (S.state store.old).files) h b → length h ≤ base_number (λ n. n) base → IsGreatestHeld self.new.latest id) }
         ensures stood { IsErrOf result TransactionalObjectError.ObjectVersionExists → SameFiles (S.state store.old) (S.state store.new) }
         ensures full { base_number (λ n. n) base + 1 ≡ 2 ^ 64 → IsErrOf result TransactionalObjectError.IdExhausted }
         ensures exhausted { IsErrOf result TransactionalObjectError.IdExhausted → (S.state store.new ≡ S.state store.old) × Stays (StandsFor (B.bounds self.old.boundary store.old) (B.file self.old.boundary) C.decoded self.old (S.state store.old).files) (StandsFor (B.bounds self.new.boundary store.new) (B.file self.new.boundary) C.decoded self.new (S.state store.new).files) }
     {
-        write_version(
+        let result = write_version(
             self.alloc,
             &self.layout,
             &mut self.latest,
             store,
             base,
             value,
-        )
+        );
+        let _ = self.latest.as_slice();
+        result
     }
 
     /// It leaves each file. What it answers, and what it holds then, follow from the files and from what it held.
@@ -324,6 +329,7 @@ impl<T: Drop, S: ObjectStore, C: ObjectCodec<T>, B: BoundaryObject<S>> Sequenced
     ) -> Result<Option<(MonotonicId, T)>, TransactionalObjectError>
         ensures found { IfOk result (λ r. (h : List T) (b : ℕ) → (StandsFor (B.bounds self.old.boundary store.old) (B.file self.old.boundary) C.decoded self.old (S.state store.old).files) h b → LatestOrFenced h b (self.old.latest ≡ []) (λ id. UpTo id self.new.latest) r) }
         ensures kept { Stays (StandsFor (B.bounds self.old.boundary store.old) (B.file self.old.boundary) C.decoded self.old (S.state store.old).files) (StandsFor (B.bounds self.new.boundary store.new) (B.file self.new.boundary) C.decoded self.new (S.state store.new).files) }
+        ensures held { IfOk result (λ r. IfSome r (λ read. IsGreatestHeld self.new.latest read.0)) }
         ensures few { (h : List T) (b : ℕ) → (StandsFor (B.bounds self.old.boundary store.old) (B.file self.old.boundary) C.decoded self.old (S.state store.old).files) h b → turns.old + 1 ≤ turns.new + pages_below self.old.layout.names self.old.layout.page (S.state store.old).files }
         ensures enough { (h : List T) (b : ℕ) → (StandsFor (B.bounds self.old.boundary store.old) (B.file self.old.boundary) C.decoded self.old (S.state store.old).files) h b → pages_below self.old.layout.names self.old.layout.page (S.state store.old).files ≤ turns.old + 1 → IsErrOf result TransactionalObjectError.TurnsExhausted → ⊥ }
         ensures warm { (h : List T) (b : ℕ) → (StandsFor (B.bounds self.old.boundary store.old) (B.file self.old.boundary) C.decoded self.old (S.state store.old).files) h b → IsGreatestHeld self.old.latest (length h) → 0 < length h → IsWarmRead (probe_calls (length h)) 0 (λ n. n) h turns.old turns.new (S.state store.old) (S.state store.new) result }
@@ -335,7 +341,9 @@ impl<T: Drop, S: ObjectStore, C: ObjectCodec<T>, B: BoundaryObject<S>> Sequenced
         ensures placed { laid self.new (B.file self.new.boundary) ≡ laid self.old (B.file self.old.boundary) }
         ensures files { SameFiles (S.state store.old) (S.state store.new) }
     {
-        read_latest(self.alloc, &self.layout, &mut self.latest, store, turns)
+        let result = read_latest(self.alloc, &self.layout, &mut self.latest, store, turns);
+        let _ = self.latest.as_slice();
+        result
     }
 
     /// The value of the version's file, or nothing where there is none. It leaves each file, and itself.

@@ -191,3 +191,6 @@ returns-then-get_epoch-self-clause-exhausted g c is = (refl, λ h b stands. stan
 
 pub returns-clause-written : goal.returns-clause-written
 returns-clause-written g c = c.update.ensures.written
+
+pub returns-clause-held : goal.returns-clause-held
+returns-clause-held g c = c.update.ensures.held

@@ -1,5 +1,5 @@
 -- A check changes no file, and nothing is undone after it.
-use Rattle.std.proofs.Common.{refl, ap, true≢false, is_ok, ℕ, Ok, Err}
+use Rattle.std.proofs.Common.{refl, ap, true≢false, is_ok, arith, ℕ, inl, inr, Ok, Err}
 use Rattle.std.proofs.lemmas.Result.{err_from_is_err_and}
 use Rattle.slatedb_txn_obj.specs.Checked.{Refused, Entered}
 use Rattle.slatedb_txn_obj.proofs.Leaving.{create-same}
@@ -51,3 +51,11 @@ returns-clause-full g c full = absurd (true≢false (ap is_ok (c.in_ok-id.ensure
 
 pub returns-clause-exhausted : goal.returns-clause-exhausted
 returns-clause-exhausted g c is = absurd (true≢false (ap is_ok is))
+
+pub returns-clause-held : goal.returns-clause-held
+returns-clause-held g c h b stands le =
+    let protocol = g.met.P.SequencedStorageProtocol in
+    elim (c.in_ok-id.ensures.entered h b stands le).1 [
+      | inl newest ↦ let base = newest.0 in protocol.at_hand_checked _ _ _ _ _ _ c.in_ok-check.ensures.moved (c.in_ok-id.ensures.held h b stands (omega (arith, base)))
+      | inr fenced ↦ let above = c.in_ok-check.ensures.above b (protocol.stands_bounded _ _ h b fenced.2) in let low = fenced.1 in absurd (omega (arith, above, low))
+    ]

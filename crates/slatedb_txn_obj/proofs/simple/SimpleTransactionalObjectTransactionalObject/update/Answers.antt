@@ -177,3 +177,6 @@ returns-in_err-test_all-clause-exhausted g c is = (refl, λ h b stands. stands)
 
 pub returns-clause-written : goal.returns-clause-written
 returns-clause-written g c = c.in_ok-id.ensures.moved
+
+pub returns-clause-held : goal.returns-clause-held
+returns-clause-held g c = λ h b stands version. c.in_ok-id.ensures.held h b stands version.within
