@@ -1,5 +1,5 @@
 -- The version that is held as the newest, after a read and after a write.
-use Rattle.std.proofs.Common.{◌≡◌, ℕ, ◌+◌, ◌≤◌, ◌==◌, true, List, [], ◌∷◌, length, Option, Some, None, Result, Ok, Err, IfOk, IfSome, inl, inr, refl, sym, ap, subst, ◌∙◌, arith}
+use Rattle.std.proofs.Common.{◌≡◌, ℕ, ◌+◌, ◌≤◌, ◌==◌, List, [], ◌∷◌, length, Option, Some, None, Result, Ok, Err, IfOk, IfSome, inl, inr, refl, sym, ap, subst, ◌∙◌, arith}
 use Rattle.std.proofs.lemmas.Bool.{cases_Bool, eqb-true}
 use Rattle.std.proofs.lemmas.Option.{same_Some}
 use Rattle.txn_store.specs.VersionName.{Names}
@@ -7,7 +7,7 @@ use Rattle.txn_store.specs.Store.{State}
 use Rattle.txn_types.specs.Numbers.{number_of}
 use Rattle.txn_types.specs.declared.error.TransactionalObjectError.{TransactionalObjectError}
 use Rattle.txn_caches.specs.declared.caches.Cached.{Cached}
-use Rattle.txn_caches.specs.Windows.{Ascends, held, greatest_held, kept}
+use Rattle.txn_caches.specs.Windows.{Ascends, held, greatest_held}
 use Rattle.txn_drivers.specs.Standing.{WindowFits}
 use Rattle.txn_drivers.specs.WriteRuns.{Written}
 use Rattle.txn_drivers.specs.LatestReads.{UpTo, IsOneOf, Ended}

@@ -86,11 +86,11 @@ impl<S: ObjectStore> TransactionalStorageProtocol<u64, Revision, S> for Register
             None => 0,
             Some(revision) => revision.0,
         };
+        if base == u64::MAX {
+            return Err(TransactionalObjectError::IdExhausted);
+        }
         if base != newest {
             return Err(TransactionalObjectError::ObjectVersionExists);
-        }
-        if newest == u64::MAX {
-            return Err(TransactionalObjectError::IdExhausted);
         }
         match self.values.push(*value) {
             Ok(()) => Ok(Revision(newest + 1)),

@@ -103,7 +103,7 @@ impl<S: ObjectStore> BoundaryObject<S> for TestBoundary {
 }
 
 /// Reads of the newest version that are told beforehand, over a boundary in memory. Once they are through it reads
-/// nothing. A write is a conflict, and every other call finds nothing.
+/// nothing. A write is a conflict, but on the greatest id, and every other call finds nothing.
 #[derive(Drop)]
 pub struct ScriptedReadLatestStore {
     alloc: Global,
@@ -218,7 +218,9 @@ impl<S: ObjectStore> SequencedStorageProtocol<u64, S> for ScriptedReadLatestStor
 
     ghost freshens = { λ _ _. Unit {0} };
 
-    ghost at_hand = { λ _ _. ⊥ };
+    ghost at_hand = { λ _ _. Unit {0} };
+
+    ghost at_hand_checked = { λ _ _ _ _ _ _ _ at. at };
 
     ghost warm_calls = { λ _. 0 };
 
@@ -257,10 +259,13 @@ impl<S: ObjectStore> SequencedStorageProtocol<u64, S> for ScriptedReadLatestStor
     fn write_unchecked(
         &mut self,
         _store: &mut S,
-        _base: Option<MonotonicId>,
+        base: Option<MonotonicId>,
         _value: &u64,
     ) -> Result<MonotonicId, TransactionalObjectError> {
-        Err(TransactionalObjectError::ObjectVersionExists)
+        match base {
+            Some(id) if id.id() == u64::MAX => Err(TransactionalObjectError::IdExhausted),
+            _ => Err(TransactionalObjectError::ObjectVersionExists),
+        }
     }
 
     fn try_read_latest_unchecked(
