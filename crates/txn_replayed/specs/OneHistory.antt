@@ -1,5 +1,5 @@
 -- What an audit of recordings promises where it agrees. All lists have the oldest first.
-use Rattle.std.specs.Prelude.{◌≡◌, ◌≤◌, ℕ, List, [], ◌∷◌, Option, Some, None, Ok, reverse, slice_get}
+use Rattle.std.specs.Prelude.{◌≡◌, ◌⊎◌, ◌≤◌, ℕ, List, [], ◌∷◌, Option, Some, None, Ok, reverse, slice_get}
 use Rattle.txn_store.specs.Store.{State as StoreState}
 use Rattle.txn_store.specs.declared.request.Request.{Request}
 use Rattle.txn_journals.specs.declared.rows.LogRow.{LogRow}
@@ -50,8 +50,23 @@ module _ {T : Type 0} where
   AreRecorded recordings [] = Unit {0}
   AreRecorded recordings (row ∷ log) = IsRecorded recordings row row.landed × AreRecorded recordings log
 
+-- a row of the log is a landing of this operation of this client
+abbrev pub HasLanded : ℕ → ℕ → List LogRow → Type 0
+HasLanded client op [] = ⊥
+HasLanded client op (row ∷ log) = ((row.client ≡ client) × (row.landed ≡ Some op)) ⊎ HasLanded client op log
+
+-- where a row is a landing, no row of these is one of the same operation
+abbrev pub LandsAlone : LogRow → Option ℕ → List LogRow → Type 0
+LandsAlone row None log = Unit {0}
+LandsAlone row (Some op) log = HasLanded row.client op log → ⊥
+
+-- no operation lands twice
+abbrev pub LandOnce : List LogRow → Type 0
+LandOnce [] = Unit {0}
+LandOnce (row ∷ log) = LandsAlone row row.landed log × LandOnce log
+
 module _ {T : Type 0} (text : T → List ℕ) (encode : T → List ℕ) (decode : List ℕ → Option T) (get_epoch : T → ℕ) (set_epoch : T → ℕ → T) where
-  -- The recordings are one history: there are diaries, one for each recording, that tell what the recordings tell, and a log that an honest store has, whose rows of each client are the replies that its recording has, and whose landings are of what the clients left, each of what its recording asks; and so the clients shared only the store.
+  -- The recordings are one history: there are diaries, one for each recording, that tell what the recordings tell, and a log that an honest store has, whose rows of each client are the replies that its recording has, and whose landings are of what the clients left, each of what its recording asks, and no operation twice; and so the clients shared only the store.
   pub record IsOneHistoryOf (recordings : List (List (Row T))) (log : List LogRow) (ds : List (Diary T)) : Type 0 where
     pub page : ℕ
     pub paged : 1 ≤ page
@@ -59,6 +74,7 @@ module _ {T : Type 0} (text : T → List ℕ) (encode : T → List ℕ) (decode 
     pub is_log : IsLog (reverse log) store
     pub told : AreOf page text recordings ds
     pub recorded : AreRecorded recordings log
+    pub once : LandOnce log
     pub diaries : AreDiaries page encode decode get_epoch set_epoch ds
     pub agrees : IsDue log ds (Ok tt)
     pub shares : ShareOnlyTheStore page encode decode get_epoch set_epoch (clients_in ds) log ds store

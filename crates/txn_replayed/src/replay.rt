@@ -1,11 +1,14 @@
 //! The recorded calls on an honest store, in their order.
-ghost use Rattle.std.specs.Prelude.{◌≡◌, ◌⊎◌, None, Some, IfOk, IfSome, map, slice_get};
+ghost use Rattle.std.specs.HashSet.{contains};
+ghost use Rattle.std.specs.Prelude.{◌≡◌, ◌⊎◌, true, false, None, Some, IfOk, IfSome, map, slice_get};
 ghost use Rattle.txn_recorded.specs.declared.row.Row.TheVariants as kinds;
-ghost use Rattle.txn_replayed.specs.OneHistory.{WasAsked, AreRecorded};
+ghost use Rattle.txn_replayed.specs.OneHistory.{WasAsked, AreRecorded, LandOnce};
+ghost use Rattle.txn_replayed.specs.Stages.{is_same_landing};
 
 use crate::fault::RowFault;
 use crate::refusal::Refusal;
 use std::alloc::{AllocError, Global};
+use std::collections::HashSet;
 use txn_journals::audited::Logged;
 use txn_journals::rows::LogRow;
 use txn_logged::fault::LogFault;
@@ -84,6 +87,17 @@ fn log_row(recorded: RecordedCall<'_>, landed: Option<Reply>) -> Result<Option<L
     }
 }
 
+/// Notes a row's landing, where it is one. False where one of the same operation of the same client was noted.
+fn note(landed: &mut HashSet<(u64, u64)>, row: &LogRow) -> Result<bool, AllocError>
+    ensures kept { (q : _) → contains is_same_landing landed.old q ≡ true → contains is_same_landing landed.new q ≡ true }
+    ensures new { IfOk result (λ new. new ≡ true → IfSome row.now.landed (λ op. (contains is_same_landing landed.old (row.now.client, op) ≡ false) × (contains is_same_landing landed.new (row.now.client, op) ≡ true))) }
+{
+    match row.landed {
+        Some(op) => Ok(landed.insert((row.client, op))?),
+        None => Ok(true),
+    }
+}
+
 /// For each recording the places of its replies in an order.
 pub(crate) fn places_of(
     alloc: Global,
@@ -109,16 +123,18 @@ pub(crate) fn places_of(
 ///
 /// # Errors
 ///
-/// `Dishonest` for the first reply that no honest store gives there, `Row` for a place at which no call is recorded, `NoMemory`
-/// where a growth was refused.
+/// `Dishonest` for the first reply that no honest store gives there, `Row` for a place at which no call is recorded, and for the
+/// second landing of one operation, `NoMemory` where a growth was refused.
 pub(crate) fn replay<T>(
     alloc: Global,
     recordings: &[Vec<Row<T>>],
     order: Vec<Placed>,
 ) -> Result<HonestLog, Refusal>
-    ensures { IfOk result (λ log. AreRecorded (map (λ rows. rows.items) recordings.now) log) }
+    ensures recorded { IfOk result (λ log. AreRecorded (map (λ rows. rows.items) recordings.now) log) }
+    ensures once { IfOk result LandOnce }
 {
     let mut log = HonestLog::new(alloc);
+    let mut landed = HashSet::new(alloc);
     for placed in order {
         let call = placed.call;
         let Some(recorded) = recorded(recordings, call) else {
@@ -127,6 +143,9 @@ pub(crate) fn replay<T>(
         let Some(row) = log_row(recorded, placed.landed)? else {
             return Err(Refusal::Row(call, RowFault::NoPlace));
         };
+        if !note(&mut landed, &row)? {
+            return Err(Refusal::Row(call, RowFault::NoPlace));
+        }
         let place = log.log().len() as u64;
         match log.push(alloc, row) {
             Ok(()) => {}
