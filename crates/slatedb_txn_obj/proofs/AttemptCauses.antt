@@ -160,7 +160,7 @@ module _ {I : Type 0} (holds : I → Type 0) (tests : I → CallbackFault → Ty
   pub update-unwritten : {A Moved : Type 0} (unheld : Type 0) (number : ℕ) (old new : State) (error : TransactionalObjectError) → HasCauseOfUpdate (IsTestFailure holds tests invariants) unheld number old new error → (IsErrOf {T = A} (Err error) IdExhausted → Moved) → (IsRefusal error → IsTestFailure holds tests invariants error → Moved) → IsUnwritten error → Moved
   update-unwritten unheld number old new Fenced cause exhausted refused unwritten = absurd (of_test cause)
   update-unwritten unheld number old new IdExhausted cause exhausted refused unwritten = exhausted refl
-  update-unwritten unheld number old new (CallbackError error) cause exhausted refused unwritten = refused tt cause
+  update-unwritten unheld number old new (CallbackError error) cause exhausted refused unwritten = refused (inl tt) cause
   update-unwritten unheld number old new (ObjectUpdateTimeout timeout) cause exhausted refused unwritten = absurd cause
   update-unwritten unheld number old new TurnsExhausted cause exhausted refused unwritten = absurd cause
   update-unwritten unheld number old new error cause exhausted refused unwritten = absurd unwritten

@@ -69,7 +69,8 @@ pub write-no_refusal : {I : Type 0} (holds : I → Type 0) (fails : I → Callba
 write-no_refusal holds fails invariants unheld number old new (CallbackError error) cause refusal failure = cause
 write-no_refusal holds fails invariants unheld number old new Fenced cause refusal failure = cause
 write-no_refusal holds fails invariants unheld number old new InvalidObjectState cause refusal failure = subst (λ e. IsValid e) (sym failure.1) (test-valid failure.0)
-write-no_refusal holds fails invariants unheld number old new error cause refusal failure = absurd refusal
+write-no_refusal holds fails invariants unheld number old new error cause (inl callback) failure = absurd callback
+write-no_refusal holds fails invariants unheld number old new error cause (inr shuts) failure = absurd shuts
 
 module _ (unheld : Type 0) (number : ℕ) (old new : State) where
   -- a test failed
@@ -111,9 +112,9 @@ update-left refuses unheld number old new NoMemory cause other held exhausted re
 update-left refuses unheld number old new NoMemory cause other held exhausted refused (inr written) = inr (tt, written)
 update-left refuses unheld number old new ObjectVersionExists cause other held exhausted refused may = absurd (other refl)
 update-left refuses unheld number old new IdExhausted cause other held exhausted refused may = inl (exhausted refl)
-update-left refuses unheld number old new (CallbackError error) cause other held exhausted refused may = inl (refused tt cause)
-update-left refuses unheld number old new Fenced cause other held exhausted refused may = inl (refused tt cause)
-update-left refuses unheld number old new InvalidObjectState (inl cause) other held exhausted refused may = inl (refused tt cause)
+update-left refuses unheld number old new (CallbackError error) cause other held exhausted refused may = inl (refused (inl tt) cause)
+update-left refuses unheld number old new Fenced cause other held exhausted refused may = inl (refused (inr tt) cause)
+update-left refuses unheld number old new InvalidObjectState (inl cause) other held exhausted refused may = inl (refused (inr tt) cause)
 update-left refuses unheld number old new InvalidObjectState (inr cause) other held exhausted refused may = absurd (held cause)
 update-left refuses unheld number old new error cause other held exhausted refused may = absurd cause
 

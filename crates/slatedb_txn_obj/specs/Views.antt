@@ -2,7 +2,7 @@
 -- `before` and `after` say for which histories and boundaries a protocol and its store stand, before a call and after it.
 use Rattle.std.specs.Prelude.{◌≡◌, ◌⊎◌, ℕ, ◌-◌, ◌≤◌, Bool, true, List, [], ◌∷◌, ◌++◌, All, length, slice_get, Option, Some, None, Result, Ok, Err}
 use Rattle.txn_store.specs.Store.{State}
-use Rattle.txn_types.specs.Callbacks.{error_of_callback, OnRefusal}
+use Rattle.txn_types.specs.Callbacks.{IsCallback, error_of_callback, OnRefusal}
 use Rattle.txn_types.specs.declared.callback.CallbackFault.{CallbackFault}
 use Rattle.txn_types.specs.declared.dirty.DirtyObject.{DirtyObject}
 use Rattle.txn_types.specs.declared.error.TransactionalObjectError.{TransactionalObjectError}
@@ -67,10 +67,7 @@ HasCauseOfLoad unheld left old new error = HasCauseOfLatest unheld left old new 
 
 -- a refusal by an epoch, an invariant or a mutator
 abbrev pub IsRefusal : TransactionalObjectError → Type 0
-IsRefusal (CallbackError error) = Unit {0}
-IsRefusal Fenced = Unit {0}
-IsRefusal InvalidObjectState = Unit {0}
-IsRefusal error = ⊥
+IsRefusal error = IsCallback error ⊎ IsShutting error
 
 -- an error after which what was to be written may stand
 abbrev pub MayBeWritten : TransactionalObjectError → Type 0

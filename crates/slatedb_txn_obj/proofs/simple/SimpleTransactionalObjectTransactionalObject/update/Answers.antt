@@ -1,5 +1,5 @@
 -- What an update answers after its tests and its write.
-use Rattle.std.proofs.Common.{refl, sym, ap, ◌∙◌, inl, true≢false, not, is_ok, Err, le-add_right}
+use Rattle.std.proofs.Common.{refl, sym, ap, ◌∙◌, inl, inr, true≢false, not, is_ok, Err, le-add_right}
 use Rattle.std.proofs.lemmas.Result.{err_from_is_err_and}
 use Rattle.slatedb_txn_obj.specs.Protocol.{UnheldAt}
 use Rattle.slatedb_txn_obj.specs.Views.{IsTestFailure}
@@ -11,7 +11,7 @@ pub returns-then-ne-clause-other : goal.returns-then-ne-clause-other
 returns-then-ne-clause-other g c = λ _. (refl, refl, refl)
 
 pub returns-then-ne-clause-refused : goal.returns-then-ne-clause-refused
-returns-then-ne-clause-refused g c = λ refusal failure. absurd refusal
+returns-then-ne-clause-refused g c = λ refusal failure. elim refusal [ inl callback ↦ absurd callback | inr shuts ↦ absurd shuts ]
 
 pub returns-then-ne-clause-barred : goal.returns-then-ne-clause-barred
 returns-then-ne-clause-barred g c = λ _. (refl, refl, refl)
