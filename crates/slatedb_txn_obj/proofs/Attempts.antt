@@ -72,9 +72,9 @@ pub first-spent : (t0 t t1 t2 p0 p p1 l0 l l1 l2 : ℕ) → (t ≡ t0) × (p ≡
 first-spent t0 t t1 t2 p0 p p1 l0 l l1 l2 first spent paged few took took' = (omega (arith, first.0, first.1, spent, paged, few), omega (arith, first.2, took, took'))
 
 -- what the first attempt or the second has spent, by turns, pages and tokens left
-pub few-spent : (t0 t t1 p0 p l0 l l1 : ℕ) (Latest : Type 0) → t ≤ t1 + 1 → l ≤ l1 + 1 → Attempted t0 t p0 p l0 l Latest → (t0 ≤ t1 + 4 + 2 * p0) × (l0 ≤ l1 + 2)
-few-spent t0 t t1 p0 p l0 l l1 Latest spent took (inl first) = (omega (arith, spent, first.0), omega (arith, took, first.2))
-few-spent t0 t t1 p0 p l0 l l1 Latest spent took (inr second) = (omega (arith, spent, second.0), omega (arith, took, second.2))
+pub attempt-spends : (t0 t t1 p0 p l0 l l1 : ℕ) (Latest : Type 0) → t ≤ t1 + 1 → l ≤ l1 + 1 → Attempted t0 t p0 p l0 l Latest → (t0 ≤ t1 + 4 + 2 * p0) × (l0 ≤ l1 + 2)
+attempt-spends t0 t t1 p0 p l0 l l1 Latest spent took (inl first) = (omega (arith, spent, first.0), omega (arith, took, first.2))
+attempt-spends t0 t t1 p0 p l0 l l1 Latest spent took (inr second) = (omega (arith, spent, second.0), omega (arith, took, second.2))
 
 -- so a turn is left for each
 pub turn-left : (t0 t p0 p l0 l : ℕ) (Latest : Type 0) → 4 + 2 * p0 ≤ t0 → t ≡ 0 → Attempted t0 t p0 p l0 l Latest → ⊥
@@ -87,11 +87,11 @@ attempts-after t0 t t1 t2 p0 p p1 l0 l l1 l2 Latest over spent paged few took to
 attempts-after t0 t t1 t2 p0 p p1 l0 l l1 l2 Latest over spent paged few took took' (inr second) = absurd (over second.1)
 
 -- which is no more than what two have
-pub conflict-few : (t0 t2 p0 l0 l2 : ℕ) → t0 ≤ t2 + 3 + 2 * p0 → l0 ≤ l2 + 1 → (t0 ≤ t2 + 4 + 2 * p0) × (l0 ≤ l2 + 2)
-conflict-few t0 t2 p0 l0 l2 few took = (omega (arith, few), omega (arith, took))
+pub one-within_two : (t0 t2 p0 l0 l2 : ℕ) → t0 ≤ t2 + 3 + 2 * p0 → l0 ≤ l2 + 1 → (t0 ≤ t2 + 4 + 2 * p0) × (l0 ≤ l2 + 2)
+one-within_two t0 t2 p0 l0 l2 few took = (omega (arith, few), omega (arith, took))
 
-pub few-after : (t0 t t1 t2 p0 p p1 l0 l l1 l2 : ℕ) (Latest : Type 0) → (Latest → ⊥) → t ≡ t1 + 1 → p1 ≤ p + 1 → t1 ≤ t2 + 2 * p1 → l ≤ l1 + 1 → l1 ≤ l2 + 0 → Attempted t0 t p0 p l0 l Latest → (t0 ≤ t2 + 4 + 2 * p0) × (l0 ≤ l2 + 2)
-few-after t0 t t1 t2 p0 p p1 l0 l l1 l2 Latest over spent paged few took took' before = let after = attempts-after t0 t t1 t2 p0 p p1 l0 l l1 l2 Latest over spent paged few took took' before in conflict-few t0 t2 p0 l0 l2 after.0 after.1
+pub refresh-within_two : (t0 t t1 t2 p0 p p1 l0 l l1 l2 : ℕ) (Latest : Type 0) → (Latest → ⊥) → t ≡ t1 + 1 → p1 ≤ p + 1 → t1 ≤ t2 + 2 * p1 → l ≤ l1 + 1 → l1 ≤ l2 + 0 → Attempted t0 t p0 p l0 l Latest → (t0 ≤ t2 + 4 + 2 * p0) × (l0 ≤ l2 + 2)
+refresh-within_two t0 t t1 t2 p0 p p1 l0 l l1 l2 Latest over spent paged few took took' before = let after = attempts-after t0 t t1 t2 p0 p p1 l0 l l1 l2 Latest over spent paged few took took' before in one-within_two t0 t2 p0 l0 l2 after.0 after.1
 
 -- and the refresh has the turns that it needs
 pub enough-after : (t0 t t1 p0 p p1 l0 l : ℕ) (Latest : Type 0) → (Latest → ⊥) → 4 + 2 * p0 ≤ t0 → t ≡ t1 + 1 → p1 ≤ p + 1 → Attempted t0 t p0 p l0 l Latest → 2 * p1 ≤ t1
@@ -108,8 +108,8 @@ module _ (t0 t p0 p l0 l n0 n m k : ℕ) (Latest : Type 0) where
   without-readings (inr second) = inr (second.0, second.1, second.2)
 
   -- what is spent after it
-  pub attempt-few : (t1 l1 : ℕ) → IsAttempt → t ≡ t1 + 1 → l ≤ l1 + 1 → (t0 ≤ t1 + 4 + 2 * p0) × (l0 ≤ l1 + 2)
-  attempt-few t1 l1 attempt spent took = few-spent t0 t t1 p0 p l0 l l1 Latest (omega (arith, spent)) took (without-readings attempt)
+  pub attempt-within_two : (t1 l1 : ℕ) → IsAttempt → t ≡ t1 + 1 → l ≤ l1 + 1 → (t0 ≤ t1 + 4 + 2 * p0) × (l0 ≤ l1 + 2)
+  attempt-within_two t1 l1 attempt spent took = attempt-spends t0 t t1 p0 p l0 l l1 Latest (omega (arith, spent)) took (without-readings attempt)
 
   -- and after its refresh where it was a conflict: it was the first, since the newest version is not overtaken
   pub conflict-spent : (t1 t2 p1 l1 l2 : ℕ) → IsAttempt → (Latest → ⊥) → t ≡ t1 + 1 → p1 ≤ p + 1 → t1 ≤ t2 + 2 * p1 → l ≤ l1 + 1 → l1 ≤ l2 + 0 → (t0 ≤ t2 + 3 + 2 * p0) × (l0 ≤ l2 + 1)

@@ -46,7 +46,7 @@ impl<T: Clone, I: Invariant<T> + Drop, X: EpochField<T>> FenceableTransactionalO
     /// `ObjectUpdateTimeout`. Where the epoch or the version's id is the greatest it is `IdExhausted`. An invariant that fails
     /// is `CallbackError`, and writes nothing; the other errors are those of a write and a read: `InvalidObjectState`,
     /// `ObjectStoreError`, `NoMemory`, and `CallbackError` of the codec where nothing stood. A failed claim drops the delegate;
-    /// its value may have been written. It asks that a clone is the same value.
+    /// after an error of a write its value may have been written. It asks that a clone is the same value.
     pub fn init<S: ObjectStore, P: TransactionalStorageProtocol<T, MonotonicId, S>, K: SystemClock>(
         delegate: SimpleTransactionalObject<T, MonotonicId, I>,
         protocol: &mut P,

@@ -88,12 +88,12 @@ pub trait TransactionalObject<T: Clone, Id: Copy + Eq> {
         ensures files { SameFiles (S.state store.old) (S.state store.new) };
 
     /// Writes the candidate's value on the version that the object is at, and is at the new version then. A candidate of
-    /// another id, where the object is not shut, and a version that isn't the newest, is `ObjectVersionExists`. A candidate that the object refuses, as one
-    /// that an invariant fails for, is that error, and nothing is written. Its other errors are those of the write:
-    /// `IdExhausted` where the version has the greatest id, `InvalidObjectState` where the boundary file says no number,
-    /// `ObjectStoreError` and `NoMemory`. After an error the object is as it was; the value may have been written, unless the
-    /// error is a refusal before the write. It makes at most two calls of the store, takes at most one token, and creates at
-    /// most the file of the version above that which the object is at.
+    /// another id, where the object is not shut, and a version that isn't the newest, is `ObjectVersionExists`. A candidate
+    /// that the object refuses, as one that an invariant fails for, is that error, and nothing is written. Its other errors are
+    /// those of the write: `IdExhausted` where the version has the greatest id, `InvalidObjectState` where the boundary file
+    /// says no number, `ObjectStoreError` and `NoMemory`. After an error the object is as it was; the value may have been
+    /// written, unless the error is a refusal before the write. It makes at most two calls of the store, takes at most one
+    /// token, and creates at most the file of the version above that which the object is at.
     fn update<S: ObjectStore, P: TransactionalStorageProtocol<T, Id, S>>(
         &mut self,
         protocol: &mut P,

@@ -54,8 +54,8 @@ pub trait TransactionalStorageProtocol<T, Id, S: ObjectStore> {
     ///
     /// Where the base isn't the newest version it is `ObjectVersionExists`, and what stood stands. A sequenced protocol may
     /// then have created a version, whose id the boundary had reached; no checked read answers it. The greatest id as base, and
-    /// no other, is `IdExhausted`, without a call of the store, and nothing moved. After any other error the value may have been written:
-    /// `InvalidObjectState`, where the boundary file says no number, `ObjectStoreError` and `NoMemory`.
+    /// no other, is `IdExhausted`, without a call of the store, and nothing moved. After any other error the value may have
+    /// been written: `InvalidObjectState`, where the boundary file says no number, `ObjectStoreError` and `NoMemory`.
     fn write(
         &mut self,
         store: &mut S,
@@ -75,9 +75,9 @@ pub trait TransactionalStorageProtocol<T, Id, S: ObjectStore> {
         ensures exhausted { IsErrOf result TransactionalObjectError.IdExhausted → (S.state store.new ≡ S.state store.old) × Stays (stands self.old store.old) (stands self.new store.new) }
         ensures moved { writes_to self.old store.old base value.now result self.new store.new };
 
-    /// The newest version and its value, or nothing where there is none. It is at hand then. Each pass, and each page after the first that a pass
-    /// lists, spends a turn. It makes at most seven calls of the store for each turn that it spends; where the newest version
-    /// is at hand, it is `warm_calls` where it answers, and one turn.
+    /// The newest version and its value, or nothing where there is none. It is at hand then. Each pass, and each page after the
+    /// first that a pass lists, spends a turn. It makes at most seven calls of the store for each turn that it spends; where
+    /// the newest version is at hand, it is `warm_calls` where it answers, and one turn.
     ///
     /// `TurnsExhausted` comes where a turn is due and none is left. Where nothing stood, a value that the codec refuses is
     /// `CallbackError`, and a boundary file that says no number `InvalidObjectState`. The other errors are

@@ -72,9 +72,9 @@ pub trait SequencedStorageProtocol<T, S: ObjectStore>: BoundaryObject<S> {
     /// Creates the version above the base, or version 1 where there is none, and answers its id. It makes at most one call of
     /// the store, takes at most one token, and creates at most the file of that version.
     ///
-    /// `ObjectVersionExists` comes where a version of that id stands already, and `IdExhausted` where the base is the greatest id,
-    /// and only there, without a call of the store; after both nothing moved. After any other error, as `ObjectStoreError` or
-    /// `NoMemory`, the version may have been created, and nothing else moved.
+    /// `ObjectVersionExists` comes where a version of that id stands already, and `IdExhausted` where the base is the greatest
+    /// id, and only there, without a call of the store; after both nothing moved. After any other error, as `ObjectStoreError`
+    /// or `NoMemory`, the version may have been created, and nothing else moved.
     fn write_unchecked(
         &mut self,
         store: &mut S,
@@ -95,10 +95,10 @@ pub trait SequencedStorageProtocol<T, S: ObjectStore>: BoundaryObject<S> {
         ensures exhausted { IsErrOf result TransactionalObjectError.IdExhausted → (S.state store.new ≡ S.state store.old) × Stays (stands self.old store.old) (stands self.new store.new) }
         ensures moved { writes_to self.old store.old base value.now result self.new store.new };
 
-    /// The version of the greatest id, and its value, or nothing where there is none. It is at hand then. It may be fenced, and where what is held
-    /// is, an older one than the newest. Each page after the first that it lists spends a turn. It makes at most six calls of
-    /// the store, and two for each turn that it spends; where the newest version is at hand, it is `warm_calls` where it
-    /// answers.
+    /// The version of the greatest id, and its value, or nothing where there is none. It is at hand then. It may be fenced, and
+    /// where what is held is, an older one than the newest. Each page after the first that it lists spends a turn. It makes at
+    /// most six calls of the store, and two for each turn that it spends; where the newest version is at hand, it is
+    /// `warm_calls` where it answers.
     ///
     /// `TurnsExhausted` comes where a turn is due and none is left; the other errors are `CallbackError`,
     /// `ObjectStoreError` and `NoMemory`. What it stood for stands, and no file is changed, also after an error.
@@ -119,9 +119,9 @@ pub trait SequencedStorageProtocol<T, S: ObjectStore>: BoundaryObject<S> {
         ensures placed { place self.new ≡ place self.old }
         ensures files { SameFiles (S.state store.old) (S.state store.new) };
 
-    /// The value of a version, or nothing where it isn't stored, as after a delete. It makes at most one call of the store. Its errors are
-    /// `CallbackError`, `ObjectStoreError` and `NoMemory`; what it stood for stands, and no file is changed, also after an
-    /// error.
+    /// The value of a version, or nothing where it isn't stored, as after a delete. It makes at most one call of the store. Its
+    /// errors are `CallbackError`, `ObjectStoreError` and `NoMemory`; what it stood for stands, and no file is changed, also
+    /// after an error.
     fn try_read_unchecked(
         &mut self,
         store: &mut S,
@@ -169,7 +169,8 @@ pub trait SequencedStorageProtocol<T, S: ObjectStore>: BoundaryObject<S> {
 
     /// Removes a version, whatever the boundary is: where it is done no version of the id is stored, also where none was. It
     /// makes at most one call of the store, and removes at most the file of that version. Its errors are `ObjectStoreError`,
-    /// after which the version may be removed, and `NoMemory`. What stands stands on where the id is at or below the boundary, also after an error.
+    /// after which the version may be removed, and `NoMemory`. What stands stands on where the id is at or below the boundary,
+    /// also after an error.
     fn delete_unchecked(
         &mut self,
         store: &mut S,

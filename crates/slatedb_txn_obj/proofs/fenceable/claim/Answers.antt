@@ -11,7 +11,7 @@ use Rattle.slatedb_txn_obj.specs.Protocol.{UnheldAt}
 use Rattle.slatedb_txn_obj.specs.Views.{IsVersion, IsTestFailure, HasCauseOfRefresh}
 use Rattle.slatedb_txn_obj.proofs.AttemptCauses.{claim-refresh, refresh-not_blocking, refresh-not_late, blocking-unwritten, late-unwritten}
 use Rattle.slatedb_txn_obj.proofs.Leaving.{others-trans, others-same, others-placed}
-use Rattle.slatedb_txn_obj.proofs.Attempts.{paged-after, pages-most, spends-update, spends-refresh, attempt-few, conflict-few, conflict-spent, conflict-next, conflict-left, idle-spent, late-spent, late-idle, reads-for, latest-not_overtaken}
+use Rattle.slatedb_txn_obj.proofs.Attempts.{paged-after, pages-most, spends-update, spends-refresh, attempt-within_two, one-within_two, conflict-spent, conflict-next, conflict-left, idle-spent, late-spent, late-idle, reads-for, latest-not_overtaken}
 use Rattle.slatedb_txn_obj.proofs.Claiming.{next-asked, reads-more, reads-late, claim-cause, not_exhausted, attempt-other, refresh-exhausted, has_begun, ok_begun, not_begun, not_passed}
 use Rattle.slatedb_txn_obj.proofs.Views.{version-of_latest, none-empty}
 use Rattle.slatedb_txn_obj.proofs.fenceable.claim.Goals as goal
@@ -70,7 +70,7 @@ returns-in_err-check-in-Err g c =
           let here = inv.unmoved h b stands version in
           inl ((conflict.conflict (ap Err is_conflict)).stands h b here.0 here.1.within));
       spends = spends-update _ _ _ _ _ _ c.loop-asked-test.ensures.spent inv.spends conflict.spends;
-      few = λ h b stands version. attempt-few _ _ _ _ _ _ _ _ _ _ _ _ _ (inv.timed.2 h b stands version) c.loop-asked-test.ensures.spent conflict.spends.left_least;
+      few = λ h b stands version. attempt-within_two _ _ _ _ _ _ _ _ _ _ _ _ _ (inv.timed.2 h b stands version) c.loop-asked-test.ensures.spent conflict.spends.left_least;
       enough = λ h b stands version most is. not_exhausted _ (rw p.1 (rw p.2 (rw late.0 tt))) is;
       cause = rw p.1 (rw p.2 (rw late.0 (inv.timeout, subst (λ n. ReadsLate n (g.K.SystemClock.readings c.args.clock.now) (g.K.SystemClock.readings c.check.new.clock)) inv.timeout (reads-late _ _ _ _ _ _ (reads-more _ _ inv.timed.0 _ _ _ inv.timed.1 (conflict.conflict_in_time (ap Err is_conflict))) late.1))));
       unwritten = rw p.1 (rw p.2 (rw late.0 (λ unwritten h b stands version.
@@ -122,7 +122,7 @@ returns-in_err-refresh-in-Err g c =
       spends = spends-refresh _ _ _ _ _ _ (spends-update _ _ _ _ _ _ c.loop-asked-test.ensures.spent inv.spends conflict.spends) refresh.spends;
       few = λ h b stands version.
           let most = spent h b stands version in
-          conflict-few _ _ _ _ _ most.0 most.1;
+          one-within_two _ _ _ _ _ most.0 most.1;
       enough = λ h b stands version most is. conflict-left _ _ _ (spent h b stands version).0 (refresh-exhausted (g.P.TransactionalStorageProtocol.stands c.attempt.new.protocol c.attempt.new.store) c.refresh.new.turns (g.S.ObjectStore.state c.attempt.new.store) (g.S.ObjectStore.state c.refresh.new.store) _ told_cause (ap Err (sym p.2) ∙ sym p.1 ∙ is)) most;
       cause = rw p.1 (rw p.2 (claim-refresh c.args.timeout late fails blocked full unheld c.refresh.new.turns (g.S.ObjectStore.state c.args.store.now) (g.S.ObjectStore.state c.attempt.new.store) (g.S.ObjectStore.state c.refresh.new.store) (g.P.TransactionalStorageProtocol.stands c.attempt.new.protocol c.attempt.new.store) failures
           (λ empty h b stands version.
@@ -162,7 +162,7 @@ returns-in-Err-2 g c =
             | inr written ↦ inr (g.P.TransactionalStorageProtocol.number c.loop-asked.view.id, c.loop-asked.view.object, written.0, here.1, written.1, written.2)
           ];
       spends = spends-update _ _ _ _ _ _ c.loop-asked-test.ensures.spent inv.spends attempt.spends;
-      few = λ h b stands version. attempt-few _ _ _ _ _ _ _ _ _ _ _ _ _ (inv.timed.2 h b stands version) c.loop-asked-test.ensures.spent attempt.spends.left_least;
+      few = λ h b stands version. attempt-within_two _ _ _ _ _ _ _ _ _ _ _ _ _ (inv.timed.2 h b stands version) c.loop-asked-test.ensures.spent attempt.spends.left_least;
       enough = λ h b stands version most is. not_exhausted _ (attempt-other _ _ _ (g.P.TransactionalStorageProtocol.number c.loop-asked.view.id) _ (λ error. (e : ℕ) × NextEpoch c.args.asked (g.X.EpochField.epoch_of c.args.epochs c.loop-asked.view.object) e × IsTestFailure (λ i. g.I.Invariant.holds i (g.X.EpochField.with_epoch c.args.epochs c.loop-asked.view.object e) c.loop-asked.view.object) (λ i. g.I.Invariant.fails i (g.X.EpochField.with_epoch c.args.epochs c.loop-asked.view.object e) c.loop-asked.view.object) c.loop-asked.view.invariants.items error) _ (g.S.ObjectStore.state c.loop-asked.store) (g.S.ObjectStore.state c.attempt.new.store) _ attempt.cause) is;
       cause =
           let stood = g.P.TransactionalStorageProtocol.stands c.args.protocol.now c.args.store.now in
@@ -243,7 +243,7 @@ returns-in-Ok g c = record {
       );
   failed = tt;
   spends = spends-update _ _ _ _ _ _ c.loop-asked-test.ensures.spent c.loop-asked.invariant.spends c.in-Ok.ensures.spends;
-  few = λ h b stands version. attempt-few _ _ _ _ _ _ _ _ _ _ _ _ _ (c.loop-asked.invariant.timed.2 h b stands version) c.loop-asked-test.ensures.spent c.in-Ok.ensures.spends.left_least;
+  few = λ h b stands version. attempt-within_two _ _ _ _ _ _ _ _ _ _ _ _ _ (c.loop-asked.invariant.timed.2 h b stands version) c.loop-asked-test.ensures.spent c.in-Ok.ensures.spends.left_least;
   enough = λ h b stands version most is. not_exhausted _ tt is;
   cause = tt;
   unwritten = tt;

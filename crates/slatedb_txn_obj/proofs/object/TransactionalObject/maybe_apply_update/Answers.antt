@@ -8,7 +8,7 @@ use Rattle.slatedb_txn_obj.specs.Views.{IsVersion, Nothing, Entered, Shut, Refus
 use Rattle.slatedb_txn_obj.proofs.AttemptCauses.{apply-shut, apply-mutator, apply-refresh, apply-update, mutator-not_spent}
 use Rattle.slatedb_txn_obj.proofs.Updates.{update-left}
 use Rattle.slatedb_txn_obj.proofs.Leaving.{others-trans, others-same, others-placed}
-use Rattle.slatedb_txn_obj.proofs.Attempts.{spends-turn, spends-none, spends-update, spends-refresh, few-spent, turn-left, attempts-after, few-after, enough-after, paged-after, pages-most, conflict-stays, latest-not_overtaken, candidate-first}
+use Rattle.slatedb_txn_obj.proofs.Attempts.{spends-turn, spends-none, spends-update, spends-refresh, attempt-spends, turn-left, attempts-after, refresh-within_two, enough-after, paged-after, pages-most, conflict-stays, latest-not_overtaken, candidate-first}
 use Rattle.slatedb_txn_obj.proofs.Views.{version-of_latest, none-empty}
 use Rattle.slatedb_txn_obj.proofs.object.TransactionalObject.maybe_apply_update.Goals as goal
 
@@ -66,7 +66,7 @@ returns-in-Ok-None g c =
             | inr earlier ↦ (Ok (Some earlier.0), earlier.1, tt)
           ];
       spends = spends-turn _ _ _ _ _ c.loop-self-test.ensures.spent inv.spends;
-      few = λ h b stands version keeps. few-spent _ _ _ _ _ _ _ _ _ (omega (arith, c.loop-self-test.ensures.spent)) (omega arith) (inv.attempts h b stands version keeps);
+      few = λ h b stands version keeps. attempt-spends _ _ _ _ _ _ _ _ _ (omega (arith, c.loop-self-test.ensures.spent)) (omega arith) (inv.attempts h b stands version keeps);
       enough = λ h b stands version keeps many is. absurd (cc);
       cause = tt;
       same_object = inv.same;
@@ -90,7 +90,7 @@ returns-in-Ok g c =
           let candidate = candidate-first (λ v r. FnReturnsAt g.F.Fn c.args.mutator.now v r) _ _ _ _ _ c.in-Ok-Some.dirty inv.first answered in
           (Ok (Some candidate.0), candidate.1, tt);
       spends = spends-update _ _ _ _ _ _ c.loop-self-test.ensures.spent inv.spends update.spends;
-      few = λ h b stands version keeps. few-spent _ _ _ _ _ _ _ _ _ (omega (arith, c.loop-self-test.ensures.spent)) update.spends.left_least (inv.attempts h b stands version keeps);
+      few = λ h b stands version keeps. attempt-spends _ _ _ _ _ _ _ _ _ (omega (arith, c.loop-self-test.ensures.spent)) update.spends.left_least (inv.attempts h b stands version keeps);
       enough = λ h b stands version keeps many is. absurd (cc);
       cause = tt;
       same_object =
@@ -125,7 +125,7 @@ returns-in-Err g c =
             | inr earlier ↦ (Ok (Some earlier.0), earlier.1, tt)
           ];
       spends = spends-turn _ _ _ _ _ c.loop-self-test.ensures.spent inv.spends;
-      few = λ h b stands version keeps. few-spent _ _ _ _ _ _ _ _ _ (omega (arith, c.loop-self-test.ensures.spent)) (omega arith) (inv.attempts h b stands version keeps);
+      few = λ h b stands version keeps. attempt-spends _ _ _ _ _ _ _ _ _ (omega (arith, c.loop-self-test.ensures.spent)) (omega arith) (inv.attempts h b stands version keeps);
       enough = λ h b stands version keeps many is. mutator-not_spent c.in-Err.fault _ c.from.ensures (IfErr-at_err (λ e. c.from.result ≡ e) is refl);
       cause =
           let object = g.Self.TransactionalObject in
@@ -166,7 +166,7 @@ returns-in-Err-2 g c =
           let candidate = candidate-first (λ v r. FnReturnsAt g.F.Fn c.args.mutator.now v r) _ _ _ _ _ c.in-Ok-Some.dirty inv.first answered in
           (Ok (Some candidate.0), candidate.1, tt);
       spends = spends-update _ _ _ _ _ _ c.loop-self-test.ensures.spent inv.spends update.spends;
-      few = λ h b stands version keeps. few-spent _ _ _ _ _ _ _ _ _ (omega (arith, c.loop-self-test.ensures.spent)) update.spends.left_least (inv.attempts h b stands version keeps);
+      few = λ h b stands version keeps. attempt-spends _ _ _ _ _ _ _ _ _ (omega (arith, c.loop-self-test.ensures.spent)) update.spends.left_least (inv.attempts h b stands version keeps);
       enough = λ h b stands version keeps many is. IfErr-at_err (HasCauseOfUpdate (λ e. g.Self.TransactionalObject.refuses c.loop-self.self c.in-Ok-Some.dirty.value e) (UnheldAt (g.P.TransactionalStorageProtocol.stands c.loop-self.protocol c.loop-self.store) (g.P.TransactionalStorageProtocol.number (g.Self.TransactionalObject.at c.loop-self.self))) (g.P.TransactionalStorageProtocol.number (g.Self.TransactionalObject.at c.loop-self.self)) (g.S.ObjectStore.state c.loop-self.store) (g.S.ObjectStore.state c.update.new.store)) is update.cause;
       cause =
           let object = g.Self.TransactionalObject in
@@ -219,7 +219,7 @@ returns-in_err-refresh-in-Err-update g c =
       few = λ h b stands version keeps.
           let here = inv.unmoved h b stands version in
           let overtaken = conflict.conflict exists (keeps c.loop-self.self c.in-Ok-Some.dirty answered) in
-          few-after _ _ _ _ _ _ _ _ _ _ _ _ (λ latest. latest-not_overtaken _ _ _ h b _ overtaken here.0 here.1 latest) c.loop-self-test.ensures.spent (conflict.paged h b here.0 here.1.within) (refresh.few h b (overtaken.stands h b here.0 here.1.within)) conflict.spends.left_least refresh.spends.left_least (inv.attempts h b stands version keeps);
+          refresh-within_two _ _ _ _ _ _ _ _ _ _ _ _ (λ latest. latest-not_overtaken _ _ _ h b _ overtaken here.0 here.1 latest) c.loop-self-test.ensures.spent (conflict.paged h b here.0 here.1.within) (refresh.few h b (overtaken.stands h b here.0 here.1.within)) conflict.spends.left_least refresh.spends.left_least (inv.attempts h b stands version keeps);
       enough = λ h b stands version keeps many is.
           let here = inv.unmoved h b stands version in
           let overtaken = conflict.conflict exists (keeps c.loop-self.self c.in-Ok-Some.dirty answered) in
@@ -278,7 +278,7 @@ returns g c =
             | inr earlier ↦ (Ok (Some earlier.0), earlier.1, tt)
           ];
       spends = spends-none _ _ _ _ _ c.loop-self-test.ensures.none inv.spends;
-      few = λ h b stands version keeps. few-spent _ _ _ _ _ _ _ _ _ (omega (arith, c.loop-self-test.ensures.none.0)) (omega arith) (inv.attempts h b stands version keeps);
+      few = λ h b stands version keeps. attempt-spends _ _ _ _ _ _ _ _ _ (omega (arith, c.loop-self-test.ensures.none.0)) (omega arith) (inv.attempts h b stands version keeps);
       enough = λ h b stands version keeps many is. turn-left _ _ _ _ _ _ _ many c.loop-self-test.ensures.none.0 (inv.attempts h b stands version keeps);
       cause = c.loop-self-test.ensures.none.1;
       same_object = inv.same;
