@@ -139,7 +139,11 @@ impl Boundaries {
         let place = loose(
             calls,
             fates.as_slice(),
-            &|call| if call.raises() == Some(number) { Some(self.base_of(call)) } else { None },
+            &|call| if call.raises() == Some(number) {
+                Some(self.base_of(call))
+            } else {
+                None
+            },
         );
         self.land(fates, place, number, Some(token))
     }
