@@ -1,8 +1,8 @@
 //! A protocol that is not sequenced, with ids of its own.
-ghost use Rattle.std.specs.Prelude.{◌≡◌, ℕ, List, [], length, ◌+◌, ◌≤◌, IfOk, IfErr, IsErrOf};
+ghost use Rattle.std.specs.Prelude.{◌≡◌, ℕ, List, [], length, ◌+◌, ◌^◌, ◌≤◌, IfOk, IfErr, IsErrOf};
 ghost use Rattle.txn_drivers.specs.Calls.{Spends};
 ghost use Rattle.slatedb_txn_obj.specs.Leaves.{MayCreate};
-ghost use Rattle.slatedb_txn_obj.specs.Protocol.{base_number, Appended, Overtaken, MayAppend, UnheldAt, HasCauseOfWrite};
+ghost use Rattle.slatedb_txn_obj.specs.Protocol.{base_number, Appended, Overtaken, MayAppend, Stays, UnheldAt, HasCauseOfWrite};
 ghost use Rattle.slatedb_txn_obj_uses.specs.Registered.{Registered};
 
 use slatedb_txn_obj::protocol::TransactionalStorageProtocol;
@@ -79,6 +79,8 @@ impl<S: ObjectStore> TransactionalStorageProtocol<u64, Revision, S> for Register
         ensures spends { Spends 2 1 (S.state _store.old) (S.state _store.new) }
         ensures paged { (h : List ℕ) (b : ℕ) → Registered self.old.values.items h b → base_number (λ r. r.0) base ≤ length h → 1 ≤ 1 + 1 }
         ensures creates { MayCreate [] (S.state _store.old) (S.state _store.new) }
+        ensures full { base_number (λ r. r.0) base + 1 ≡ 2 ^ 64 → IsErrOf result TransactionalObjectError.IdExhausted }
+        ensures exhausted { IsErrOf result TransactionalObjectError.IdExhausted → (S.state _store.new ≡ S.state _store.old) × Stays (Registered self.old.values.items) (Registered self.new.values.items) }
         ensures moved { S.state _store.new ≡ S.state _store.old }
     {
         let newest = self.values.len() as u64;
