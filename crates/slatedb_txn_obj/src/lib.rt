@@ -54,7 +54,8 @@
 //! older.refresh(protocol, store, turns) // Err(Fenced)
 //! ```
 //!
-//! A store of manifests is such an object with a codec of manifests, and helpers of its own around `maybe_apply_update`.
+//! A store of manifests is such an object with a codec of manifests, and calls of its own over `prepare_dirty` and
+//! `update`.
 #![tactic(auto)]
 
 pub mod boundary;

@@ -64,10 +64,10 @@ pub trait TransactionalObject<T: Clone, Id: Copy + Eq> {
         ensures shut { (is_open self.now → ⊥) → IfErr result (is_shut self.now) × IsErr result };
 
     /// Reads the newest version, and is at it then. Each pass of the read spends a turn, and so does each page after the
-    /// first that it lists; where one is due and none is left, it is `TurnsExhausted`. Where nothing is stored, it is
-    /// `InvalidObjectState`. Where the version that it read shuts it, it is that error, as `Fenced`, and the object is at that
-    /// version. Its other errors are those of the read, `CallbackError`, `ObjectStoreError` and `NoMemory`, and after them the
-    /// object is as it was. It changes no file.
+    /// first that it lists; where one is due and none is left, it is `TurnsExhausted`. Where nothing is stored, or the boundary
+    /// file says no number, it is `InvalidObjectState`. Where the version that it read shuts it, it is that error, as `Fenced`,
+    /// and the object is at that version. Its other errors are those of the read, `CallbackError`, `ObjectStoreError` and
+    /// `NoMemory`, and after them the object is as it was. It changes no file.
     fn refresh<S: ObjectStore, P: TransactionalStorageProtocol<T, Id, S>>(
         &mut self,
         protocol: &mut P,
@@ -87,13 +87,14 @@ pub trait TransactionalObject<T: Clone, Id: Copy + Eq> {
         ensures placed { P.place protocol.new ≡ P.place protocol.old }
         ensures files { SameFiles (S.state store.old) (S.state store.new) };
 
-    /// Writes the candidate's value on the version that the object is at, and is at the new version then. A candidate of
-    /// another id, where the object is not shut, and a version that isn't the newest, is `ObjectVersionExists`. A candidate
-    /// that the object refuses, as one that an invariant fails for, is that error, and nothing is written. Its other errors are
-    /// those of the write: `IdExhausted` where the version has the greatest id, `InvalidObjectState` where the boundary file
-    /// says no number, `ObjectStoreError` and `NoMemory`. After an error the object is as it was; the value may have been
-    /// written, unless the error is a refusal before the write. It makes at most two calls of the store, takes at most one
-    /// token, and creates at most the file of the version above that which the object is at.
+    /// Writes the candidate's value on the version that the object is at, and is at the new version then. A version that
+    /// isn't the newest is `ObjectVersionExists`, and so is a candidate of another id, unless the object refuses it for an
+    /// epoch first. A candidate that the object refuses, as one that an invariant fails for, is that error, and nothing is
+    /// written. Its other errors are those of the write: `IdExhausted` where the version has the greatest id,
+    /// `InvalidObjectState` where the boundary file says no number, `ObjectStoreError` and `NoMemory`. After an error the
+    /// object is as it was; the value may have been written, unless the error is a refusal before the write. It makes at most
+    /// two calls of the store, takes at most one token, and creates at most the file of the version above that which the
+    /// object is at.
     fn update<S: ObjectStore, P: TransactionalStorageProtocol<T, Id, S>>(
         &mut self,
         protocol: &mut P,
@@ -122,8 +123,10 @@ pub trait TransactionalObject<T: Clone, Id: Copy + Eq> {
     /// Asks the mutator for a candidate made of the object, and updates by it. After a conflict it refreshes, and asks once
     /// more. Nothing asked for is Ok, and the mutator's refusal is `CallbackError`, or `NoMemory`, and writes nothing. Each
     /// attempt spends a turn, and so does each pass of a refresh and each page after a pass's first; where one is due and none
-    /// is left, it is `TurnsExhausted`. After any other error of an update the last candidate may have been written. An error
-    /// names what the version met that the object is at then, the one that it was at or the newest, which a refresh read.
+    /// is left, it is `TurnsExhausted`. Its other errors are those of an update and of a refresh, but for a conflict. After
+    /// `ObjectStoreError` and `NoMemory` the last candidate may have been written, and after a boundary file that says no
+    /// number, which is `InvalidObjectState`. An error was met at the version that the object is at then, the one that it was
+    /// at or the newest, which a refresh read.
     final fn maybe_apply_update<
         S: ObjectStore,
         P: TransactionalStorageProtocol<T, Id, S>,

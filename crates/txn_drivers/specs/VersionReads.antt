@@ -42,7 +42,7 @@ module _ {T : Type 0} (names : Names) (decode : List ℕ → Option T) where
     -- above the boundary it is the entry of the history, and none above its length
     pub stands : (h : List T) (b : ℕ) → FilesStand names decode old.files h b → FilesStand names decode new.files h b × IfOk result (λ answer. b < id → answer ≡ slice_get h (id - 1))
 
-  -- What a read of a version that was perhaps seen answers. A held version is read with no call. Else its file is, and its version is held from then on.
+  -- What a read of a version that was perhaps seen answers. A held version is read with no call. Else its file is, and its version is put in the window.
   abbrev pub IsSeen : State → State → List Cached → List Cached → ℕ → Option Cached → Option T → Type 0
   IsSeen old new first latest id (Some version) answer = (decode version.bytes ≡ answer) × IsSome answer × (latest ≡ first) × (new.calls ≡ old.calls)
   IsSeen old new first latest id None None = (map.get old.files (version_path names id) ≡ None) × (latest ≡ first) × (new.calls ≡ old.calls + 1)

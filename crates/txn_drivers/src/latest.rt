@@ -92,8 +92,7 @@ fn run<T: Drop, C: ObjectCodec<T>, S: ObjectStore>(
 }
 
 /// Reads the newest version, as the operation of `txn_steps` does: it looks for the greatest held version and asks for
-/// its successors, at most four, and else lists the versions, page by page. The version that it answers is held from then
-/// on.
+/// its successors, at most four, and else lists the versions, page by page. The version that it answers is held then.
 ///
 /// It answers the id and the value of the version with no stored successor, or `None` where no version was held and none
 /// is stored. Before each page after the first it spends a turn, and `TurnsExhausted` comes where none is left.

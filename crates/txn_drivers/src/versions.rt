@@ -55,9 +55,10 @@ fn step<T: Drop, C: ObjectCodec<T>, S: ObjectStore>(
 }
 
 /// Reads the version of this id, where it is held with no call of the store, and else by one. A version that is stored
-/// is held from then on. It answers its value, or `None` where it is neither held nor stored. `CallbackError` comes
-/// where the codec refuses its bytes, `ObjectStoreError` where the store failed, and `NoMemory` where a growth was
-/// refused. The files stay as they were.
+/// is put in the window: where that is full, in place of the smallest id that it holds, if its own is above that. It
+/// answers its value, or `None` where it is neither held nor stored. `CallbackError` comes where the codec refuses its
+/// bytes, `ObjectStoreError` where the store failed, and `NoMemory` where a growth was refused. The files stay as they
+/// were.
 pub fn read_seen<T: Drop, C: ObjectCodec<T>, S: ObjectStore>(
     alloc: Global,
     layout: &Layout<C>,

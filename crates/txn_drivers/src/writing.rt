@@ -32,8 +32,8 @@ pub(crate) fn write_step<S: ObjectStore>(
 /// `ObjectVersionExists` comes where a version of that id is stored already, and `IdExhausted` exactly where the base is
 /// the greatest u64; neither changes the files. `ObjectStoreError(Failed)` comes only where the store failed: the version
 /// may have been created. `ObjectStoreError(TokensExhausted)` comes only where the store has no token left, and `NoMemory`
-/// where a growth was refused; neither changes the files. Where it answers the id the version is held, and no error
-/// changes what is held.
+/// where a growth was refused; neither changes the files. Where it answers the id the version is put in the window, as
+/// [`Window::keep`] does, and no error changes what is held.
 pub fn write_version<T, C: ObjectCodec<T>, S: ObjectStore>(
     alloc: Global,
     layout: &Layout<C>,

@@ -286,8 +286,8 @@ impl<T: Drop, S: ObjectStore, C: ObjectCodec<T>, B: BoundaryObject<S>> Sequenced
     ghost stands_advanced = { λ p q s t h id b c r advances whole up newest now. whole-advanced C.decoded p q (S.state s) (S.state t) h b c (B.bounds p.boundary s) (B.bounds q.boundary t) (B.file p.boundary) (B.file q.boundary) (B.advances_to p.boundary s id r q.boundary t) id r
         (B.advance_file p.boundary q.boundary s t id r advances.boundary) (B.advance_frame p.boundary q.boundary s t id r advances.boundary) up newest now advances whole };
 
-    /// Where it answers an id, the name was free, its file holds the value's bytes, and the version is held. Every other file is
-    /// left. A failure of the store leaves the file created or not, and any other error leaves all.
+    /// Where it answers an id, the name was free, its file holds the value's bytes, and the version is put in the window, as
+    /// `Window::keep` does. Every other file is left. A failure of the store leaves the file created or not, and any other error leaves all.
     fn write_unchecked(
         &mut self,
         store: &mut S,
@@ -317,6 +317,7 @@ impl<T: Drop, S: ObjectStore, C: ObjectCodec<T>, B: BoundaryObject<S>> Sequenced
             base,
             value,
         );
+        // It does nothing, and says that the ids of what is held ascend.
         let _ = self.latest.as_slice();
         result
     }
@@ -342,6 +343,7 @@ impl<T: Drop, S: ObjectStore, C: ObjectCodec<T>, B: BoundaryObject<S>> Sequenced
         ensures files { SameFiles (S.state store.old) (S.state store.new) }
     {
         let result = read_latest(self.alloc, &self.layout, &mut self.latest, store, turns);
+        // It does nothing, and says that the ids of what is held ascend.
         let _ = self.latest.as_slice();
         result
     }
@@ -367,7 +369,8 @@ impl<T: Drop, S: ObjectStore, C: ObjectCodec<T>, B: BoundaryObject<S>> Sequenced
         read_version(self.alloc, &self.layout, store, id)
     }
 
-    /// The value of the held version, else of the version's file, which is held from then on. It leaves each file.
+    /// The value of the held version, else of the version's file, which is then put in the window, as `Window::keep` does. It
+    /// leaves each file.
     fn try_read_seen(
         &mut self,
         store: &mut S,
