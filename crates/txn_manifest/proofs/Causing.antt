@@ -28,6 +28,13 @@ delete_caused unheld left old middle new rises (ObjectStoreError error) unfenced
 delete_caused unheld left old middle new rises NoMemory unfenced h = h
 delete_caused unheld left old middle new rises error unfenced h = absurd h
 
+pub collect_caused : (unheld unheld' : Type 0) (left : ℕ) (old middle new : State) → (unheld → unheld') → old.failures ≤ middle.failures → (error : TransactionalObjectError) → HasCauseOfCollect unheld left middle new error → HasCauseOfCollect unheld' left old new error
+collect_caused unheld unheld' left old middle new less rises TurnsExhausted h = h
+collect_caused unheld unheld' left old middle new less rises InvalidObjectState h = less h
+collect_caused unheld unheld' left old middle new less rises (ObjectStoreError error) h = HasStoreCause-later old middle new rises error h
+collect_caused unheld unheld' left old middle new less rises NoMemory h = h
+collect_caused unheld unheld' left old middle new less rises error h = absurd h
+
 fenced_not : (fault : CallbackFault) → Fenced ≡ error_of_callback fault → ⊥
 fenced_not (faults.Refused e) is = cc
 fenced_not faults.NoMemory is = cc
