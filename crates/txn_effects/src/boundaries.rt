@@ -1,11 +1,12 @@
 //! Who wrote which boundary.
 
-use crate::calls::{Asked, Name, name_of, number_in};
+use crate::calls::{Asked, Name, name_of};
 use crate::landings::{Fate, has_place, land};
 use std::alloc::{AllocError, Global};
 use std::collections::{BTreeMap, HashMap};
 use txn_store::request::{Reply, Request};
 use txn_store::store::{PutMode, StoreError, Token};
+use txn_types::boundary::read_boundary;
 
 /// The boundaries that were written, each with the call that wrote it, and the boundary that each token is of.
 pub struct Boundaries {
@@ -27,7 +28,7 @@ impl Drop for Boundaries {
 fn found(call: &Asked<'_>) -> Option<(u64, u64)> {
     match (call.request, call.reply) {
         (Request::Get { path, .. }, Some(Reply::Get(Ok(got)))) => match name_of(path) {
-            Name::Boundary => Some((got.token.number(), number_in(&got.bytes)?)),
+            Name::Boundary => Some((got.token.number(), read_boundary(got.bytes.as_slice())?)),
             Name::Version(_) => None,
         },
         _ => None,

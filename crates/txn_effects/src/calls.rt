@@ -9,6 +9,7 @@ use txn_store::page::Page;
 use txn_store::path::Path;
 use txn_store::request::{Reply, Request};
 use txn_store::store::PutMode;
+use txn_types::boundary::read_boundary;
 
 /// A store call of a recording.
 #[derive(Clone, Copy)]
@@ -21,6 +22,12 @@ pub struct Asked<'a> {
     pub from: u64,
     /// When its reply was there at the latest: the greatest time where none was seen.
     pub until: u64,
+    /// The number of its clock.
+    pub clock: usize,
+    /// When it was asked, by that clock alone.
+    pub asked: u64,
+    /// When its reply was there, by that clock alone: the greatest time where none was seen.
+    pub told: u64,
     pub request: &'a Request,
     /// The reply, where one was seen.
     pub reply: Option<&'a Reply>,
@@ -62,19 +69,11 @@ pub fn version_of(path: &Path) -> Option<u64> {
     }
 }
 
-/// The number that the bytes of a boundary file write.
-pub fn number_in(bytes: &Bytes) -> Option<u64> {
-    match std::str::from_utf8(bytes.as_slice()) {
-        Ok(text) => read_digits(text),
-        Err(_) => None,
-    }
-}
-
 /// When the reply to the call of a row was there, and the reply, where one was seen.
-fn reply_after<T>(rows: &[Row<T>], row: usize, clock: Clock) -> (u64, Option<&Reply>) {
+fn reply_after<T>(rows: &[Row<T>], row: usize) -> Option<(u64, &Reply)> {
     match rows.get(row.saturating_add(1)) {
-        Some(Row::Reply(_, at, reply)) => (clock.latest(*at), Some(reply)),
-        _ => (u64::MAX, None),
+        Some(Row::Reply(_, at, reply)) => Some((*at, reply)),
+        _ => None,
     }
 }
 
@@ -87,13 +86,19 @@ fn call_at<'a, T>(
     before: Option<usize>,
 ) -> Option<Asked<'a>> {
     match rows.get(row) {
-        Some(Row::Ask(_, from, request)) => {
-            let (until, reply) = reply_after(rows, row, clock);
+        Some(Row::Ask(_, at, request)) => {
+            let (until, told, reply) = match reply_after(rows, row) {
+                Some((at, reply)) => (clock.latest(at), clock.exactly(at), Some(reply)),
+                None => (u64::MAX, u64::MAX, None),
+            };
             Some(Asked {
                 recording,
                 row,
-                from: clock.earliest(*from),
+                from: clock.earliest(*at),
                 until,
+                clock: clock.number,
+                asked: clock.exactly(*at),
+                told,
                 request,
                 reply,
                 before,
@@ -171,7 +176,7 @@ impl<'a> Asked<'a> {
     pub(crate) fn raises(&self) -> Option<u64> {
         match self.request {
             Request::Put { path, bytes, .. } => match name_of(path) {
-                Name::Boundary => number_in(bytes),
+                Name::Boundary => read_boundary(bytes.as_slice()),
                 Name::Version(_) => None,
             },
             _ => None,

@@ -3,6 +3,8 @@
 /// How the times of a recording become times of one clock with those of the others.
 #[derive(Clone, Copy, Debug, PartialEq, Eq)]
 pub struct Clock {
+    /// Which clock it is: the times of one are exact among themselves.
+    pub number: usize,
     /// The nanoseconds to add to its times.
     pub ahead: u64,
     /// The most nanoseconds by which they may then still be off.
@@ -10,17 +12,26 @@ pub struct Clock {
 }
 
 /// A clock that all recordings have.
-pub(crate) const SHARED: Clock = Clock { ahead: 0, error: 0 };
+pub(crate) const SHARED: Clock = Clock {
+    number: 0,
+    ahead: 0,
+    error: 0,
+};
 
 impl Clock {
+    /// A time, as this clock and those that are as far ahead tell it.
+    pub(crate) fn exactly(self, at: u64) -> u64 {
+        at.saturating_add(self.ahead)
+    }
+
     /// The earliest moment that a time may be.
     pub(crate) fn earliest(self, at: u64) -> u64 {
-        at.saturating_add(self.ahead).saturating_sub(self.error)
+        self.exactly(at).saturating_sub(self.error)
     }
 
     /// The latest moment that a time may be.
     pub(crate) fn latest(self, at: u64) -> u64 {
-        at.saturating_add(self.ahead).saturating_add(self.error)
+        self.exactly(at).saturating_add(self.error)
     }
 }
 

@@ -5,7 +5,7 @@ use crate::calls::{Asked, version_of};
 use crate::landings::{Fate, has_place, land};
 use bytes::Bytes;
 use std::alloc::{AllocError, Global};
-use std::collections::HashMap;
+use std::collections::{HashMap, HashSet};
 use txn_store::page::Page;
 use txn_store::request::{Reply, Request};
 use txn_store::store::{StoreError, Token};
@@ -37,8 +37,8 @@ impl Life {
 /// All lives, those of one version side by side, in the order in which they stood.
 pub struct Lives {
     pub lives: Vec<Life>,
-    /// Which life has a token.
-    pub of_token: HashMap<u64, usize>,
+    /// Which life of a version has a token.
+    pub of_token: HashMap<(u64, u64), usize>,
 }
 
 impl Drop for Lives {
@@ -197,7 +197,7 @@ impl Lives {
         };
         if let Some(token) = token {
             let place = self.lives.len();
-            self.of_token.insert(token, place)?;
+            self.of_token.insert((id, token), place)?;
         }
         self.lives.push(Life {
             id,
@@ -220,7 +220,7 @@ impl Lives {
         sights: &[Sight<'_>],
     ) -> Result<(), AllocError> {
         for sight in sights {
-            if !self.of_token.contains_key(&sight.token) {
+            if !self.of_token.contains_key(&(sight.id, sight.token)) {
                 let maker = loose_maker(
                     calls,
                     fates.as_slice(),
@@ -244,7 +244,7 @@ impl Lives {
         calls: &[Asked<'_>],
         fates: &mut Vec<Fate>,
         loose: &[(u64, usize)],
-        ids: &mut HashMap<u64, ()>,
+        ids: &mut HashSet<u64>,
     ) -> Result<(), AllocError> {
         for call in calls {
             if let Some(id) = taken_for(call) {
@@ -260,17 +260,17 @@ impl Lives {
         calls: &[Asked<'_>],
         fates: &mut Vec<Fate>,
         loose: &[(u64, usize)],
-        ids: &mut HashMap<u64, ()>,
+        ids: &mut HashSet<u64>,
         id: u64,
         until: u64,
     ) -> Result<(), AllocError> {
-        if ids.contains_key(&id) {
+        if ids.contains(&id) {
             return Ok(());
         }
         if let Some(place) = loose_maker(calls, fates.as_slice(), loose, id, Seen::Stood, until) {
             land(fates, place, None);
             self.add(calls, id, None, place)?;
-            ids.insert(id, ())?;
+            ids.insert(id)?;
         }
         Ok(())
     }
@@ -280,8 +280,9 @@ impl Lives {
         self.lives
             .sort_by_key(|life| (life.id, life.stood(), life.token.unwrap_or(0)))?;
         for place in 0..self.lives.len() {
-            if let Some(token) = self.lives[place].token {
-                self.of_token.insert(token, place)?;
+            let life = self.lives[place];
+            if let Some(token) = life.token {
+                self.of_token.insert((life.id, token), place)?;
             }
         }
         Ok(())
@@ -290,7 +291,7 @@ impl Lives {
     /// Notes when each life was seen last.
     fn note_sights(&mut self, sights: &[Sight<'_>]) {
         for sight in sights {
-            if let Some(place) = self.of_token.get(&sight.token).copied() {
+            if let Some(place) = self.of_token.get(&(sight.id, sight.token)).copied() {
                 if let Some(life) = self.lives.get_mut(place) {
                     life.last = life.last.max(sight.at);
                 }
@@ -358,9 +359,9 @@ impl Lives {
         )
     }
 
-    /// The life of a token.
-    pub fn with_token(&self, token: u64) -> Option<Life> {
-        let place = self.of_token.get(&token).copied()?;
+    /// The life of a version that has a token.
+    pub fn with_token(&self, id: u64, token: u64) -> Option<Life> {
+        let place = self.of_token.get(&(id, token)).copied()?;
         self.lives.get(place).copied()
     }
 
@@ -372,10 +373,10 @@ impl Lives {
 }
 
 /// The versions that have a life.
-fn ids_of(alloc: Global, lives: &[Life]) -> Result<HashMap<u64, ()>, AllocError> {
-    let mut ids = HashMap::new(alloc);
+fn ids_of(alloc: Global, lives: &[Life]) -> Result<HashSet<u64>, AllocError> {
+    let mut ids = HashSet::new(alloc);
     for life in lives {
-        ids.insert(life.id, ())?;
+        ids.insert(life.id)?;
     }
     Ok(ids)
 }

@@ -1,8 +1,8 @@
 //! The order of the recorded calls of a store.
 
 use crate::graph::Graph;
-use crate::precedence::{Precedence, raised};
-use crate::times::{link_times, times};
+use crate::precedence::Precedence;
+use crate::times::{Time, link_times, times_asked};
 use std::alloc::{AllocError, AllocFailed, Global};
 use txn_effects::boundaries::Boundaries;
 use txn_effects::calls::Asked;
@@ -80,7 +80,7 @@ fn circle(alloc: Global, graph: &Graph, calls: &[Asked<'_>]) -> Result<OrderFaul
 /// The greatest token that any reply told.
 fn greatest_token(lives: &Lives, boundaries: &Boundaries) -> u64 {
     let mut greatest = 0u64;
-    for token in lives.of_token.keys() {
+    for (_, token) in lives.of_token.keys() {
         greatest = greatest.max(*token);
     }
     for token in boundaries.of_token.keys() {
@@ -149,18 +149,12 @@ fn in_order(
     Ok(order)
 }
 
-/// Notes what came before what, by the replies, where these boundaries were written.
-fn link_replies(
-    alloc: Global,
-    effects: &Effects<'_>,
-    raised: &[(u64, usize)],
-    graph: &mut Graph,
-) -> Result<(), AllocError> {
+/// Notes what came before what, by the replies.
+fn link_replies(alloc: Global, effects: &Effects<'_>, graph: &mut Graph) -> Result<(), AllocError> {
     let precedence = Precedence {
         calls: effects.calls.as_slice(),
         fates: effects.fates.as_slice(),
         lives: &effects.lives,
-        raised,
         boundaries: &effects.boundaries,
     };
     precedence.link(alloc, graph, effects.idle.as_slice())
@@ -170,11 +164,10 @@ fn link_replies(
 fn link(
     alloc: Global,
     effects: &Effects<'_>,
-    times: &[u64],
+    times: &[Time],
     graph: &mut Graph,
 ) -> Result<(), AllocError> {
-    let raised = raised(alloc, &effects.boundaries)?;
-    link_replies(alloc, effects, raised.as_slice(), graph)?;
+    link_replies(alloc, effects, graph)?;
     link_times(
         graph,
         effects.calls.as_slice(),
@@ -203,7 +196,7 @@ fn sorted(
 fn ordered_at(
     alloc: Global,
     effects: &Effects<'_>,
-    times: &[u64],
+    times: &[Time],
 ) -> Result<Vec<Placed>, OrderFault> {
     let nodes = effects.calls.len().saturating_add(times.len());
     let mut graph = Graph::new(alloc, nodes)?;
@@ -214,7 +207,7 @@ fn ordered_at(
 
 /// An order of calls of which this became.
 fn ordered(alloc: Global, effects: &Effects<'_>) -> Result<Vec<Placed>, OrderFault> {
-    let times = times(alloc, effects.calls.as_slice(), effects.fates.as_slice())?;
+    let times = times_asked(alloc, effects.calls.as_slice(), effects.fates.as_slice())?;
     ordered_at(alloc, effects, times.as_slice())
 }
 

@@ -4,7 +4,7 @@ use crate::graph::Graph;
 use crate::standing::{Missing, Standing};
 use std::alloc::{AllocError, Global};
 use txn_effects::boundaries::Boundaries;
-use txn_effects::calls::{Asked, Name, name_of, number_in, version_of};
+use txn_effects::calls::{Asked, Name, name_of, version_of};
 use txn_effects::landings::{Fate, has_place};
 use txn_effects::lives::{Life, Lives};
 use txn_effects::removals::Concern;
@@ -12,6 +12,7 @@ use txn_store::page::Page;
 use txn_store::path::Path;
 use txn_store::request::{Reply, Request};
 use txn_store::store::{PutMode, StoreError, Token};
+use txn_types::boundary::read_boundary;
 
 /// What the edges are made of.
 #[derive(Clone, Copy)]
@@ -19,21 +20,7 @@ pub(crate) struct Precedence<'a> {
     pub calls: &'a [Asked<'a>],
     pub fates: &'a [Fate],
     pub lives: &'a Lives,
-    /// The boundaries that were written, ascending, each with its call.
-    pub raised: &'a [(u64, usize)],
     pub boundaries: &'a Boundaries,
-}
-
-/// The boundaries that were written, ascending, each with the call that wrote it.
-pub(crate) fn raised(
-    alloc: Global,
-    boundaries: &Boundaries,
-) -> Result<Vec<(u64, usize)>, AllocError> {
-    let mut raised = Vec::new(alloc);
-    for (number, call) in boundaries.writers.iter() {
-        raised.push((*number, *call))?;
-    }
-    Ok(raised)
 }
 
 impl<'a> Precedence<'a> {
@@ -44,30 +31,22 @@ impl<'a> Precedence<'a> {
 
     /// The call that wrote the boundary after this one.
     fn writer_after(&self, number: u64) -> Option<usize> {
-        let raised = self.raised;
-        let place = raised.partition_point(|raised| raised.0 <= number);
-        match raised.get(place) {
-            Some((_, call)) => Some(*call),
-            None => None,
-        }
+        let next = number.checked_add(1)?;
+        let (_, call) = self.boundaries.writers.range(next..).next()?;
+        Some(*call)
     }
 
     /// The call that made the first version above one.
     fn maker_above(&self, id: u64) -> Option<usize> {
         let lives = self.lives.lives.as_slice();
         let place = lives.partition_point(|life| life.id <= id);
-        match lives.get(place) {
-            Some(life) => Some(life.made_by),
-            None => None,
-        }
+        Some(lives.get(place)?.made_by)
     }
 
     /// The call that wrote the first boundary.
     fn first_writer(&self) -> Option<usize> {
-        match self.raised.first() {
-            Some((_, call)) => Some(*call),
-            None => None,
-        }
+        let (_, call) = self.boundaries.writers.first_key_value()?;
+        Some(*call)
     }
 
     /// When a call was asked, and when its reply was there.
@@ -81,7 +60,7 @@ impl<'a> Precedence<'a> {
     /// The boundaries rise.
     fn rises(&self, graph: &mut Graph) -> Result<(), AllocError> {
         let mut last = None;
-        for (_, call) in self.raised {
+        for call in self.boundaries.writers.values() {
             graph.edge(last, Some(*call))?;
             last = Some(*call);
         }
@@ -236,7 +215,7 @@ impl<'a> Precedence<'a> {
     ) -> Result<(), AllocError> {
         match call.reply {
             Some(Reply::Get(Ok(got))) => {
-                self.saw(graph, at, self.lives.with_token(got.token.number()))
+                self.saw(graph, at, self.lives.with_token(id, got.token.number()))
             }
             Some(Reply::Get(Err(StoreError::NotFound))) => {
                 self.absent(graph, at, call, id, false)
@@ -254,7 +233,7 @@ impl<'a> Precedence<'a> {
         known: Option<Token>,
     ) -> Result<(), AllocError> {
         match call.reply {
-            Some(Reply::Get(Ok(got))) => match number_in(&got.bytes) {
+            Some(Reply::Get(Ok(got))) => match read_boundary(got.bytes.as_slice()) {
                 Some(number) => self.saw_boundary(graph, at, number),
                 None => Ok(()),
             },
@@ -357,7 +336,7 @@ impl<'a> Precedence<'a> {
     ) -> Result<(), AllocError> {
         for meta in page.metas.as_slice() {
             if let Some(id) = version_of(&meta.location) {
-                self.saw(graph, at, self.lives.with_token(meta.token.number()))?;
+                self.saw(graph, at, self.lives.with_token(id, meta.token.number()))?;
                 told.push(id)?;
             }
         }

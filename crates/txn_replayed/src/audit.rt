@@ -10,7 +10,7 @@ use crate::rebuild::rebuild;
 use crate::refusal::Refusal;
 use crate::replay::{places_of, replay};
 use std::alloc::{AllocError, Global};
-use std::collections::HashMap;
+use std::collections::HashSet;
 use txn_audit::audit::audit;
 use txn_diary::diary::Diary;
 use txn_effects::clock::Clock;
@@ -110,10 +110,10 @@ fn diaries_of<T: Clone + LineValue, C: ObjectCodec<T> + Copy + Drop, E: EpochFie
 
 /// Whether two recordings are of one client.
 fn has_twins<T>(alloc: Global, recordings: &[Vec<Row<T>>]) -> Result<bool, AllocError> {
-    let mut clients = HashMap::new(alloc);
+    let mut clients = HashSet::new(alloc);
     for rows in recordings {
         if let Some(Row::Client(client, _)) = rows.as_slice().first() {
-            if clients.insert(*client, ())?.is_some() {
+            if !clients.insert(*client)? {
                 return Ok(true);
             }
         }

@@ -26,6 +26,8 @@ const MILLISECOND: u64 = 1_000_000;
 /// What is said of a line that is not taken.
 const NO_ROW: &str = "this is no row of a recording";
 
+const NO_TEXT: &str = "it is no text";
+
 const NO_SOURCE: &str = "the row before does not say of which object the recording is";
 
 const NO_RECORDING: &str = "no recording goes on here: one begins with its object and its client";
@@ -220,7 +222,11 @@ impl Recordings {
             0 => 0,
             _ => error.saturating_mul(MILLISECOND),
         };
-        Clock { ahead, error }
+        Clock {
+            number: place,
+            ahead,
+            error,
+        }
     }
 
     /// The clock of each recording, where each clock but the first may be off by so many milliseconds.
@@ -249,6 +255,15 @@ fn are_added(rt: &HostRuntime, files: &[&str], recordings: &mut Recordings) -> R
     Ok(true)
 }
 
+/// The line, from 1, of the byte at a place.
+fn line_at(bytes: &[u8], place: usize) -> usize {
+    let before = bytes.iter().take(place);
+    before
+        .filter(|byte| **byte == b'\n')
+        .count()
+        .saturating_add(1)
+}
+
 /// Adds the recordings of a file: the first line that is not taken, from 1, and what is wrong with it. What follows the last
 /// line feed was cut off as its client was killed.
 fn file_added(
@@ -261,7 +276,7 @@ fn file_added(
     bytes.truncate(whole_lines(bytes.as_slice()));
     match str::from_utf8(bytes.as_slice()) {
         Ok(text) => Ok(recordings.add_file(rt.alloc(), place, text)?),
-        Err(_) => Err(Halt::Words("a recording is text")),
+        Err(error) => Ok(Some((line_at(bytes.as_slice(), error.valid_up_to()), NO_TEXT))),
     }
 }
 

@@ -289,7 +289,7 @@ const COMMANDS: &[Row] = &[
 ];
 
 const STATUSES: &str =
-    "Statuses: 0 done; 1 a fault of the system; 2 wrong words; 3 nothing new to see, or a folder that does not serve; 4 an audit that does not agree; 12 the store failed; 14 there is no version; 15 a conflict; 16 fenced; 17 not in this state; 18 bytes that are no value; 19 no memory; 20 no id or epoch is left; 21 no end in sight: others write all the time, or the boundary stands above the newest version; 30 + n the client does not permit the call, by fault n";
+    "Statuses: 0 done; 1 a fault of the system; 2 wrong words; 3 nothing new to see, or a folder that does not serve; 4 an audit that does not agree; 12 the store failed; 14 there is no version; 15 a conflict; 16 fenced; 17 not in this state; 18 bytes that are no value; 19 no memory; 20 no id or epoch is left; 21 no end in sight: others write all the time, or the boundary stands at or above the newest version; 30 + n the client does not permit the call, by fault n";
 
 impl Kind {
     /// Whether it has to be there.
@@ -404,9 +404,9 @@ fn text_in<'a>(found: &ArgMatches<'a>, id: &str) -> &'a str {
     found.get_str(id).unwrap_or("")
 }
 
-/// What is asked for, where the words name no such thing: to be refused.
-fn command_of<'a>(name: &str, found: &ArgMatches<'a>) -> Option<Command<'a>> {
-    Some(match name {
+/// What a command of this name asks for.
+fn command_of<'a>(name: &str, found: &ArgMatches<'a>) -> Command<'a> {
+    match name {
         "init" => Command::Init(source_of(text_in(found, "VALUE"))),
         "get" => Command::Get {
             id: found.get_flag("id"),
@@ -429,17 +429,16 @@ fn command_of<'a>(name: &str, found: &ArgMatches<'a>) -> Option<Command<'a>> {
         "delete" => Command::Delete(number_in(found, "ID")),
         "collect" => Command::Collect,
         "shell" => Command::Shell,
-        "doctor" => Command::Doctor,
         "clean" => Command::Clean(number_in(found, "SECONDS")),
         "bench" => Command::Bench {
             times: number_in(found, "TIMES"),
             lists: found.get_flag("list"),
         },
-        _ => return None,
-    })
+        _ => Command::Doctor,
+    }
 }
 
-/// The words of an option that may come several times.
+/// The words of an argument that may come several times.
 fn texts_in<'a>(
     alloc: Global,
     found: &ArgMatches<'a>,
@@ -459,7 +458,7 @@ fn command_in<'a>(alloc: Global, found: &ArgMatches<'a>) -> Result<Command<'a>, 
             diaries: texts_in(alloc, of, "DIARY")?,
             clock_error: number_in(of, "clock-error"),
         }),
-        Some((name, of)) => Ok(command_of(name, of).unwrap_or(Command::Doctor)),
+        Some((name, of)) => Ok(command_of(name, of)),
         None => Ok(Command::Doctor),
     }
 }
