@@ -1,6 +1,6 @@
 -- A call that goes on.
-use Rattle.std.proofs.Common.{◌≡◌, ◌≤◌, ◌+◌, ℕ, List, [], ◌∷◌, ◌++◌, Option, Some, None, refl, sym, ap, subst, ◌∙◌, append-nil, length-append}
-use Rattle.std.proofs.lemmas.List.Elements.{All-nil, All-push}
+use Rattle.std.proofs.Common.{arith, lit≤, All, length, ◌≡◌, ◌≤◌, ◌+◌, ℕ, List, [], ◌∷◌, ◌++◌, Option, Some, None, refl, sym, ap, subst, ◌∙◌, append-nil, length-append}
+use Rattle.std.proofs.lemmas.List.Elements.{All-nil, All-push, All-append}
 use Rattle.txn_store.specs.declared.request.Request.{Request}
 use Rattle.txn_store.specs.declared.request.Reply.{Reply}
 use Rattle.txn_history.specs.declared.event.Call.{Call}
@@ -16,8 +16,8 @@ use Rattle.txn_client.specs.declared.work.Heard.TheVariants as heards
 use Rattle.txn_client.specs.Noted.{Noted}
 use Rattle.txn_client.specs.Happenings.{begun_with}
 use Rattle.txn_client.specs.Calling.{IsLookOrCall, IsGiveUp, IsActOf}
-use Rattle.txn_client.specs.Working.{heard_in, BeginsWith, TakesStep, CallsAs, Calls}
-use Rattle.txn_client.proofs.Adding.{answers_added, advances_more}
+use Rattle.txn_client.specs.Working.{heard_in, IsOneOrNone, IsFurther, HasBegun, DoesCutOff, BeginsWith, TakesStep, CallsAs, Calls}
+use Rattle.txn_client.proofs.Adding.{answers_added, does_more, advances_more}
 
 module _ {T : Type 0} where
   pub act_op : (such : Act → Type 0) (begun op : ℕ) (step : Step T) → IsActOf op such step → op_of begun step ≡ op
@@ -126,3 +126,76 @@ module _ {T C E R S : Type 0} (hands : R → Noted T → R → Type 0) (serves :
     };
     advances = advances_more hands serves a b c m n o p q r i j k so.rows (step.row ∷ []) so.advances step.advances;
   }
+
+module _ {T : Type 0} where
+  -- one act or none as acts, each such a one
+  few_all : (such : Act → Type 0) (op : ℕ) (rows : List (JournalRow T)) → IsOneOrNone such op rows → All (λ row. IsActOf op such row.step) rows
+  few_all such op [] one = All-nil (λ row. IsActOf op such row.step)
+  few_all such op (row ∷ []) one = All-push (λ row. IsActOf op such row.step) [] row (All-nil (λ row. IsActOf op such row.step)) one
+  few_all such op (row ∷ next ∷ rows) one = absurd one
+
+  few_length : (such : Act → Type 0) (op : ℕ) (rows : List (JournalRow T)) → IsOneOrNone such op rows → length rows ≤ 1
+  few_length such op [] one = lit≤ tt
+  few_length such op (row ∷ []) one = lit≤ tt
+  few_length such op (row ∷ next ∷ rows) one = absurd one
+
+module _ {T C E : Type 0} where
+  -- a call that was cut off as it began
+  pub cut_first : (begun limit : ℕ) (call : Call T) (old new : DiaryState T C E) → HasBegun call old new → DoesCutOff begun limit call old new
+  cut_first begun limit call old new h = (
+    h.0 ∷ [],
+    h.1,
+    record {
+      first = h.0;
+      turns = [];
+      end = [];
+      rows_are = refl;
+      begins = h.2;
+      acts = All-nil (λ row. IsActOf (begun + 1) IsLookOrCall row.step);
+      few = omega arith;
+      gives_up = All-nil (λ row. IsActOf (begun + 1) IsGiveUp row.step);
+    },
+  )
+
+module _ {T C E R S : Type 0} (hands : R → Noted T → R → Type 0) (serves : S → Request → Reply → S → Type 0) where
+  -- a call that was cut off in its next look or store call
+  pub cut_step : (op limit taken : ℕ) (call : Call T) (a b c : DiaryState T C E) (m n : R) (p q : S) (i j : ℕ)
+      → CallsAs hands serves op taken call None a m p i b n q j → IsFurther IsLookOrCall op b c → taken + 1 ≤ limit → DoesCutOff i limit call a c
+  cut_step op limit taken call a b c m n p q i j so more few =
+      let so_far = so.is_call in
+      let one = few_length IsLookOrCall op more.0 more.2 in
+      let sum = length-append so_far.turns more.0 in
+      let taken_is = so_far.taken_is in (
+        so.rows ++ more.0,
+        does_more a b c so.rows more.0 so.advances.does more.1,
+        record {
+          first = so_far.first;
+          turns = so_far.turns ++ more.0;
+          end = [];
+          rows_are = ap (λ (rows : List (JournalRow T)). rows ++ more.0) so_far.rows_are ∙ ap (λ (rows : List (JournalRow T)). so_far.first ∷ rows) (sym (append-nil (so_far.turns ++ more.0)));
+          begins = so_far.begins;
+          acts = subst (λ o. All (λ row. IsActOf o IsLookOrCall row.step) (so_far.turns ++ more.0)) so_far.own (All-append (λ row. IsActOf op IsLookOrCall row.step) so_far.turns more.0 so_far.acts (few_all IsLookOrCall op more.0 more.2));
+          few = omega (arith, one, sum, taken_is, few);
+          gives_up = All-nil (λ row. IsActOf (i + 1) IsGiveUp row.step);
+        },
+      )
+
+  -- a call that was cut off as its operation was given up
+  pub cut_spent : (op limit : ℕ) (call : Call T) (a b c : DiaryState T C E) (m n : R) (p q : S) (i j : ℕ)
+      → CallsAs hands serves op limit call None a m p i b n q j → IsFurther IsGiveUp op b c → DoesCutOff i limit call a c
+  cut_spent op limit call a b c m n p q i j so more =
+      let so_far = so.is_call in
+      let taken_is = so_far.taken_is in (
+        so.rows ++ more.0,
+        does_more a b c so.rows more.0 so.advances.does more.1,
+        record {
+          first = so_far.first;
+          turns = so_far.turns;
+          end = more.0;
+          rows_are = ap (λ (rows : List (JournalRow T)). rows ++ more.0) so_far.rows_are;
+          begins = so_far.begins;
+          acts = subst (λ o. All (λ row. IsActOf o IsLookOrCall row.step) so_far.turns) so_far.own so_far.acts;
+          few = omega (arith, taken_is);
+          gives_up = subst (λ o. All (λ row. IsActOf o IsGiveUp row.step) more.0) so_far.own (few_all IsGiveUp op more.0 more.2);
+        },
+      )

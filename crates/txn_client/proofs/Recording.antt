@@ -1,17 +1,19 @@
 -- What a call leaves of a client.
-use Rattle.std.proofs.Common.{◌≡◌, ℕ, Option, Some, None, true, IfOk, IfErr, refl, sym, ap, subst, ◌∙◌}
+use Rattle.std.proofs.Common.{◌≡◌, ℕ, Option, Some, None, true, false, IfOk, IfErr, refl, sym, ap, subst, ◌∙◌}
 use Rattle.txn_store.specs.declared.request.Request.{Request}
 use Rattle.txn_store.specs.declared.request.Reply.{Reply}
 use Rattle.txn_history.specs.declared.event.EventFault.{EventFault}
 use Rattle.txn_history.specs.declared.event.Call.{Call}
 use Rattle.txn_history.specs.declared.event.Answer.{Answer}
 use Rattle.txn_diary.specs.Diaries.{DiaryState}
+use Rattle.txn_client.specs.declared.stop.Stop.{Stop}
+use Rattle.txn_client.specs.declared.stop.Stop.TheVariants as stops
 use Rattle.txn_client.specs.declared.work.Done.{Done}
 use Rattle.txn_client.specs.declared.work.Done.TheVariants as dones
 use Rattle.txn_client.specs.Noted.{Noted}
 use Rattle.txn_client.specs.Happenings.{happens_from, begun_with, HappensAll}
-use Rattle.txn_client.specs.Calling.{ClientState, IsCall, MakesCall, Stops}
-use Rattle.txn_client.specs.Working.{Calls, IsDone, settled}
+use Rattle.txn_client.specs.Calling.{ClientState, IsCall, IsCutOff, Ends, MakesCall, Stops}
+use Rattle.txn_client.specs.Working.{IsEnding, DoesCutOff, Calls, IsDone, settled}
 use Rattle.txn_client.proofs.Adding.{begun_added}
 
 module _ {T C E R S : Type 0} (hands : R → Noted T → R → Type 0) (serves : S → Request → Reply → S → Type 0) where
@@ -49,3 +51,22 @@ module _ {T C E R S : Type 0} (hands : R → Noted T → R → Type 0) (serves :
   done_err refusal limit call old new recorder recorder' store store' begun begun' (dones.Answered answer) b d = tt
   done_err refusal limit call old new recorder recorder' store store' begun begun' dones.Spent b d = made limit call None old new recorder recorder' store store' begun begun' b d
   done_err refusal limit call old new recorder recorder' store store' begun begun' (dones.Refused fault) b d = (same_client old new recorder recorder' store store' d.same d.recorder_is d.store_is, refl, d.reason)
+
+  ends : (limit : ℕ) (call : Call T) (old new : DiaryState T C E) (recorder recorder' : R) (store store' : S) (begun : ℕ) → begun ≡ begun_with 0 old.rows → DoesCutOff begun limit call old new
+      → Ends limit call (record { diary = old; recorder = recorder; store = store; goes_on = true }) (record { diary = new; recorder = recorder'; store = store'; goes_on = false })
+  ends limit call old new recorder recorder' store store' begun b d = record {
+    went_on = refl;
+    rows = d.0;
+    cut_off = subst (λ at. IsCutOff at limit call d.0) b d.2;
+    does = d.1;
+    ended = refl;
+  }
+
+  -- what a call leaves that was cut off
+  pub done_cut : (refusal : Option EventFault) (limit : ℕ) (call : Call T) (old new : DiaryState T C E) (recorder recorder' : R) (store store' : S) (begun : ℕ) (stop : Stop) → begun ≡ begun_with 0 old.rows → IsEnding stop → DoesCutOff begun limit call old new
+      → Stops hands serves refusal limit call (record { diary = old; recorder = recorder; store = store; goes_on = true }) (record { diary = new; recorder = recorder'; store = store'; goes_on = false }) stop
+  done_cut refusal limit call old new recorder recorder' store store' begun (stops.Refused fault) b e d = absurd e
+  done_cut refusal limit call old new recorder recorder' store store' begun stops.StepsSpent b e d = absurd e
+  done_cut refusal limit call old new recorder recorder' store store' begun (stops.Unrecorded error) b e d = ends limit call old new recorder recorder' store store' begun b d
+  done_cut refusal limit call old new recorder recorder' store store' begun stops.NoMemory b e d = ends limit call old new recorder recorder' store store' begun b d
+  done_cut refusal limit call old new recorder recorder' store store' begun stops.Ended b e d = absurd e

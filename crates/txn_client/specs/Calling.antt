@@ -62,6 +62,17 @@ module _ {T : Type 0} where
     pub ends : EndsAfter op limit (length turns) answer end
     pub answers_are : answers_from begun rows ≡ with_answer op answer
 
+  -- These rows, before which so many operations began, are what was done of a call that was cut off, which may take so many looks and store calls: its begin, then looks and store calls of its operation, no more than it may take, and perhaps that this was given up.
+  pub record IsCutOff (begun limit : ℕ) (call : Call T) (rows : List (JournalRow T)) : Type 0 where
+    pub first : JournalRow T
+    pub turns : List (JournalRow T)
+    pub end : List (JournalRow T)
+    pub rows_are : rows ≡ first ∷ turns ++ end
+    pub begins : first.step ≡ steps.Begin call
+    pub acts : All (λ row. IsActOf (begun + 1) IsLookOrCall row.step) turns
+    pub few : length turns ≤ limit
+    pub gives_up : All (λ row. IsActOf (begun + 1) IsGiveUp row.step) end
+
 module _ {T C E : Type 0} where
   -- The same client did these things, the oldest first.
   pub record Does (old : DiaryState T C E) (rows : List (JournalRow T)) (new : DiaryState T C E) : Type 0 where
@@ -72,10 +83,11 @@ module _ {T C E : Type 0} where
     pub epochs : new.epochs ≡ old.epochs
 
 module _ {T C E R S : Type 0} where
-  -- The client went on before, and ended in the middle of a call: what it did stands in its diary, and it makes no further call.
-  pub record Ends (old new : ClientState T C E R S) : Type 0 where
+  -- The client went on before, and ended in the middle of this call, of at most so many looks and store calls: what it did of it stands in its diary, and it makes no further call.
+  pub record Ends (limit : ℕ) (call : Call T) (old new : ClientState T C E R S) : Type 0 where
     pub went_on : old.goes_on ≡ true
     pub rows : List (JournalRow T)
+    pub cut_off : IsCutOff (begun_with 0 old.diary.rows) limit call rows
     pub does : Does old.diary rows new.diary
     pub ended : new.goes_on ≡ false
 
@@ -95,6 +107,6 @@ module _ {T C E R S : Type 0} (hands : R → Noted T → R → Type 0) (serves :
     abbrev pub Stops : ℕ → Call T → ClientState T C E R S → ClientState T C E R S → Stop → Type 0
     Stops limit call old new (stops.Refused fault) = (new ≡ old) × (old.goes_on ≡ true) × ((refusal ≡ Some fault) ⊎ (fault ≡ faults.NoMemory))
     Stops limit call old new stops.StepsSpent = MakesCall limit call None old new
-    Stops limit call old new (stops.Unrecorded error) = Ends old new
-    Stops limit call old new stops.NoMemory = Ends old new
+    Stops limit call old new (stops.Unrecorded error) = Ends limit call old new
+    Stops limit call old new stops.NoMemory = Ends limit call old new
     Stops limit call old new stops.Ended = (new ≡ old) × (old.goes_on ≡ false)

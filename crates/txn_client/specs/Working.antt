@@ -24,7 +24,7 @@ use Rattle.txn_client.specs.declared.work.Done.TheVariants as dones
 use Rattle.txn_client.specs.Noted.{Noted, Asked, Answered}
 use Rattle.txn_client.specs.Happenings.{Happening, Handed, row_happens, happens_from, begun_with, HappensAll}
 use Rattle.txn_diary.specs.Reading.{with_answer, answers_from}
-use Rattle.txn_client.specs.Calling.{IsLookOrCall, IsActOf, IsCall, Does}
+use Rattle.txn_client.specs.Calling.{IsLookOrCall, IsActOf, IsCall, IsCutOff, Does}
 
 module _ {T : Type 0} where
   -- what is heard of what was told
@@ -79,10 +79,25 @@ IsEnding (stops.Unrecorded error) = Unit {0}
 IsEnding stops.NoMemory = Unit {0}
 IsEnding _ = ⊥
 
+module _ {T : Type 0} where
+  -- there is no row, or one alone, which is such an act of this operation
+  abbrev pub IsOneOrNone : (Act → Type 0) → ℕ → List (JournalRow T) → Type 0
+  IsOneOrNone such op [] = Unit {0}
+  IsOneOrNone such op (row ∷ []) = IsActOf op such row.step
+  IsOneOrNone such op (row ∷ next ∷ rows) = ⊥
+
 module _ {T C E : Type 0} where
-  -- the same client did something more, if anything
-  abbrev pub IsFurther : DiaryState T C E → DiaryState T C E → Type 0
-  IsFurther old new = (rows : List (JournalRow T)) × Does old rows new
+  -- the same client did nothing more, or one such act of this operation
+  abbrev pub IsFurther : (Act → Type 0) → ℕ → DiaryState T C E → DiaryState T C E → Type 0
+  IsFurther such op old new = (rows : List (JournalRow T)) × Does old rows new × IsOneOrNone such op rows
+
+  -- the same client began this call, and did nothing else
+  abbrev pub HasBegun : Call T → DiaryState T C E → DiaryState T C E → Type 0
+  HasBegun call old new = (row : JournalRow T) × Does old (row ∷ []) new × (row.step ≡ steps.Begin call)
+
+  -- the same client did this of a call that was cut off
+  abbrev pub DoesCutOff : ℕ → ℕ → Call T → DiaryState T C E → DiaryState T C E → Type 0
+  DoesCutOff begun limit call old new = (rows : List (JournalRow T)) × Does old rows new × IsCutOff begun limit call rows
 
 module _ {T C E R S : Type 0} (hands : R → Noted T → R → Type 0) (serves : S → Request → Reply → S → Type 0) where
   -- The same client did these things, what happens with them happened to its recorder and its store, and its count of begins went on.

@@ -122,7 +122,7 @@ impl<T: Clone, C: ObjectCodec<T> + Drop, E: EpochField<T>, S: Serve, R: Recorder
     ghost use Rattle.txn_diary.specs.Diaries.{asked_in, refusal_of};
     ghost use Rattle.txn_client.specs.Happenings.{HappensAll, Served, CallFailed};
     ghost use Rattle.txn_client.specs.Calling.{IsLookOrCall, IsGiveUp};
-    ghost use Rattle.txn_client.specs.Working.{heard_of, told_happens, IsEnding, IsFurther, TakesStep, TakesAsked, IsBegun, IsDone};
+    ghost use Rattle.txn_client.specs.Working.{heard_of, told_happens, IsEnding, IsFurther, HasBegun, DoesCutOff, TakesStep, TakesAsked, IsBegun, IsDone};
 
     /// Hands an operation's answer to the recorder, where one was told.
     fn hear(&mut self, op: u64, told: Told<T>) -> Result<Heard<T>, Stop>
@@ -148,7 +148,7 @@ impl<T: Clone, C: ObjectCodec<T> + Drop, E: EpochField<T>, S: Serve, R: Recorder
     fn look(&mut self, op: u64) -> Result<Heard<T>, Stop>
         requires { IsExactClone T.is_clone }
         ensures ok { IfOk result (λ heard. TakesStep R.hands S.serves IsLookOrCall op self.old.diary self.old.recorder self.old.store self.old.begun heard self.new.diary self.new.recorder self.new.store self.new.begun) }
-        ensures err { IfErr result (λ stop. IsEnding stop × IsFurther self.old.diary self.new.diary) }
+        ensures err { IfErr result (λ stop. IsEnding stop × IsFurther IsLookOrCall op self.old.diary self.new.diary) }
     {
         match self.diary.look(op) {
             Ok(told) => self.hear(op, told),
@@ -160,7 +160,7 @@ impl<T: Clone, C: ObjectCodec<T> + Drop, E: EpochField<T>, S: Serve, R: Recorder
     fn fail(&mut self, op: u64, request: &Request) -> Result<Heard<T>, Stop>
         requires { asked_in self.old.diary op ≡ Some (Store request.now) }
         ensures ok { IfOk result (λ heard. TakesAsked R.hands S.serves op request.now (CallFailed request.now) self.old.diary self.old.recorder self.old.store self.old.begun heard self.new.diary self.new.recorder self.new.store self.new.begun) }
-        ensures err { IfErr result (λ stop. IsEnding stop × IsFurther self.old.diary self.new.diary) }
+        ensures err { IfErr result (λ stop. IsEnding stop × IsFurther IsLookOrCall op self.old.diary self.new.diary) }
     {
         match self.diary.failed(op) {
             Ok(told) => {
@@ -175,7 +175,7 @@ impl<T: Clone, C: ObjectCodec<T> + Drop, E: EpochField<T>, S: Serve, R: Recorder
     fn take(&mut self, op: u64, request: Request, reply: Reply) -> Result<Heard<T>, Stop>
         requires { IsExactClone T.is_clone }
         ensures ok { IfOk result (λ heard. TakesAsked R.hands S.serves op request (Served request reply) self.old.diary self.old.recorder self.old.store self.old.begun heard self.new.diary self.new.recorder self.new.store self.new.begun) }
-        ensures err { IfErr result (λ stop. IsEnding stop × IsFurther self.old.diary self.new.diary) }
+        ensures err { IfErr result (λ stop. IsEnding stop × IsFurther IsLookOrCall op self.old.diary self.new.diary) }
     {
         self.recorder.replied(op, &reply)?;
         // Which place it has among the store's calls is found when they are put into an order.
@@ -195,7 +195,7 @@ impl<T: Clone, C: ObjectCodec<T> + Drop, E: EpochField<T>, S: Serve, R: Recorder
         requires exact { IsExactClone T.is_clone }
         requires asks { asked_in self.old.diary op ≡ Some (Store request) }
         ensures ok { IfOk result (λ heard. TakesStep R.hands S.serves IsLookOrCall op self.old.diary self.old.recorder self.old.store self.old.begun heard self.new.diary self.new.recorder self.new.store self.new.begun) }
-        ensures err { IfErr result (λ stop. IsEnding stop × IsFurther self.old.diary self.new.diary) }
+        ensures err { IfErr result (λ stop. IsEnding stop × IsFurther IsLookOrCall op self.old.diary self.new.diary) }
     {
         self.recorder.asked(op, &request)?;
         let reply = self.store.serve(self.alloc, &request);
@@ -221,7 +221,7 @@ impl<T: Clone, C: ObjectCodec<T> + Drop, E: EpochField<T>, S: Serve, R: Recorder
     fn step(&mut self, op: u64) -> Result<Heard<T>, Stop>
         requires { IsExactClone T.is_clone }
         ensures ok { IfOk result (λ heard. TakesStep R.hands S.serves IsLookOrCall op self.old.diary self.old.recorder self.old.store self.old.begun heard self.new.diary self.new.recorder self.new.store self.new.begun) }
-        ensures err { IfErr result (λ stop. IsEnding stop × IsFurther self.old.diary self.new.diary) }
+        ensures err { IfErr result (λ stop. IsEnding stop × IsFurther IsLookOrCall op self.old.diary self.new.diary) }
     {
         match self.request(op)? {
             Some(request) => self.ask(op, request),
@@ -232,7 +232,7 @@ impl<T: Clone, C: ObjectCodec<T> + Drop, E: EpochField<T>, S: Serve, R: Recorder
     /// Gives the operation up.
     fn give_up(&mut self, op: u64) -> Result<(), Stop>
         ensures ok { OnOk result (TakesStep R.hands S.serves IsGiveUp op self.old.diary self.old.recorder self.old.store self.old.begun Heard.Goes self.new.diary self.new.recorder self.new.store self.new.begun) }
-        ensures err { IfErr result (λ stop. IsEnding stop × IsFurther self.old.diary self.new.diary) }
+        ensures err { IfErr result (λ stop. IsEnding stop × IsFurther IsGiveUp op self.old.diary self.new.diary) }
     {
         match self.diary.give_up(op) {
             Ok(told) => {
@@ -248,7 +248,7 @@ impl<T: Clone, C: ObjectCodec<T> + Drop, E: EpochField<T>, S: Serve, R: Recorder
     fn begin(&mut self, call: Call<T>) -> Result<Begun<T>, Stop>
         requires { IsExactClone T.is_clone }
         ensures ok { IfOk result (λ begun. IsBegun R.hands S.serves (refusal_of (E.epoch_of self.old.diary.epochs) self.old.diary call) call self.old.diary self.old.recorder self.old.store self.old.begun begun self.new.diary self.new.recorder self.new.store self.new.begun) }
-        ensures err { IfErr result (λ stop. IsEnding stop × IsFurther self.old.diary self.new.diary) }
+        ensures err { IfErr result (λ stop. IsEnding stop × HasBegun call self.old.diary self.new.diary) }
     {
         let Some(op) = self.begun.checked_add(1) else {
             drop(call);
@@ -273,7 +273,7 @@ impl<T: Clone, C: ObjectCodec<T> + Drop, E: EpochField<T>, S: Serve, R: Recorder
     pub fn call(&mut self, call: Call<T>, steps: u64) -> Result<Done<T>, Stop>
         requires { IsExactClone T.is_clone }
         ensures ok { IfOk result (λ done. IsDone R.hands S.serves (refusal_of (E.epoch_of self.old.diary.epochs) self.old.diary call) steps call self.old.diary self.old.recorder self.old.store self.old.begun done self.new.diary self.new.recorder self.new.store self.new.begun) }
-        ensures err { IfErr result (λ stop. IsEnding stop × IsFurther self.old.diary self.new.diary) }
+        ensures err { IfErr result (λ stop. IsEnding stop × DoesCutOff self.old.begun steps call self.old.diary self.new.diary) }
     {
         let op = match self.begin(call)? {
             Begun::Refused(fault) => return Ok(Done::Refused(fault)),
