@@ -19,7 +19,7 @@ returns-in-Goes-clause-ok g c =
     let call_is = same_Some c.in-Some-last_begun.call.now c.args.call (c.in-Some-last_begun.ensures ∙ (ap last_begun (c.rows.ensures.rows ∙ tells.adds.rows) ∙ last_added d.rows (record { step = steps.Begin c.args.call; answer = tells.answer }) c.args.call refl)) in
     let own : c.in-Some.op ≡ c.args.self.now.begun + 1 = search rules in (
       own,
-      begins_with g.R.Recorder.hands g.S.Serve.serves c.args.call c.in-Some-last_begun.call.now tells.answer None c.in-Ok.told _ d c.hear.new.self.diary _ _ _ _ _ c.args.self.now.begun c.in-Some.op c.hear.new.self.begun
+      begins_with g.R.Recorder.hands g.S.Serve.serves c.args.call c.in-Some-last_begun.call.now tells.answer None c.in-Ok.told _ d c.hear.new.self.diary c.args.self.now.recorder _ c.hear.new.self.recorder c.args.self.now.store c.hear.new.self.store c.args.self.now.begun c.in-Some.op c.hear.new.self.begun
           (search rules) call_is own c.in_ok-begun.ensures tells.said_is c.in_ok-hear.ensures.happened (began_goes c.in-Ok.told _ tells.answer tells.said_is (search rules)) (search rules),
     )
 
@@ -29,5 +29,5 @@ returns-in-Answered-clause-ok g c =
     let d = c.args.self.now.diary in
     let call_is = same_Some c.in-Some-last_begun.call.now c.args.call (c.in-Some-last_begun.ensures ∙ (ap last_begun (c.rows.ensures.rows ∙ tells.adds.rows) ∙ last_added d.rows (record { step = steps.Begin c.args.call; answer = tells.answer }) c.args.call refl)) in
     let own : c.in-Some.op ≡ c.args.self.now.begun + 1 = search rules in
-    begins_with g.R.Recorder.hands g.S.Serve.serves c.args.call c.in-Some-last_begun.call.now tells.answer (Some c.in-Answered.answer) c.in-Ok.told _ d c.hear.new.self.diary _ _ _ _ _ c.args.self.now.begun c.in-Some.op c.hear.new.self.begun
+    begins_with g.R.Recorder.hands g.S.Serve.serves c.args.call c.in-Some-last_begun.call.now tells.answer (Some c.in-Answered.answer) c.in-Ok.told _ d c.hear.new.self.diary c.args.self.now.recorder _ c.hear.new.self.recorder c.args.self.now.store c.hear.new.self.store c.args.self.now.begun c.in-Some.op c.hear.new.self.begun
     (search rules) call_is own c.in_ok-begun.ensures tells.said_is c.in_ok-hear.ensures.happened (began_answered c.in-Ok.told _ tells.answer c.in-Answered.answer tells.said_is (search rules)) (search rules)
