@@ -1,5 +1,5 @@
 -- A call that goes on.
-use Rattle.std.proofs.Common.{arith, lit≤, All, length, ◌≡◌, ◌≤◌, ◌+◌, ℕ, List, [], ◌∷◌, ◌++◌, Option, Some, None, refl, sym, ap, subst, ◌∙◌, append-nil, length-append}
+use Rattle.std.proofs.Common.{inl, inr, arith, lit≤, All, length, ◌≡◌, ◌≤◌, ◌+◌, ℕ, List, [], ◌∷◌, ◌++◌, Option, Some, None, refl, sym, ap, subst, ◌∙◌, append-nil, length-append}
 use Rattle.std.proofs.lemmas.List.Elements.{All-nil, All-push, All-append}
 use Rattle.txn_store.specs.declared.request.Request.{Request}
 use Rattle.txn_store.specs.declared.request.Reply.{Reply}
@@ -154,6 +154,7 @@ module _ {T C E : Type 0} where
       acts = All-nil (λ row. IsActOf (begun + 1) IsLookOrCall row.step);
       few = omega arith;
       gives_up = All-nil (λ row. IsActOf (begun + 1) IsGiveUp row.step);
+      spent = inl refl;
     },
   )
 
@@ -177,6 +178,7 @@ module _ {T C E R S : Type 0} (hands : R → Noted T → R → Type 0) (serves :
           acts = subst (λ o. All (λ row. IsActOf o IsLookOrCall row.step) (so_far.turns ++ more.0)) so_far.own (All-append (λ row. IsActOf op IsLookOrCall row.step) so_far.turns more.0 so_far.acts (few_all IsLookOrCall op more.0 more.2));
           few = omega (arith, one, sum, taken_is, few);
           gives_up = All-nil (λ row. IsActOf (i + 1) IsGiveUp row.step);
+          spent = inl refl;
         },
       )
 
@@ -197,5 +199,6 @@ module _ {T C E R S : Type 0} (hands : R → Noted T → R → Type 0) (serves :
           acts = subst (λ o. All (λ row. IsActOf o IsLookOrCall row.step) so_far.turns) so_far.own so_far.acts;
           few = omega (arith, taken_is);
           gives_up = subst (λ o. All (λ row. IsActOf o IsGiveUp row.step) more.0) so_far.own (few_all IsGiveUp op more.0 more.2);
+          spent = inr taken_is;
         },
       )

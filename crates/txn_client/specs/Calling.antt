@@ -62,7 +62,7 @@ module _ {T : Type 0} where
     pub ends : EndsAfter op limit (length turns) answer end
     pub answers_are : answers_from begun rows ≡ with_answer op answer
 
-  -- These rows, before which so many operations began, are what was done of a call that was cut off, which may take so many looks and store calls: its begin, then looks and store calls of its operation, no more than it may take, and perhaps that this was given up.
+  -- These rows, before which so many operations began, are what was done of a call that was cut off, which may take so many looks and store calls: its begin, then looks and store calls of its operation, no more than it may take, and perhaps, where it took them all, that this was given up.
   pub record IsCutOff (begun limit : ℕ) (call : Call T) (rows : List (JournalRow T)) : Type 0 where
     pub first : JournalRow T
     pub turns : List (JournalRow T)
@@ -72,6 +72,7 @@ module _ {T : Type 0} where
     pub acts : All (λ row. IsActOf (begun + 1) IsLookOrCall row.step) turns
     pub few : length turns ≤ limit
     pub gives_up : All (λ row. IsActOf (begun + 1) IsGiveUp row.step) end
+    pub spent : (end ≡ []) ⊎ (length turns ≡ limit)
 
 module _ {T C E : Type 0} where
   -- The same client did these things, the oldest first.
