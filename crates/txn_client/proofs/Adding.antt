@@ -8,7 +8,7 @@ use Rattle.txn_store.specs.declared.request.Reply.{Reply}
 use Rattle.txn_client.specs.Noted.{Noted}
 use Rattle.txn_client.specs.Happenings.{Happening, row_happens, happens_from, begun_with, HappensAll}
 use Rattle.txn_client.specs.Calling.{Does}
-use Rattle.txn_client.specs.Working.{Advances, IsFurther}
+use Rattle.txn_client.specs.Working.{Advances}
 
 module _ {T : Type 0} where
   pub begun_added : (begun : ℕ) (xs ys : List (JournalRow T)) → begun_with begun (xs ++ ys) ≡ begun_with (begun_with begun xs) ys
@@ -35,12 +35,6 @@ module _ {T C E : Type 0} where
     codec = two.codec ∙ one.codec;
     epochs = two.epochs ∙ one.epochs;
   }
-
-  pub further_none : (diary : DiaryState T C E) → IsFurther diary diary
-  further_none diary = ([], does_none diary)
-
-  pub further_more : (a b c : DiaryState T C E) → IsFurther a b → IsFurther b c → IsFurther a c
-  further_more a b c one two = (one.0 ++ two.0, does_more a b c one.0 two.0 one.1 two.1)
 
 module _ {T R S : Type 0} (hands : R → Noted T → R → Type 0) (serves : S → Request → Reply → S → Type 0) where
   pub happens_more : (a b c : R) (p q r : S) (xs ys : List (Happening T)) → HappensAll hands serves a p xs b q → HappensAll hands serves b q ys c r → HappensAll hands serves a p (xs ++ ys) c r

@@ -18,16 +18,16 @@ use Rattle.txn_diary.specs.Reading.{op_of, begun_by}
 use Rattle.txn_client.specs.declared.work.Heard.{Heard}
 use Rattle.txn_client.specs.Noted.{Noted, Asked}
 use Rattle.txn_client.specs.Happenings.{Happening, Handed, act_happens, answer_happens, row_happens, Happens, HappensAll}
-use Rattle.txn_client.specs.Calling.{IsActOf, Does}
+use Rattle.txn_client.specs.Calling.{IsLookOrCall, IsActOf, Does}
 use Rattle.txn_client.specs.Working.{heard_of, told_happens, TakesStep, TakesAsked}
 use Rattle.txn_client.proofs.Hearing.{heard_went, happens_went}
 use Rattle.txn_client.proofs.Calling.{act_op}
 
 module _ {T : Type 0} where
-  act_begun : (begun op : ℕ) (step : Step T) → IsActOf op step → begun_by begun step ≡ begun
-  act_begun begun op (steps.Begin call) h = absurd h
-  act_begun begun op (steps.Act o act) h = refl
-  act_begun begun op (steps.Killed lefts) h = absurd h
+  act_begun : (such : Act → Type 0) (begun op : ℕ) (step : Step T) → IsActOf op such step → begun_by begun step ≡ begun
+  act_begun such begun op (steps.Begin call) h = absurd h
+  act_begun such begun op (steps.Act o act) h = refl
+  act_begun such begun op (steps.Killed lefts) h = absurd h
 
   -- the store call that failed is the one that the operation asked for
   pub fails_asked : (alive : Bool) (found : Option (Operation T)) (operation : Operation T) (request wanted : Request) → found ≡ Some operation → asked operation.doing ≡ Some (Store request) → (if alive then asked_of found else None) ≡ Some (Store wanted) → request ≡ wanted
@@ -37,6 +37,7 @@ module _ {T : Type 0} where
 module _ {T C E R S F : Type 0} (hands : R → Noted T → R → Type 0) (serves : S → Request → Reply → S → Type 0) where
   -- an operation acts on what came of its store call, of which the recorder is handed this
   pub takes_asked : (result : Result (Heard T) F) (op : ℕ) (request : Request) (called : Happening T) (note : Noted T) (act : Act) (answer : Option (Answer T)) (said : Told T) (old new : DiaryState T C E) (recorder between recorder' : R) (store store' : S) (begun begun' : ℕ)
+      → IsLookOrCall act
       → act_happens op act ≡ Handed (Asked op request) ∷ called ∷ Handed note ∷ []
       → Does old (record { step = steps.Act op act; answer = answer } ∷ []) new
       → said ≡ told_of (told.Went op) op answer
@@ -45,9 +46,9 @@ module _ {T C E R S F : Type 0} (hands : R → Noted T → R → Type 0) (serves
       → IfOk result (λ heard. heard ≡ heard_of said)
       → OnOk result (HappensAll hands serves between store (told_happens op said) recorder' store')
       → IfOk result (λ heard. TakesAsked hands serves op request called old recorder store begun heard new recorder' store' begun')
-  takes_asked (Ok heard) op request called note act answer said old new recorder between recorder' store store' begun begun' happens does told_is first begun_is heard_is rest = record {
+  takes_asked (Ok heard) op request called note act answer said old new recorder between recorder' store store' begun begun' is_such happens does told_is first begun_is heard_is rest = record {
     row = record { step = steps.Act op act; answer = answer };
-    acts = refl;
+    acts = (refl, is_such);
     heard_is = heard_is ∙ (ap heard_of told_is ∙ heard_went op answer);
     does = does;
     rest = Handed note ∷ answer_happens op answer;
@@ -55,14 +56,14 @@ module _ {T C E R S F : Type 0} (hands : R → Noted T → R → Type 0) (serves
     happened = (between, store, (first, refl), subst (λ (all : List (Happening T)). HappensAll hands serves between store all recorder' store') (ap (told_happens op) told_is ∙ happens_went op op answer) rest);
     begun_is = begun_is;
   }
-  takes_asked (Err error) op request called note act answer said old new recorder between recorder' store store' begun begun' happens does told_is first begun_is heard_is rest = tt
+  takes_asked (Err error) op request called note act answer said old new recorder between recorder' store store' begun begun' is_such happens does told_is first begun_is heard_is rest = tt
 
   -- an operation acts on what came of its store call, after its request was handed over and the store was called for it
   pub asks_step : (result : Result (Heard T) F) (op : ℕ) (request : Request) (called : Happening T) (old new : DiaryState T C E) (recorder between recorder' : R) (store beneath store' : S) (begun begun' : ℕ)
       → hands recorder (Asked op request) between
       → Happens hands serves between store called between beneath
       → IfOk result (λ heard. TakesAsked hands serves op request called old between beneath begun heard new recorder' store' begun')
-      → IfOk result (λ heard. TakesStep hands serves op old recorder store begun heard new recorder' store' begun')
+      → IfOk result (λ heard. TakesStep hands serves IsLookOrCall op old recorder store begun heard new recorder' store' begun')
   asks_step (Ok heard) op request called old new recorder between recorder' store beneath store' begun begun' asked calls takes = record {
     row = takes.row;
     acts = takes.acts;
@@ -70,9 +71,9 @@ module _ {T C E R S F : Type 0} (hands : R → Noted T → R → Type 0) (serves
     advances = record {
       does = takes.does;
       happened = subst (λ (all : List (Happening T)). HappensAll hands serves recorder store all recorder' store')
-          (sym (append-nil (row_happens (op_of begun takes.row.step) takes.row) ∙ (ap (λ at. row_happens at takes.row) (act_op begun op takes.row.step takes.acts) ∙ takes.row_is)))
+          (sym (append-nil (row_happens (op_of begun takes.row.step) takes.row) ∙ (ap (λ at. row_happens at takes.row) (act_op IsLookOrCall begun op takes.row.step takes.acts) ∙ takes.row_is)))
           (between, store, (asked, refl), (between, beneath, calls, takes.happened));
-      begun_is = takes.begun_is ∙ sym (act_begun begun op takes.row.step takes.acts);
+      begun_is = takes.begun_is ∙ sym (act_begun IsLookOrCall begun op takes.row.step takes.acts);
     };
   }
   asks_step (Err error) op request called old new recorder between recorder' store beneath store' begun begun' asked calls takes = tt

@@ -1,50 +1,72 @@
 -- What a call leaves of a client.
-use Rattle.std.proofs.Common.{◌≡◌, ℕ, Option, Some, None, true, IfOk, IfErr, refl, sym, ap, subst, ◌∙◌}
+use Rattle.std.proofs.Common.{◌≡◌, ℕ, Option, Some, None, true, false, IfOk, IfErr, refl, sym, ap, subst, ◌∙◌}
 use Rattle.txn_store.specs.declared.request.Request.{Request}
 use Rattle.txn_store.specs.declared.request.Reply.{Reply}
 use Rattle.txn_history.specs.declared.event.EventFault.{EventFault}
 use Rattle.txn_history.specs.declared.event.Call.{Call}
 use Rattle.txn_history.specs.declared.event.Answer.{Answer}
 use Rattle.txn_diary.specs.Diaries.{DiaryState}
+use Rattle.txn_client.specs.declared.stop.Stop.{Stop}
+use Rattle.txn_client.specs.declared.stop.Stop.TheVariants as stops
 use Rattle.txn_client.specs.declared.work.Done.{Done}
 use Rattle.txn_client.specs.declared.work.Done.TheVariants as dones
 use Rattle.txn_client.specs.Noted.{Noted}
 use Rattle.txn_client.specs.Happenings.{happens_from, begun_with, HappensAll}
-use Rattle.txn_client.specs.Calling.{ClientState, IsCall, MakesCall, Stops}
-use Rattle.txn_client.specs.Working.{CallsAs, IsDone, settled}
+use Rattle.txn_client.specs.Calling.{ClientState, IsCall, IsCutOff, Ends, MakesCall, Stops}
+use Rattle.txn_client.specs.Working.{IsEnding, DoesCutOff, Calls, IsDone, settled}
 use Rattle.txn_client.proofs.Adding.{begun_added}
 
 module _ {T C E R S : Type 0} (hands : R → Noted T → R → Type 0) (serves : S → Request → Reply → S → Type 0) where
-  begun_more : (op : ℕ) (call : Call T) (answer : Option (Answer T)) (old new : DiaryState T C E) (recorder recorder' : R) (store store' : S) (begun begun' : ℕ) → CallsAs hands serves op call answer old recorder store begun new recorder' store' begun' → begun ≡ begun_with 0 old.rows → begun' ≡ begun_with 0 new.rows
-  begun_more op call answer old new recorder recorder' store store' begun begun' c is = c.advances.begun_is ∙ (ap (λ at. begun_with at c.rows) is ∙ (sym (begun_added 0 old.rows c.rows) ∙ ap (begun_with 0) (sym c.advances.does.rows_are)))
+  begun_more : (limit : ℕ) (call : Call T) (answer : Option (Answer T)) (old new : DiaryState T C E) (recorder recorder' : R) (store store' : S) (begun begun' : ℕ) → Calls hands serves limit call answer old recorder store begun new recorder' store' begun' → begun ≡ begun_with 0 old.rows → begun' ≡ begun_with 0 new.rows
+  begun_more limit call answer old new recorder recorder' store store' begun begun' c is = c.advances.begun_is ∙ (ap (λ at. begun_with at c.rows) is ∙ (sym (begun_added 0 old.rows c.rows) ∙ ap (begun_with 0) (sym c.advances.does.rows_are)))
 
-  pub begun_done : (refusal : Option EventFault) (call : Call T) (old new : DiaryState T C E) (recorder recorder' : R) (store store' : S) (begun begun' : ℕ) (done : Done T) → IsDone hands serves refusal call old recorder store begun done new recorder' store' begun' → begun ≡ begun_with 0 old.rows → begun' ≡ begun_with 0 new.rows
-  begun_done refusal call old new recorder recorder' store store' begun begun' (dones.Answered answer) d is = begun_more d.0 call (Some answer) old new recorder recorder' store store' begun begun' d.1 is
-  begun_done refusal call old new recorder recorder' store store' begun begun' dones.Spent d is = begun_more d.0 call None old new recorder recorder' store store' begun begun' d.1 is
-  begun_done refusal call old new recorder recorder' store store' begun begun' (dones.Refused fault) d is = d.begun_is ∙ (is ∙ ap (λ (diary : DiaryState T C E). begun_with 0 diary.rows) (sym d.same))
+  pub begun_done : (refusal : Option EventFault) (limit : ℕ) (call : Call T) (old new : DiaryState T C E) (recorder recorder' : R) (store store' : S) (begun begun' : ℕ) (done : Done T) → IsDone hands serves refusal limit call old recorder store begun done new recorder' store' begun' → begun ≡ begun_with 0 old.rows → begun' ≡ begun_with 0 new.rows
+  begun_done refusal limit call old new recorder recorder' store store' begun begun' (dones.Answered answer) d is = begun_more limit call (Some answer) old new recorder recorder' store store' begun begun' d is
+  begun_done refusal limit call old new recorder recorder' store store' begun begun' dones.Spent d is = begun_more limit call None old new recorder recorder' store store' begun begun' d is
+  begun_done refusal limit call old new recorder recorder' store store' begun begun' (dones.Refused fault) d is = d.begun_is ∙ (is ∙ ap (λ (diary : DiaryState T C E). begun_with 0 diary.rows) (sym d.same))
 
-  made : (call : Call T) (answer : Option (Answer T)) (old new : DiaryState T C E) (recorder recorder' : R) (store store' : S) (begun begun' op : ℕ) → begun ≡ begun_with 0 old.rows → CallsAs hands serves op call answer old recorder store begun new recorder' store' begun'
-      → MakesCall hands serves call answer (record { diary = old; recorder = recorder; store = store; goes_on = true }) (record { diary = new; recorder = recorder'; store = store'; goes_on = true })
-  made call answer old new recorder recorder' store store' begun begun' op b c = record {
-    op = op;
+  made : (limit : ℕ) (call : Call T) (answer : Option (Answer T)) (old new : DiaryState T C E) (recorder recorder' : R) (store store' : S) (begun begun' : ℕ) → begun ≡ begun_with 0 old.rows → Calls hands serves limit call answer old recorder store begun new recorder' store' begun'
+      → MakesCall hands serves limit call answer (record { diary = old; recorder = recorder; store = store; goes_on = true }) (record { diary = new; recorder = recorder'; store = store'; goes_on = true })
+  made limit call answer old new recorder recorder' store store' begun begun' b c = record {
+    went_on = refl;
+    op = c.op;
     rows = c.rows;
-    is_call = subst (λ at. IsCall at op call answer c.rows) b c.is_call;
+    is_call = subst (λ at. IsCall at c.op limit call answer c.rows) b c.is_call;
     does = c.advances.does;
     happened = subst (λ at. HappensAll hands serves recorder store (happens_from at c.rows) recorder' store') b c.advances.happened;
     goes_on = refl;
   }
 
-  pub done_ok : (refusal : Option EventFault) (call : Call T) (old new : DiaryState T C E) (recorder recorder' : R) (store store' : S) (begun begun' : ℕ) (done : Done T) → begun ≡ begun_with 0 old.rows → IsDone hands serves refusal call old recorder store begun done new recorder' store' begun'
-      → IfOk (settled done) (λ answer. MakesCall hands serves call (Some answer) (record { diary = old; recorder = recorder; store = store; goes_on = true }) (record { diary = new; recorder = recorder'; store = store'; goes_on = true }))
-  done_ok refusal call old new recorder recorder' store store' begun begun' (dones.Answered answer) b d = made call (Some answer) old new recorder recorder' store store' begun begun' d.0 b d.1
-  done_ok refusal call old new recorder recorder' store store' begun begun' dones.Spent b d = tt
-  done_ok refusal call old new recorder recorder' store store' begun begun' (dones.Refused fault) b d = tt
+  pub done_ok : (refusal : Option EventFault) (limit : ℕ) (call : Call T) (old new : DiaryState T C E) (recorder recorder' : R) (store store' : S) (begun begun' : ℕ) (done : Done T) → begun ≡ begun_with 0 old.rows → IsDone hands serves refusal limit call old recorder store begun done new recorder' store' begun'
+      → IfOk (settled done) (λ answer. MakesCall hands serves limit call (Some answer) (record { diary = old; recorder = recorder; store = store; goes_on = true }) (record { diary = new; recorder = recorder'; store = store'; goes_on = true }))
+  done_ok refusal limit call old new recorder recorder' store store' begun begun' (dones.Answered answer) b d = made limit call (Some answer) old new recorder recorder' store store' begun begun' b d
+  done_ok refusal limit call old new recorder recorder' store store' begun begun' dones.Spent b d = tt
+  done_ok refusal limit call old new recorder recorder' store store' begun begun' (dones.Refused fault) b d = tt
 
   same_client : (old new : DiaryState T C E) (recorder recorder' : R) (store store' : S) → new ≡ old → recorder' ≡ recorder → store' ≡ store → ◌≡◌ {A = ClientState T C E R S} (record { diary = new; recorder = recorder'; store = store'; goes_on = true }) (record { diary = old; recorder = recorder; store = store; goes_on = true })
   same_client old new recorder recorder' store store' d n s = cc
 
-  pub done_err : (refusal : Option EventFault) (call : Call T) (old new : DiaryState T C E) (recorder recorder' : R) (store store' : S) (begun begun' : ℕ) (done : Done T) → begun ≡ begun_with 0 old.rows → IsDone hands serves refusal call old recorder store begun done new recorder' store' begun'
-      → IfErr (settled done) (Stops hands serves refusal call (record { diary = old; recorder = recorder; store = store; goes_on = true }) (record { diary = new; recorder = recorder'; store = store'; goes_on = true }))
-  done_err refusal call old new recorder recorder' store store' begun begun' (dones.Answered answer) b d = tt
-  done_err refusal call old new recorder recorder' store store' begun begun' dones.Spent b d = made call None old new recorder recorder' store store' begun begun' d.0 b d.1
-  done_err refusal call old new recorder recorder' store store' begun begun' (dones.Refused fault) b d = (same_client old new recorder recorder' store store' d.same d.recorder_is d.store_is, refl, d.reason)
+  pub done_err : (refusal : Option EventFault) (limit : ℕ) (call : Call T) (old new : DiaryState T C E) (recorder recorder' : R) (store store' : S) (begun begun' : ℕ) (done : Done T) → begun ≡ begun_with 0 old.rows → IsDone hands serves refusal limit call old recorder store begun done new recorder' store' begun'
+      → IfErr (settled done) (Stops hands serves refusal limit call (record { diary = old; recorder = recorder; store = store; goes_on = true }) (record { diary = new; recorder = recorder'; store = store'; goes_on = true }))
+  done_err refusal limit call old new recorder recorder' store store' begun begun' (dones.Answered answer) b d = tt
+  done_err refusal limit call old new recorder recorder' store store' begun begun' dones.Spent b d = made limit call None old new recorder recorder' store store' begun begun' b d
+  done_err refusal limit call old new recorder recorder' store store' begun begun' (dones.Refused fault) b d = (same_client old new recorder recorder' store store' d.same d.recorder_is d.store_is, refl, d.reason)
+
+  ends : (limit : ℕ) (call : Call T) (old new : DiaryState T C E) (recorder recorder' : R) (store store' : S) (begun : ℕ) → begun ≡ begun_with 0 old.rows → DoesCutOff begun limit call old new
+      → Ends limit call (record { diary = old; recorder = recorder; store = store; goes_on = true }) (record { diary = new; recorder = recorder'; store = store'; goes_on = false })
+  ends limit call old new recorder recorder' store store' begun b d = record {
+    went_on = refl;
+    rows = d.0;
+    cut_off = subst (λ at. IsCutOff at limit call d.0) b d.2;
+    does = d.1;
+    ended = refl;
+  }
+
+  -- what a call leaves that was cut off
+  pub done_cut : (refusal : Option EventFault) (limit : ℕ) (call : Call T) (old new : DiaryState T C E) (recorder recorder' : R) (store store' : S) (begun : ℕ) (stop : Stop) → begun ≡ begun_with 0 old.rows → IsEnding stop → DoesCutOff begun limit call old new
+      → Stops hands serves refusal limit call (record { diary = old; recorder = recorder; store = store; goes_on = true }) (record { diary = new; recorder = recorder'; store = store'; goes_on = false }) stop
+  done_cut refusal limit call old new recorder recorder' store store' begun (stops.Refused fault) b e d = absurd e
+  done_cut refusal limit call old new recorder recorder' store store' begun stops.StepsSpent b e d = absurd e
+  done_cut refusal limit call old new recorder recorder' store store' begun (stops.Unrecorded error) b e d = ends limit call old new recorder recorder' store store' begun b d
+  done_cut refusal limit call old new recorder recorder' store store' begun stops.NoMemory b e d = ends limit call old new recorder recorder' store store' begun b d
+  done_cut refusal limit call old new recorder recorder' store store' begun stops.Ended b e d = absurd e

@@ -71,27 +71,27 @@ module _ {T : Type 0} where
   pub answered_so : (answer told : Answer T) → trial_of answer ≡ trials.Answered told → (answer ≡ told) × GivesNoView told × (told ≡ conflict → ⊥)
   answered_so answer told h = let so = told_as answer told h in (so.0, subst GivesNoView so.0 so.1, λ same. so.2 (so.0 ∙ same))
 
-module _ {T C E R S F : Type 0} (hands : R → Noted T → R → Type 0) (serves : S → Request → Reply → S → Type 0) (asks : T → Result (Option T) F → Type 0) where
+module _ {T C E R S F : Type 0} (hands : R → Noted T → R → Type 0) (serves : S → Request → Reply → S → Type 0) (limit : ℕ) (asks : T → Result (Option T) F → Type 0) where
   -- an update that was answered so
-  pub updates_so : (viewed : Viewed T) (candidate : T) (old new : ClientState T C E R S) (answer told : Answer T) → asks viewed.value (Ok (Some candidate)) → MakesCall hands serves (update_of viewed candidate) (Some answer) old new → answer ≡ told → Updates hands serves asks viewed old told new
+  pub updates_so : (viewed : Viewed T) (candidate : T) (old new : ClientState T C E R S) (answer told : Answer T) → asks viewed.value (Ok (Some candidate)) → MakesCall hands serves limit (update_of viewed candidate) (Some answer) old new → answer ≡ told → Updates hands serves limit asks viewed old told new
   updates_so viewed candidate old new answer told asked made is = record {
     candidate = candidate;
     asked = asked;
-    made = subst (λ said. MakesCall hands serves (update_of viewed candidate) (Some said) old new) is made;
+    made = subst (λ said. MakesCall hands serves limit (update_of viewed candidate) (Some said) old new) is made;
   }
 
   -- an update that was a conflict
-  pub conflicts_so : (viewed : Viewed T) (candidate : T) (old new : ClientState T C E R S) (answer : Answer T) → asks viewed.value (Ok (Some candidate)) → MakesCall hands serves (update_of viewed candidate) (Some answer) old new → trial_of answer ≡ trials.Conflict → Updates hands serves asks viewed old conflict new
+  pub conflicts_so : (viewed : Viewed T) (candidate : T) (old new : ClientState T C E R S) (answer : Answer T) → asks viewed.value (Ok (Some candidate)) → MakesCall hands serves limit (update_of viewed candidate) (Some answer) old new → trial_of answer ≡ trials.Conflict → Updates hands serves limit asks viewed old conflict new
   conflicts_so viewed candidate old new answer asked made is = updates_so viewed candidate old new answer conflict asked made (conflict_so answer is)
 
   -- a refresh that was answered so, after such an update
-  pub refreshes_so : (viewed : Viewed T) (old between new : ClientState T C E R S) (answer told : Answer T) → Updates hands serves asks viewed old conflict between → MakesCall hands serves (refresh_of viewed) (Some answer) between new → answer ≡ told → Refreshes hands serves asks viewed old told new
+  pub refreshes_so : (viewed : Viewed T) (old between new : ClientState T C E R S) (answer told : Answer T) → Updates hands serves limit asks viewed old conflict between → MakesCall hands serves limit (refresh_of viewed) (Some answer) between new → answer ≡ told → Refreshes hands serves limit asks viewed old told new
   refreshes_so viewed old between new answer told updates made is = record {
     between = between;
     updates = updates;
-    made = subst (λ said. MakesCall hands serves (refresh_of viewed) (Some said) between new) is made;
+    made = subst (λ said. MakesCall hands serves limit (refresh_of viewed) (Some said) between new) is made;
   }
 
   -- one round more
-  pub rounds_more : (count : ℕ) (viewed last next : Viewed T) (old between new : ClientState T C E R S) → Rounds hands serves asks count viewed old last between → Refreshes hands serves asks last between (gives next) new → Rounds hands serves asks (count + 1) viewed old next new
-  rounds_more count viewed last next old between new rounds round = subst (λ n. Rounds hands serves asks n viewed old next new) (sym (add-one count)) (last, between, rounds, round)
+  pub rounds_more : (count : ℕ) (viewed last next : Viewed T) (old between new : ClientState T C E R S) → Rounds hands serves limit asks count viewed old last between → Refreshes hands serves limit asks last between (gives next) new → Rounds hands serves limit asks (count + 1) viewed old next new
+  rounds_more count viewed last next old between new rounds round = subst (λ n. Rounds hands serves limit asks n viewed old next new) (sym (add-one count)) (last, between, rounds, round)

@@ -1,11 +1,13 @@
 -- What a client that records itself does.
-use Rattle.std.specs.Prelude.{◌≡◌, ◌⊎◌, ℕ, List, ◌∷◌, ◌++◌, Bool, true, false, Option, Some, None, All}
+use Rattle.std.specs.Prelude.{◌≡◌, ◌≤◌, ◌⊎◌, ◌+◌, ℕ, List, [], ◌∷◌, ◌++◌, length, Bool, true, false, Option, Some, None, All}
 use Rattle.txn_store.specs.declared.request.Request.{Request}
 use Rattle.txn_store.specs.declared.request.Reply.{Reply}
 use Rattle.txn_history.specs.declared.event.EventFault.{EventFault}
 use Rattle.txn_history.specs.declared.event.EventFault.TheVariants as faults
 use Rattle.txn_history.specs.declared.event.Call.{Call}
 use Rattle.txn_history.specs.declared.event.Answer.{Answer}
+use Rattle.txn_journals.specs.declared.rows.Act.{Act}
+use Rattle.txn_journals.specs.declared.rows.Act.TheVariants as acts
 use Rattle.txn_journals.specs.declared.rows.Step.{Step}
 use Rattle.txn_journals.specs.declared.rows.Step.TheVariants as steps
 use Rattle.txn_journals.specs.declared.rows.JournalRow.{JournalRow}
@@ -23,21 +25,54 @@ pub record ClientState (T C E R S : Type 0) : Type 0 where
   pub store : S
   pub goes_on : Bool
 
-module _ {T : Type 0} where
-  -- a step that is an act of this operation
-  abbrev pub IsActOf : ℕ → Step T → Type 0
-  IsActOf op (steps.Begin call) = ⊥
-  IsActOf op (steps.Act o act) = o ≡ op
-  IsActOf op (steps.Killed lefts) = ⊥
+-- a look, or a store call, which was answered or failed
+abbrev pub IsLookOrCall : Act → Type 0
+IsLookOrCall acts.Look = Unit {0}
+IsLookOrCall (acts.Receive receipt) = Unit {0}
+IsLookOrCall (acts.Fails request) = Unit {0}
+IsLookOrCall (acts.GiveUp left) = ⊥
+IsLookOrCall acts.Lacks = ⊥
 
-  -- These rows, before which so many operations began, are one call: its begin, and what its operation did. They tell this answer, if one, and no other.
-  pub record IsCall (begun op : ℕ) (call : Call T) (answer : Option (Answer T)) (rows : List (JournalRow T)) : Type 0 where
+-- an operation is given up
+abbrev pub IsGiveUp : Act → Type 0
+IsGiveUp (acts.GiveUp left) = Unit {0}
+IsGiveUp _ = ⊥
+
+module _ {T : Type 0} where
+  -- a step that is such an act of this operation
+  abbrev pub IsActOf : ℕ → (Act → Type 0) → Step T → Type 0
+  IsActOf op such (steps.Begin call) = ⊥
+  IsActOf op such (steps.Act o act) = (o ≡ op) × such act
+  IsActOf op such (steps.Killed lefts) = ⊥
+
+  -- How an operation ends that may take so many looks and store calls, and took so many. It is answered, and no row follows; or it took all that it may, was not answered, and is given up, which is the last row.
+  abbrev pub EndsAfter : (op limit taken : ℕ) → Option (Answer T) → List (JournalRow T) → Type 0
+  EndsAfter op limit taken (Some answer) rows = (taken ≤ limit) × (rows ≡ [])
+  EndsAfter op limit taken None rows = (taken ≡ limit) × (last : JournalRow T) × (rows ≡ last ∷ []) × IsActOf op IsGiveUp last.step
+
+  -- These rows, before which so many operations began, are one call, which may take so many looks and store calls: its begin, which is that of the next operation, then the looks and the store calls of this, and how it ends. They tell this answer, if one, and no other.
+  pub record IsCall (begun op limit : ℕ) (call : Call T) (answer : Option (Answer T)) (rows : List (JournalRow T)) : Type 0 where
+    pub own : op ≡ begun + 1
     pub first : JournalRow T
     pub turns : List (JournalRow T)
-    pub rows_are : rows ≡ first ∷ turns
+    pub end : List (JournalRow T)
+    pub rows_are : rows ≡ first ∷ turns ++ end
     pub begins : first.step ≡ steps.Begin call
-    pub acts : All (λ row. IsActOf op row.step) turns
+    pub acts : All (λ row. IsActOf op IsLookOrCall row.step) turns
+    pub ends : EndsAfter op limit (length turns) answer end
     pub answers_are : answers_from begun rows ≡ with_answer op answer
+
+  -- These rows, before which so many operations began, are what was done of a call that was cut off, which may take so many looks and store calls: its begin, then looks and store calls of its operation, no more than it may take, and perhaps, where it took them all, that this was given up.
+  pub record IsCutOff (begun limit : ℕ) (call : Call T) (rows : List (JournalRow T)) : Type 0 where
+    pub first : JournalRow T
+    pub turns : List (JournalRow T)
+    pub end : List (JournalRow T)
+    pub rows_are : rows ≡ first ∷ turns ++ end
+    pub begins : first.step ≡ steps.Begin call
+    pub acts : All (λ row. IsActOf (begun + 1) IsLookOrCall row.step) turns
+    pub few : length turns ≤ limit
+    pub gives_up : All (λ row. IsActOf (begun + 1) IsGiveUp row.step) end
+    pub spent : (end ≡ []) ⊎ (length turns ≡ limit)
 
 module _ {T C E : Type 0} where
   -- The same client did these things, the oldest first.
@@ -49,27 +84,30 @@ module _ {T C E : Type 0} where
     pub epochs : new.epochs ≡ old.epochs
 
 module _ {T C E R S : Type 0} where
-  -- The client ended in the middle of a call: what it did stands in its diary, and it makes no further call.
-  pub record Ends (old new : ClientState T C E R S) : Type 0 where
+  -- The client went on before, and ended in the middle of this call, of at most so many looks and store calls: what it did of it stands in its diary, and it makes no further call.
+  pub record Ends (limit : ℕ) (call : Call T) (old new : ClientState T C E R S) : Type 0 where
+    pub went_on : old.goes_on ≡ true
     pub rows : List (JournalRow T)
+    pub cut_off : IsCutOff (begun_with 0 old.diary.rows) limit call rows
     pub does : Does old.diary rows new.diary
     pub ended : new.goes_on ≡ false
 
 module _ {T C E R S : Type 0} (hands : R → Noted T → R → Type 0) (serves : S → Request → Reply → S → Type 0) where
-  -- A client that goes on made this call, with this answer, if one: it has the rows of one call more, and what happens with them happened to its recorder and its store, and nothing else.
-  pub record MakesCall (call : Call T) (answer : Option (Answer T)) (old new : ClientState T C E R S) : Type 0 where
+  -- A client that went on and goes on made this call, of at most so many looks and store calls, with this answer, if one: it has the rows of one call more, and what happens with them happened to its recorder and its store, and nothing else.
+  pub record MakesCall (limit : ℕ) (call : Call T) (answer : Option (Answer T)) (old new : ClientState T C E R S) : Type 0 where
+    pub went_on : old.goes_on ≡ true
     pub op : ℕ
     pub rows : List (JournalRow T)
-    pub is_call : IsCall (begun_with 0 old.diary.rows) op call answer rows
+    pub is_call : IsCall (begun_with 0 old.diary.rows) op limit call answer rows
     pub does : Does old.diary rows new.diary
     pub happened : HappensAll hands serves old.recorder old.store (happens_from (begun_with 0 old.diary.rows) rows) new.recorder new.store
     pub goes_on : new.goes_on ≡ true
 
-  -- Why a call has no answer, where its begin is refused so, if it is, and what that leaves.
+  -- Why a call of at most so many looks and store calls has no answer, where its begin is refused so, if it is, and what that leaves.
   module _ (refusal : Option EventFault) where
-    abbrev pub Stops : Call T → ClientState T C E R S → ClientState T C E R S → Stop → Type 0
-    Stops call old new (stops.Refused fault) = (new ≡ old) × (old.goes_on ≡ true) × ((refusal ≡ Some fault) ⊎ (fault ≡ faults.NoMemory))
-    Stops call old new stops.StepsSpent = MakesCall call None old new
-    Stops call old new (stops.Unrecorded error) = Ends old new
-    Stops call old new stops.NoMemory = Ends old new
-    Stops call old new stops.Ended = (new ≡ old) × (old.goes_on ≡ false)
+    abbrev pub Stops : ℕ → Call T → ClientState T C E R S → ClientState T C E R S → Stop → Type 0
+    Stops limit call old new (stops.Refused fault) = (new ≡ old) × (old.goes_on ≡ true) × ((refusal ≡ Some fault) ⊎ (fault ≡ faults.NoMemory))
+    Stops limit call old new stops.StepsSpent = MakesCall limit call None old new
+    Stops limit call old new (stops.Unrecorded error) = Ends limit call old new
+    Stops limit call old new stops.NoMemory = Ends limit call old new
+    Stops limit call old new stops.Ended = (new ≡ old) × (old.goes_on ≡ false)

@@ -1,5 +1,5 @@
 -- Words of private contracts: how a client's diary, its recorder and its store go on together.
-use Rattle.std.specs.Prelude.{◌≡◌, ◌⊎◌, ◌-◌, ℕ, slice_get, length, List, [], ◌∷◌, Option, Some, None, Result, Ok, Err}
+use Rattle.std.specs.Prelude.{◌≡◌, ◌⊎◌, ◌+◌, ◌-◌, ℕ, All, slice_get, length, List, [], ◌∷◌, Option, Some, None, Result, Ok, Err}
 use Rattle.txn_history.specs.declared.event.ToldOf.TheVariants as told
 use Rattle.txn_history.specs.declared.event.EventFault.{EventFault}
 use Rattle.txn_history.specs.declared.event.EventFault.TheVariants as faults
@@ -9,6 +9,7 @@ use Rattle.txn_history.specs.Trace.{Told}
 use Rattle.txn_store.specs.declared.request.Request.{Request}
 use Rattle.txn_store.specs.declared.request.Reply.{Reply}
 use Rattle.txn_journals.specs.declared.rows.JournalRow.{JournalRow}
+use Rattle.txn_journals.specs.declared.rows.Act.{Act}
 use Rattle.txn_journals.specs.declared.rows.Step.{Step}
 use Rattle.txn_journals.specs.declared.rows.Step.TheVariants as steps
 use Rattle.txn_diary.specs.Diaries.{DiaryState}
@@ -22,7 +23,8 @@ use Rattle.txn_client.specs.declared.work.Done.{Done}
 use Rattle.txn_client.specs.declared.work.Done.TheVariants as dones
 use Rattle.txn_client.specs.Noted.{Noted, Asked, Answered}
 use Rattle.txn_client.specs.Happenings.{Happening, Handed, row_happens, happens_from, begun_with, HappensAll}
-use Rattle.txn_client.specs.Calling.{IsActOf, IsCall, Does}
+use Rattle.txn_diary.specs.Reading.{with_answer, answers_from}
+use Rattle.txn_client.specs.Calling.{IsLookOrCall, IsActOf, IsCall, IsCutOff, Does}
 
 module _ {T : Type 0} where
   -- what is heard of what was told
@@ -34,15 +36,6 @@ module _ {T : Type 0} where
   abbrev pub told_happens : ℕ → Told T → List (Happening T)
   told_happens op (told.Answered _ answer) = Handed (Answered op answer) ∷ []
   told_happens op _ = []
-
-  -- the operation that was told of
-  abbrev pub op_told : Told T → ℕ
-  op_told (told.Began op) = op
-  op_told (told.Went op) = op
-  op_told (told.Answered op answer) = op
-  op_told (told.GaveUp op) = op
-  op_told (told.Landed request changed) = request
-  op_told (told.Crashed client) = client
 
   -- the call that a step begins, where it begins one
   abbrev pub call_of : Step T → Option (Call T)
@@ -62,6 +55,17 @@ module _ {T : Type 0} where
   heard_in None = heards.Goes
   heard_in (Some answer) = heards.Answered answer
 
+  -- These rows, before which so many operations began, are a call so far, which took so many looks and store calls. They tell this answer, if one, and no other.
+  pub record IsCallSoFar (begun op taken : ℕ) (call : Call T) (answer : Option (Answer T)) (rows : List (JournalRow T)) : Type 0 where
+    pub own : op ≡ begun + 1
+    pub first : JournalRow T
+    pub turns : List (JournalRow T)
+    pub rows_are : rows ≡ first ∷ turns
+    pub begins : first.step ≡ steps.Begin call
+    pub acts : All (λ row. IsActOf op IsLookOrCall row.step) turns
+    pub taken_is : length turns ≡ taken
+    pub answers_are : answers_from begun rows ≡ with_answer op answer
+
 module _ {T : Type 0} where
   -- a call's answer, or why it has none
   abbrev pub settled : Done T → Result (Answer T) Stop
@@ -75,10 +79,25 @@ IsEnding (stops.Unrecorded error) = Unit {0}
 IsEnding stops.NoMemory = Unit {0}
 IsEnding _ = ⊥
 
+module _ {T : Type 0} where
+  -- there is no row, or one alone, which is such an act of this operation
+  abbrev pub IsOneOrNone : (Act → Type 0) → ℕ → List (JournalRow T) → Type 0
+  IsOneOrNone such op [] = Unit {0}
+  IsOneOrNone such op (row ∷ []) = IsActOf op such row.step
+  IsOneOrNone such op (row ∷ next ∷ rows) = ⊥
+
 module _ {T C E : Type 0} where
-  -- the same client did something more, if anything
-  abbrev pub IsFurther : DiaryState T C E → DiaryState T C E → Type 0
-  IsFurther old new = (rows : List (JournalRow T)) × Does old rows new
+  -- the same client did nothing more, or one such act of this operation
+  abbrev pub IsFurther : (Act → Type 0) → ℕ → DiaryState T C E → DiaryState T C E → Type 0
+  IsFurther such op old new = (rows : List (JournalRow T)) × Does old rows new × IsOneOrNone such op rows
+
+  -- the same client began this call, and did nothing else
+  abbrev pub HasBegun : Call T → DiaryState T C E → DiaryState T C E → Type 0
+  HasBegun call old new = (row : JournalRow T) × Does old (row ∷ []) new × (row.step ≡ steps.Begin call)
+
+  -- the same client did this of a call that was cut off
+  abbrev pub DoesCutOff : ℕ → ℕ → Call T → DiaryState T C E → DiaryState T C E → Type 0
+  DoesCutOff begun limit call old new = (rows : List (JournalRow T)) × Does old rows new × IsCutOff begun limit call rows
 
 module _ {T C E R S : Type 0} (hands : R → Noted T → R → Type 0) (serves : S → Request → Reply → S → Type 0) where
   -- The same client did these things, what happens with them happened to its recorder and its store, and its count of begins went on.
@@ -87,17 +106,17 @@ module _ {T C E R S : Type 0} (hands : R → Noted T → R → Type 0) (serves :
     pub happened : HappensAll hands serves recorder store (happens_from begun rows) recorder' store'
     pub begun_is : begun' ≡ begun_with begun rows
 
-  -- An operation acts once, and this is heard of it.
-  pub record TakesStep (op : ℕ) (old : DiaryState T C E) (recorder : R) (store : S) (begun : ℕ) (heard : Heard T) (new : DiaryState T C E) (recorder' : R) (store' : S) (begun' : ℕ) : Type 0 where
+  -- An operation acts once, by such an act, and this is heard of it.
+  pub record TakesStep (such : Act → Type 0) (op : ℕ) (old : DiaryState T C E) (recorder : R) (store : S) (begun : ℕ) (heard : Heard T) (new : DiaryState T C E) (recorder' : R) (store' : S) (begun' : ℕ) : Type 0 where
     pub row : JournalRow T
-    pub acts : IsActOf op row.step
+    pub acts : IsActOf op such row.step
     pub heard_is : heard ≡ heard_in row.answer
     pub advances : Advances old recorder store begun (row ∷ []) new recorder' store' begun'
 
   -- An operation acts on what came of the store call that it asked for, and this is heard of it. What happens with its row is that the request was handed over, that the store was called, which happened before, and the rest, which happens here.
   pub record TakesAsked (op : ℕ) (request : Request) (called : Happening T) (old : DiaryState T C E) (recorder : R) (store : S) (begun : ℕ) (heard : Heard T) (new : DiaryState T C E) (recorder' : R) (store' : S) (begun' : ℕ) : Type 0 where
     pub row : JournalRow T
-    pub acts : IsActOf op row.step
+    pub acts : IsActOf op IsLookOrCall row.step
     pub heard_is : heard ≡ heard_in row.answer
     pub does : Does old (row ∷ []) new
     pub rest : List (Happening T)
@@ -105,15 +124,18 @@ module _ {T C E R S : Type 0} (hands : R → Noted T → R → Type 0) (serves :
     pub happened : HappensAll hands serves recorder store rest recorder' store'
     pub begun_is : begun' ≡ begun
 
-  -- A call is this operation's so far, with this answer, if one.
-  pub record CallsAs (op : ℕ) (call : Call T) (answer : Option (Answer T)) (old : DiaryState T C E) (recorder : R) (store : S) (begun : ℕ) (new : DiaryState T C E) (recorder' : R) (store' : S) (begun' : ℕ) : Type 0 where
+  -- A call is this operation's so far, of so many looks and store calls, with this answer, if one.
+  pub record CallsAs (op taken : ℕ) (call : Call T) (answer : Option (Answer T)) (old : DiaryState T C E) (recorder : R) (store : S) (begun : ℕ) (new : DiaryState T C E) (recorder' : R) (store' : S) (begun' : ℕ) : Type 0 where
     pub rows : List (JournalRow T)
-    pub is_call : IsCall begun op call answer rows
+    pub is_call : IsCallSoFar begun op taken call answer rows
     pub advances : Advances old recorder store begun rows new recorder' store' begun'
 
-  -- A call was made, with this answer, if one.
-  abbrev pub Calls : Call T → Option (Answer T) → DiaryState T C E → R → S → ℕ → DiaryState T C E → R → S → ℕ → Type 0
-  Calls call answer old recorder store begun new recorder' store' begun' = (op : ℕ) × CallsAs op call answer old recorder store begun new recorder' store' begun'
+  -- A call was made, of at most so many looks and store calls, with this answer, if one.
+  pub record Calls (limit : ℕ) (call : Call T) (answer : Option (Answer T)) (old : DiaryState T C E) (recorder : R) (store : S) (begun : ℕ) (new : DiaryState T C E) (recorder' : R) (store' : S) (begun' : ℕ) : Type 0 where
+    pub op : ℕ
+    pub rows : List (JournalRow T)
+    pub is_call : IsCall begun op limit call answer rows
+    pub advances : Advances old recorder store begun rows new recorder' store' begun'
 
   -- A call begins, and tells this answer, if it tells one.
   pub record BeginsWith (call : Call T) (answer : Option (Answer T)) (old : DiaryState T C E) (recorder : R) (store : S) (begun : ℕ) (new : DiaryState T C E) (recorder' : R) (store' : S) (begun' : ℕ) : Type 0 where
@@ -135,11 +157,11 @@ module _ {T C E R S : Type 0} (hands : R → Noted T → R → Type 0) (serves :
     -- what became of a begin
     abbrev pub IsBegun : Call T → DiaryState T C E → R → S → ℕ → Begun T → DiaryState T C E → R → S → ℕ → Type 0
     IsBegun call old recorder store begun (begins.Refused fault) new recorder' store' begun' = IsRefused fault old recorder store begun new recorder' store' begun'
-    IsBegun call old recorder store begun (begins.Goes op) new recorder' store' begun' = BeginsWith call None old recorder store begun new recorder' store' begun'
+    IsBegun call old recorder store begun (begins.Goes op) new recorder' store' begun' = (op ≡ begun + 1) × BeginsWith call None old recorder store begun new recorder' store' begun'
     IsBegun call old recorder store begun (begins.Answered answer) new recorder' store' begun' = BeginsWith call (Some answer) old recorder store begun new recorder' store' begun'
 
-    -- what became of a call
-    abbrev pub IsDone : Call T → DiaryState T C E → R → S → ℕ → Done T → DiaryState T C E → R → S → ℕ → Type 0
-    IsDone call old recorder store begun (dones.Answered answer) new recorder' store' begun' = Calls call (Some answer) old recorder store begun new recorder' store' begun'
-    IsDone call old recorder store begun dones.Spent new recorder' store' begun' = Calls call None old recorder store begun new recorder' store' begun'
-    IsDone call old recorder store begun (dones.Refused fault) new recorder' store' begun' = IsRefused fault old recorder store begun new recorder' store' begun'
+    -- what became of a call of at most so many looks and store calls
+    abbrev pub IsDone : ℕ → Call T → DiaryState T C E → R → S → ℕ → Done T → DiaryState T C E → R → S → ℕ → Type 0
+    IsDone limit call old recorder store begun (dones.Answered answer) new recorder' store' begun' = Calls limit call (Some answer) old recorder store begun new recorder' store' begun'
+    IsDone limit call old recorder store begun dones.Spent new recorder' store' begun' = Calls limit call None old recorder store begun new recorder' store' begun'
+    IsDone limit call old recorder store begun (dones.Refused fault) new recorder' store' begun' = IsRefused fault old recorder store begun new recorder' store' begun'

@@ -128,8 +128,8 @@ impl<
     /// [`Stop::Unrecorded`] and [`Stop::NoMemory`] it makes no further call, and each is [`Stop::Ended`].
     pub fn call(&mut self, call: Call<T>, steps: u64) -> Result<Answer<T>, Stop>
         requires { IsExactClone T.is_clone }
-        ensures ok { IfOk result (λ answer. MakesCall R.hands S.serves call (Some answer) self.old self.new) }
-        ensures err { IfErr result (Stops R.hands S.serves (refusal_of (E.epoch_of self.old.diary.epochs) self.old.diary call) call self.old self.new) }
+        ensures ok { IfOk result (λ answer. MakesCall R.hands S.serves steps call (Some answer) self.old self.new) }
+        ensures err { IfErr result (Stops R.hands S.serves (refusal_of (E.epoch_of self.old.diary.epochs) self.old.diary call) steps call self.old self.new) }
     {
         if !self.goes_on {
             drop(call);

@@ -115,8 +115,8 @@ impl<
     ) -> Result<Applied<T>, Stop>
         requires exact { IsExactClone T.is_clone }
         requires callable { F.IsAlwaysCallable mutator.now }
-        ensures ok { IfOk result (λ applied. IsApplied R.hands S.serves (λ value answer. FnReturnsAt F.Fn mutator.now value answer) attempts viewed self.old applied self.new) }
-        ensures err { IfErr result (λ stop. IsStopped R.hands S.serves (λ value answer. FnReturnsAt F.Fn mutator.now value answer) E.epoch_of attempts viewed self.old stop self.new) }
+        ensures ok { IfOk result (λ applied. IsApplied R.hands S.serves steps (λ value answer. FnReturnsAt F.Fn mutator.now value answer) attempts viewed self.old applied self.new) }
+        ensures err { IfErr result (λ stop. IsStopped R.hands S.serves steps (λ value answer. FnReturnsAt F.Fn mutator.now value answer) E.epoch_of attempts viewed self.old stop self.new) }
     {
         let mut viewed = viewed;
         for _round in 0..attempts {

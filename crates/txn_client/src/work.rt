@@ -3,7 +3,7 @@ ghost use Rattle.std.specs.Prelude.{◌≡◌, Err, Decides};
 ghost use Rattle.std.specs.Option.{option_copied};
 ghost use Rattle.txn_store.specs.declared.store.StoreError.TheVariants as errors;
 ghost use Rattle.txn_logged.specs.Honest.{SaysFailed};
-ghost use Rattle.txn_client.specs.Working.{call_of, last_begun, op_told, settled};
+ghost use Rattle.txn_client.specs.Working.{call_of, last_begun, settled};
 
 use crate::recorder::Recorder;
 use crate::serve::Serve;
@@ -76,17 +76,6 @@ fn last_begun<T>(rows: &[JournalRow<T>]) -> Option<&Call<T>>
     call_of(&rows.last()?.step)
 }
 
-/// The operation that was told of.
-fn op_told<T>(told: &Told<T>) -> u64
-    ensures { result ≡ op_told told.now }
-{
-    match told {
-        Told::Began(op) | Told::Went(op) | Told::Answered(op, _) | Told::GaveUp(op) => { *op }
-        Told::Landed(request, _) => *request,
-        Told::Crashed(client) => *client,
-    }
-}
-
 /// The answer of a call, or why it has none.
 pub(crate) fn settled<T: Drop>(done: Done<T>) -> Result<Answer<T>, Stop>
     ensures { result ≡ settled done }
@@ -132,7 +121,8 @@ impl<T: Clone, C: ObjectCodec<T> + Drop, E: EpochField<T>, S: Serve, R: Recorder
     ghost use Rattle.txn_history.specs.Seen.{Store};
     ghost use Rattle.txn_diary.specs.Diaries.{asked_in, refusal_of};
     ghost use Rattle.txn_client.specs.Happenings.{HappensAll, Served, CallFailed};
-    ghost use Rattle.txn_client.specs.Working.{heard_of, told_happens, IsEnding, IsFurther, TakesStep, TakesAsked, IsBegun, IsDone};
+    ghost use Rattle.txn_client.specs.Calling.{IsLookOrCall, IsGiveUp};
+    ghost use Rattle.txn_client.specs.Working.{heard_of, told_happens, IsEnding, IsFurther, HasBegun, DoesCutOff, TakesStep, TakesAsked, IsBegun, IsDone};
 
     /// Hands an operation's answer to the recorder, where one was told.
     fn hear(&mut self, op: u64, told: Told<T>) -> Result<Heard<T>, Stop>
@@ -157,8 +147,8 @@ impl<T: Clone, C: ObjectCodec<T> + Drop, E: EpochField<T>, S: Serve, R: Recorder
     /// The operation looks at the client's caches.
     fn look(&mut self, op: u64) -> Result<Heard<T>, Stop>
         requires { IsExactClone T.is_clone }
-        ensures ok { IfOk result (λ heard. TakesStep R.hands S.serves op self.old.diary self.old.recorder self.old.store self.old.begun heard self.new.diary self.new.recorder self.new.store self.new.begun) }
-        ensures err { IfErr result (λ stop. IsEnding stop × IsFurther self.old.diary self.new.diary) }
+        ensures ok { IfOk result (λ heard. TakesStep R.hands S.serves IsLookOrCall op self.old.diary self.old.recorder self.old.store self.old.begun heard self.new.diary self.new.recorder self.new.store self.new.begun) }
+        ensures err { IfErr result (λ stop. IsEnding stop × IsFurther IsLookOrCall op self.old.diary self.new.diary) }
     {
         match self.diary.look(op) {
             Ok(told) => self.hear(op, told),
@@ -170,7 +160,7 @@ impl<T: Clone, C: ObjectCodec<T> + Drop, E: EpochField<T>, S: Serve, R: Recorder
     fn fail(&mut self, op: u64, request: &Request) -> Result<Heard<T>, Stop>
         requires { asked_in self.old.diary op ≡ Some (Store request.now) }
         ensures ok { IfOk result (λ heard. TakesAsked R.hands S.serves op request.now (CallFailed request.now) self.old.diary self.old.recorder self.old.store self.old.begun heard self.new.diary self.new.recorder self.new.store self.new.begun) }
-        ensures err { IfErr result (λ stop. IsEnding stop × IsFurther self.old.diary self.new.diary) }
+        ensures err { IfErr result (λ stop. IsEnding stop × IsFurther IsLookOrCall op self.old.diary self.new.diary) }
     {
         match self.diary.failed(op) {
             Ok(told) => {
@@ -185,7 +175,7 @@ impl<T: Clone, C: ObjectCodec<T> + Drop, E: EpochField<T>, S: Serve, R: Recorder
     fn take(&mut self, op: u64, request: Request, reply: Reply) -> Result<Heard<T>, Stop>
         requires { IsExactClone T.is_clone }
         ensures ok { IfOk result (λ heard. TakesAsked R.hands S.serves op request (Served request reply) self.old.diary self.old.recorder self.old.store self.old.begun heard self.new.diary self.new.recorder self.new.store self.new.begun) }
-        ensures err { IfErr result (λ stop. IsEnding stop × IsFurther self.old.diary self.new.diary) }
+        ensures err { IfErr result (λ stop. IsEnding stop × IsFurther IsLookOrCall op self.old.diary self.new.diary) }
     {
         self.recorder.replied(op, &reply)?;
         // Which place it has among the store's calls is found when they are put into an order.
@@ -204,8 +194,8 @@ impl<T: Clone, C: ObjectCodec<T> + Drop, E: EpochField<T>, S: Serve, R: Recorder
     fn ask(&mut self, op: u64, request: Request) -> Result<Heard<T>, Stop>
         requires exact { IsExactClone T.is_clone }
         requires asks { asked_in self.old.diary op ≡ Some (Store request) }
-        ensures ok { IfOk result (λ heard. TakesStep R.hands S.serves op self.old.diary self.old.recorder self.old.store self.old.begun heard self.new.diary self.new.recorder self.new.store self.new.begun) }
-        ensures err { IfErr result (λ stop. IsEnding stop × IsFurther self.old.diary self.new.diary) }
+        ensures ok { IfOk result (λ heard. TakesStep R.hands S.serves IsLookOrCall op self.old.diary self.old.recorder self.old.store self.old.begun heard self.new.diary self.new.recorder self.new.store self.new.begun) }
+        ensures err { IfErr result (λ stop. IsEnding stop × IsFurther IsLookOrCall op self.old.diary self.new.diary) }
     {
         self.recorder.asked(op, &request)?;
         let reply = self.store.serve(self.alloc, &request);
@@ -230,8 +220,8 @@ impl<T: Clone, C: ObjectCodec<T> + Drop, E: EpochField<T>, S: Serve, R: Recorder
     /// The operation does what it asks for.
     fn step(&mut self, op: u64) -> Result<Heard<T>, Stop>
         requires { IsExactClone T.is_clone }
-        ensures ok { IfOk result (λ heard. TakesStep R.hands S.serves op self.old.diary self.old.recorder self.old.store self.old.begun heard self.new.diary self.new.recorder self.new.store self.new.begun) }
-        ensures err { IfErr result (λ stop. IsEnding stop × IsFurther self.old.diary self.new.diary) }
+        ensures ok { IfOk result (λ heard. TakesStep R.hands S.serves IsLookOrCall op self.old.diary self.old.recorder self.old.store self.old.begun heard self.new.diary self.new.recorder self.new.store self.new.begun) }
+        ensures err { IfErr result (λ stop. IsEnding stop × IsFurther IsLookOrCall op self.old.diary self.new.diary) }
     {
         match self.request(op)? {
             Some(request) => self.ask(op, request),
@@ -241,8 +231,8 @@ impl<T: Clone, C: ObjectCodec<T> + Drop, E: EpochField<T>, S: Serve, R: Recorder
 
     /// Gives the operation up.
     fn give_up(&mut self, op: u64) -> Result<(), Stop>
-        ensures ok { OnOk result (TakesStep R.hands S.serves op self.old.diary self.old.recorder self.old.store self.old.begun Heard.Goes self.new.diary self.new.recorder self.new.store self.new.begun) }
-        ensures err { IfErr result (λ stop. IsEnding stop × IsFurther self.old.diary self.new.diary) }
+        ensures ok { OnOk result (TakesStep R.hands S.serves IsGiveUp op self.old.diary self.old.recorder self.old.store self.old.begun Heard.Goes self.new.diary self.new.recorder self.new.store self.new.begun) }
+        ensures err { IfErr result (λ stop. IsEnding stop × IsFurther IsGiveUp op self.old.diary self.new.diary) }
     {
         match self.diary.give_up(op) {
             Ok(told) => {
@@ -258,9 +248,9 @@ impl<T: Clone, C: ObjectCodec<T> + Drop, E: EpochField<T>, S: Serve, R: Recorder
     fn begin(&mut self, call: Call<T>) -> Result<Begun<T>, Stop>
         requires { IsExactClone T.is_clone }
         ensures ok { IfOk result (λ begun. IsBegun R.hands S.serves (refusal_of (E.epoch_of self.old.diary.epochs) self.old.diary call) call self.old.diary self.old.recorder self.old.store self.old.begun begun self.new.diary self.new.recorder self.new.store self.new.begun) }
-        ensures err { IfErr result (λ stop. IsEnding stop × IsFurther self.old.diary self.new.diary) }
+        ensures err { IfErr result (λ stop. IsEnding stop × HasBegun call self.old.diary self.new.diary) }
     {
-        let Some(begun) = self.begun.checked_add(1) else {
+        let Some(op) = self.begun.checked_add(1) else {
             drop(call);
             return Ok(Begun::Refused(EventFault::NoMemory));
         };
@@ -271,27 +261,26 @@ impl<T: Clone, C: ObjectCodec<T> + Drop, E: EpochField<T>, S: Serve, R: Recorder
         let Some(call) = last_begun(self.diary.rows()) else {
             unreachable!();
         };
-        self.recorder.begun(begun, call)?;
-        self.begun = begun;
-        let op = op_told(&told);
-        match self.hear(begun, told)? {
+        self.recorder.begun(op, call)?;
+        self.begun = op;
+        match self.hear(op, told)? {
             Heard::Goes => Ok(Begun::Goes(op)),
             Heard::Answered(answer) => Ok(Begun::Answered(answer)),
         }
     }
 
-    /// Makes a call, of at most so many steps.
+    /// Makes a call, of at most so many looks and store calls. Where these do not suffice its operation is given up.
     pub fn call(&mut self, call: Call<T>, steps: u64) -> Result<Done<T>, Stop>
         requires { IsExactClone T.is_clone }
-        ensures ok { IfOk result (λ done. IsDone R.hands S.serves (refusal_of (E.epoch_of self.old.diary.epochs) self.old.diary call) call self.old.diary self.old.recorder self.old.store self.old.begun done self.new.diary self.new.recorder self.new.store self.new.begun) }
-        ensures err { IfErr result (λ stop. IsEnding stop × IsFurther self.old.diary self.new.diary) }
+        ensures ok { IfOk result (λ done. IsDone R.hands S.serves (refusal_of (E.epoch_of self.old.diary.epochs) self.old.diary call) steps call self.old.diary self.old.recorder self.old.store self.old.begun done self.new.diary self.new.recorder self.new.store self.new.begun) }
+        ensures err { IfErr result (λ stop. IsEnding stop × DoesCutOff self.old.begun steps call self.old.diary self.new.diary) }
     {
         let op = match self.begin(call)? {
             Begun::Refused(fault) => return Ok(Done::Refused(fault)),
             Begun::Answered(answer) => return Ok(Done::Answered(answer)),
             Begun::Goes(op) => op,
         };
-        for _ in 0..steps {
+        for _taken in 0..steps {
             match self.step(op)? {
                 Heard::Answered(answer) => return Ok(Done::Answered(answer)),
                 Heard::Goes => {}

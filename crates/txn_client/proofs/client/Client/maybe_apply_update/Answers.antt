@@ -47,7 +47,7 @@ returns-in-Viewed-clause-ok g c = record {
   last = c.loop-round.viewed;
   between = c.loop-round.self;
   rounds = c.loop-round.invariant;
-  so = updates_so g.R.Recorder.hands g.S.Serve.serves (λ value answer. FnReturnsAt g.F.Fn c.args.mutator.now value answer) c.loop-round.viewed c.in-Ok-Some.candidate c.loop-round.self c.call.new.self c.in_ok-updated.updated (gives c.in-Viewed.viewed) (rw (← (c.in-Ok-Some.is ∙ ap Ok (c.in-Ok-Some.field-0-is))) c.candidate_of.ensures) c.in_ok-updated.ensures.ok (viewed_so c.in_ok-updated.updated c.in-Viewed.viewed (sym c.trial_of.ensures ∙ c.in-Viewed.is));
+  so = updates_so g.R.Recorder.hands g.S.Serve.serves c.args.steps (λ value answer. FnReturnsAt g.F.Fn c.args.mutator.now value answer) c.loop-round.viewed c.in-Ok-Some.candidate c.loop-round.self c.call.new.self c.in_ok-updated.updated (gives c.in-Viewed.viewed) (rw (← (c.in-Ok-Some.is ∙ ap Ok (c.in-Ok-Some.field-0-is))) c.candidate_of.ensures) c.in_ok-updated.ensures.ok (viewed_so c.in_ok-updated.updated c.in-Viewed.viewed (sym c.trial_of.ensures ∙ c.in-Viewed.is));
 }
 
 pub returns-in-Answered-clause-ok : goal.returns-in-Answered-clause-ok
@@ -60,7 +60,7 @@ returns-in-Answered-clause-ok g c =
         last = c.loop-round.viewed;
         between = c.loop-round.self;
         rounds = c.loop-round.invariant;
-        so = inl (updates_so g.R.Recorder.hands g.S.Serve.serves (λ value answer. FnReturnsAt g.F.Fn c.args.mutator.now value answer) c.loop-round.viewed c.in-Ok-Some.candidate c.loop-round.self c.call.new.self c.in_ok-updated.updated c.in-Answered.answer (rw (← (c.in-Ok-Some.is ∙ ap Ok (c.in-Ok-Some.field-0-is))) c.candidate_of.ensures) c.in_ok-updated.ensures.ok said.0, said.2);
+        so = inl (updates_so g.R.Recorder.hands g.S.Serve.serves c.args.steps (λ value answer. FnReturnsAt g.F.Fn c.args.mutator.now value answer) c.loop-round.viewed c.in-Ok-Some.candidate c.loop-round.self c.call.new.self c.in_ok-updated.updated c.in-Answered.answer (rw (← (c.in-Ok-Some.is ∙ ap Ok (c.in-Ok-Some.field-0-is))) c.candidate_of.ensures) c.in_ok-updated.ensures.ok said.0, said.2);
       },
     )
 
@@ -73,7 +73,7 @@ returns-in_err-refreshed-clause-err g c =
       last = c.loop-round.viewed;
       between = c.loop-round.self;
       rounds = c.loop-round.invariant;
-      so = NoRefresh c.call.new.self (conflicts_so g.R.Recorder.hands g.S.Serve.serves (λ value answer. FnReturnsAt g.F.Fn c.args.mutator.now value answer) c.loop-round.viewed c.in-Ok-Some.candidate c.loop-round.self c.call.new.self c.in_ok-updated.updated (rw (← (c.in-Ok-Some.is ∙ ap Ok (c.in-Ok-Some.field-0-is))) c.candidate_of.ensures) c.in_ok-updated.ensures.ok (sym c.trial_of.ensures ∙ c.in-Conflict.is)) c.in_err-refreshed.ensures.err;
+      so = NoRefresh c.call.new.self (conflicts_so g.R.Recorder.hands g.S.Serve.serves c.args.steps (λ value answer. FnReturnsAt g.F.Fn c.args.mutator.now value answer) c.loop-round.viewed c.in-Ok-Some.candidate c.loop-round.self c.call.new.self c.in_ok-updated.updated (rw (← (c.in-Ok-Some.is ∙ ap Ok (c.in-Ok-Some.field-0-is))) c.candidate_of.ensures) c.in_ok-updated.ensures.ok (sym c.trial_of.ensures ∙ c.in-Conflict.is)) c.in_err-refreshed.ensures.err;
     })
 
 pub returns-in-Conflict-trial_of-clause-ok : goal.returns-in-Conflict-trial_of-clause-ok
@@ -85,7 +85,7 @@ returns-in-Conflict-trial_of-clause-ok g c = (
     last = c.loop-round.viewed;
     between = c.loop-round.self;
     rounds = c.loop-round.invariant;
-    so = inr (refreshes_so g.R.Recorder.hands g.S.Serve.serves (λ value answer. FnReturnsAt g.F.Fn c.args.mutator.now value answer) c.loop-round.viewed c.loop-round.self c.call.new.self c.call-in-loop-round.new.self c.in_ok-refreshed.refreshed conflict (conflicts_so g.R.Recorder.hands g.S.Serve.serves (λ value answer. FnReturnsAt g.F.Fn c.args.mutator.now value answer) c.loop-round.viewed c.in-Ok-Some.candidate c.loop-round.self c.call.new.self c.in_ok-updated.updated (rw (← (c.in-Ok-Some.is ∙ ap Ok (c.in-Ok-Some.field-0-is))) c.candidate_of.ensures) c.in_ok-updated.ensures.ok (sym c.trial_of.ensures ∙ c.in-Conflict.is)) c.in_ok-refreshed.ensures.ok (conflict_so c.in_ok-refreshed.refreshed (sym c.trial_of-in-loop-round.ensures ∙ c.in-Conflict-trial_of.is)));
+    so = inr (refreshes_so g.R.Recorder.hands g.S.Serve.serves c.args.steps (λ value answer. FnReturnsAt g.F.Fn c.args.mutator.now value answer) c.loop-round.viewed c.loop-round.self c.call.new.self c.call-in-loop-round.new.self c.in_ok-refreshed.refreshed conflict (conflicts_so g.R.Recorder.hands g.S.Serve.serves c.args.steps (λ value answer. FnReturnsAt g.F.Fn c.args.mutator.now value answer) c.loop-round.viewed c.in-Ok-Some.candidate c.loop-round.self c.call.new.self c.in_ok-updated.updated (rw (← (c.in-Ok-Some.is ∙ ap Ok (c.in-Ok-Some.field-0-is))) c.candidate_of.ensures) c.in_ok-updated.ensures.ok (sym c.trial_of.ensures ∙ c.in-Conflict.is)) c.in_ok-refreshed.ensures.ok (conflict_so c.in_ok-refreshed.refreshed (sym c.trial_of-in-loop-round.ensures ∙ c.in-Conflict-trial_of.is)));
   },
 )
 
@@ -99,14 +99,14 @@ returns-in-Answered-trial_of-clause-ok g c =
         last = c.loop-round.viewed;
         between = c.loop-round.self;
         rounds = c.loop-round.invariant;
-        so = inr (refreshes_so g.R.Recorder.hands g.S.Serve.serves (λ value answer. FnReturnsAt g.F.Fn c.args.mutator.now value answer) c.loop-round.viewed c.loop-round.self c.call.new.self c.call-in-loop-round.new.self c.in_ok-refreshed.refreshed c.in-Answered-trial_of.answer (conflicts_so g.R.Recorder.hands g.S.Serve.serves (λ value answer. FnReturnsAt g.F.Fn c.args.mutator.now value answer) c.loop-round.viewed c.in-Ok-Some.candidate c.loop-round.self c.call.new.self c.in_ok-updated.updated (rw (← (c.in-Ok-Some.is ∙ ap Ok (c.in-Ok-Some.field-0-is))) c.candidate_of.ensures) c.in_ok-updated.ensures.ok (sym c.trial_of.ensures ∙ c.in-Conflict.is)) c.in_ok-refreshed.ensures.ok said.0);
+        so = inr (refreshes_so g.R.Recorder.hands g.S.Serve.serves c.args.steps (λ value answer. FnReturnsAt g.F.Fn c.args.mutator.now value answer) c.loop-round.viewed c.loop-round.self c.call.new.self c.call-in-loop-round.new.self c.in_ok-refreshed.refreshed c.in-Answered-trial_of.answer (conflicts_so g.R.Recorder.hands g.S.Serve.serves c.args.steps (λ value answer. FnReturnsAt g.F.Fn c.args.mutator.now value answer) c.loop-round.viewed c.in-Ok-Some.candidate c.loop-round.self c.call.new.self c.in_ok-updated.updated (rw (← (c.in-Ok-Some.is ∙ ap Ok (c.in-Ok-Some.field-0-is))) c.candidate_of.ensures) c.in_ok-updated.ensures.ok (sym c.trial_of.ensures ∙ c.in-Conflict.is)) c.in_ok-refreshed.ensures.ok said.0);
       },
     )
 
 pub loop-round-preserved : goal.loop-round-preserved
-loop-round-preserved g c = rounds_more g.R.Recorder.hands g.S.Serve.serves (λ value answer. FnReturnsAt g.F.Fn c.args.mutator.now value answer) c.loop-round._round c.args.viewed c.loop-round.viewed c.in-Viewed-trial_of.newer c.args.self.now c.loop-round.self c.call-in-loop-round.new.self c.loop-round.invariant (refreshes_so g.R.Recorder.hands g.S.Serve.serves (λ value answer. FnReturnsAt g.F.Fn c.args.mutator.now value answer) c.loop-round.viewed c.loop-round.self c.call.new.self c.call-in-loop-round.new.self c.in_ok-refreshed.refreshed (gives c.in-Viewed-trial_of.newer) (conflicts_so g.R.Recorder.hands g.S.Serve.serves (λ value answer. FnReturnsAt g.F.Fn c.args.mutator.now value answer) c.loop-round.viewed c.in-Ok-Some.candidate c.loop-round.self c.call.new.self c.in_ok-updated.updated (rw (← (c.in-Ok-Some.is ∙ ap Ok (c.in-Ok-Some.field-0-is))) c.candidate_of.ensures) c.in_ok-updated.ensures.ok (sym c.trial_of.ensures ∙ c.in-Conflict.is)) c.in_ok-refreshed.ensures.ok (viewed_so c.in_ok-refreshed.refreshed c.in-Viewed-trial_of.newer (sym c.trial_of-in-loop-round.ensures ∙ c.in-Viewed-trial_of.is)))
+loop-round-preserved g c = rounds_more g.R.Recorder.hands g.S.Serve.serves c.args.steps (λ value answer. FnReturnsAt g.F.Fn c.args.mutator.now value answer) c.loop-round._round c.args.viewed c.loop-round.viewed c.in-Viewed-trial_of.newer c.args.self.now c.loop-round.self c.call-in-loop-round.new.self c.loop-round.invariant (refreshes_so g.R.Recorder.hands g.S.Serve.serves c.args.steps (λ value answer. FnReturnsAt g.F.Fn c.args.mutator.now value answer) c.loop-round.viewed c.loop-round.self c.call.new.self c.call-in-loop-round.new.self c.in_ok-refreshed.refreshed (gives c.in-Viewed-trial_of.newer) (conflicts_so g.R.Recorder.hands g.S.Serve.serves c.args.steps (λ value answer. FnReturnsAt g.F.Fn c.args.mutator.now value answer) c.loop-round.viewed c.in-Ok-Some.candidate c.loop-round.self c.call.new.self c.in_ok-updated.updated (rw (← (c.in-Ok-Some.is ∙ ap Ok (c.in-Ok-Some.field-0-is))) c.candidate_of.ensures) c.in_ok-updated.ensures.ok (sym c.trial_of.ensures ∙ c.in-Conflict.is)) c.in_ok-refreshed.ensures.ok (viewed_so c.in_ok-refreshed.refreshed c.in-Viewed-trial_of.newer (sym c.trial_of-in-loop-round.ensures ∙ c.in-Viewed-trial_of.is)))
 
 pub returns-clause-ok : goal.returns-clause-ok
 returns-clause-ok g c =
     let all : c.loop-round._round ≡ c.args.attempts = omega arith in
-    (c.loop-round.viewed, subst (λ count. Rounds g.R.Recorder.hands g.S.Serve.serves (λ value answer. FnReturnsAt g.F.Fn c.args.mutator.now value answer) count c.args.viewed c.args.self.now c.loop-round.viewed c.loop-round.self) all c.loop-round.invariant)
+    (c.loop-round.viewed, subst (λ count. Rounds g.R.Recorder.hands g.S.Serve.serves c.args.steps (λ value answer. FnReturnsAt g.F.Fn c.args.mutator.now value answer) count c.args.viewed c.args.self.now c.loop-round.viewed c.loop-round.self) all c.loop-round.invariant)

@@ -4,4 +4,4 @@ use Rattle.txn_client.proofs.client.Client.maybe_apply_update.Given as goal
 
 -- so far there were rounds alone
 abbrev pub invariant-loop-round : goal.invariant-loop-round
-invariant-loop-round g l = Rounds g.R.Recorder.hands g.S.Serve.serves (λ value answer. FnReturnsAt g.F.Fn l.mutator value answer) l._round l.fn.viewed l.fn.self l.viewed l.self
+invariant-loop-round g l = Rounds g.R.Recorder.hands g.S.Serve.serves l.steps (λ value answer. FnReturnsAt g.F.Fn l.mutator value answer) l._round l.fn.viewed l.fn.self l.viewed l.self

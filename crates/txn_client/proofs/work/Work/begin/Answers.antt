@@ -1,4 +1,4 @@
-use Rattle.std.proofs.Common.{rules, None, Some, refl, sym, ap, ◌∙◌}
+use Rattle.std.proofs.Common.{rules, ◌≡◌, ◌+◌, None, Some, refl, sym, ap, ◌∙◌}
 use Rattle.std.proofs.lemmas.Option.{same_Some}
 use Rattle.std.specs.Option.{option_copied}
 use Rattle.txn_journals.specs.declared.rows.Step.TheVariants as steps
@@ -17,13 +17,17 @@ returns-in-Goes-clause-ok g c =
     let tells = c.in-Ok.ensures.ok in
     let d = c.args.self.now.diary in
     let call_is = same_Some c.in-Some-last_begun.call.now c.args.call (c.in-Some-last_begun.ensures ∙ (ap last_begun (c.rows.ensures.rows ∙ tells.adds.rows) ∙ last_added d.rows (record { step = steps.Begin c.args.call; answer = tells.answer }) c.args.call refl)) in
-    begins_with g.R.Recorder.hands g.S.Serve.serves c.args.call c.in-Some-last_begun.call.now tells.answer None c.in-Ok.told _ d c.hear.new.self.diary _ _ _ _ _ c.args.self.now.begun c.in-Some.begun c.hear.new.self.begun
-    (search rules) call_is (search rules) c.in_ok-begun.ensures tells.said_is c.in_ok-hear.ensures.happened (began_goes c.in-Ok.told _ tells.answer tells.said_is (search rules)) (search rules)
+    let own : c.in-Some.op ≡ c.args.self.now.begun + 1 = search rules in (
+      own,
+      begins_with g.R.Recorder.hands g.S.Serve.serves c.args.call c.in-Some-last_begun.call.now tells.answer None c.in-Ok.told _ d c.hear.new.self.diary c.args.self.now.recorder _ c.hear.new.self.recorder c.args.self.now.store c.hear.new.self.store c.args.self.now.begun c.in-Some.op c.hear.new.self.begun
+          (search rules) call_is own c.in_ok-begun.ensures tells.said_is c.in_ok-hear.ensures.happened (began_goes c.in-Ok.told _ tells.answer tells.said_is (search rules)) (search rules),
+    )
 
 pub returns-in-Answered-clause-ok : goal.returns-in-Answered-clause-ok
 returns-in-Answered-clause-ok g c =
     let tells = c.in-Ok.ensures.ok in
     let d = c.args.self.now.diary in
     let call_is = same_Some c.in-Some-last_begun.call.now c.args.call (c.in-Some-last_begun.ensures ∙ (ap last_begun (c.rows.ensures.rows ∙ tells.adds.rows) ∙ last_added d.rows (record { step = steps.Begin c.args.call; answer = tells.answer }) c.args.call refl)) in
-    begins_with g.R.Recorder.hands g.S.Serve.serves c.args.call c.in-Some-last_begun.call.now tells.answer (Some c.in-Answered.answer) c.in-Ok.told _ d c.hear.new.self.diary _ _ _ _ _ c.args.self.now.begun c.in-Some.begun c.hear.new.self.begun
-    (search rules) call_is (search rules) c.in_ok-begun.ensures tells.said_is c.in_ok-hear.ensures.happened (began_answered c.in-Ok.told _ tells.answer c.in-Answered.answer tells.said_is (search rules)) (search rules)
+    let own : c.in-Some.op ≡ c.args.self.now.begun + 1 = search rules in
+    begins_with g.R.Recorder.hands g.S.Serve.serves c.args.call c.in-Some-last_begun.call.now tells.answer (Some c.in-Answered.answer) c.in-Ok.told _ d c.hear.new.self.diary c.args.self.now.recorder _ c.hear.new.self.recorder c.args.self.now.store c.hear.new.self.store c.args.self.now.begun c.in-Some.op c.hear.new.self.begun
+    (search rules) call_is own c.in_ok-begun.ensures tells.said_is c.in_ok-hear.ensures.happened (began_answered c.in-Ok.told _ tells.answer c.in-Answered.answer tells.said_is (search rules)) (search rules)
