@@ -11,6 +11,4 @@ mod many;
 #[cfg(test)]
 mod paths;
 #[cfg(test)]
-mod stores;
-#[cfg(test)]
 mod values;
