@@ -1,8 +1,7 @@
 //! Calls to which a hand makes the replies, played to their end.
 use crate::by_hand::Script;
 use crate::driven::{Op, Played, drive};
-use crate::operations::{Call, cached};
-use crate::writes::base;
+use crate::operations::{Call, base, cached};
 use std::alloc::Global;
 use std::test::Fail;
 use txn_caches::advance::{AdvanceOp, BoundaryAdvance};

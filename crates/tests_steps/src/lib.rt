@@ -33,7 +33,3 @@ mod told;
 mod view_calls;
 #[cfg(test)]
 mod views;
-#[cfg(test)]
-mod windows;
-#[cfg(test)]
-mod writes;

@@ -4,7 +4,6 @@ ghost use Rattle.std.specs.Prelude.{◌≤◌};
 use crate::place::{Place, Play, driven};
 use crate::told::Told::{Did, Fails, GoesOn, Is};
 use crate::told::{Error, Told, said};
-use crate::writes::{are_listed, base};
 use std::alloc::Global;
 use std::ops::Bound;
 use txn_caches::advance::AdvanceOp;
@@ -18,6 +17,7 @@ use txn_steps::latest::LatestOp;
 use txn_steps::listing::{ListAnswer, ListOp};
 use txn_steps::read::ReadOp;
 use txn_steps::seen::ReadSeenOp;
+use txn_steps::versions::Listed;
 use txn_steps::write::{WriteOp, WriteUncheckedOp};
 use txn_store::path::Path;
 use txn_store::store::ObjectStore;
@@ -62,11 +62,32 @@ pub(crate) enum Call {
     Put(&'static str, &'static [u8]),
 }
 
+pub(crate) fn base(id: u64) -> Option<MonotonicId> {
+    if id == 0 {
+        None
+    } else {
+        Some(MonotonicId::new(id))
+    }
+}
+
+/// Whether these are the listed ids.
+fn are_listed(found: &[Listed], ids: &[u64]) -> bool {
+    if found.len() != ids.len() {
+        return false;
+    }
+    for (version, id) in found.iter().zip(ids) {
+        if !version.id.is(*id) {
+            return false;
+        }
+    }
+    true
+}
+
 /// Whether a listing has these ids, where it is done.
 fn listed(turned: Turned<ListAnswer>, ids: &[u64]) -> Told {
     match turned {
         Turned::Goes => GoesOn,
-        Turned::Done(Ok(found)) => Is(are_listed(Ok(found), ids)),
+        Turned::Done(Ok(found)) => Is(are_listed(found.as_slice(), ids)),
         Turned::Done(Err(error)) => Fails(error.number()),
     }
 }
