@@ -2,7 +2,7 @@
 ghost use Rattle.std.specs.Prelude.{◌≤◌};
 
 use crate::place::{Place, Play, driven};
-use crate::told::Told::{Did, Fails, GoesOn, Is};
+use crate::told::Told::{Fails, GoesOn, Is};
 use crate::told::{Error, Told, said};
 use std::alloc::Global;
 use std::ops::Bound;
@@ -20,7 +20,6 @@ use txn_steps::seen::ReadSeenOp;
 use txn_steps::versions::Listed;
 use txn_steps::write::{WriteOp, WriteUncheckedOp};
 use txn_store::path::Path;
-use txn_store::store::ObjectStore;
 use txn_types::id::MonotonicId;
 use txn_types::layout::Layout;
 use txn_types::test_utils::NumberCodec;
@@ -48,10 +47,6 @@ pub(crate) enum Call {
     ReadSeen(u64),
     /// Whether the versions within the bounds have these ids.
     Lists(Bound<u64>, Bound<u64>, &'static [u64]),
-    /// Whether the boundary's file says this.
-    Says(&'static [u8]),
-    /// The client loses what it has cached.
-    Forgets,
     /// Whether these ids are cached.
     Holds(&'static [u64]),
     /// Whether this boundary is cached.
@@ -89,14 +84,6 @@ fn listed(turned: Turned<ListAnswer>, ids: &[u64]) -> Told {
         Turned::Goes => GoesOn,
         Turned::Done(Ok(found)) => Is(are_listed(found.as_slice(), ids)),
         Turned::Done(Err(error)) => Fails(error.number()),
-    }
-}
-
-/// Whether the boundary's file says this.
-fn says(layout: &Layout<NumberCodec>, place: &mut Place, text: &[u8]) -> bool {
-    match place.store.get(&layout.boundary, None) {
-        Ok(got) => got.bytes.as_slice() == text,
-        Err(_) => false,
     }
 }
 
@@ -141,14 +128,9 @@ pub(crate) fn cached(caches: &Caches, call: Call) -> Option<Told> {
 }
 
 /// Something done beside the operations. A call that has no driver goes on, as no row says.
-fn beside(alloc: Global, layout: &Layout<NumberCodec>, place: &mut Place, call: Call) -> Told {
+fn beside(alloc: Global, place: &mut Place, call: Call) -> Told {
     match call {
-        Call::Says(text) => Is(says(layout, place, text)),
         Call::Put(path, bytes) => Is(put(alloc, place, path, bytes)),
-        Call::Forgets => {
-            place.client.caches = Caches::new();
-            Did
-        }
         _ => cached(&place.client.caches, call).unwrap_or(GoesOn),
     }
 }
@@ -206,7 +188,7 @@ impl Play<NumberCodec> for Call {
                 let op = ListOp::start(alloc, layout, from, to)?;
                 listed(driven(alloc, layout, place, op, steps), ids)
             }
-            _ => beside(alloc, layout, place, self),
+            _ => beside(alloc, place, self),
         })
     }
 }
