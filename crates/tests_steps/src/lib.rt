@@ -8,13 +8,9 @@ mod by_hand;
 #[cfg(test)]
 mod claims;
 #[cfg(test)]
-mod driven;
-#[cfg(test)]
 mod fits;
 #[cfg(test)]
 mod game;
-#[cfg(test)]
-mod hand_calls;
 #[cfg(test)]
 mod holders;
 #[cfg(test)]

@@ -1,4 +1,4 @@
-//! Operations that run alone, as values.
+//! Operations that run alone, as values, and what is done beside them.
 ghost use Rattle.std.specs.Prelude.{◌≤◌};
 
 use crate::place::{Place, Play, driven};
@@ -29,11 +29,6 @@ use txn_types::test_utils::NumberCodec;
 pub(crate) enum Call {
     Check(u64),
     Advance(u64),
-    /// The parts of these two that leave the cached versions as they are, and the read that is a part of them. They have
-    /// no driver, so only a hand plays them.
-    BoundaryCheck(u64),
-    BoundaryAdvance(u64),
-    BoundaryRead,
     /// A write of a value on a base, 0 for none.
     Write(u64, u64),
     WriteUnchecked(u64, u64),
@@ -51,13 +46,11 @@ pub(crate) enum Call {
     Holds(&'static [u64]),
     /// Whether this boundary is cached.
     Knows(Option<u64>),
-    /// Whether this boundary is cached, with this token.
-    KnowsBy(u64, u64),
     /// A file that is put by hand, in place of any other.
     Put(&'static str, &'static [u8]),
 }
 
-pub(crate) fn base(id: u64) -> Option<MonotonicId> {
+fn base(id: u64) -> Option<MonotonicId> {
     if id == 0 {
         None
     } else {
@@ -109,30 +102,18 @@ pub(crate) fn holds(window: &Window, ids: &[u64]) -> bool {
     true
 }
 
-/// The cached boundary and its token.
-pub(crate) fn known(caches: &Caches) -> Option<(u64, u64)> {
-    caches
-        .boundary
-        .map(|known| (known.number, known.token.number()))
+fn knows(caches: &Caches, number: Option<u64>) -> bool {
+    caches.boundary.map(|known| known.number) == number
 }
 
-/// What is said of what is cached, where a call asks for that.
-pub(crate) fn cached(caches: &Caches, call: Call) -> Option<Told> {
-    let is = match call {
-        Call::Holds(ids) => holds(&caches.latest, ids),
-        Call::Knows(number) => known(caches).map(|(number, _)| number) == number,
-        Call::KnowsBy(number, token) => known(caches) == Some((number, token)),
-        _ => return None,
-    };
-    Some(Is(is))
-}
-
-/// Something done beside the operations. A call that has no driver goes on, as no row says.
+/// Something done beside the operations.
 fn beside(alloc: Global, place: &mut Place, call: Call) -> Told {
-    match call {
-        Call::Put(path, bytes) => Is(put(alloc, place, path, bytes)),
-        _ => cached(&place.client.caches, call).unwrap_or(GoesOn),
-    }
+    Is(match call {
+        Call::Holds(ids) => holds(&place.client.caches.latest, ids),
+        Call::Knows(number) => knows(&place.client.caches, number),
+        Call::Put(path, bytes) => put(alloc, place, path, bytes),
+        _ => return GoesOn,
+    })
 }
 
 impl Play<NumberCodec> for Call {
