@@ -42,7 +42,7 @@ not modified: Err(ObjectStoreError(NotModified))
 failed: Err(ObjectStoreError(Failed))
 no memory: Err(NoMemory)
 tokens exhausted: Err(ObjectStoreError(TokensExhausted))
-bad segment, no memory
+bad segment: BadSegment, no memory: NoMemory
 ";
 
 fn all_store_words(alloc: Global) -> Result<String, AllocError> {
@@ -51,7 +51,7 @@ fn all_store_words(alloc: Global) -> Result<String, AllocError> {
         text.push_str(store_words(alloc, error)?.as_str())?;
     }
     let (bad, lacking) = (PathFault::BadSegment, PathFault::NoMemory);
-    text.push_str(format!(in alloc; "{bad}, {lacking}\n")?.as_str())?;
+    text.push_str(format!(in alloc; "{bad}: {bad:?}, {lacking}: {lacking:?}\n")?.as_str())?;
     Ok(text)
 }
 
