@@ -1,6 +1,4 @@
 //! Operations that run alone, as values, and what is done beside them.
-ghost use Rattle.std.specs.Prelude.{◌≤◌};
-
 use crate::place::{Place, Play, driven};
 use crate::told::Told::{Fails, GoesOn, Is};
 use crate::told::{Error, Told, said};
