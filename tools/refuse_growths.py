@@ -27,7 +27,6 @@ SCRIPTS = (
 )
 # The tests that hold whichever growth is refused, by the crate whose tests they are.
 TESTS = {
-    "tests_store": ("many::a_refused_growth_leaves_the_store",),
     "tests_slatedb_txn_obj": (
         "refused::a_refused_growth_leaves_what_was",
         "stores::what_is_pinned_stays_whichever_growth_is_refused",

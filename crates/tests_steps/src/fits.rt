@@ -1,35 +1,22 @@
-//! Whether a reply, or none for a look, is what an operation asks for.
+//! Whether a reply, or none for a look, is what a read asks for.
 ghost use Rattle.std.specs.Prelude.{IsTrue};
-ghost use Rattle.txn_caches.specs.Asking.{IsLook, IsPut, IsGot, IsListed};
+ghost use Rattle.txn_caches.specs.Asking.{IsLook, IsGot, IsListed};
 ghost use Rattle.txn_caches.specs.BoundaryReads.{IsBoundaryReply};
 ghost use Rattle.txn_caches.specs.BoundaryChecks.{IsBoundaryCheckReply};
-ghost use Rattle.txn_caches.specs.BoundaryAdvances.{IsBoundaryAdvanceReply};
 ghost use Rattle.txn_caches.specs.Checks.{IsCheckReply};
-ghost use Rattle.txn_caches.specs.Advances.{IsAdvanceReply};
-ghost use Rattle.txn_steps.specs.Writes.{IsUncheckedReply};
 ghost use Rattle.txn_steps.specs.Latest.{IsLatestReply, InRange};
 ghost use Rattle.txn_steps.specs.Reads.{IsReadReply, IsInRange};
-ghost use Rattle.txn_steps.specs.SeenSteps.{IsSeenReply};
 
-use txn_caches::advance::{AdvanceOp, BoundaryAdvance};
 use txn_caches::boundary_read::BoundaryRead;
 use txn_caches::check::{BoundaryCheck, BoundaryStep, CheckOp};
 use txn_steps::latest::LatestOp;
 use txn_steps::read::ReadOp;
-use txn_steps::seen::ReadSeenOp;
-use txn_steps::write::WriteUncheckedOp;
 use txn_store::request::Reply;
 
 fn is_look(reply: &Option<Reply>) -> bool
     ensures { IsTrue result → IsLook reply.now }
 {
     reply.is_none()
-}
-
-fn is_put(reply: &Option<Reply>) -> bool
-    ensures { IsTrue result → IsPut reply.now }
-{
-    matches!(reply, Some(Reply::Put(_)))
 }
 
 fn is_got(reply: &Option<Reply>) -> bool
@@ -44,7 +31,7 @@ fn is_listed(reply: &Option<Reply>) -> bool
     matches!(reply, Some(Reply::List(_)))
 }
 
-pub(crate) fn fits_boundary(op: &BoundaryRead, reply: &Option<Reply>) -> bool
+fn fits_boundary(op: &BoundaryRead, reply: &Option<Reply>) -> bool
     ensures { IsTrue result → IsBoundaryReply op.now reply.now }
 {
     match op {
@@ -53,7 +40,7 @@ pub(crate) fn fits_boundary(op: &BoundaryRead, reply: &Option<Reply>) -> bool
     }
 }
 
-pub(crate) fn fits_boundary_check(op: &BoundaryCheck, reply: &Option<Reply>) -> bool
+fn fits_boundary_check(op: &BoundaryCheck, reply: &Option<Reply>) -> bool
     ensures { IsTrue result → IsBoundaryCheckReply op.now reply.now }
 {
     match op.step {
@@ -62,41 +49,12 @@ pub(crate) fn fits_boundary_check(op: &BoundaryCheck, reply: &Option<Reply>) -> 
     }
 }
 
-pub(crate) fn fits_boundary_advance(op: &BoundaryAdvance, reply: &Option<Reply>) -> bool
-    ensures { IsTrue result → IsBoundaryAdvanceReply op.now reply.now }
-{
-    match op {
-        BoundaryAdvance::Reads(_, _, read) => fits_boundary(read, reply),
-        BoundaryAdvance::Puts(..) => is_put(reply),
-        _ => is_look(reply),
-    }
-}
-
-pub(crate) fn fits_check(op: &CheckOp, reply: &Option<Reply>) -> bool
+fn fits_check(op: &CheckOp, reply: &Option<Reply>) -> bool
     ensures { IsTrue result → IsCheckReply op.now reply.now }
 {
     match op {
         CheckOp::Checks(check) => fits_boundary_check(check, reply),
         CheckOp::Drops(_) => is_look(reply),
-    }
-}
-
-pub(crate) fn fits_advance(op: &AdvanceOp, reply: &Option<Reply>) -> bool
-    ensures { IsTrue result → IsAdvanceReply op.now reply.now }
-{
-    match op {
-        AdvanceOp::Raises(_, raise) => fits_boundary_advance(raise, reply),
-        AdvanceOp::Drops(_) => is_look(reply),
-    }
-}
-
-pub(crate) fn fits_write_unchecked(op: &WriteUncheckedOp, reply: &Option<Reply>) -> bool
-    ensures { IsTrue result → IsUncheckedReply op.now reply.now }
-{
-    match op {
-        WriteUncheckedOp::Puts(..) => is_put(reply),
-        WriteUncheckedOp::Keeps(_) => is_look(reply),
-        WriteUncheckedOp::Ended => false,
     }
 }
 
@@ -123,15 +81,5 @@ pub(crate) fn fits_read(op: &ReadOp<u64>, reply: &Option<Reply>) -> bool
         ReadOp::Reads(latest, _) => fits_latest(latest, reply),
         ReadOp::Checks(_, _, check) => fits_check(check, reply),
         ReadOp::Ended => false,
-    }
-}
-
-pub(crate) fn fits_seen(op: &ReadSeenOp<u64>, reply: &Option<Reply>) -> bool
-    ensures { IsTrue result → IsSeenReply op.now reply.now }
-{
-    match op {
-        ReadSeenOp::Gets(..) => is_got(reply),
-        ReadSeenOp::Ended => false,
-        _ => is_look(reply),
     }
 }

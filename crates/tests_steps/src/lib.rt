@@ -4,19 +4,13 @@
 #![tactic(auto)]
 
 #[cfg(test)]
-mod alone;
-#[cfg(test)]
 mod by_hand;
 #[cfg(test)]
 mod claims;
 #[cfg(test)]
-mod driven;
-#[cfg(test)]
 mod fits;
 #[cfg(test)]
 mod game;
-#[cfg(test)]
-mod hand_calls;
 #[cfg(test)]
 mod holders;
 #[cfg(test)]
@@ -33,7 +27,3 @@ mod told;
 mod view_calls;
 #[cfg(test)]
 mod views;
-#[cfg(test)]
-mod windows;
-#[cfg(test)]
-mod writes;

@@ -1,10 +1,7 @@
-//! Operations that run alone, as values.
-ghost use Rattle.std.specs.Prelude.{◌≤◌};
-
+//! Operations that run alone, as values, and what is done beside them.
 use crate::place::{Place, Play, driven};
-use crate::told::Told::{Did, Fails, GoesOn, Is};
+use crate::told::Told::{Fails, GoesOn, Is};
 use crate::told::{Error, Told, said};
-use crate::writes::{are_listed, base};
 use std::alloc::Global;
 use std::ops::Bound;
 use txn_caches::advance::AdvanceOp;
@@ -18,9 +15,9 @@ use txn_steps::latest::LatestOp;
 use txn_steps::listing::{ListAnswer, ListOp};
 use txn_steps::read::ReadOp;
 use txn_steps::seen::ReadSeenOp;
+use txn_steps::versions::Listed;
 use txn_steps::write::{WriteOp, WriteUncheckedOp};
 use txn_store::path::Path;
-use txn_store::store::ObjectStore;
 use txn_types::id::MonotonicId;
 use txn_types::layout::Layout;
 use txn_types::test_utils::NumberCodec;
@@ -30,11 +27,6 @@ use txn_types::test_utils::NumberCodec;
 pub(crate) enum Call {
     Check(u64),
     Advance(u64),
-    /// The parts of these two that leave the cached versions as they are, and the read that is a part of them. They have
-    /// no driver, so only a hand plays them.
-    BoundaryCheck(u64),
-    BoundaryAdvance(u64),
-    BoundaryRead,
     /// A write of a value on a base, 0 for none.
     Write(u64, u64),
     WriteUnchecked(u64, u64),
@@ -48,34 +40,41 @@ pub(crate) enum Call {
     ReadSeen(u64),
     /// Whether the versions within the bounds have these ids.
     Lists(Bound<u64>, Bound<u64>, &'static [u64]),
-    /// Whether the boundary's file says this.
-    Says(&'static [u8]),
-    /// The client loses what it has cached.
-    Forgets,
     /// Whether these ids are cached.
     Holds(&'static [u64]),
     /// Whether this boundary is cached.
     Knows(Option<u64>),
-    /// Whether this boundary is cached, with this token.
-    KnowsBy(u64, u64),
     /// A file that is put by hand, in place of any other.
     Put(&'static str, &'static [u8]),
+}
+
+fn base(id: u64) -> Option<MonotonicId> {
+    if id == 0 {
+        None
+    } else {
+        Some(MonotonicId::new(id))
+    }
+}
+
+/// Whether these are the listed ids.
+fn are_listed(found: &[Listed], ids: &[u64]) -> bool {
+    if found.len() != ids.len() {
+        return false;
+    }
+    for (version, id) in found.iter().zip(ids) {
+        if !version.id.is(*id) {
+            return false;
+        }
+    }
+    true
 }
 
 /// Whether a listing has these ids, where it is done.
 fn listed(turned: Turned<ListAnswer>, ids: &[u64]) -> Told {
     match turned {
         Turned::Goes => GoesOn,
-        Turned::Done(Ok(found)) => Is(are_listed(Ok(found), ids)),
+        Turned::Done(Ok(found)) => Is(are_listed(found.as_slice(), ids)),
         Turned::Done(Err(error)) => Fails(error.number()),
-    }
-}
-
-/// Whether the boundary's file says this.
-fn says(layout: &Layout<NumberCodec>, place: &mut Place, text: &[u8]) -> bool {
-    match place.store.get(&layout.boundary, None) {
-        Ok(got) => got.bytes.as_slice() == text,
-        Err(_) => false,
     }
 }
 
@@ -101,35 +100,18 @@ pub(crate) fn holds(window: &Window, ids: &[u64]) -> bool {
     true
 }
 
-/// The cached boundary and its token.
-pub(crate) fn known(caches: &Caches) -> Option<(u64, u64)> {
-    caches
-        .boundary
-        .map(|known| (known.number, known.token.number()))
+fn knows(caches: &Caches, number: Option<u64>) -> bool {
+    caches.boundary.map(|known| known.number) == number
 }
 
-/// What is said of what is cached, where a call asks for that.
-pub(crate) fn cached(caches: &Caches, call: Call) -> Option<Told> {
-    let is = match call {
-        Call::Holds(ids) => holds(&caches.latest, ids),
-        Call::Knows(number) => known(caches).map(|(number, _)| number) == number,
-        Call::KnowsBy(number, token) => known(caches) == Some((number, token)),
-        _ => return None,
-    };
-    Some(Is(is))
-}
-
-/// Something done beside the operations. A call that has no driver goes on, as no row says.
-fn beside(alloc: Global, layout: &Layout<NumberCodec>, place: &mut Place, call: Call) -> Told {
-    match call {
-        Call::Says(text) => Is(says(layout, place, text)),
-        Call::Put(path, bytes) => Is(put(alloc, place, path, bytes)),
-        Call::Forgets => {
-            place.client.caches = Caches::new();
-            Did
-        }
-        _ => cached(&place.client.caches, call).unwrap_or(GoesOn),
-    }
+/// Something done beside the operations.
+fn beside(alloc: Global, place: &mut Place, call: Call) -> Told {
+    Is(match call {
+        Call::Holds(ids) => holds(&place.client.caches.latest, ids),
+        Call::Knows(number) => knows(&place.client.caches, number),
+        Call::Put(path, bytes) => put(alloc, place, path, bytes),
+        _ => return GoesOn,
+    })
 }
 
 impl Play<NumberCodec> for Call {
@@ -185,7 +167,7 @@ impl Play<NumberCodec> for Call {
                 let op = ListOp::start(alloc, layout, from, to)?;
                 listed(driven(alloc, layout, place, op, steps), ids)
             }
-            _ => beside(alloc, layout, place, self),
+            _ => beside(alloc, place, self),
         })
     }
 }

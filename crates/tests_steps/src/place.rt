@@ -74,7 +74,7 @@ fn a_client() -> Client {
 }
 
 /// A place in which nothing has happened, the nth call of whose store fails. Client A begins.
-pub(crate) fn a_place(alloc: Global, nth: u64) -> Place {
+fn a_place(alloc: Global, nth: u64) -> Place {
     Place {
         store: FailingStore::new(InMemory::new(alloc), nth, When::Before),
         client: a_client(),
@@ -165,7 +165,7 @@ pub(crate) trait Play<C> {
 }
 
 /// What a call says that is driven for so many steps at most.
-pub(crate) fn answered<C, K: Play<C>>(
+fn answered<C, K: Play<C>>(
     alloc: Global,
     layout: &Layout<C>,
     place: &mut Place,

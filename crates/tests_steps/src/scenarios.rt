@@ -7,7 +7,7 @@ use crate::operations::Call::{
 };
 use crate::place::Seat::{A, B};
 use crate::place::{Row, Scenario, other, other_of};
-use crate::told::Told::{Did, Fails, Is, Newest, Value, Wrote};
+use crate::told::Told::{Did, Fails, GoesOn, Is, Newest, Value, Wrote};
 use std::alloc::Global;
 use std::ops::Bound::{Excluded, Included, Unbounded};
 use std::test::Fail;
@@ -304,6 +304,29 @@ const SCENARIOS: &[Scenario<Call>] = &[
             (A, Put(FIFTH, REFUSED), Is(true), 1, 0),
             (B, Latest, Fails(8), 5, 6),
             (B, Holds(&[1, 2, 3, 4, 5]), Is(true), 0, 0),
+        ],
+    ),
+    (
+        "what too few steps leave",
+        &[
+            // It has created its version.
+            (A, WriteUnchecked(0, 7), GoesOn, 1, 0),
+            (A, Holds(&[]), Is(true), 0, 0),
+            (A, WriteUnchecked(0, 8), Fails(5), 1, 0),
+            // It has not asked for the boundary.
+            (A, Check(1), GoesOn, 0, 2),
+            // It has raised the boundary.
+            (A, Advance(1), GoesOn, 2, 2),
+            (A, Knows(None), Is(true), 0, 0),
+            (B, Check(1), Fails(5), 1, 4),
+            // It has not removed its version.
+            (A, Delete(1), GoesOn, 1, 2),
+            (A, ReadUnchecked(1), Value(Some(7)), 1, 0),
+            // None of these has got its version.
+            (A, ReadSeen(1), GoesOn, 0, 1),
+            (A, Latest, GoesOn, 0, 1),
+            (A, Read, GoesOn, 0, 1),
+            (A, Holds(&[]), Is(true), 0, 0),
         ],
     ),
 ];

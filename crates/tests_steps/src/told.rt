@@ -1,5 +1,4 @@
 //! What calls say.
-use txn_caches::boundary_read::Known;
 use txn_caches::turned::Turned;
 use txn_lines::record::Record;
 use txn_types::error::TransactionalObjectError;
@@ -18,8 +17,6 @@ pub(crate) enum Told {
     Value(Option<u64>),
     /// Whether something is as it was told.
     Is(bool),
-    /// What a read of the boundary gives.
-    Reads(u64),
     /// The view is at this version.
     Viewed(u64, u64, u64),
     /// The view is at this version, as the holder of the epoch that stands last.
@@ -32,7 +29,7 @@ pub(crate) enum Told {
     GoesOn,
 }
 
-use Told::{Did, Fails, GoesOn, Held, Newest, Reads, Shut, Value, Viewed, Wrote};
+use Told::{Did, Fails, GoesOn, Held, Newest, Shut, Value, Viewed, Wrote};
 
 pub(crate) type Error = TransactionalObjectError;
 
@@ -62,12 +59,6 @@ impl Tell for Option<(MonotonicId, u64)> {
 impl Tell for Option<u64> {
     fn tell(self) -> Told {
         Value(self)
-    }
-}
-
-impl Tell for Known {
-    fn tell(self) -> Told {
-        Reads(self.0)
     }
 }
 

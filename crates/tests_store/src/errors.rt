@@ -1,4 +1,4 @@
-//! Errors: their numbers and texts, and what they become.
+//! Errors: their numbers and texts, and what those of a store become.
 use TransactionalObjectError::{
     CallbackError, Fenced, IdExhausted, InvalidObjectState, IoError, LatestRecordMissing,
     ObjectStoreError, ObjectUpdateTimeout, ObjectVersionExists, TurnsExhausted,
@@ -8,7 +8,6 @@ use std::alloc::{AllocError, Global};
 use std::test::Fail;
 use txn_store::path::PathFault;
 use txn_store::store::StoreError;
-use txn_types::codec::CodecFault;
 use txn_types::error::TransactionalObjectError;
 
 /// The errors of a store.
@@ -43,7 +42,7 @@ not modified: Err(ObjectStoreError(NotModified))
 failed: Err(ObjectStoreError(Failed))
 no memory: Err(NoMemory)
 tokens exhausted: Err(ObjectStoreError(TokensExhausted))
-bad segment, no memory
+bad segment: BadSegment, no memory: NoMemory
 ";
 
 fn all_store_words(alloc: Global) -> Result<String, AllocError> {
@@ -52,7 +51,7 @@ fn all_store_words(alloc: Global) -> Result<String, AllocError> {
         text.push_str(store_words(alloc, error)?.as_str())?;
     }
     let (bad, lacking) = (PathFault::BadSegment, PathFault::NoMemory);
-    text.push_str(format!(in alloc; "{bad}, {lacking}\n")?.as_str())?;
+    text.push_str(format!(in alloc; "{bad}: {bad:?}, {lacking}: {lacking:?}\n")?.as_str())?;
     Ok(text)
 }
 
@@ -116,25 +115,5 @@ fn all_words(alloc: Global) -> Result<String, AllocError> {
 fn errors_have_their_numbers_and_texts(rt: HostRuntime) -> Result<(), Fail> {
     let text = all_words(rt.alloc())?;
     assert_eq!(rt; text.as_str(), WORDS);
-    Ok(())
-}
-
-/// The words that an error of a callback keeps.
-fn kept(alloc: Global, error: TransactionalObjectError) -> Result<String, AllocError> {
-    match error {
-        CallbackError(kept) => format!(in alloc; "{kept}"),
-        _ => format!(in alloc; "nothing"),
-    }
-}
-
-#[test]
-fn other_errors_become_one_of_these(rt: HostRuntime) -> Result<(), Fail> {
-    let no_memory: TransactionalObjectError = AllocError.into();
-    assert_eq!(rt; no_memory.number(), 9);
-    let no_memory = TransactionalObjectError::from(CodecFault::NoMemory);
-    assert_eq!(rt; no_memory.number(), 9);
-    let refusal = CodecFault::Refused(anyhow!("bad bytes"));
-    let words = kept(rt.alloc(), TransactionalObjectError::from(refusal))?;
-    assert_eq!(rt; words.as_str(), "bad bytes");
     Ok(())
 }

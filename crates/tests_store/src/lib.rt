@@ -1,16 +1,10 @@
-//! Tests of stores, paths, ids, errors and codecs: what no clause says, and that each call succeeds with ample
-//! memory. Most are tables that one function plays over a store of its own.
+//! Tests of stores, ids, errors and codecs: what no clause says, and that calls that no case makes succeed with ample
+//! memory.
 #![tactic(auto)]
 
-#[cfg(test)]
-mod epochs;
 #[cfg(test)]
 mod errors;
 #[cfg(test)]
 mod many;
-#[cfg(test)]
-mod paths;
-#[cfg(test)]
-mod stores;
 #[cfg(test)]
 mod values;
