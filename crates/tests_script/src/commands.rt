@@ -1,60 +1,11 @@
-//! The commands of `txnworld`: their words, and what a run of workers prints.
+//! What a run of workers prints.
 ghost use Rattle.std.specs.Prelude.{◌≤◌};
 
-use std::alloc::{AllocError, AllocGlobal, Global};
+use std::alloc::AllocGlobal;
 use std::str;
 use std::sync::Wait;
-use std::test::Fail;
 use std::thread::Threads;
-use txn_commands::command::{Command, command_of};
-use txn_commands::halt::Halt;
-use txn_commands::threads::{Report, Tally, run_threads};
-use txn_journals::fault::AuditFault;
-use txn_lines::stop::Stop;
-
-/// Words, the program's name first, and what they ask for.
-const WORDS: &[(&[&str], Option<Command>)] = &[
-    (&["txnworld", "script"], Some(Command::Script)),
-    (&["txnworld", "manifest"], Some(Command::Manifest)),
-    (&["txnworld", "manifest", "2"], None),
-    (&["txnworld"], None),
-    (&[], None),
-    (&["txnworld", "Script"], None),
-    (&["txnworld", "script", "script"], None),
-    (&["txnworld", "threads", "1"], Some(Command::Threads(1))),
-    (&["txnworld", "threads", "8"], Some(Command::Threads(8))),
-    (&["txnworld", "threads"], None),
-    (&["txnworld", "threads", "0"], None),
-    (&["txnworld", "threads", "9"], None),
-    (&["txnworld", "threads", "02"], None),
-    (&["txnworld", "threads", ""], None),
-    (&["txnworld", "threads", "2", "2"], None),
-    (&["txnworld", "script", "2"], None),
-];
-
-fn asked_by(alloc: Global, words: &[&str]) -> Result<Option<Command>, AllocError> {
-    let mut command = Vec::new(alloc);
-    for word in words {
-        command.push(String::from_str(alloc, word)?)?;
-    }
-    Ok(command_of(&command))
-}
-
-/// The place of the first words that ask for something else, counted from 0, where there are such words.
-fn other_words(alloc: Global) -> Result<Option<usize>, AllocError> {
-    for (at, (words, command)) in WORDS.iter().enumerate() {
-        if asked_by(alloc, words)? != *command {
-            return Ok(Some(at));
-        }
-    }
-    Ok(None)
-}
-
-#[test]
-fn each_command_has_its_words(rt: HostRuntime) -> Result<(), Fail> {
-    assert_eq!(rt; other_words(rt.alloc())?, None);
-    Ok(())
-}
+use txn_commands::threads::run_threads;
 
 /// The number of a line of this name.
 fn number_of(line: Option<&str>, name: &str) -> Option<u64> {
@@ -110,47 +61,4 @@ fn workers_of_each_count_agree(rt: HostRuntime) {
         let is_right = matches!(history_of(&rt, workers), Some(it) if 5 <= it && it <= most);
         assert!(rt; is_right, "{workers} workers");
     }
-}
-
-/// The lines of a run whose counts and audit do not agree, and what halts one.
-fn told(alloc: Global) -> Result<[String; 3], AllocError> {
-    let tally = Tally {
-        workers: 2,
-        calls: 18,
-        answers: 17,
-        history: 5,
-        agree: false,
-    };
-    let report = Report {
-        tally,
-        audit: Err(AuditFault::RowsDiffer),
-    };
-    Ok([
-        format!(in alloc; "{report}")?,
-        format!(in alloc; "{}", Halt::Worker(3))?,
-        format!(in alloc; "{}", Halt::Stop(Stop::NoMemory))?,
-    ])
-}
-
-/// What `told` should say.
-const TOLD: [&str; 3] = [
-    "workers 2\ncalls 18\nanswers 17\nhistory 5\ncounts differ\naudit fault 3",
-    "worker 3 stopped",
-    "no memory",
-];
-
-/// The first of these texts that is another one, where there is one.
-fn other_told(alloc: Global) -> Result<Option<&'static str>, AllocError> {
-    for (text, want) in told(alloc)?.iter().zip(TOLD) {
-        if text.as_str() != want {
-            return Ok(Some(want));
-        }
-    }
-    Ok(None)
-}
-
-#[test]
-fn counts_that_differ_and_a_worker_that_stopped(rt: HostRuntime) -> Result<(), Fail> {
-    assert_eq!(rt; other_told(rt.alloc())?, None);
-    Ok(())
 }

@@ -1,9 +1,8 @@
-//! Scripts from readers, and to writers, that fail, give little at a time or have no end, and long lines.
-use std::alloc::{AllocError, Global};
+//! Scripts from readers, and to writers, that fail, give little at a time or have no end.
+use std::alloc::Global;
 use std::cell::Cell;
 use std::io;
 use std::io::{Read, Write};
-use std::test::Fail;
 use txn_script::script::run_script;
 
 /// A reader whose reads fail once its bytes are read.
@@ -91,43 +90,6 @@ fn ends_so<R: Read + Drop>(alloc: Global, reader: R, status: u8, out: &str, err:
     let mut said = Vec::new(alloc);
     let ended = run_script(alloc, reader, &mut wrote, &mut said);
     ended == status && wrote.as_slice() == out.as_bytes() && said.as_slice() == err.as_bytes()
-}
-
-/// A first line, and then a line of this byte so many times, and a fault.
-fn long_script(alloc: Global, begin: &str, count: usize) -> Result<Vec<u8>, AllocError> {
-    let mut script = Vec::new(alloc);
-    script.extend_from_slice(b"clients 1\n".as_slice())?;
-    script.extend_from_slice(begin.as_bytes())?;
-    for _ in 0..count {
-        script.push(b'1')?;
-    }
-    script.extend_from_slice(b"\nserve 1\n".as_slice())?;
-    Ok(script)
-}
-
-/// Whether a line of so many digits is bad.
-fn is_long_line_bad(alloc: Global, count: usize) -> Result<bool, AllocError> {
-    let script = long_script(alloc, "run ", count)?;
-    Ok(ends_so(alloc, script.as_slice(), 2, "", "line 2: bad line\n"))
-}
-
-/// Whether a comment of so many digits is passed over.
-fn is_long_comment_skipped(alloc: Global, count: usize) -> Result<bool, AllocError> {
-    let script = long_script(alloc, "#", count)?;
-    let out = "fault 1 UnknownNumber\nboundary 0\nerased none\n";
-    Ok(ends_so(alloc, script.as_slice(), 0, out, ""))
-}
-
-#[test]
-fn long_lines_are_bad_and_long_comments_are_not(rt: HostRuntime) -> Result<(), Fail> {
-    for count in [100usize, 251, 252, 253, 10_000, 100_000] {
-        assert!(rt; is_long_line_bad(rt.alloc(), count)?, "{count} digits");
-        assert!(rt;
-            is_long_comment_skipped(rt.alloc(), count)?,
-            "{count} digits"
-        );
-    }
-    Ok(())
 }
 
 /// Scripts of a slow reader: the status, the output and the error.

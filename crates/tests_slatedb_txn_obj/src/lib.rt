@@ -11,8 +11,6 @@ mod counted;
 mod failing;
 pub mod kept;
 #[cfg(test)]
-mod names;
-#[cfg(test)]
 mod over_boundary;
 #[cfg(test)]
 mod refused;

@@ -4,7 +4,6 @@ use crate::swept::{
     HOLDERS, Outcome, Swept, end_of,
 };
 use std::alloc::{AllocError, Global};
-use std::test::Fail;
 
 const ALL: &[(&str, &[Swept])] = &[
     ("an update", AN_UPDATE),
@@ -21,14 +20,6 @@ const ALL: &[(&str, &[Swept])] = &[
 /// What comes of lines over a store that never fails.
 fn outcome_of(alloc: Global, rows: &[Swept]) -> Result<Outcome, AllocError> {
     end_of(alloc, "fail 0 before", rows, "refused 9 NoMemory")
-}
-
-#[test]
-fn rows_end_as_they_should(rt: HostRuntime) -> Result<(), Fail> {
-    for (name, rows) in ALL {
-        assert_eq!(rt; outcome_of(rt.alloc(), rows)?, Outcome::AsTold, "{name}");
-    }
-    Ok(())
 }
 
 /// Whether lines went as they should, or a growth was refused on the way and nothing else came.

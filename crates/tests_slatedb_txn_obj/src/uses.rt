@@ -1,5 +1,4 @@
 //! Uses of the protocols from outside.
-use bytes::Bytes;
 use slatedb_txn_obj::object_store::boundary::ObjectStoreBoundaryObject;
 use slatedb_txn_obj::object_store::protocol::ObjectStoreSequencedStorageProtocol;
 use slatedb_txn_obj::protocol::TransactionalStorageProtocol;
@@ -16,7 +15,7 @@ use std::test::Fail;
 use txn_drivers::turns::Turns;
 use txn_store::in_memory::InMemory;
 use txn_store::path::Path;
-use txn_store::store::{ObjectStore, PutMode, Token};
+use txn_store::store::ObjectStore;
 use txn_types::error::TransactionalObjectError;
 use txn_types::id::MonotonicId;
 
@@ -131,60 +130,6 @@ fn two_folders_of_a_store_leave_each_other_alone(rt: HostRuntime) -> Result<(), 
     Ok(())
 }
 
-/// Puts the files `b` and `a` of a folder, and gives the token of the second.
-fn put_two(store: &mut ListStore, dir: &Path) -> Result<Token, Fail> {
-    store.put(
-        &dir.join("b")?,
-        &Bytes::from_static(b"first"),
-        &PutMode::Create,
-    )?;
-    Ok(store.put(
-        &dir.join("a")?,
-        &Bytes::from_static(b"second"),
-        &PutMode::Create,
-    )?)
-}
-
-/// Whether a page of one file has the one of this token, of six bytes, and says that there are more.
-fn is_first(alloc: Global, store: &mut ListStore, dir: &Path, token: Token) -> Result<bool, Fail> {
-    let page = store.list(alloc, dir, None, 1)?;
-    let told = page.metas.as_slice().first();
-    Ok(page.more && matches!(told, Some(meta) if meta.token == token && meta.size == 6))
-}
-
-fn is_read_as(store: &mut ListStore, file: &Path, text: &[u8]) -> Result<bool, Fail> {
-    Ok(store.get(file, None)?.bytes.as_slice() == text)
-}
-
-fn is_gone_once_deleted(store: &mut ListStore, file: &Path) -> Result<bool, Fail> {
-    store.delete(file)?;
-    Ok(store.get(file, None).is_err())
-}
-
-/// Whether the first of two files is listed, is read, and is gone once it is deleted.
-fn does_as_a_store(
-    alloc: Global,
-    store: &mut ListStore,
-    dir: &Path,
-) -> Result<(bool, bool, bool), Fail> {
-    let token = put_two(store, dir)?;
-    let file = dir.join("a")?;
-    let is_listed = is_first(alloc, store, dir, token)?;
-    let is_read = is_read_as(store, &file, b"second")?;
-    Ok((is_listed, is_read, is_gone_once_deleted(store, &file)?))
-}
-
-fn a_list_does_as_a_store(alloc: Global) -> Result<(bool, bool, bool), Fail> {
-    let dir = Path::from_text(alloc, "dir")?;
-    does_as_a_store(alloc, &mut ListStore::new(alloc), &dir)
-}
-
-#[test]
-fn a_list_of_files_is_a_store(rt: HostRuntime) -> Result<(), Fail> {
-    assert_eq!(rt; a_list_does_as_a_store(rt.alloc())?, (true, true, true));
-    Ok(())
-}
-
 /// What a reply says, an error as its number.
 #[derive(Clone, Copy, Debug, PartialEq, Eq)]
 enum Told {
@@ -249,44 +194,6 @@ fn other_reply<S: ObjectStore>(
     Ok((replies.len(), other_told(replies.as_slice(), told)))
 }
 
-/// What the calls of `calls_are_made_one_after_another` say.
-const ALL_TOLD: &[Told] = &[
-    Told::Wrote(1),
-    Told::Found(1, 10),
-    Told::Wrote(2),
-    Told::Did,
-    Told::Did,
-    Told::Fails(5),
-    Told::Found(2, 20),
-];
-
-fn other_in_memory(alloc: Global) -> Result<(usize, Option<(usize, Told)>), Fail> {
-    let first = MonotonicId::new(1);
-    let calls = [
-        Call::Write(None, 10),
-        Call::Read,
-        Call::Write(Some(first), 20),
-        Call::Advance(first),
-        Call::Delete(first),
-        Call::Check(first),
-        Call::Read,
-    ];
-    let mut protocol = a_protocol(alloc, "test")?;
-    other_reply(
-        alloc,
-        &mut protocol,
-        &mut InMemory::new(alloc),
-        &calls,
-        ALL_TOLD,
-    )
-}
-
-#[test]
-fn calls_are_made_one_after_another(rt: HostRuntime) -> Result<(), Fail> {
-    assert_eq!(rt; other_in_memory(rt.alloc())?, (7, None));
-    Ok(())
-}
-
 /// The ids of a protocol's versions.
 fn ids<S: ObjectStore>(
     alloc: Global,
@@ -324,6 +231,7 @@ fn other_after_a_listing<S: ObjectStore>(
     let (first, second) = (MonotonicId::new(1), MonotonicId::new(2));
     let calls = [
         Call::Advance(first),
+        Call::Check(first),
         Call::Delete(first),
         Call::Delete(second),
         Call::Write(Some(first), 30),
@@ -331,6 +239,7 @@ fn other_after_a_listing<S: ObjectStore>(
     ];
     let told = [
         Told::Did,
+        Told::Fails(5),
         Told::Did,
         Told::Fails(7),
         Told::Fails(5),
@@ -362,7 +271,7 @@ fn listed_over_a_list(alloc: Global) -> Result<(Listed, Listed), Fail> {
 #[test]
 fn a_protocol_runs_over_a_list_of_files(rt: HostRuntime) -> Result<(), Fail> {
     let ((other, ids), (later_other, later_ids)) = listed_over_a_list(rt.alloc())?;
-    assert_eq!(rt; (other, later_other), ((3, None), (5, None)));
+    assert_eq!(rt; (other, later_other), ((3, None), (6, None)));
     assert_eq!(rt;
         (ids.as_slice(), later_ids.as_slice()),
         (&[1, 2][..], &[2, 3][..])

@@ -1,7 +1,7 @@
 //! Growths that are refused: whatever a client, or the store's log, could not make room for, an audit agrees.
 ghost use Rattle.std.specs.Prelude.{◌≤◌};
 
-use crate::audits::{ONE, Records, client, verdict};
+use crate::verdicts::{ONE, Records, client, verdict};
 use std::alloc::{AllocError, AllocGlobal, Global};
 use std::sync::{Mutex, Wait};
 use std::test::Fail;

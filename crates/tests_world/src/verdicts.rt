@@ -1,16 +1,41 @@
 //! What an audit finds of clients that wrote and read, and of others beside them or in their places.
 ghost use Rattle.std.specs.Prelude.{◌≡◌, ◌≤◌, IfOk, length, vec_len};
 
-use crate::audits::{ONE, Records, client, verdict};
-use std::alloc::{AllocError, AllocGlobal};
+use std::alloc::{AllocError, AllocGlobal, Global};
 use std::sync::{Mutex, Wait};
 use std::test::Fail;
+use txn_audit::audit::audit;
+use txn_diary::diary::Diary;
+use txn_lines::record::{Record, RecordCodec, RecordEpoch};
 use txn_logged::logged::{LoggedStore, serve_shared};
 use txn_store::path::Path;
 use txn_store::request::Request;
 use txn_threads::diaries::work_diary;
 use txn_threads::gate::FreeGate;
 use txn_threads::jobs::Job;
+use txn_types::layout::PAGE;
+
+pub(crate) type Records = Diary<Record, RecordCodec, RecordEpoch>;
+
+pub(crate) const ONE: Record = Record {
+    epoch: 0,
+    payload: 1,
+};
+
+/// The number of the fault that an audit finds, 0 where it agrees.
+pub(crate) fn verdict(store: &LoggedStore, diaries: &[Records]) -> u8 {
+    match audit(store, diaries) {
+        Ok(()) => 0,
+        Err(fault) => fault.number(),
+    }
+}
+
+/// A client that has done nothing.
+pub(crate) fn client(alloc: Global, number: u64) -> Result<Records, AllocError>
+    requires { 1 ≤ number }
+{
+    Diary::new(alloc, number, RecordCodec, RecordEpoch, PAGE)
+}
 
 /// A client that read and wrote once.
 fn worked(
@@ -84,21 +109,30 @@ fn after_unnoted(
     Ok(verdict(&store.lock(rt), &diaries[1..3]))
 }
 
-/// All these verdicts.
+/// How many answers and receipts a client has.
+fn counts(alloc: Global, diary: &Records) -> Result<[usize; 2], AllocError> {
+    let answers = diary.answers(alloc)?.len();
+    let receipts = diary.receipts(alloc)?.len();
+    Ok([answers, receipts])
+}
+
+/// All these verdicts, and how many answers and receipts client 1 has.
 fn found(
     rt: &(impl Wait + AllocGlobal),
     store: &Mutex<LoggedStore>,
-) -> Result<([u8; 4], u8, u8), AllocError> {
+) -> Result<([u8; 4], u8, u8, [usize; 2]), AllocError> {
     let diaries = diaries(rt, store)?;
+    let counts = counts(rt.alloc(), &diaries[1]);
     let found = verdicts(&store.lock(rt), &diaries);
     let of_new_store = of_new_store(rt, &diaries);
     let after = after_unnoted(rt, store, &diaries)?;
-    Ok((found, of_new_store, after))
+    Ok((found, of_new_store, after, counts?))
 }
 
 #[test]
 fn audits_find_what_is_missing_twice_or_different(rt: HostRuntime) -> Result<(), Fail> {
     let store = Mutex::new(LoggedStore::new(rt.alloc()));
-    assert_eq!(rt; found(&rt, &store)?, ([0, 2, 1, 0], 3, 3));
+    // Client 1 reads nothing by one listing, and its write is a create and a get of the boundary.
+    assert_eq!(rt; found(&rt, &store)?, ([0, 2, 1, 0], 3, 3, [2, 3]));
     Ok(())
 }

@@ -5,9 +5,9 @@ use std::alloc::{AllocError, AllocGlobal, Global};
 use std::slice::from_ref;
 use std::sync::{Mutex, Wait};
 use std::test::Fail;
-use txn_history::event::{Call, Event, PlainCall};
+use txn_history::event::{Call, PlainCall};
 use txn_lines::record::{Record, RecordCodec, RecordEpoch};
-use txn_threads::finish::{FinishFault, finish};
+use txn_threads::finish::finish;
 use txn_threads::gate::{FreeGate, Gate, GateSpent};
 use txn_threads::jobs::{End, Job};
 use txn_threads::kept::{Kept, Share};
@@ -42,14 +42,11 @@ const THREE: Record = Record {
     payload: 3,
 };
 
-/// What finishing a kept world with these shares gives, a fault with its number.
+/// What finishing a kept world with these shares gives.
 fn finished(alloc: Global, kept: Records, shares: Vec<Share>) -> Result<String, AllocError> {
     match finish(kept, shares) {
         Ok(counts) => format!(in alloc; "{counts:?}"),
-        Err(fault) => {
-            let number = fault.number();
-            format!(in alloc; "{fault:?} {number}")
-        }
+        Err(fault) => format!(in alloc; "{fault:?}"),
     }
 }
 
@@ -126,73 +123,6 @@ fn a_worker_alone_does_its_jobs_in_order(rt: HostRuntime) -> Result<(), Fail> {
         let text = left_by(&rt, jobs)?;
         assert_eq!(rt; text.as_str(), *left);
     }
-    Ok(())
-}
-
-/// What finishing gives where the first of two workers began a read.
-fn after_a_read(alloc: Global) -> Result<String, AllocError> {
-    let (mut kept, mut shares) = kept_by(alloc, 2)?;
-    let _told = kept.take(&mut shares[0], read_of_first());
-    finished(alloc, kept, shares)
-}
-
-fn read_of_first() -> Event<Record> {
-    Event::Begin(1, Call::Plain(PlainCall::Read))
-}
-
-/// What it gives where a share is lost.
-fn with_a_share_lost(alloc: Global) -> Result<String, AllocError> {
-    let (kept, mut shares) = kept_by(alloc, 2)?;
-    let _lost = shares.pop();
-    finished(alloc, kept, shares)
-}
-
-/// The share of worker 1 of another kept world.
-fn another_share(alloc: Global) -> Result<Option<Share>, AllocError> {
-    let (_other, mut others) = kept_by(alloc, 1)?;
-    Ok(others.pop())
-}
-
-/// What it gives with two shares of worker 1, and none of worker 2.
-fn with_a_share_twice(alloc: Global) -> Result<String, AllocError> {
-    let another = another_share(alloc)?;
-    let (kept, mut shares) = kept_by(alloc, 2)?;
-    let _lost = shares.pop();
-    match put(&mut shares, another) {
-        Ok(()) => finished(alloc, kept, shares),
-        Err(error) => Err(error),
-    }
-}
-
-/// The shares of a world in which the first of two workers began a read.
-fn shares_of_a_read(alloc: Global) -> Result<Vec<Share>, AllocError> {
-    let (mut kept, mut shares) = kept_by(alloc, 2)?;
-    let _told = kept.take(&mut shares[0], read_of_first());
-    Ok(shares)
-}
-
-/// What it gives where a fresh world was put in the place of one in which a worker began a read.
-fn in_anothers_place(alloc: Global) -> Result<String, AllocError> {
-    let shares = shares_of_a_read(alloc)?;
-    let (fresh, _its) = kept_by(alloc, 2)?;
-    finished(alloc, fresh, shares)
-}
-
-/// What finishing gives in each of these cases.
-fn finishings(alloc: Global) -> Result<String, AllocError> {
-    let read = after_a_read(alloc)?;
-    let lost = with_a_share_lost(alloc)?;
-    let twice = with_a_share_twice(alloc)?;
-    let another = in_anothers_place(alloc)?;
-    let lacking = FinishFault::NoMemory.number();
-    format!(in alloc; "{read}, {lost}, {twice}, {another}, {lacking}")
-}
-
-#[test]
-fn shares_finish_their_kept_world(rt: HostRuntime) -> Result<(), Fail> {
-    let text = finishings(rt.alloc())?;
-    let want = "[1, 0], ShareMissing 1, ShareMissing 1, CountsDiffer 2, 3";
-    assert_eq!(rt; text.as_str(), want);
     Ok(())
 }
 
