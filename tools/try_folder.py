@@ -403,7 +403,7 @@ def main(words, usage):
                 for line in check(program, root, given.seconds):
                     print(f"{os.path.basename(program)}: {line}", flush=True)
                     passed += 1
-            except Wrong as wrong:
+            except (Wrong, OSError, ValueError, TypeError, subprocess.SubprocessError) as wrong:
                 print(f"FAILED: {os.path.basename(program)}, {check.__name__}: {wrong}", flush=True)
                 failed += 1
             finally:
