@@ -130,8 +130,9 @@ fn has_twins<T>(alloc: Global, recordings: &[Vec<Row<T>>]) -> Result<bool, Alloc
 /// # Errors
 ///
 /// `Differs` where two recordings are of one client, before anything else, and where the diaries and the log differ; `Circle` where
-/// the calls have no order; `Row` for the first row of a recording that its client cannot have made; `Dishonest` for the first reply
-/// in the order that no honest store gave; `NoMemory` where a growth was refused.
+/// the calls have no order; `Row` for the first row of a recording that its client cannot have made, and for a call in the order
+/// that is not recorded, has no place there or is of an operation that landed before; `Dishonest` for the first reply in the order
+/// that no honest store gave; `NoMemory` where a growth was refused.
 pub fn audit_recordings<
     T: Clone + LineValue,
     C: ObjectCodec<T> + Copy + Drop,
