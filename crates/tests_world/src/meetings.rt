@@ -11,7 +11,7 @@ use txn_diary::diary::Diary;
 use txn_history::event::{Call, PlainCall};
 use txn_lines::record::{Record, RecordCodec, RecordEpoch};
 use txn_logged::logged::LoggedStore;
-use txn_threads::diaries::{DiaryWorker, work_diaries, work_diary};
+use txn_threads::diaries::{DiaryWorker, work_diaries};
 use txn_threads::finish::finish;
 use txn_threads::gate::{Gate, GateSpent};
 use txn_threads::jobs::{End, Job};
@@ -73,15 +73,6 @@ fn at_a_meeting<'a>(
     Ok(workers)
 }
 
-/// How workers ended.
-fn ends_of(alloc: Global, worked: &[Worked]) -> Result<Vec<End>, AllocError> {
-    let mut ends = Vec::new(alloc);
-    for one in worked {
-        ends.push(one.end)?;
-    }
-    Ok(ends)
-}
-
 /// The shares of workers.
 fn shares_of(alloc: Global, worked: Vec<Worked>) -> Result<Vec<Share>, AllocError> {
     let mut shares = Vec::new(alloc);
@@ -91,11 +82,10 @@ fn shares_of(alloc: Global, worked: Vec<Worked>) -> Result<Vec<Share>, AllocErro
     Ok(shares)
 }
 
-/// How workers ended, and whether their shares finish the kept world.
-fn told(alloc: Global, kept: Records, worked: Vec<Worked>) -> Result<String, AllocError> {
-    let ends = ends_of(alloc, &worked)?;
-    let is_finished = finish(kept, shares_of(alloc, worked)?).is_ok();
-    format!(in alloc; "{ends:?}, {is_finished}")
+/// Whether each worker ended as it should, and whether their shares finish the kept world.
+fn told(alloc: Global, kept: Records, worked: Vec<Worked>) -> Result<(bool, bool), AllocError> {
+    let are_done = worked.iter().all(|one| one.end == End::Done);
+    Ok((are_done, finish(kept, shares_of(alloc, worked)?).is_ok()))
 }
 
 /// What workers on threads of their own do.
@@ -112,8 +102,10 @@ fn work_on_threads(
     work_all(rt, kept, at_a_meeting(rt.alloc(), shares, gate)?)
 }
 
-/// How workers on threads of their own end, and whether their shares finish the kept world.
-fn told_on_threads(rt: &(impl Threads + Wait + Sync + AllocGlobal)) -> Result<String, AllocError> {
+/// The same of workers on threads of their own.
+fn told_on_threads(
+    rt: &(impl Threads + Wait + Sync + AllocGlobal),
+) -> Result<(bool, bool), AllocError> {
     let (kept, shares) = kept_by(rt.alloc(), 2)?;
     let kept = Mutex::new(kept);
     let worked = work_on_threads(rt, &kept, shares);
@@ -130,38 +122,34 @@ fn end_of(rt: &impl Wait, kept: &Mutex<Records>, worker: Worker<Record, Meeting<
     work(rt, kept, share, &mut gate, &jobs).end
 }
 
-/// How workers end one after the other.
-fn ends_in_turn(
+/// How a worker ends at a meeting to which the other does not come.
+fn end_alone(
     rt: &(impl Wait + AllocGlobal),
     kept: &Mutex<Records>,
     shares: Vec<Share>,
-) -> Result<Vec<End>, AllocError> {
+) -> Result<Option<End>, AllocError> {
     let (first, second) = (AtomicU64::new(0), AtomicU64::new(0));
     let gate = Meeting {
         first: &first,
         second: &second,
     };
-    let mut ends = Vec::new(rt.alloc());
-    for worker in at_a_meeting(rt.alloc(), shares, gate)? {
-        ends.push(end_of(rt, kept, worker))?;
+    match at_a_meeting(rt.alloc(), shares, gate)?.pop() {
+        Some(worker) => Ok(Some(end_of(rt, kept, worker))),
+        None => Ok(None),
     }
-    Ok(ends)
 }
 
-/// The same, as text.
-fn told_in_turn(rt: &(impl Wait + AllocGlobal)) -> Result<String, AllocError> {
+/// The same, of a world of its own.
+fn told_alone(rt: &(impl Wait + AllocGlobal)) -> Result<Option<End>, AllocError> {
     let (kept, shares) = kept_by(rt.alloc(), 2)?;
-    let ends = ends_in_turn(rt, &Mutex::new(kept), shares)?;
-    format!(in rt.alloc(); "{ends:?}")
+    end_alone(rt, &Mutex::new(kept), shares)
 }
 
 #[test]
 fn workers_are_at_work_at_the_same_time(rt: HostRuntime) -> Result<(), Fail> {
-    let text = told_on_threads(&rt)?;
-    assert_eq!(rt; text.as_str(), "[Done, Done], true");
-    // In turn they do not meet.
-    let text = told_in_turn(&rt)?;
-    assert_eq!(rt; text.as_str(), "[GateSpent, Done]");
+    assert_eq!(rt; told_on_threads(&rt)?, (true, true));
+    // Who is alone meets nobody.
+    assert_eq!(rt; told_alone(&rt)?, Some(End::GateSpent));
     Ok(())
 }
 
@@ -183,68 +171,38 @@ fn clients_at_a_meeting<'a>(
     Ok(clients)
 }
 
-/// How clients on threads of their own end, and their diaries then.
+/// Whether each client on a thread of its own ends as it should, and their diaries then.
 fn diaries_on_threads(
     rt: &(impl Threads + Wait + Sync + AllocGlobal),
     store: &Mutex<LoggedStore>,
     gate: Meeting<'_>,
-) -> Result<(Vec<End>, Diaries), AllocError> {
+) -> Result<(bool, Diaries), AllocError> {
     let clients = clients_at_a_meeting(rt.alloc(), gate)?;
-    let mut ends = Vec::new(rt.alloc());
+    let mut are_done = true;
     let mut diaries = Vec::new(rt.alloc());
     for one in work_diaries(rt, store, clients)? {
-        ends.push(one.end)?;
+        are_done &= one.end == End::Done;
         diaries.push(one.diary)?;
     }
-    Ok((ends, diaries))
+    Ok((are_done, diaries))
 }
 
-/// How clients on threads of their own end, and whether an audit agrees.
+/// Whether each client on a thread of its own ends as it should, and whether an audit agrees.
 fn clients_on_threads(
     rt: &(impl Threads + Wait + Sync + AllocGlobal),
-) -> Result<(Vec<End>, bool), AllocError> {
+) -> Result<(bool, bool), AllocError> {
     let store = Mutex::new(LoggedStore::new(rt.alloc()));
     let (first, second) = (AtomicU64::new(0), AtomicU64::new(0));
     let gate = Meeting {
         first: &first,
         second: &second,
     };
-    let (ends, diaries) = diaries_on_threads(rt, &store, gate)?;
-    Ok((ends, audit(&store.into_inner(), &diaries).is_ok()))
-}
-
-/// How a client ends.
-fn client_end(rt: &impl Wait, store: &Mutex<LoggedStore>, client: Client<'_>) -> End {
-    let DiaryWorker {
-        diary,
-        mut gate,
-        jobs,
-    } = client;
-    work_diary(rt, store, diary, &mut gate, &jobs).end
-}
-
-/// How clients end one after the other.
-fn clients_in_turn(rt: &(impl Wait + AllocGlobal)) -> Result<Vec<End>, AllocError> {
-    let store = Mutex::new(LoggedStore::new(rt.alloc()));
-    let (first, second) = (AtomicU64::new(0), AtomicU64::new(0));
-    let gate = Meeting {
-        first: &first,
-        second: &second,
-    };
-    let mut ends = Vec::new(rt.alloc());
-    for client in clients_at_a_meeting(rt.alloc(), gate)? {
-        ends.push(client_end(rt, &store, client))?;
-    }
-    Ok(ends)
+    let (are_done, diaries) = diaries_on_threads(rt, &store, gate)?;
+    Ok((are_done, audit(&store.into_inner(), &diaries).is_ok()))
 }
 
 #[test]
 fn clients_are_at_work_at_the_same_time(rt: HostRuntime) -> Result<(), Fail> {
-    let (ends, agrees) = clients_on_threads(&rt)?;
-    assert_eq!(rt; ends.as_slice(), [End::Done, End::Done].as_slice());
-    assert!(rt; agrees);
-    // In turn they do not meet.
-    let ends = clients_in_turn(&rt)?;
-    assert_eq!(rt; ends.as_slice(), [End::GateSpent, End::Done].as_slice());
+    assert_eq!(rt; clients_on_threads(&rt)?, (true, true));
     Ok(())
 }
