@@ -160,10 +160,3 @@ pub fn temporary_of(name: &str) -> Option<&str>
     read_twenty(number)?;
     Some(file)
 }
-
-/// Whether a name is a temporary one: that of a file, with a `#` and twenty digits after it.
-pub fn is_temporary(name: &str) -> bool
-    ensures { Decides result ((file : List ℕ) × IsTemporaryOf file name.now) }
-{
-    temporary_of(name).is_some()
-}

@@ -411,7 +411,10 @@ impl<T: Drop> LatestOp<T> {
         Turned::Done(Ok(Some((id, value))))
     }
 
-    /// Takes the store's reply to what it asks, or none for a look.
+    /// Takes the store's reply to what it asks, or none for a look. Its answer is the newest version, or none where a listing
+    /// has none. Where the codec does not read that version it is `CallbackError`; a growth that is refused is `NoMemory`;
+    /// any other error is the store's, as it becomes, but that a get finds nothing is no error. An error leaves the held
+    /// versions as they were.
     pub fn take<C: ObjectCodec<T>>(
         &mut self,
         alloc: Global,

@@ -28,13 +28,15 @@ pub enum TransactionalObjectError {
     /// A load found no version.
     #[error("failed to find latest record")]
     LatestRecordMissing,
-    /// A conflict: the version that was to be created stands already, or it is at or below the boundary.
+    /// A conflict: the version that was to be created stands already, it is at or below the boundary, or a candidate is of
+    /// another version than its object is at.
     #[error("object version exists")]
     ObjectVersionExists,
-    /// A newer client has claimed the object.
+    /// A newer client has claimed the object, or a claim asked for an epoch that is not above the stored one.
     #[error("detected newer client")]
     Fenced,
-    /// A file is missing that has to be there, or is not what it has to be.
+    /// A file is missing that has to be there, or is not what it has to be; an id to be deleted is above the boundary; or a
+    /// holder's version has a smaller epoch than its own, or its candidate another one.
     #[error("object in store is in an unexpected state")]
     InvalidObjectState,
     /// A codec, an invariant or a mutator refused, with this error.

@@ -128,8 +128,9 @@ impl<T: Drop> EntryOp<T> {
     }
 
     /// Takes the store's reply to what it asks, or none for a look. Where the write answers its id, the view is at that,
-    /// with the value. A version that stands already, or that the boundary has reached, is `ObjectVersionExists`; any other
-    /// error is the store's, as it becomes. An answer ends it. It takes no memory.
+    /// with the value. A version that stands already, or that the boundary has reached, is `ObjectVersionExists`; a boundary's
+    /// file that says no number is `InvalidObjectState`; any other error is the store's, as it becomes. An answer ends it. It
+    /// takes no memory.
     pub fn take(&mut self, caches: &mut Caches, reply: Option<Reply>) -> Turned<ViewAnswer<T>>
         requires { IsEntryReply self.old reply }
         ensures turned { (self.new, turned_by_number result) ≡ entry_turned self.old caches.old reply }
