@@ -1,5 +1,6 @@
 //! Files written whole, each with a number, which its time of change is.
-ghost use Rattle.std.specs.Prelude.{◌≡◌};
+ghost use Rattle.std.specs.Prelude.{◌≡◌, min};
+ghost use Rattle.std.specs.Duration.{as_nanos};
 ghost use Rattle.txn_files.specs.Times.{time_number};
 
 use crate::fault::{Doing, Fault, Halt, at_error};
@@ -10,11 +11,11 @@ use std::rt::{Clock, Files};
 use std::time::{Duration, UNIX_EPOCH};
 use std::{fs, io};
 
-/// The nanoseconds of a time, the greatest number where there are more.
-fn nanos_of(time: Duration) -> u64 {
-    time.as_secs()
-        .saturating_mul(1_000_000_000)
-        .saturating_add(u64::from(time.subsec_nanos()))
+/// The nanoseconds of a time, the greatest number where there are more. It takes no memory.
+pub fn nanos_of(time: Duration) -> u64
+    ensures { result ≡ min (as_nanos time) 18446744073709551615 }
+{
+    u64::try_from(time.as_nanos()).unwrap_or(u64::MAX)
 }
 
 /// The nanoseconds since 1970.

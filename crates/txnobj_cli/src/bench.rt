@@ -2,19 +2,19 @@
 //! store's calls alone.
 
 use crate::ending::{Halt, store_failed};
-use crate::recording::nanos_of;
-use crate::session::{PAGE, store_of};
+use crate::session::store_of;
 use bytes::Bytes;
 use std::alloc::{AllocError, Global};
 use std::rt::Clock;
 use std::str;
 use txn_clients::layout::world_layout;
 use txn_entries::entry::EntryCodec;
+use txn_files::written::nanos_of;
 use txn_folder::store::FolderStore;
 use txn_store::request::{Reply, Request};
 use txn_store::store::{PutMode, StoreError};
 use txn_types::boundary::read_boundary;
-use txn_types::layout::Layout;
+use txn_types::layout::{Layout, PAGE};
 use txnobj_words::options::Options;
 
 /// A number whose versions are kept in a folder, as one client knows it.

@@ -6,10 +6,10 @@ use std::alloc::{AllocError, Global};
 use std::fs::{File, OpenFile, OpenOptions, TryLockError};
 use std::io::{Read, Seek, SeekFrom, Write};
 use std::rt::Clock;
-use std::time::Duration;
 use std::{fs, io, str};
 use txn_client::recorder::Recorder;
 use txn_entries::entry::Entry;
+use txn_files::written::{nanos_of, number_now};
 use txn_history::event::{Answer, Call};
 use txn_recorded::written::{
     answer_row, ask_row, begin_row, client_row, failed_row, give_up_row, reply_row, source_row,
@@ -72,13 +72,6 @@ fn opened(rt: &HostRuntime, path: &str) -> Result<File, Halt> {
     }
 }
 
-/// The nanoseconds of a time, the greatest number where there are more.
-pub fn nanos_of(time: Duration) -> u64 {
-    time.as_secs()
-        .saturating_mul(1_000_000_000)
-        .saturating_add(u64::from(time.subsec_nanos()))
-}
-
 /// The first line of these bytes, where there is one.
 fn first_line(bytes: &[u8]) -> Option<&str> {
     match str::from_utf8(bytes) {
@@ -99,7 +92,7 @@ fn clock_name(rt: &HostRuntime, client: u64) -> Result<String, Halt> {
     match machine_clock(rt) {
         Some(name) => Ok(name),
         None => {
-            let now = nanos_of(rt.since_1970()?);
+            let now = number_now(rt)?;
             Ok(format!(in rt.alloc(); "client-{client}-{now}")?)
         }
     }
@@ -142,7 +135,7 @@ impl Recording {
 
     /// Adds the rows that stand before all others, by one write.
     fn begin(&mut self, object: &str, client: u64, page: u64) -> Result<(), Halt> {
-        let since = nanos_of(self.rt.since_1970()?);
+        let since = number_now(&self.rt)?;
         let ahead = since.saturating_sub(self.now()?);
         let clock = clock_name(&self.rt, client)?;
         let rows = first_rows(self.alloc(), object, clock.as_str(), ahead, (client, page));

@@ -2,30 +2,28 @@
 ghost use Rattle.std.specs.Prelude.{◌≤◌, IfOk};
 
 use crate::ending::{Halt, store_failed};
-use crate::recording::{Recording, nanos_of};
+use crate::recording::Recording;
 use bytes::Bytes;
 use std::alloc::{AllocError, Global};
 use std::ops::Bound;
-use std::rt::Clock;
 use txn_client::client::Client;
 use txn_client::retry::{Applied, Viewed};
 use txn_client::serve::Serve;
 use txn_clients::layout::world_layout;
 use txn_entries::entry::{Entry, EntryCodec, EntryEpoch};
+use txn_files::written::number_now;
 use txn_folder::folder::Folder;
 use txn_folder::store::FolderStore;
 use txn_history::event::{Answer, Call, PlainAnswer, PlainCall, ViewCall};
 use txn_history::ids::Ids;
 use txn_store::request::{Reply, Request};
-use txn_types::layout::Layout;
+use txn_types::layout::{Layout, PAGE};
 use txnobj_words::options::Options;
 
 /// The most looks and store calls of one call.
 const STEPS: u64 = 100_000;
 /// How often an update is made again after a conflict.
 const ATTEMPTS: u64 = 10_000;
-/// How many files a page of a listing has at most.
-pub const PAGE: u64 = 1_000;
 
 /// The store of a folder, as what a client calls.
 #[derive(Drop)]
@@ -81,7 +79,7 @@ fn client_of(rt: &HostRuntime, options: &Options<'_>) -> Result<u64, Halt>
 {
     let number = match options.client {
         Some(number) => number,
-        None => nanos_of(rt.since_1970()?).max(1),
+        None => number_now(rt)?.max(1),
     };
     if number == 0 {
         return Err(Halt::Words("a client's number is at least 1"));
