@@ -2,12 +2,14 @@
 //! which versions are fenced and may be removed, and with holders whose epoch shuts older holders out.
 //!
 //! A caller holds a [`TransactionalObject`]: a copy of one version, which it refreshes and updates. What an update does in
-//! the store is the protocol's, and what the store is its own: any type that keeps `ObjectStore` of `txn_store` serves.
-//! Protocol, store, turns and clock are lent to each call, and no call waits or retries beyond the turns that it is lent.
+//! the store is the protocol's, and what the store is its own: any type that keeps `ObjectStore` of `txn_store` serves. Those
+//! of this project lie in memory; over a shared folder, or a server, a client of `txn_client` makes such calls. Protocol,
+//! store, turns and clock are lent to each call, each time the same protocol and store for an object; no call waits or
+//! retries beyond the turns that it is lent.
 //!
 //! ## Core types
-//! - [`TransactionalStorageProtocol`]: what an object asks of its storage: `write` a value on a base, if that is the newest
-//!   version, and `try_read_latest`. Its contracts alone say what an object over it does.
+//! - [`TransactionalStorageProtocol`]: what an object asks of its storage: `write` a value on a base that a call answered, if
+//!   that is the newest version, and `try_read_latest`. Its contracts alone say what an object over it does.
 //! - [`SequencedStorageProtocol`]: versions with ids from 1 on, over a boundary: reads of one version, listings and deletes.
 //!   Every type with it has the trait above.
 //! - [`BoundaryObject`]: the boundary of a sequence: `check` an id against it, `advance` it.
@@ -20,16 +22,16 @@
 //!   more with a greater epoch in it, by an [`EpochField`]; from then on an older holder's update is a conflict, and its
 //!   refresh finds it `Fenced`.
 //! - [`ObjectCodec`]: how a value is written as bytes. [`MonotonicId`]: the id of a version. [`Turns`]: how many passes of a
-//!   read, pages after the first, puts of an advance and attempts of an update a call may still begin. [`SystemClock`]: by
-//!   which a claim ends in time.
+//!   read, pages after the first, puts of an advance and attempts of an update a call may still begin. [`SystemClock`]: read
+//!   before each update and each refresh of a claim, which begins none at its deadline or past it.
 //!
 //! ## Errors
 //! An error is a [`TransactionalObjectError`], and each contract says which come, why, and what they leave.
 //! - `ObjectVersionExists` is a conflict: the version that was to be written stands already, or it is at or below the
 //!   boundary, or a candidate is of another version than the object is at. Refresh and try again, or let
 //!   `maybe_apply_update` do so.
-//! - `Fenced`: a holder with a greater epoch has claimed the object, and this holder writes nothing more; or a claim asked for
-//!   an epoch that is not above the one that stands.
+//! - `Fenced`: the version that was read has a greater epoch than this holder, which writes nothing more as long as no update
+//!   without a holder lowers the epoch; or a claim asked for an epoch that is not above the one that stands.
 //! - `InvalidObjectState`: what stands, or what is given, is not what the call needs: a boundary file says no number, a refresh
 //!   finds no version, an id to be deleted is above the boundary, or a holder's version has a smaller epoch than its own, or
 //!   its candidate another one.
@@ -43,7 +45,8 @@
 //!
 //! ## Example
 //! A holder claims an object, writes on it, and is fenced once another has claimed it (a part of `fences_older_holder` of
-//! `slatedb_txn_obj_uses`, which is proved for every value, field of epochs, clock, protocol and store):
+//! `slatedb_txn_obj_uses`, which is proved for every value, field of epochs, clock, protocol and store, where both claims are
+//! made by one protocol; of many clients with a protocol each, the theorem is that of `World` of `txn_world`):
 //! ```text
 //! let view: SimpleTransactionalObject<T, MonotonicId, NoInvariant> =
 //!     SimpleTransactionalObject::load(alloc, protocol, store, turns)?;

@@ -52,10 +52,12 @@ pub trait TransactionalStorageProtocol<T, Id, S: ObjectStore> {
     /// Writes the value as the version above the base, or as version 1 where there is none, and answers its id. It makes at
     /// most two calls of the store, takes at most one token, and creates at most the file of that version.
     ///
-    /// Where the base isn't the newest version it is `ObjectVersionExists`, and what stood stands. A sequenced protocol may
+    /// Where a newer version than the base stands it is `ObjectVersionExists`, and what stood stands. A sequenced protocol may
     /// then have created a version, whose id the boundary had reached; no checked read answers it. The greatest id as base, and
     /// no other, is `IdExhausted`, without a call of the store, and nothing moved. After any other error the value may have
-    /// been written: `InvalidObjectState`, where the boundary file says no number, `ObjectStoreError` and `NoMemory`.
+    /// been written: `InvalidObjectState`, where the boundary file says no number, `ObjectStoreError` and `NoMemory`. The base
+    /// is to be an id that a call answered: one above the newest version is written on too, and no clause says what stands
+    /// then.
     fn write(
         &mut self,
         store: &mut S,

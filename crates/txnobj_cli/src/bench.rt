@@ -33,7 +33,7 @@ enum Told {
     Put,
     /// A file has the name already.
     Taken,
-    /// A file says this number, after an epoch.
+    /// A file says this number, in epoch 0.
     Says(u64),
     /// A file says no such number.
     Other,
@@ -50,8 +50,8 @@ enum Told {
 enum Stopped {
     /// A call failed, or memory lacked.
     Failed,
-    /// A version says no number.
-    NoNumber,
+    /// A version says no number in epoch 0, or a boundary stands.
+    NotItsOwn,
 }
 
 /// The calls on a number, over the store that is lent.
@@ -62,12 +62,12 @@ struct Calls<'a> {
     store: &'a mut FolderStore<HostRuntime>,
 }
 
-/// What a version's bytes tell: an epoch, a colon and the number.
+/// What a version's bytes tell: epoch 0, a colon and the number.
 fn told_bytes(bytes: &[u8]) -> Told {
     let Ok(text) = str::from_utf8(bytes) else {
         return Told::Other;
     };
-    let Some((_, payload)) = text.split_once(':') else {
+    let Some(("0", payload)) = text.split_once(':') else {
         return Told::Other;
     };
     match read_boundary(payload.as_bytes()) {
@@ -142,18 +142,19 @@ impl Calls<'_> {
                     number.value = value;
                 }
                 Told::Missing => return Ok(()),
-                Told::Other => return Err(Stopped::NoNumber),
+                Told::Other => return Err(Stopped::NotItsOwn),
                 _ => return Err(Stopped::Failed),
             }
         }
         Ok(())
     }
 
-    /// Looks for the boundary, as a checked write does.
+    /// Looks for the boundary, as a checked write does: an object that is the number's own has none.
     fn check(&mut self) -> Result<(), Stopped> {
         let request = self.get_of_boundary();
         match self.serve(request) {
-            Told::Says(_) | Told::Other | Told::Missing => Ok(()),
+            Told::Missing => Ok(()),
+            Told::Says(_) | Told::Other => Err(Stopped::NotItsOwn),
             _ => Err(Stopped::Failed),
         }
     }
@@ -201,6 +202,7 @@ impl Calls<'_> {
     /// Lists all versions so many times, or adds one so many times.
     fn repeat(&mut self, number: &mut Number, times: u64, lists: bool) -> Result<(), Stopped> {
         if !lists {
+            self.check()?;
             self.catch_up(number)?;
         }
         for _ in 0..times {
@@ -216,7 +218,9 @@ impl Calls<'_> {
     /// Why no more calls are made, as the program says it.
     fn halt_of(&self, stopped: Stopped) -> Halt {
         match (stopped, self.store.fault()) {
-            (Stopped::NoNumber, _) => Halt::Words("a version of this object says no number"),
+            (Stopped::NotItsOwn, _) => Halt::Words(
+                "bench wants an object of its own: a version of this one says no number in epoch 0, or its boundary was raised",
+            ),
             (Stopped::Failed, Some(fault)) => store_failed(self.alloc, fault),
             (Stopped::Failed, None) => Halt::NoMemory,
         }

@@ -64,13 +64,15 @@ fn meaning(number: u8) -> &'static str {
     match number {
         2 => "the store failed: whether the write took effect is not known; read again",
         4 => "there is no version yet: write the first with `init`",
-        5 => "a conflict: a newer version stands; read again, and write on that",
-        6 => "fenced: a greater epoch was claimed; this holder writes nothing more",
+        5 => "a conflict: a newer version stands; read again, and write on that with `put`",
+        6 =>
+            "fenced: the object has a greater epoch, or the one that was to be claimed; whoever is to go on claims anew",
         7 =>
-            "not in this state: a delete wants an id at or below the boundary, a holder's value its epoch",
-        8 => "the newest version's bytes are no value of this program",
+            "not in this state: a delete wants an id at or below the boundary, a put with --epoch one that was claimed",
+        8 =>
+            "the bytes of a version are no value of this program: another one wrote it, or it is damaged",
         9 => "no memory",
-        10 => "no id or epoch is left",
+        10 => "no id or epoch is left: go on under another name",
         _ => "refused",
     }
 }

@@ -61,7 +61,7 @@ pub enum Command<'a> {
     /// Audits recordings.
     Audit {
         diaries: Vec<&'a str>,
-        /// By how many milliseconds the clocks of several machines may differ.
+        /// By how many milliseconds each clock may be off from that of the first recording.
         clock_error: u64,
     },
 }
@@ -171,7 +171,7 @@ const COMMANDS: &[Row] = &[
     ),
     (
         "put",
-        "Write a version on the newest, in its epoch, again after a conflict; print its id",
+        "Write a version on the newest, in its epoch whoever claimed that, again after a conflict; print its id",
         "Example: txnobj --root /srv/meta --name leader put @leader.json",
         &[
             VALUE,
@@ -185,7 +185,7 @@ const COMMANDS: &[Row] = &[
                 "epoch",
                 Kind::Number,
                 "",
-                "As the holder of this epoch: fenced where a greater one stands",
+                "Only while this epoch is the newest version's: fenced where that has a greater one",
             ),
         ],
     ),
@@ -241,31 +241,36 @@ const COMMANDS: &[Row] = &[
     ),
     (
         "collect",
-        "Remove all versions below the newest; print how many",
+        "Remove all versions below the newest, whoever claimed an epoch; print how many",
         "Example: txnobj --root /srv/meta --name leader collect",
         &[],
     ),
     (
         "shell",
         "Read calls from the standard input, a line each, and print their answers: for a process that keeps a view or an epoch",
-        "Example: printf 'load\nclaim 1\nholder_update 1 1:hello\n' | txnobj --root /srv/meta --name leader shell",
+        "Example: printf 'load\nclaim 1\nholder_refresh 1\n' | txnobj --root /srv/meta --name leader shell",
         &[],
     ),
     (
         "doctor",
-        "Test whether the folder's file system can carry an object",
+        "Test whether the file system of a folder that is there can carry an object",
         "Example: txnobj --root /srv/meta doctor",
         &[],
     ),
     (
         "clean",
-        "Remove temporary files that writers left which were killed; print how many",
+        "Remove old temporary files, as writers leave that are killed; print how many",
         "Example: txnobj --root /srv/meta --name leader clean 3600",
-        &[("SECONDS", Kind::Count, "", "Only those that are older")],
+        &[(
+            "SECONDS",
+            Kind::Count,
+            "",
+            "Only those that are older: more than any write takes, since one that still goes on fails, without effect",
+        )],
     ),
     (
         "bench",
-        "Add one to a number again and again, by the store's calls alone; print how long each took",
+        "Add one to a number again and again, in an object of its own, by the store's calls alone; print how long each took",
         "Example: txnobj --root /dev/shm/bench --name number --no-sync bench 10000",
         &[
             ("TIMES", Kind::Count, "", "How often"),
@@ -281,7 +286,7 @@ const COMMANDS: &[Row] = &[
                 "clock-error",
                 Kind::Number,
                 "1000",
-                "By how many milliseconds the clocks of several machines may differ",
+                "By how many milliseconds each clock of another machine may be off from that of the first recording",
             ),
             ("DIARY", Kind::Places, "", "The files of the recordings"),
         ],
