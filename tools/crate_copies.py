@@ -120,7 +120,7 @@ class Copies:
     """The copies of one crate: `new` makes one, with the crate's own text, for one check at a time."""
 
     def __init__(self, root, room, name, uses, commands):
-        self.root, self.room, self.name, self.uses, self.commands = root, room, name, uses, commands
+        self.root, self.room, self.name, self.commands = root, room, name, commands
         self.below = sorted(all_below(name, uses))
         self.texts = texts_of(f"{root}/crates/{name}")
         self.free, self.made, self.lock, self.seconds = [], 0, threading.Lock(), 0.0
@@ -223,7 +223,11 @@ class Copies:
         words += ["--allow-holes"] * any(path not in self.texts for path in texts)
         while True:
             asked = sorted({names[0] for names in only}) if all(only) else []
-            said = self.run(copy, [*words, *(word for it in asked for word in ("--only", it))])[1]
+            run = [*words, *(word for it in asked for word in ("--only", it))]
+            status, said = self.run(copy, run)
+            if status < 0:
+                # (a check that was killed, most likely for memory, is run once more)
+                status, said = self.run(copy, run)
             unknown = UNKNOWN.search(said)
             if not unknown or unknown[1] not in asked:
                 return said

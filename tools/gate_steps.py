@@ -3,16 +3,18 @@ from __future__ import annotations
 
 import argparse
 import contextlib
+import glob
 import os
 import re
 import shutil
+import signal
 import subprocess
 import sys
 import tempfile
 import time
 from dataclasses import dataclass
 
-from crate_copies import all_below, crates_listed, lines_of_crates
+from crate_copies import all_below, crates_listed, lines_of_crates, texts_of
 from kept_verdicts import MOST_SHEETS, cache_folder, remove_old, sum_of, sum_of_file
 from refuse_growths import TESTS as SWEPT
 from refuse_growths import TESTS_ENDING
@@ -66,11 +68,17 @@ def run_and_show(words, folder):
         say(f"{words[0]} cannot be run: {error.strerror}")
         return 127, "", 0.0, 0.0
     lines = []
-    with process.stdout:
-        for line in process.stdout:
-            sys.stdout.buffer.write(line)
-            sys.stdout.flush()
-            lines.append(line.decode(errors="replace"))
+    try:
+        with process.stdout:
+            for line in process.stdout:
+                sys.stdout.buffer.write(line)
+                sys.stdout.flush()
+                lines.append(line.decode(errors="replace"))
+    except BaseException:
+        # (what ends this command ends its step too)
+        process.terminate()
+        process.wait()
+        raise
     _, status, used = os.wait4(process.pid, 0)
     process.returncode = os.WEXITSTATUS(status) if os.WIFEXITED(status) else 128 + os.WTERMSIG(status)
     return process.returncode, "".join(lines), time.monotonic() - started, used.ru_utime + used.ru_stime
@@ -97,8 +105,9 @@ def count_of_unittest(text):
     ran = re.findall(r"^Ran (\d+) tests? in ", text, re.M)
     if not ran or not int(ran[-1]):
         return 0, 1
-    bad = sum(map(int, re.findall(r"(?:failures|errors|unexpected successes)=(\d+)", last_line_of(text))))
-    return max(0, int(ran[-1]) - bad), bad
+    count = lambda kinds: sum(map(int, re.findall(rf"(?:{kinds})=(\d+)", last_line_of(text))))  # noqa: E731
+    bad = count("failures|errors|unexpected successes")
+    return max(0, int(ran[-1]) - bad - count("skipped")), bad
 
 
 def count_of_ci(text):
@@ -117,12 +126,39 @@ def builds_of(root, program):
     return [f"{root}/crates/{program}/out/{program}{ending}" for ending in BUILDS]
 
 
+def git_folder(root):
+    """The folder that git keeps of this checkout, which a file names where the checkout is one of several."""
+    git = f"{root}/.git"
+    if os.path.isfile(git):
+        with open(git, encoding="utf-8", errors="replace") as file:
+            git = os.path.join(root, file.read().strip().removeprefix("gitdir: "))
+    return git
+
+
 def remove_builds(root):
-    """Removes the programs that an earlier run left, so that none of them stands for what this run builds."""
+    """Removes the programs that an earlier run left, so that none of them stands for what this run builds, and the
+    libraries: `rt ci` sets these aside, and at its end gives them back in place of those that it built."""
     for program in programs_in(root):
         for build in builds_of(root, program):
             if os.path.isfile(build):
                 os.remove(build)
+    for it in (f"{glob.escape(root)}/crates/*/out/rlib", f"{glob.escape(git_folder(root))}/rt-aside/*/rlib"):
+        for folder in glob.glob(it):
+            shutil.rmtree(folder)
+
+
+def texts_by_crate(root):
+    """What the checks read of each crate."""
+    return {it: texts_of(f"{root}/crates/{it}") for it in sorted(crates_listed(root))}
+
+
+def edited_since(root, texts):
+    """The step that fails where a text is no longer as it was: what follows would be tried over libraries of other texts."""
+    now = texts_by_crate(root)
+    edited = sorted(it for it in {**texts, **now} if texts.get(it) != now.get(it))
+    for it in edited:
+        say(f"FAILED: a text of {it} was edited while rt ci ran: run this again")
+    return [Step("texts edited during rt ci", 0, len(edited))] * bool(edited)
 
 
 def date_builds(root, began):
@@ -249,11 +285,14 @@ def steps_of(root, top, given):
     anew, every = ["--anew"] * given.anew, ["--all"] * given.all
     unit_tests = [sys.executable, "-m", "unittest", "discover", "-s", "tools/tests"]
     yield step("tests of the tools", unit_tests, root, count_of_unittest)
+    texts = texts_by_crate(top)
     yield from ci_steps(top, given.anew)
+    edited = edited_since(top, texts)
+    yield from edited
     with_edits = [it for it in given.crates if os.path.isdir(f"{top}/crates/{it}/wrong-bodies")]
-    if with_edits or not given.crates:
+    if not edited and (with_edits or not given.crates):
         yield step("wrong bodies", [f"{top}/tools/wrong-bodies", *with_edits, "--after-ci", *every, *anew], top)
-    programs = programs_in(top) if given.crates else sorted({*programs_in(top), *CASES})
+    programs = programs_in(top) if given.crates else sorted({*programs_in(top), *CASES, PROGRAM_OF_FOLDERS})
     yield from case_steps(top, programs)
     yield from refusal_steps(top, programs)
     yield from folder_steps(top, programs, given.anew)
@@ -272,6 +311,7 @@ def arguments_of(words, usage):
 def main(words, usage="", root=os.path.dirname(os.path.dirname(os.path.realpath(__file__)))):
     """Runs the steps and returns the exit status."""
     given = arguments_of(words, usage)
+    signal.signal(signal.SIGTERM, lambda *_: sys.exit(128 + signal.SIGTERM))
     uses = crates_listed(root)
     unknown = [it for it in given.crates if it not in uses]
     if unknown:

@@ -7,7 +7,9 @@ of a crate as others see it, over the first two: under their sum it has a line f
 damaged, or of another sheet, is as none. What was not refused is tried by each run."""
 from __future__ import annotations
 
+import contextlib
 import functools
+import glob
 import hashlib
 import os
 import re
@@ -32,7 +34,9 @@ TOOL = ("crate_copies.py", "kept_verdicts.py", "rattle_source.py", "wrong_bodies
 def cache_folder(environment):
     """The folder of all that is kept, by the variables of this environment; "" where none of them tells one."""
     cache = environment.get("XDG_CACHE_HOME") or os.path.join(environment.get("HOME", ""), ".cache")
-    return environment.get(FOLDER_VARIABLE) or (f"{cache}/tendrifalo" if os.path.isabs(cache) else "")
+    # (a folder that is named from here would be another one wherever a command runs)
+    given = [environment.get(FOLDER_VARIABLE, ""), f"{cache}/tendrifalo"]
+    return next(filter(os.path.isabs, given), "")
 
 
 def default_folder(environment):
@@ -44,8 +48,10 @@ def default_folder(environment):
 def remove_old(folder, most):
     """Removes the files of a folder that were used longest ago, past so many."""
     paths = [f"{folder}/{name}" for name in os.listdir(folder)]
-    for path in sorted(paths, key=os.path.getmtime, reverse=True)[most:]:
-        os.remove(path)
+    # (another run may have removed some meanwhile)
+    with contextlib.suppress(FileNotFoundError):
+        for path in sorted(paths, key=os.path.getmtime, reverse=True)[most:]:
+            os.remove(path)
 
 
 def sum_of(*parts):
@@ -100,9 +106,11 @@ def sum_of_tool():
 
 
 def sum_of_toolchain(commands, root):
-    """A checksum of the toolchain: of what it says that it is, and of its prover."""
-    prover = shutil.which("rattle")
-    return sum_of(commands.run(["rt", "version"], root)[1], sum_of_file(prover) if prover else "")
+    """A checksum of the toolchain: of what it says that it is, of its prover, and of its libraries, by the checksum that
+    each has of its own files."""
+    prover, formats = shutil.which("rattle"), sorted(glob.glob(f"{glob.escape(commands.kit)}/rlibs/*/format"))
+    said = commands.run(["rt", "version"], root)[1]
+    return sum_of(said, sum_of_file(prover) if prover else "", *map(sum_of_file, formats))
 
 
 def flat(texts):
@@ -186,9 +194,10 @@ class Sheet:
         try:
             with open(self.path, encoding="utf-8", errors="replace") as file:
                 lines = file.read().split("\n")
-            os.utime(self.path)
         except OSError:
             return []
+        with contextlib.suppress(OSError):
+            os.utime(self.path)
         return lines
 
     def has(self, edit):

@@ -97,17 +97,18 @@ class Player:
         reader, writer = os.pipe()
         told = {"REFUSED_ALLOCATION": str(nth), "REFUSED_TO": str(writer)}
         environment = {"PATH": os.environ.get("PATH", ""), "LD_PRELOAD": self.library, **told}
-        try:
-            with os.fdopen(reader, "rb") as refusals:
-                try:
-                    how = {"capture_output": True, "pass_fds": [writer], "env": environment, "timeout": SECONDS}
-                    ran = subprocess.run(words, input=given.encode(), **how)
-                finally:
-                    os.close(writer)
-                was_refused = refusals.read() != b""
-        except subprocess.TimeoutExpired:
-            return Ran(-1, "", f"it had not ended after {SECONDS} seconds"), False
-        return Ran(ran.returncode, *(it.decode(errors="replace") for it in (ran.stdout, ran.stderr))), was_refused
+        how = {"capture_output": True, "pass_fds": [writer], "env": environment, "timeout": SECONDS}
+        # (what the program left running may hold the other end)
+        os.set_blocking(reader, False)
+        with os.fdopen(reader, "rb") as refusals:
+            try:
+                ended = subprocess.run(words, input=given.encode(), **how)
+                ran = Ran(ended.returncode, *(it.decode(errors="replace") for it in (ended.stdout, ended.stderr)))
+            except subprocess.TimeoutExpired:
+                ran = Ran(-1, "", f"it had not ended after {SECONDS} seconds")
+            finally:
+                os.close(writer)
+            return ran, bool(refusals.read())
 
 
 class Test:
@@ -240,6 +241,8 @@ def sweep_all(player, root, programs):
             continue
         for swept in swept_of(player, root, program):
             found = sweep(swept)
+            # (where none was refused, nothing is known of want of memory)
+            found = found if found != (0, 0) else (0, 1)
             say(f"{os.path.basename(program)} {swept.name}: {found[0]} refused, {found[1]} odd")
             refused, odd = refused + found[0], odd + found[1]
     return refused, odd

@@ -44,6 +44,8 @@ class CrateRun:
         self.copies, self.name, self.sheet = copies, copies.name, sheet
         self.edits, self.failed, self.kept = [], [], []
         self.passed = self.checks = self.alone = self.left = self.rounds = 0
+        # How many edits were not asked for.
+        self.unasked = 0
         # How many copies were made to try edits in, and how many of them no check runs in.
         self.copied = self.idle = 0
         self.undecided = []
@@ -61,6 +63,8 @@ class CrateRun:
                     edit = read_edit(name, file.read(), copies.texts)
                 if is_tried(name):
                     (self.kept if sheet.has(edit) else self.edits).append(edit)
+                else:
+                    self.unasked += 1
             except (BadEdit, UnicodeDecodeError) as error:
                 self.failed.append(Outcome(name, f"BAD EDIT: {error}"))
         self.passed = len(self.kept)
@@ -285,9 +289,11 @@ def crate_runs(given, root, room, uses, commands):
 
 
 def total(given, runs):
-    """Says how many edits passed and failed, and returns how many failed; none at all is a failure where some are named."""
+    """Says how many edits passed and failed, and returns how many failed; none at all is a failure, unless the crates have
+    some that were not asked for."""
     passed, failed = sum(it.passed for it in runs.values()), sum(len(it.failed) for it in runs.values())
-    if (given.crates or given.only) and not passed and not failed:
+    unasked = sum(it.unasked for it in runs.values())
+    if not passed and not failed and (given.only or not unasked):
         say("there is no such edit")
         failed = 1
     kept = sum(len(it.kept) for it in runs.values())

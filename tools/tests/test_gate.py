@@ -53,7 +53,7 @@ class Counts(unittest.TestCase):
 
     def test_unittest(self):
         self.assertEqual(count_of_unittest("....\n---\nRan 34 tests in 0.3s\n\nOK\n"), (34, 0))
-        self.assertEqual(count_of_unittest("Ran 1 test in 0.3s\n\nOK (skipped=1)\n"), (1, 0))
+        self.assertEqual(count_of_unittest("Ran 2 tests in 0.3s\n\nOK (skipped=1)\n"), (1, 0))
         self.assertEqual(count_of_unittest("Ran 34 tests in 0.3s\n\nFAILED (failures=2, errors=1)\n"), (31, 3))
         self.assertEqual(count_of_unittest("Ran 0 tests in 0.0s\n\nOK\n"), (0, 1))
         self.assertEqual(count_of_unittest("Traceback\n"), (0, 1))
@@ -205,12 +205,37 @@ class Steps(unittest.TestCase):
 
     def test_all_crates_where_they_are(self):
         status, said = self.run_command()
-        self.assertEqual((status, said.split("\n")[-2]), (1, "16 passed, 4 failed"))
-        for it in ("txnworld_cli", "txnport_cli"):
+        self.assertEqual((status, said.split("\n")[-2]), (1, "16 passed, 6 failed"))
+        for it in ("txnworld_cli", "txnport_cli", "txnobj_cli"):
             self.assertIn(f"FAILED: rt ci built no {it} and no {it}.by-rattle", said)
         self.assertIn("edits of --after-ci\n", said)
         self.assertRegex(said, "swept \\S+/out/txnworld_cli \\S+/out/txnworld_cli.by-rattle\n")
         self.assertEqual(said.count("/out/made"), 5)
+
+    def test_libraries_of_an_earlier_run_are_removed(self):
+        for git in (".git", "its/own"):
+            root = f"{self.room}/{git.replace('/', '_')}"
+            at = os.path.relpath(root, self.room)
+            here = self.file(f"{at}/crates/low/out/rlib/low.rlib/format")
+            aside = self.file(f"{at}/{git}/rt-aside/low/rlib/low.rlib/format")
+            kept = self.file(f"{at}/crates/low/out/incremental/one")
+            self.file(f"{at}/crates/low/src/lib.rt")
+            if git != ".git":
+                self.file(f"{at}/.git", f"gitdir: {git}\n")
+            gate_steps.remove_builds(root)
+            self.assertEqual([os.path.exists(it) for it in (here, aside, kept)], [False, False, True])
+
+    def test_texts_that_are_edited_meanwhile(self):
+        self.file("crates.txt", "low:\nhigh: low\n")
+        for name in ("low", "high"):
+            self.file(f"crates/{name}/src/lib.rt", "one\n")
+        texts = gate_steps.texts_by_crate(self.room)
+        self.assertEqual(gate_steps.edited_since(self.room, texts), [])
+        self.file("crates/low/README.md", "two\n")
+        self.assertEqual(gate_steps.edited_since(self.room, texts), [])
+        self.file("crates/low/specs/Two.antt", "two\n")
+        found = silently(lambda: gate_steps.edited_since(self.room, texts))
+        self.assertEqual([(it.name, it.passed, it.failed) for it in found], [("texts edited during rt ci", 0, 1)])
 
     def test_table(self):
         lines = list(table([Step("proofs", 20, 0, 0, 61.4, 200.6), Step("cases", 3, 1)]))

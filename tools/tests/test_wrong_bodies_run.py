@@ -10,8 +10,8 @@ from unittest import mock
 sys.dont_write_bytecode = True
 sys.path.insert(0, os.path.dirname(os.path.dirname(os.path.realpath(__file__))))
 
-from crate_copies import Copies, all_below, crates_listed  # noqa: E402
-from kept_verdicts import default_folder  # noqa: E402
+from crate_copies import Commands, Copies, all_below, crates_listed  # noqa: E402
+from kept_verdicts import default_folder, sum_of_toolchain  # noqa: E402
 import wrong_bodies_run  # noqa: E402
 
 # It refuses first where src/ has WRONG_first, and so the others, but lets those wait that CALL_second where it refuses
@@ -225,6 +225,24 @@ class Runs(unittest.TestCase):
         status, last, said, _ = self.run_command("low")
         self.assertEqual((status, last), (1, "2 passed, 1 failed"))
         self.assertIn("low/wrong-bodies/more/absent.edit: BAD EDIT", said)
+
+    def test_a_crate_of_which_nothing_is_asked_for(self):
+        for name in ("first", "second"):
+            os.remove(f"{self.room}/repository/crates/low/wrong-bodies/{name}.edit")
+        self.edit("low", "more/first", "    1", "    WRONG_first + 1")
+        self.assertEqual(self.run_command("low")[:2], (0, "0 passed, 0 failed"))
+        self.assertEqual(self.run_command("low", "--all")[:2], (0, "1 passed, 0 failed"))
+        self.assertEqual(self.run_command("low", "--only", "second")[:2], (1, "0 passed, 1 failed"))
+        os.remove(f"{self.room}/repository/crates/low/wrong-bodies/more/first.edit")
+        self.assertEqual(self.run_command("low")[:2], (1, "0 passed, 1 failed"))
+
+    def test_other_libraries_of_the_kit(self):
+        self.file("kit/rlibs/std.rlib/format", "one")
+        with mock.patch.object(Commands, "kit", f"{self.room}/kit"):
+            first = sum_of_toolchain(Commands(), self.room)
+            self.assertEqual(sum_of_toolchain(Commands(), self.room), first)
+            self.file("kit/rlibs/std.rlib/format", "two")
+            self.assertNotEqual(sum_of_toolchain(Commands(), self.room), first)
 
     def test_an_edit_of_definitions_names_what_it_makes_false(self):
         self.file("repository/crates/low/specs/Sums.antt", "sum : WRONG_first\n")
