@@ -20,8 +20,6 @@ WAITING = re.compile(
     r"no proof: (?:it (?:calls|passes|waits for|drops|uses) "
     r"|the borrow checker's part in its proof is not made yet: a call of `[^`]+`, which has no proof)"
 )
-# (a form that the prover has no rule for: no contract was tried)
-UNCOVERED = re.compile(r"no proof: expected `[^`]+` in \S*/Proof\.antt; the borrow checker does not cover")
 FUNCTION_LINE = re.compile(r"^fn (\w+)::(\S+): (.*)$", re.M)
 VERDICT_LINE = re.compile(r"^logic=(\S+)", re.M)
 # (the last line where not the whole crate was asked for, and where proofs were left open)
@@ -237,7 +235,7 @@ def read_log(crate, text, changed=()):
             log.proved.add(path)
         elif WAITING.match(said):
             log.waiting.add(path)
-        elif said.startswith(("not proved", "no proof")) and not UNCOVERED.match(said):
+        elif said.startswith(("not proved", "no proof")):
             log.refused.add(path)
         else:
             log.undecided.add(path)

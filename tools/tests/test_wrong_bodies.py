@@ -232,9 +232,9 @@ class Logs(unittest.TestCase):
             "help: prove it first",
             "j: no proof: expected `j_spec` in ./proofs/j/Proof.antt; the borrow checker does not cover this function yet"))
         self.assertEqual(log.proved, {"a"})
-        self.assertEqual(log.refused, {"b", "c", "g", "h"})
+        self.assertEqual(log.refused, {"b", "c", "g", "h", "j"})
         self.assertEqual(log.waiting, {"d", "e", "i"})
-        self.assertEqual(log.undecided, {"f", "j"})
+        self.assertEqual(log.undecided, {"f"})
         self.assertTrue(log.is_refusal)
 
     def test_a_check_of_a_part(self):
