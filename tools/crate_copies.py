@@ -13,6 +13,7 @@ import functools
 import os
 import re
 import shutil
+import signal
 import subprocess
 import threading
 
@@ -225,9 +226,9 @@ class Copies:
             asked = sorted({names[0] for names in only}) if all(only) else []
             run = [*words, *(word for it in asked for word in ("--only", it))]
             status, said = self.run(copy, run)
-            if status < 0:
-                # (a check that was killed, most likely for memory, is run once more)
-                status, said = self.run(copy, run)
+            if status == -signal.SIGKILL:
+                # (most likely for memory: once more)
+                said = self.run(copy, run)[1]
             unknown = UNKNOWN.search(said)
             if not unknown or unknown[1] not in asked:
                 return said

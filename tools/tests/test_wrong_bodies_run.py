@@ -226,6 +226,16 @@ class Runs(unittest.TestCase):
         self.assertEqual((status, last), (1, "2 passed, 1 failed"))
         self.assertIn("low/wrong-bodies/more/absent.edit: BAD EDIT", said)
 
+    def test_a_check_that_is_killed_is_run_once_more(self):
+        # (what ends this command ends its checks too, and none of these is begun anew)
+        for how, checks in (("KILL", 1), ("TERM", 2)):
+            mark = f"{self.room}/killed_by_{how}"
+            die = f'#!/bin/sh\n[ -e {mark} ] || [ "$1" = doc ] || {{ touch {mark}; kill -{how} $$; }}\n'
+            self.file("bin/rattle", die + CHECK, 0o755)
+            status, last, said, _ = self.run_command("low")
+            self.assertEqual((status, last), (0, "2 passed, 0 failed"))
+            self.assertIn(f"low: 2 edits in {checks} checks", said)
+
     def test_a_crate_of_which_nothing_is_asked_for(self):
         for name in ("first", "second"):
             os.remove(f"{self.room}/repository/crates/low/wrong-bodies/{name}.edit")
