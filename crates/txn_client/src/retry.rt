@@ -101,7 +101,8 @@ impl<
 
     /// Asks the mutator for a candidate made of the version that is viewed, and updates the view by it. After a conflict it
     /// refreshes the view and asks once more, of what the refresh gave, `attempts` times at most. Each call takes at most `steps`
-    /// looks and store calls.
+    /// looks and store calls. What is `viewed` is to be what a call told of that view last: the candidate is made of its value
+    /// and written on the version that the view is at, and nothing holds the two against each other.
     ///
     /// # Errors
     ///
