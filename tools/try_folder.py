@@ -301,6 +301,21 @@ def benches(program, root, _seconds):
     return [f"4 processes add {times} each by the store's calls alone, with no gap", "all versions are listed in turn"]
 
 
+def strangers(program, root, _seconds):
+    """Of an object that is not a bench's own nothing is changed, and a command that records nothing takes no recording."""
+    claims, raises = [("init", "1"), ("claim",)], [("init", "1"), ("put", "2"), ("advance", "1")]
+    for name, before in (("of_text", [("init", "text")]), ("claimed", claims), ("raised", raises)):
+        it = Object(program, root, name)
+        for command in before:
+            it.told(*command)
+        was = it.told("history")
+        expect(it.run("bench", "2", recorded=False)[0] == 2, f"bench adds to the object {name}")
+        expect(it.told("history") == was, f"bench changed the object {name}")
+    for command in (("bench", "2"), ("doctor",), ("clean", "1"), ("audit", "none")):
+        expect(it.run(*command)[0] == 2, f"{command[0]} takes a recording")
+    return ["what is not its own is left by bench as it is", "what records nothing refuses a recording"]
+
+
 def script_of(an_object):
     """Three clients: one makes the object, one updates it, raises its boundary and deletes, and one reads it then."""
     an_object.told("init", "0")
@@ -397,7 +412,7 @@ def main(words, usage):
     passed = failed = 0
     for program in given.programs:
         program = os.path.abspath(program)
-        for check in (counts, kills, claims, collections, odd_files, benches, tampering, recordings):
+        for check in (counts, kills, claims, collections, odd_files, benches, strangers, tampering, recordings):
             root = tempfile.mkdtemp(prefix="try-folder-")
             try:
                 for line in check(program, root, given.seconds):
