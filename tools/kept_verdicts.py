@@ -17,7 +17,14 @@ import shutil
 import sys
 
 from crate_copies import libraries_listed, texts_of
-from rattle_source import homes_of, module_of, places_in, without_own_bodies
+from rattle_source import (
+    homes_of,
+    module_of,
+    places_in,
+    without_comment_lines,
+    without_comments,
+    without_own_bodies,
+)
 
 # The variable that names another folder than the user's cache folder.
 FOLDER_VARIABLE = "TENDRIFALO_CACHE"
@@ -27,6 +34,8 @@ MOST_SHEETS = 30
 PROOFS_OF_BODIES = ("Answers.antt", "Invariants.antt", "Proof.antt")
 # A line by which a file of one of these names is a module like others.
 DECLARED = re.compile(r"^\s*(?:pub\s+)?mod\s+(?:Answers|Invariants|Proof)\b", re.M)
+# What is left of a text of each kind where its comments are taken away.
+CODE_OF = {".rt": without_comments, ".antt": without_comment_lines}
 # The files of the tool that a verdict rests on.
 TOOL = ("crate_copies.py", "kept_verdicts.py", "rattle_source.py", "wrong_bodies.py", "wrong_bodies_run.py")
 
@@ -79,6 +88,11 @@ class Bodies:
         """What a check of other functions can see of the crate, as texts by path."""
         seen = {path: text for path, text in self.texts.items() if path not in self.proofs}
         return {path: without_own_bodies(text) if path.endswith(".rt") else text for path, text in seen.items()}
+
+    def seen_from_above(self):
+        """What a check of a crate above can see of the crate, as texts by path."""
+        seen = self.seen_by_others()
+        return {path: CODE_OF[os.path.splitext(path)[1]](text) for path, text in seen.items()}
 
     def changed_by(self, edit):
         """The functions that an edit changes, with the proofs of their bodies, as texts by name or path; all texts where it
@@ -133,15 +147,15 @@ class Verdicts:
 
     def sum_of_crate(self, name, below):
         """A checksum of all that a verdict on an edit of this crate rests on but the edit and what this changes."""
-        parts = [self.base]
-        for it in [name, *below]:
+        parts = [self.base, name, *self.libraries[name], "", *flat(self.bodies(name).seen_by_others())]
+        for it in below:
             parts += [it, *self.libraries[it], "", *flat(self.seen(it))]
         return sum_of(*parts)
 
     def seen(self, name):
-        """What a check of other functions can see of this crate, read once."""
+        """What a check of a crate above can see of this crate, read once."""
         if name not in self.seen_of:
-            self.seen_of[name] = self.bodies(name).seen_by_others()
+            self.seen_of[name] = self.bodies(name).seen_from_above()
         return self.seen_of[name]
 
     def bodies(self, name):

@@ -189,6 +189,17 @@ def without_own_bodies(text):
     return ";".join([*found, text[at:]])
 
 
+def without_comments(text):
+    """The text of a file of code without its comments, and without the lines that hold nothing else."""
+    marked = NOT_CODE.sub(lambda found: "\0" if found[0].startswith(("//", "/*")) else found[0], text)
+    return re.sub(r"[ \t]*\0", "", re.sub(r"^(?:[ \t]*\0)+[ \t]*\n", "", marked, flags=re.M))
+
+
+def without_comment_lines(text):
+    """The text of a file of definitions and proofs without the lines that are comments."""
+    return re.sub(r"^[ \t]*--[^\n]*\n", "", text, flags=re.M)
+
+
 def items(code, at, end, module, owner, homes, is_of_trait=False):
     """The functions between two places of the code, which stand in this module and block."""
     while True:

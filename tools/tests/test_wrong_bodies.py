@@ -6,7 +6,8 @@ import unittest
 sys.dont_write_bytecode = True
 sys.path.insert(0, os.path.dirname(os.path.dirname(os.path.realpath(__file__))))
 
-from rattle_source import module_of, named_in_log, owner_of_impl, places_in, without_own_bodies  # noqa: E402
+from rattle_source import module_of, named_in_log, owner_of_impl, places_in  # noqa: E402
+from rattle_source import without_comment_lines, without_comments, without_own_bodies  # noqa: E402
 from wrong_bodies import BadEdit, Trial, applied, batches, can_be_open, functions_in, left_open  # noqa: E402
 from wrong_bodies import names_to_check, pairs_of, read_edit, read_log  # noqa: E402
 
@@ -128,6 +129,14 @@ class Reading(unittest.TestCase):
                 "fn of(it: impl Shown) -> u8 {\n    it.shown()\n}\n")
         seen = text.replace("{\n        2\n    }", ";").replace("{\n    it.shown()\n}", ";")
         self.assertEqual(without_own_bodies(text), seen)
+
+    def test_a_file_without_its_comments(self):
+        text = ('/// One.\n// Two.\nfn two() -> &str {\n    /* Three,\n       four. */\n'
+                '    let it = "/* five\n// six */"; // Seven.\n\n    it /* eight */ + 9\n}\n')
+        left = 'fn two() -> &str {\n    let it = "/* five\n// six */";\n\n    it + 9\n}\n'
+        self.assertEqual(without_comments(text), left)
+        terms = "-- One.\nsum : N\n  -- two\nsum = 1 -- 2\n"
+        self.assertEqual(without_comment_lines(terms), "sum : N\nsum = 1 -- 2\n")
 
     def test_methods_of_a_type_declared_in_another_file(self):
         texts = {"src/table.rt": "pub struct Table {}\npub(crate) struct Row;\n", "src/row.rt": "struct Row;\n",

@@ -294,11 +294,16 @@ class Runs(unittest.TestCase):
         self.assertEqual(self.run_command("high", anew=False)[3].count("high rattle check"), 1)
         self.assertEqual(self.run_command("high", anew=False)[3], [])
 
-    def test_a_body_below_is_not_seen_above(self):
+    def test_what_is_not_seen_above(self):
+        self.file("repository/crates/low/specs/Sums.antt", "sum : one\n")
         self.run_command(anew=False)
         body = SOURCE.replace("    2\n", "    // Two.\n    2\n")
         self.file("repository/crates/low/src/lib.rt", body)
         self.file("repository/crates/low/proofs/second/Answers.antt", "of two\n")
+        self.assertEqual(self.run_command("high", anew=False)[3], [])
+        self.assertEqual(self.run_command("low", anew=False)[3], ["low rt check", "low rattle check"])
+        self.file("repository/crates/low/src/lib.rt", "// Numbers.\n" + body)
+        self.file("repository/crates/low/specs/Sums.antt", "-- Sums.\nsum : one\n")
         self.assertEqual(self.run_command("high", anew=False)[3], [])
         self.assertEqual(self.run_command("low", anew=False)[3], ["low rt check", "low rattle check"])
         self.file("repository/crates/low/src/lib.rt", body.replace("second() -> u8", "second() -> u8\n    ensures { result ≡ 2 }\n"))
