@@ -11,7 +11,7 @@ use txn_diary::diary::Diary;
 use txn_history::event::{Call, PlainCall};
 use txn_lines::record::{Record, RecordCodec, RecordEpoch};
 use txn_logged::logged::LoggedStore;
-use txn_threads::diaries::{DiaryWorker, work_diaries};
+use txn_threads::diaries::{DiaryWorker, work_diaries, work_diary};
 use txn_threads::finish::finish;
 use txn_threads::gate::{Gate, GateSpent};
 use txn_threads::jobs::{End, Job};
@@ -82,10 +82,15 @@ fn shares_of(alloc: Global, worked: Vec<Worked>) -> Result<Vec<Share>, AllocErro
     Ok(shares)
 }
 
-/// Whether each worker ended as it should, and whether their shares finish the kept world.
-fn told(alloc: Global, kept: Records, worked: Vec<Worked>) -> Result<(bool, bool), AllocError> {
-    let are_done = worked.iter().all(|one| one.end == End::Done);
-    Ok((are_done, finish(kept, shares_of(alloc, worked)?).is_ok()))
+/// How many workers there were, how many of them ended with all done, and whether their shares finish the kept world.
+fn told(
+    alloc: Global,
+    kept: Records,
+    worked: Vec<Worked>,
+) -> Result<(usize, usize, bool), AllocError> {
+    let all = worked.len();
+    let done = worked.iter().filter(|one| one.end == End::Done).count();
+    Ok((all, done, finish(kept, shares_of(alloc, worked)?).is_ok()))
 }
 
 /// What workers on threads of their own do.
@@ -105,7 +110,7 @@ fn work_on_threads(
 /// The same of workers on threads of their own.
 fn told_on_threads(
     rt: &(impl Threads + Wait + Sync + AllocGlobal),
-) -> Result<(bool, bool), AllocError> {
+) -> Result<(usize, usize, bool), AllocError> {
     let (kept, shares) = kept_by(rt.alloc(), 2)?;
     let kept = Mutex::new(kept);
     let worked = work_on_threads(rt, &kept, shares);
@@ -113,43 +118,47 @@ fn told_on_threads(
 }
 
 /// How a worker ends.
-fn end_of(rt: &impl Wait, kept: &Mutex<Records>, worker: Worker<Record, Meeting<'_>>) -> End {
+fn end_of(
+    rt: &impl Wait,
+    kept: &Mutex<Records>,
+    worker: Option<Worker<Record, Meeting<'_>>>,
+) -> Option<End> {
     let Worker {
         share,
         mut gate,
         jobs,
-    } = worker;
-    work(rt, kept, share, &mut gate, &jobs).end
+    } = worker?;
+    Some(work(rt, kept, share, &mut gate, &jobs).end)
 }
 
-/// How a worker ends at a meeting to which the other does not come.
-fn end_alone(
+/// How two workers end one after the other.
+fn ends_in_turn(
     rt: &(impl Wait + AllocGlobal),
     kept: &Mutex<Records>,
     shares: Vec<Share>,
-) -> Result<Option<End>, AllocError> {
+) -> Result<[Option<End>; 2], AllocError> {
     let (first, second) = (AtomicU64::new(0), AtomicU64::new(0));
     let gate = Meeting {
         first: &first,
         second: &second,
     };
-    match at_a_meeting(rt.alloc(), shares, gate)?.pop() {
-        Some(worker) => Ok(Some(end_of(rt, kept, worker))),
-        None => Ok(None),
-    }
+    let mut workers = at_a_meeting(rt.alloc(), shares, gate)?;
+    let second = workers.pop();
+    let first = end_of(rt, kept, workers.pop());
+    Ok([first, end_of(rt, kept, second)])
 }
 
-/// The same, of a world of its own.
-fn told_alone(rt: &(impl Wait + AllocGlobal)) -> Result<Option<End>, AllocError> {
+/// The same, of a world of their own.
+fn told_in_turn(rt: &(impl Wait + AllocGlobal)) -> Result<[Option<End>; 2], AllocError> {
     let (kept, shares) = kept_by(rt.alloc(), 2)?;
-    end_alone(rt, &Mutex::new(kept), shares)
+    ends_in_turn(rt, &Mutex::new(kept), shares)
 }
 
 #[test]
 fn workers_are_at_work_at_the_same_time(rt: HostRuntime) -> Result<(), Fail> {
-    assert_eq!(rt; told_on_threads(&rt)?, (true, true));
-    // Who is alone meets nobody.
-    assert_eq!(rt; told_alone(&rt)?, Some(End::GateSpent));
+    assert_eq!(rt; told_on_threads(&rt)?, (2, 2, true));
+    // In turn they do not meet.
+    assert_eq!(rt; told_in_turn(&rt)?, [Some(End::GateSpent), Some(End::Done)]);
     Ok(())
 }
 
@@ -171,38 +180,72 @@ fn clients_at_a_meeting<'a>(
     Ok(clients)
 }
 
-/// Whether each client on a thread of its own ends as it should, and their diaries then.
+/// How many clients on threads of their own end with all done, and the diaries of all then.
 fn diaries_on_threads(
     rt: &(impl Threads + Wait + Sync + AllocGlobal),
     store: &Mutex<LoggedStore>,
     gate: Meeting<'_>,
-) -> Result<(bool, Diaries), AllocError> {
+) -> Result<(u64, Diaries), AllocError> {
     let clients = clients_at_a_meeting(rt.alloc(), gate)?;
-    let mut are_done = true;
+    let mut done = 0u64;
     let mut diaries = Vec::new(rt.alloc());
     for one in work_diaries(rt, store, clients)? {
-        are_done &= one.end == End::Done;
+        done = done.saturating_add(u64::from(one.end == End::Done));
         diaries.push(one.diary)?;
     }
-    Ok((are_done, diaries))
+    Ok((done, diaries))
 }
 
-/// Whether each client on a thread of its own ends as it should, and whether an audit agrees.
+/// How many clients on threads of their own there were, how many of them end with all done, and whether an audit agrees.
 fn clients_on_threads(
     rt: &(impl Threads + Wait + Sync + AllocGlobal),
-) -> Result<(bool, bool), AllocError> {
+) -> Result<(usize, u64, bool), AllocError> {
     let store = Mutex::new(LoggedStore::new(rt.alloc()));
     let (first, second) = (AtomicU64::new(0), AtomicU64::new(0));
     let gate = Meeting {
         first: &first,
         second: &second,
     };
-    let (are_done, diaries) = diaries_on_threads(rt, &store, gate)?;
-    Ok((are_done, audit(&store.into_inner(), &diaries).is_ok()))
+    let (done, diaries) = diaries_on_threads(rt, &store, gate)?;
+    let agrees = audit(&store.into_inner(), &diaries).is_ok();
+    Ok((diaries.len(), done, agrees))
+}
+
+/// How a client ends.
+fn client_end(
+    rt: &impl Wait,
+    store: &Mutex<LoggedStore>,
+    client: Option<Client<'_>>,
+) -> Option<End> {
+    let DiaryWorker {
+        diary,
+        mut gate,
+        jobs,
+    } = client?;
+    Some(work_diary(rt, store, diary, &mut gate, &jobs).end)
+}
+
+/// How two clients end one after the other.
+fn clients_in_turn(rt: &(impl Wait + AllocGlobal)) -> Result<[Option<End>; 2], AllocError> {
+    let store = Mutex::new(LoggedStore::new(rt.alloc()));
+    let (first, second) = (AtomicU64::new(0), AtomicU64::new(0));
+    let gate = Meeting {
+        first: &first,
+        second: &second,
+    };
+    let mut clients = clients_at_a_meeting(rt.alloc(), gate)?;
+    let second = clients.pop();
+    let first = client_end(rt, &store, clients.pop());
+    Ok([first, client_end(rt, &store, second)])
 }
 
 #[test]
 fn clients_are_at_work_at_the_same_time(rt: HostRuntime) -> Result<(), Fail> {
-    assert_eq!(rt; clients_on_threads(&rt)?, (true, true));
+    assert_eq!(rt; clients_on_threads(&rt)?, (2, 2, true));
+    // In turn they do not meet.
+    assert_eq!(rt;
+        clients_in_turn(&rt)?,
+        [Some(End::GateSpent), Some(End::Done)]
+    );
     Ok(())
 }
