@@ -297,7 +297,7 @@ def benches(program, root, _seconds):
     with open(f"{root}/benched/{names[-1]}", encoding="utf-8") as file:
         expect(file.read() == f"0:{4 * times}", "the last version does not say the sum")
     status, said = it.run("bench", "--list", "2", recorded=False)
-    expect(status == 0 and f" last {4 * times} " in said, f"bench --list: status {status}: {said.strip()}")
+    expect(status == 0 and said.endswith(f" versions {4 * times}\n"), f"bench --list: status {status}: {said.strip()}")
     return [f"4 processes add {times} each by the store's calls alone, with no gap", "all versions are listed in turn"]
 
 
@@ -314,6 +314,24 @@ def strangers(program, root, _seconds):
     for command in (("bench", "2"), ("doctor",), ("clean", "1"), ("audit", "none")):
         expect(it.run(*command)[0] == 2, f"{command[0]} takes a recording")
     return ["what is not its own is left by bench as it is", "what records nothing refuses a recording"]
+
+
+def unfit_words(program, root, _seconds):
+    """What names no folder, and names that are too long for the files that writes make, are refused before anything is made;
+    a boundary's file that says no number is told by its status."""
+    it = Object(program, "", "unfit")
+    for command in (("get",), ("doctor",)):
+        expect(it.run(*command, recorded=False)[0] == 2, f"{command[0]} takes an empty root")
+    expect(Object(program, root, "n" * 226).run("init", "1", recorded=False)[0] == 2, "a name of 226 bytes is taken")
+    expect(not os.path.exists(f"{root}/{'n' * 226}"), "a refused name is made")
+    it = Object(program, root, "n" * 225)
+    it.told("init", "1")
+    it.told("put", "2")
+    it.told("advance", "1")
+    with open(f"{root}/gc/{'n' * 225}.boundary", "w", encoding="utf-8") as file:
+        file.write("no number")
+    expect(it.run("get")[0] == 17, "a boundary that says no number is read")
+    return ["an empty root and a name too long are refused", "the longest name has versions and a boundary"]
 
 
 def script_of(an_object):
@@ -402,6 +420,9 @@ def recordings(program, _root, _seconds):
     return told
 
 
+CHECKS = counts, kills, claims, collections, odd_files, benches, strangers, unfit_words, tampering, recordings
+
+
 def main(words, usage):
     form = argparse.RawDescriptionHelpFormatter
     parser = argparse.ArgumentParser(prog="tools/try-folder", description=usage, formatter_class=form)
@@ -412,7 +433,7 @@ def main(words, usage):
     passed = failed = 0
     for program in given.programs:
         program = os.path.abspath(program)
-        for check in (counts, kills, claims, collections, odd_files, benches, strangers, tampering, recordings):
+        for check in CHECKS:
             root = tempfile.mkdtemp(prefix="try-folder-")
             try:
                 for line in check(program, root, given.seconds):

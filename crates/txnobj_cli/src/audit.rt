@@ -330,6 +330,7 @@ fn judged(
     let rows = recordings.rows.as_slice();
     match audit_recordings(rt.alloc(), EntryCodec, EntryEpoch, rows, clocks) {
         Ok(found) => one_history(rt, &found),
+        Err(Refusal::NoMemory) => Err(Halt::NoMemory),
         Err(refusal) => not_one_history(rt, files, recordings, &refusal),
     }
 }

@@ -45,6 +45,15 @@ enum Told {
     Failed,
 }
 
+/// What was done again and again.
+#[derive(Clone, Copy)]
+enum Done {
+    /// One was added: where the number stands.
+    Added(Number),
+    /// All versions were listed: how many there are.
+    Listed(u64),
+}
+
 /// Why no more calls are made.
 #[derive(Clone, Copy)]
 enum Stopped {
@@ -187,32 +196,45 @@ impl Calls<'_> {
         Ok(())
     }
 
-    /// Lists all versions, and knows how many there are.
-    fn list(&mut self, number: &mut Number) -> Result<(), Stopped> {
+    /// Lists all versions: how many there are.
+    fn list(&mut self) -> Result<u64, Stopped> {
         let request = self.list_of();
         match self.serve(request) {
-            Told::Listed(count) => {
-                number.id = count;
-                Ok(())
-            }
+            Told::Listed(count) => Ok(count),
             _ => Err(Stopped::Failed),
         }
     }
 
-    /// Lists all versions so many times, or adds one so many times.
-    fn repeat(&mut self, number: &mut Number, times: u64, lists: bool) -> Result<(), Stopped> {
-        if !lists {
-            self.check()?;
-            self.catch_up(number)?;
-        }
+    /// Adds one so many times: where the number stands then.
+    fn add_times(&mut self, times: u64) -> Result<Number, Stopped> {
+        let mut number = Number {
+            id: 0,
+            value: 0,
+            conflicts: 0,
+        };
+        self.check()?;
+        self.catch_up(&mut number)?;
         for _ in 0..times {
-            if lists {
-                self.list(number)?;
-            } else {
-                self.add(number)?;
-            }
+            self.add(&mut number)?;
         }
-        Ok(())
+        Ok(number)
+    }
+
+    /// Lists all versions so many times: how many there were the last time.
+    fn list_times(&mut self, times: u64) -> Result<u64, Stopped> {
+        let mut versions = 0;
+        for _ in 0..times {
+            versions = self.list()?;
+        }
+        Ok(versions)
+    }
+
+    /// Lists all versions so many times, or adds one so many times.
+    fn repeat(&mut self, times: u64, lists: bool) -> Result<Done, Stopped> {
+        if lists {
+            return Ok(Done::Listed(self.list_times(times)?));
+        }
+        Ok(Done::Added(self.add_times(times)?))
     }
 
     /// Why no more calls are made, as the program says it.
@@ -227,35 +249,40 @@ impl Calls<'_> {
     }
 }
 
-/// Says what was done, how long each took, and where the number stands.
-fn say(rt: &HostRuntime, number: Number, times: u64, nanos: u64) -> Result<u8, Halt> {
+/// Says what was done, and how long each took.
+fn say(rt: &HostRuntime, done: Done, times: u64, nanos: u64) -> Result<u8, Halt> {
     let each = nanos.checked_div(times).unwrap_or(0);
-    let conflicts = number.conflicts;
-    let id = number.id;
-    let value = number.value;
-    println!(rt;
-        "times {times} nanoseconds each {each} conflicts {conflicts} last {id} value {value}"
-    )?;
+    match done {
+        Done::Added(
+            Number {
+                id,
+                value,
+                conflicts,
+            },
+        ) => println!(rt;
+            "times {times} nanoseconds each {each} conflicts {conflicts} last {id} value {value}"
+        )?,
+        Done::Listed(versions) => println!(rt;
+            "times {times} nanoseconds each {each} versions {versions}"
+        )?,
+    }
     Ok(0)
 }
 
 /// Makes the calls, and says how long each took.
 fn timed(rt: &HostRuntime, calls: &mut Calls<'_>, times: u64, lists: bool) -> Result<u8, Halt> {
-    let mut number = Number {
-        id: 0,
-        value: 0,
-        conflicts: 0,
-    };
     let before = nanos_of(rt.monotonic()?);
-    let done = calls.repeat(&mut number, times, lists);
+    let done = calls.repeat(times, lists);
     let after = nanos_of(rt.monotonic()?);
+    let nanos = after.saturating_sub(before);
     match done {
-        Ok(()) => say(rt, number, times, after.saturating_sub(before)),
+        Ok(done) => say(rt, done, times, nanos),
         Err(stopped) => Err(calls.halt_of(stopped)),
     }
 }
 
-/// Adds one to the number that the options name so many times, or lists its versions so many times, and says how long each took.
+/// Adds one to the number that the options name so many times, or lists its versions so many times, and says how long each took,
+/// in nanoseconds.
 pub fn bench(rt: &HostRuntime, options: &Options<'_>, times: u64, lists: bool) -> Result<u8, Halt> {
     let mut store = store_of(rt, options)?;
     let layout: Layout<EntryCodec> = world_layout(rt.alloc(), EntryCodec, PAGE)?;

@@ -64,11 +64,12 @@ fn meaning(number: u8) -> &'static str {
     match number {
         2 => "the store failed: whether the write took effect is not known; read again",
         4 => "there is no version yet: write the first with `init`",
-        5 => "a conflict: a newer version stands; read again, and write on that with `put`",
+        5 =>
+            "a conflict: the version to be written on is not the newest, or one stands already, or the boundary has reached it; read again, and write with `put`",
         6 =>
             "fenced: the object has a greater epoch, or the one that was to be claimed; whoever is to go on claims anew",
         7 =>
-            "not in this state: a delete wants an id at or below the boundary, a put with --epoch one that was claimed",
+            "not in this state: a delete wants an id at or below the boundary, a put with --epoch one that was claimed; of any other command, gc/NAME.boundary says no number: it is damaged",
         8 =>
             "the bytes of a version are no value of this program: another one wrote it, or it is damaged",
         9 => "no memory",
@@ -83,7 +84,8 @@ pub fn reason(fault: EventFault) -> &'static str {
         EventFault::UnknownNumber => "there is no such view, or it is of the other kind",
         EventFault::NotAsked => "the operation asks for something else",
         EventFault::UnknownBase => "it read no version of this id: read first",
-        EventFault::BoundaryTooHigh => "the boundary stays below the newest version",
+        EventFault::BoundaryTooHigh =>
+            "the boundary stays below the newest version that it knows: read first",
         EventFault::EpochLowered =>
             "the value's epoch is below that of the version that it is written on",
         EventFault::ViewBusy => "the view is in use",
@@ -98,7 +100,7 @@ impl Halt {
             Halt::NoMemory => "no memory",
             Halt::File(words) | Halt::Store(words) => words.as_str(),
             Halt::BadName =>
-                "a name or a suffix has letters, digits, `-`, `_` and `.` alone, and a suffix no `.`",
+                "a name or a suffix has letters, digits, `-`, `_` and `.` alone, and one at least; a suffix has no `.`, and a name is not `.` or `..`",
             Halt::Words(words) => words,
             Halt::Refused(number) => meaning(*number),
             Halt::NotPermitted(fault) => reason(*fault),
@@ -130,12 +132,22 @@ pub fn at_file(alloc: Global, path: &str, error: &io::Error) -> Halt {
     }
 }
 
-/// The fault of a store call that failed.
-pub fn store_failed(alloc: Global, fault: &Fault) -> Halt {
-    match format!(in alloc; "{fault}") {
+/// That a store call failed, in these words.
+fn at_store(words: Result<String, AllocError>) -> Halt {
+    match words {
         Ok(words) => Halt::Store(words),
         Err(_) => Halt::NoMemory,
     }
+}
+
+/// The fault of a store call that failed.
+pub fn store_failed(alloc: Global, fault: &Fault) -> Halt {
+    at_store(format!(in alloc; "{fault}"))
+}
+
+/// The same of a call that a client made for a command, which may have been a write.
+pub fn call_failed(alloc: Global, fault: &Fault) -> Halt {
+    at_store(format!(in alloc; "{fault}; a write may have taken effect: read again"))
 }
 
 /// What a file holds.

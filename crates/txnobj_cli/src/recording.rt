@@ -43,6 +43,15 @@ fn is_whole(rt: &HostRuntime, path: &str) -> io::Result<bool> {
     ends_whole(&mut file, &mut last)
 }
 
+/// Takes off what follows the last whole row of a recording.
+fn cut_off(rt: &HostRuntime, path: &str, file: &File) -> Result<(), Halt> {
+    let bytes = bytes_in(rt, path)?;
+    match file.set_len(whole_lines(bytes.as_slice()) as u64) {
+        Ok(()) => Ok(()),
+        Err(error) => Err(at_file(rt.alloc(), path, &error)),
+    }
+}
+
 /// Locks a recording, of which this process alone writes, and takes off a row that was cut off as a client was killed.
 fn begin_on(rt: &HostRuntime, path: &str, file: &File) -> Result<(), Halt> {
     match file.try_lock() {
@@ -52,11 +61,11 @@ fn begin_on(rt: &HostRuntime, path: &str, file: &File) -> Result<(), Halt> {
         }
         Err(TryLockError::Error(error)) => return Err(at_file(rt.alloc(), path, &error)),
     }
-    if !is_whole(rt, path)? {
-        let bytes = bytes_in(rt, path)?;
-        file.set_len(whole_lines(bytes.as_slice()) as u64)?;
+    match is_whole(rt, path) {
+        Ok(true) => Ok(()),
+        Ok(false) => cut_off(rt, path, file),
+        Err(error) => Err(at_file(rt.alloc(), path, &error)),
     }
-    Ok(())
 }
 
 /// Opens a recording, of which this process alone writes, and takes off a row that was cut off as a client was killed.

@@ -3,7 +3,7 @@
 use crate::audit::audit;
 use crate::bench::bench;
 use crate::ending::{Halt, NOTHING, reason, store_failed};
-use crate::session::{Session, Version, store_of};
+use crate::session::{Session, Version, root_of, store_of};
 use crate::values::bytes_of;
 use std::io::Write;
 use std::rt::Clock;
@@ -245,10 +245,7 @@ fn say_halt(rt: &HostRuntime, halt: Halt) -> Result<(), Halt> {
 
 /// Tests the folder of the options.
 fn doctor(rt: &HostRuntime, options: &Options<'_>) -> Result<u8, Halt> {
-    let Some(root) = options.root else {
-        return Err(Halt::Words("this wants --root DIR before the command"));
-    };
-    let report = examine(rt, rt.alloc(), root)?;
+    let report = examine(rt, rt.alloc(), root_of(options)?)?;
     say_report(rt, &report)
 }
 

@@ -1,7 +1,7 @@
 //! One client of one object in a folder.
 ghost use Rattle.std.specs.Prelude.{◌≤◌, IfOk};
 
-use crate::ending::{Halt, store_failed};
+use crate::ending::{Halt, call_failed};
 use crate::recording::Recording;
 use bytes::Bytes;
 use std::alloc::{AllocError, Global};
@@ -24,6 +24,10 @@ use txnobj_words::options::Options;
 const STEPS: u64 = 100_000;
 /// How often an update is made again after a conflict.
 const ATTEMPTS: u64 = 10_000;
+/// The most bytes of an object's name: its boundary's temporary files have 30 more, and a file's name has at most 255.
+const MOST_OF_A_NAME: usize = 225;
+/// The most bytes of a suffix: the temporary files of versions have 42 more.
+const MOST_OF_A_SUFFIX: usize = 213;
 
 /// The store of a folder, as what a client calls.
 #[derive(Drop)]
@@ -57,19 +61,36 @@ pub struct Session {
     client: Client<Entry, EntryCodec, EntryEpoch, Shared, Recording>,
 }
 
+/// The folder that the options name.
+pub fn root_of<'a>(options: &Options<'a>) -> Result<&'a str, Halt> {
+    match options.root {
+        None => Err(Halt::Words("this wants --root DIR before the command")),
+        Some("") => Err(Halt::Words("--root is empty")),
+        Some(root) => Ok(root),
+    }
+}
+
+/// Whether temporary names of so long a name fit: of its boundary's file, and, where it has this suffix, of its versions'.
+fn fits(name: &str, suffix: &str) -> bool {
+    name.len() <= MOST_OF_A_NAME && suffix.len() <= MOST_OF_A_SUFFIX
+}
+
+/// The object that the options name.
+fn name_of<'a>(options: &Options<'a>) -> Result<&'a str, Halt> {
+    match options.name {
+        None => Err(Halt::Words("this wants --name NAME before the command")),
+        Some("gc") => Err(Halt::Words(
+            "an object cannot have the name of the folder of all boundaries, gc",
+        )),
+        Some(name) if fits(name, options.suffix) => Ok(name),
+        Some(_) => Err(Halt::Words("a name has at most 225 bytes, and a suffix at most 213")),
+    }
+}
+
 /// The files of the object that the options name.
 fn folder_of(alloc: Global, options: &Options<'_>) -> Result<Folder, Halt> {
-    let (Some(root), Some(name)) = (options.root, options.name) else {
-        return Err(Halt::Words("this wants --root DIR and --name NAME before the command"));
-    };
-    if root.is_empty() {
-        return Err(Halt::Words("--root is empty"));
-    }
-    if name == "gc" {
-        return Err(Halt::Words(
-            "an object cannot have the name of the folder of all boundaries, gc",
-        ));
-    }
+    let root = root_of(options)?;
+    let name = name_of(options)?;
     Ok(Folder::new(alloc, root, name, options.suffix)?)
 }
 
@@ -142,7 +163,7 @@ impl Session {
     /// Why the last store call failed.
     fn store_failed(&self) -> Halt {
         match self.client.store().0.fault() {
-            Some(fault) => store_failed(self.alloc, fault),
+            Some(fault) => call_failed(self.alloc, fault),
             None => Halt::Refused(2),
         }
     }
@@ -179,7 +200,7 @@ impl Session {
         done
     }
 
-    /// The newest version, if it is this one and no greater epoch stands.
+    /// The newest version, if it is this one and its epoch is the holder's, where there is one.
     fn newest_on(&mut self, base: u64, epoch: Option<u64>) -> Result<Version, Halt> {
         let newest = self.viewed(ViewCall::Load)?;
         match fenced(epoch, newest.epoch) {
@@ -263,7 +284,7 @@ impl Session {
         self.done(PlainCall::Advance(id))
     }
 
-    /// Removes those of these versions that are below one: how many.
+    /// Removes those of these versions that are below one: how many these are.
     fn remove_below(&mut self, newest: u64, ids: &[u64]) -> Result<u64, Halt> {
         let mut removed: u64 = 0;
         for id in ids {
@@ -275,7 +296,7 @@ impl Session {
         Ok(removed)
     }
 
-    /// Removes all versions below the newest: how many.
+    /// Removes all versions below the newest: how many it found. Another may have removed some of them meanwhile.
     pub fn collect(&mut self) -> Result<u64, Halt> {
         let Some((newest, _)) = self.read()? else {
             return Ok(0);

@@ -125,7 +125,7 @@ const OPTIONS: &[Argument] = &[
         "name",
         Kind::Text("NAME"),
         "",
-        "The object's name: its versions lie in DIR/NAME",
+        "The object's name, of 225 bytes at most, letters, digits, `-`, `_` and `.`: its versions lie in DIR/NAME",
     ),
     (
         "suffix",
@@ -214,7 +214,7 @@ const COMMANDS: &[Row] = &[
     ),
     (
         "history",
-        "Print ID EPOCH:BYTES of each stored version, a line each, other bytes than plain ASCII as %XX",
+        "Print ID EPOCH:BYTES of each stored version, a line each, each byte that is no graphic ASCII character, and `%`, as %XX",
         "Example: txnobj --root /srv/meta --name leader history",
         &[],
     ),
@@ -241,14 +241,14 @@ const COMMANDS: &[Row] = &[
     ),
     (
         "collect",
-        "Remove all versions below the newest, whoever claimed an epoch; print how many",
+        "Remove all versions below the newest, whoever claimed an epoch; print how many it found",
         "Example: txnobj --root /srv/meta --name leader collect",
         &[],
     ),
     (
         "shell",
         "Read calls from the standard input, a line each, and print their answers: for a process that keeps a view or an epoch",
-        "Example: printf 'load\nclaim 1\nholder_refresh 1\n' | txnobj --root /srv/meta --name leader shell",
+        "Example: printf 'load\\nclaim 1\\nholder_refresh 1\\n' | txnobj --root /srv/meta --name leader shell",
         &[],
     ),
     (
@@ -274,7 +274,12 @@ const COMMANDS: &[Row] = &[
         "Example: txnobj --root /dev/shm/bench --name number --no-sync bench 10000",
         &[
             ("TIMES", Kind::Count, "", "How often"),
-            ("list", Kind::Flag, "", "List all versions, and add nothing"),
+            (
+                "list",
+                Kind::Flag,
+                "",
+                "List all versions of any object, and add nothing",
+            ),
         ],
     ),
     (
@@ -294,7 +299,7 @@ const COMMANDS: &[Row] = &[
 ];
 
 const STATUSES: &str =
-    "Statuses: 0 done; 1 a fault of the system; 2 wrong words; 3 nothing new to see, or a folder that does not serve; 4 an audit that does not agree; 12 the store failed; 14 there is no version; 15 a conflict; 16 fenced; 17 not in this state; 18 bytes that are no value; 19 no memory; 20 no id or epoch is left; 21 no end in sight: others write all the time, or the boundary stands at or above the newest version; 30 + n the client does not permit the call, by fault n";
+    "Statuses: 0 done; 1 a fault of the system or of the folder, or no memory, where a write may have taken effect; 2 wrong words, a recording that another process writes, or an object that is not bench's own; 3 nothing new to see, or a folder that does not serve; 4 an audit that does not agree; 12 the store failed at no known step; 14 there is no version; 15 a conflict; 16 fenced; 17 not in this state; 18 bytes that are no value; 19 no memory; 20 no id or epoch is left; 21 no end in sight: others write all the time, or the boundary stands at or above the newest version; 30 + n the client does not permit the call, by fault n";
 
 impl Kind {
     /// Whether it has to be there.
