@@ -62,7 +62,7 @@ fn each_agrees<T, D: Audited<T>>(log: &[LogRow], diaries: &[D]) -> bool
 ///
 /// `ClientTwice` where two diaries are of one client, else `ClientMissing` where a row of the log is of no diary's client,
 /// else `RowsDiffer` where a diary's receipts are not, in order, the log's rows of its client, else `LandingUnknown` where a
-/// landing is not of what its client had left before its next receipt.
+/// landing is not of what its client had left before its next receipt, or its reply says that the store lacked memory.
 pub fn audit<T, L: Logged, D: Audited<T>>(log: &L, diaries: &[D]) -> Result<(), AuditFault>
     ensures { IsDue (L.logged log.now) (map D.diary diaries.now) result }
 {

@@ -11,7 +11,8 @@ use txn_store::request::{Reply, Request};
 use txn_store::store::PutMode;
 use txn_types::boundary::read_boundary;
 
-/// A store call of a recording.
+/// A store call of a recording. Times are in nanoseconds: `from` and `until` of the clock of all calls, `asked` and `told` of its
+/// own.
 #[derive(Clone, Copy)]
 pub struct Asked<'a> {
     /// Which recording has it.

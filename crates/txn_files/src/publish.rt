@@ -19,7 +19,9 @@ pub fn stands<R: Files>(rt: &R, file: &str) -> Result<bool, Halt> {
 }
 
 /// Links the temporary file to the target, and removes its first name. Whether it came to the target: not where a file stands
-/// there. A link that is answered with an error and was made all the same, as a network can have it, shows at the target.
+/// there. A link that is answered with an error and was made all the same, as a network can have it, shows at the target. A
+/// fault is of the step `Linking`, or of looking at what stands there; it removes the temporary name, and leaves the target as
+/// it was, unless that could not be looked at.
 pub fn link<R: Files>(rt: &R, temporary: &str, target: &str) -> Result<bool, Halt> {
     let linked = match fs::hard_link(rt, temporary, target) {
         Ok(()) => Ok(true),
@@ -49,8 +51,9 @@ fn refused<R: Files>(rt: &R, target: &str, error: io::Error) -> Result<bool, Hal
     Err(Halt::Fault(Fault::of(Doing::Linking, error)))
 }
 
-/// Renames a temporary file, which has this number, over the target. A rename that is answered with an error and was made all the same shows at the
-/// target, by the file's number.
+/// Renames a temporary file, which has this number, over the target. A rename that is answered with an error and was made all the
+/// same shows at the target, by the file's number. A fault is of the step `Replacing`; it removes the temporary name, and leaves
+/// the target as it was, unless that could not be looked at.
 pub fn replace<R: Files>(rt: &R, temporary: &str, number: u64, target: &str) -> Result<(), Halt> {
     match fs::rename(rt, temporary, target) {
         Ok(()) => Ok(()),
@@ -108,7 +111,8 @@ pub fn sync_if_there<R: Files>(rt: &R, folder: &str) -> Result<(), Halt> {
     done
 }
 
-/// Makes a folder where it is missing, with those above it, each lasting where that is asked.
+/// Makes a folder where it is missing, with those above it, each lasting where that is asked. After a fault those that were made
+/// stay.
 pub fn make_folders<R: Files>(rt: &R, folder: &str, syncs: bool) -> Result<(), Halt> {
     match fs::metadata(rt, folder) {
         Ok(_) => return Ok(()),

@@ -18,7 +18,8 @@ pub fn nanos_of(time: Duration) -> u64
     u64::try_from(time.as_nanos()).unwrap_or(u64::MAX)
 }
 
-/// The nanoseconds since 1970.
+/// The nanoseconds since 1970, the greatest number where there are more. An error is the system's, where its clock cannot be
+/// read.
 pub fn number_now<R: Clock>(rt: &R) -> io::Result<u64> {
     let now = rt.since_1970()?;
     Ok(nanos_of(now))
@@ -47,8 +48,8 @@ pub struct Writing {
     pub reads_back: bool,
 }
 
-/// Writes the bytes to a new file of this name. Whether it did: not where something has the name. Where it fails no file
-/// is left.
+/// Writes the bytes to a new file of this name, whose time of change becomes this number, in nanoseconds since 1970. Whether it
+/// did: not where something has the name. Where it fails it removes the file, which stays only where that fails too.
 pub fn write_new<R: Files>(
     rt: &R,
     name: &str,

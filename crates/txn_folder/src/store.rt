@@ -157,7 +157,7 @@ where
 
     /// Removes the temporary files of this object that are older than `before`, and tells how many: those of processes that
     /// died. A process that is slower than that is told `Failed` of its put, which then had no effect. It stops at the first
-    /// step that fails.
+    /// step that fails, whose fault it answers, and which `fault()` does not tell; what it removed before stays removed.
     pub fn clean(&mut self, before: SystemTime) -> Result<u64, Fault> {
         self.disk.clean(before)
     }

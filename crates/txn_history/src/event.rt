@@ -112,7 +112,7 @@ impl<T: Clone> ViewCall<T> {
 /// How a plain call ends, and how any call is refused.
 #[derive(Debug, Drop)]
 pub enum PlainAnswer<T> {
-    /// The value is the version of this id.
+    /// The value is the version of this id; of an unchecked write, it created the name of this id.
     Wrote(u64),
     /// The id and the value of the newest version, or that there is none.
     Read(Option<(u64, T)>),

@@ -4,7 +4,7 @@ ghost use Rattle.std.specs.Prelude.{◌≡◌, IfOk};
 use std::alloc::AllocError;
 use std::marker::Model;
 
-/// Ids in ascending order. A clause sees the list.
+/// Ids: in ascending order where a listing answers them, which the type does not ask. A clause sees the list.
 #[derive(Debug, Drop)]
 pub struct Ids {
     ids: Vec<u64>,

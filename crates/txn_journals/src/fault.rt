@@ -9,7 +9,7 @@ pub enum AuditFault {
     ClientMissing,
     /// A diary's receipts are not, in order, the log's rows of its client.
     RowsDiffer,
-    /// A landing is of a request that its client had not left.
+    /// A landing is of a request that its client had not left, or its reply says that the store lacked memory.
     LandingUnknown,
 }
 
