@@ -21,7 +21,7 @@ use Rattle.txn_journals.proofs.Numbers.{count_own, count_other, number_own, numb
 use Rattle.txn_journals.proofs.Operations.{named_op, OpsTied, ops_begun, ops_begun_other}
 use Rattle.txn_journals.proofs.Views.{ViewsTied, views_begun, after_own, after_other, after_size, ops_after, taken_own, taken_other, taken_size, answer_same}
 use Rattle.txn_journals.proofs.Told.{known_more, IfWrites, writes_more}
-use Rattle.txn_journals.proofs.Calls.{uses_named, claims_named}
+use Rattle.txn_journals.proofs.Calls as by_client
 use Rattle.txn_journals.proofs.Ties.{TiedTo, begun_writes}
 
 module _ {T : Type 0} (decode : List ℕ → Option T) (get_epoch : T → ℕ) (s : State T) (client : ℕ) (part : Part T) (begins views : List ℕ) (all_begun : length s.operations ≡ length begins) (long : length s.views ≡ length views) (t : TiedTo decode get_epoch s client part begins views)
@@ -64,7 +64,7 @@ module _ {T : Type 0} (decode : List ℕ → Option T) (get_epoch : T → ℕ) (
   k_within = let one = count_own client begins in record { above = omega arith; below = omega (arith, one, k_is) }
 
   pub begun_answer : answered (length s.views) (view_used call') next.1 ≡ option_map (named_answer (number_or_next views client)) answer
-  begun_answer = ap (λ (view : Option ℕ). answered (length s.views) view next.1) (sym (uses_named names call)) ∙ answer_same s.views part.views client views (view_used call) next.1 long t.seen.size has
+  begun_answer = ap (λ (view : Option ℕ). answered (length s.views) view next.1) (sym (by_client.same names call).uses) ∙ answer_same s.views part.views client views (view_used call) next.1 long t.seen.size has
 
   -- the views, where the one that is used is busy
 
@@ -88,7 +88,7 @@ module _ {T : Type 0} (decode : List ℕ → Option T) (get_epoch : T → ℕ) (
   After view claims = views_after (all_taken view) client view claims next.1
 
   with_names : (P : List (Option (Used T)) → Type 0) → P (After (option_map names (view_used call)) (is_claim_call call)) → P s'.views
-  with_names P h = subst (λ (view : Option ℕ). P (After view (is_claim_call call'))) (uses_named names call) (subst (λ (c : Bool). P (After (option_map names (view_used call)) c)) (claims_named names call) h)
+  with_names P h = subst (λ (view : Option ℕ). P (After view (is_claim_call call'))) (by_client.same names call).uses (subst (λ (c : Bool). P (After (option_map names (view_used call)) c)) (by_client.same names call).claims h)
 
   after : ViewsTied s'.views part'.views client begins' views'
   after = with_names (λ xs. ViewsTied xs part'.views client begins' views')
@@ -99,7 +99,7 @@ module _ {T : Type 0} (decode : List ℕ → Option T) (get_epoch : T → ℕ) (
   record_of view claims = record { client = client; view = view; claims = claims; doing = next.0 }
 
   new_named : named_op names (new_operation client call next.0) ≡ new_operation client call' next.0
-  new_named = ap (λ (view : Option ℕ). record_of view (is_claim_call call)) (uses_named names call) ∙ ap (λ (c : Bool). record_of (view_used call') c) (claims_named names call)
+  new_named = ap (λ (view : Option ℕ). record_of view (is_claim_call call)) (by_client.same names call).uses ∙ ap (λ (c : Bool). record_of (view_used call') c) (by_client.same names call).claims
 
   pub begun_own : TiedTo decode get_epoch s' client part' begins' views'
   begun_own =

@@ -28,7 +28,7 @@ use Rattle.txn_journals.specs.Traces.{named_call}
 use Rattle.txn_journals.proofs.Numbers.{IsWithin}
 use Rattle.txn_journals.proofs.Views.{named_used, used_same}
 use Rattle.txn_journals.proofs.Told.{base_known, below_known, epoch_known}
-use Rattle.txn_journals.proofs.Calls.{uses_named, holders_named, written_named, base_named, low_named}
+use Rattle.txn_journals.proofs.Calls as by_client
 use Rattle.txn_journals.proofs.Ties.{TiedTo}
 
 -- five tests that pass
@@ -133,21 +133,21 @@ module _ {T : Type 0} (encode : T → List ℕ) (decode : List ℕ → Option T)
   view_same w some = view_seen s.views (names w) ∙ (ap seen_view (used_same s.views part.views client begins views w t.seen some) ∙ (seen_named (number begins client) (used_by part.views (Some w)) ∙ sym (view_seen part.views w)))
 
   pub now_same : view_now s call' ≡ seen_view (used_by part.views (view_used call))
-  now_same = ap (λ (view : Option ℕ). seen_view (used_by s.views view)) (sym (uses_named names call)) ∙ by (view_used call) uses_within
+  now_same = ap (λ (view : Option ℕ). seen_view (used_by s.views view)) (sym (by_client.same names call).uses) ∙ by (view_used call) uses_within
     where
       by : (view : Option ℕ) → ((w : ℕ) → view ≡ Some w → IsWithin w (count client views)) → seen_view (used_by s.views (option_map names view)) ≡ seen_view (used_by part.views view)
       by None h = refl
       by (Some w) h = ap seen_view (used_same s.views part.views client begins views w t.seen (h w refl)) ∙ seen_named (number begins client) (used_by part.views (Some w))
 
   may_there : may_use (seen_of s) client (is_holders call') (view_used call') ≡ true
-  may_there = ap (λ (h : Bool). may_use (seen_of s) client h (view_used call')) (holders_named names call) ∙ (ap (may_use (seen_of s) client (is_holders call)) (sym (uses_named names call)) ∙ by (view_used call) uses_within may)
+  may_there = ap (λ (h : Bool). may_use (seen_of s) client h (view_used call')) (by_client.same names call).holders ∙ (ap (may_use (seen_of s) client (is_holders call)) (sym (by_client.same names call).uses) ∙ by (view_used call) uses_within may)
     where
       by : (view : Option ℕ) → ((w : ℕ) → view ≡ Some w → IsWithin w (count client views)) → may_use (seen_in client part) client (is_holders call) view ≡ true → may_use (seen_of s) client (is_holders call) (option_map names view) ≡ true
       by None h m = refl
       by (Some w) h m = ap (is_own client (is_holders call)) (view_same w (h w refl)) ∙ m
 
   not_busy : not (is_busy (seen_of s) s.trace (view_used call')) ≡ true
-  not_busy = ap (λ (view : Option ℕ). not (is_busy (seen_of s) s.trace view)) (sym (uses_named names call)) ∙ by (view_used call) uses_within may ok.six_is
+  not_busy = ap (λ (view : Option ℕ). not (is_busy (seen_of s) s.trace view)) (sym (by_client.same names call).uses) ∙ by (view_used call) uses_within may ok.six_is
     where
       same_busy : (busy : Option ℕ) → is_some (option_map (number begins client) busy) ≡ is_some busy
       same_busy None = refl
@@ -163,7 +163,7 @@ module _ {T : Type 0} (encode : T → List ℕ) (decode : List ℕ → Option T)
 
   -- its base is the same
   base_same : base_seen (seen_of s) call' ≡ base
-  base_same = ap (λ (view : Option ℕ). base_of (id_seen (seen_of s) view) call') (sym (uses_named names call)) ∙ (base_named names (id_seen (seen_of s) (option_map names (view_used call))) call ∙ ap (λ (at : Option ℕ). base_of at call) (by (view_used call) uses_within))
+  base_same = ap (λ (view : Option ℕ). base_of (id_seen (seen_of s) view) call') (sym (by_client.same names call).uses) ∙ ((by_client.same names call).base (id_seen (seen_of s) (option_map names (view_used call))) ∙ ap (λ (at : Option ℕ). base_of at call) (by (view_used call) uses_within))
     where
       by : (view : Option ℕ) → ((w : ℕ) → view ≡ Some w → IsWithin w (count client views)) → id_seen (seen_of s) (option_map names view) ≡ id_seen (seen_in client part) view
       by None h = refl
@@ -177,7 +177,7 @@ module _ {T : Type 0} (encode : T → List ℕ) (decode : List ℕ → Option T)
       by (Some id) h = base_known decode get_epoch s.trace part.told id t.told h
 
   low : has_low_boundary s.trace call' ≡ true
-  low = low_named names s.trace call ∙ by call ok.four_is
+  low = (by_client.same names call).low s.trace ∙ by call ok.four_is
     where
       either : (a b c : Bool) → (b ≡ true → c ≡ true) → (a || b) ≡ true → (a || c) ≡ true
       either true b c f h = refl
@@ -196,7 +196,7 @@ module _ {T : Type 0} (encode : T → List ℕ) (decode : List ℕ → Option T)
       by (any.View c) h = refl
 
   keeps : keeps_epoch decode get_epoch s.trace (base_seen (seen_of s) call') call' ≡ true
-  keeps = ap (λ (b : Option ℕ). is_high get_epoch (epoch_at decode get_epoch s.trace (number_of b)) (value_written call')) base_same ∙ (ap (is_high get_epoch (epoch_at decode get_epoch s.trace (number_of base))) (written_named names call) ∙ by base ok.three_is ok.five_is)
+  keeps = ap (λ (b : Option ℕ). is_high get_epoch (epoch_at decode get_epoch s.trace (number_of b)) (value_written call')) base_same ∙ (ap (is_high get_epoch (epoch_at decode get_epoch s.trace (number_of base))) (by_client.same names call).written ∙ by base ok.three_is ok.five_is)
     where
       none_high : (value : Option T) → is_high get_epoch 0 value ≡ true
       none_high None = refl

@@ -42,7 +42,8 @@ use Rattle.txn_journals.specs.Traces.{named_call, told_in, next_in, op_in, loose
 use Rattle.txn_journals.proofs.Numbers.{count_other, IsWithin}
 use Rattle.txn_journals.proofs.Operations.{named_op, op_within}
 use Rattle.txn_journals.proofs.Files.{log_files}
-use Rattle.txn_journals.proofs.Calls.{word_named, reads_named, starts_named}
+use Rattle.txn_journals.proofs.Calls.{reads_named, starts_named}
+use Rattle.txn_journals.proofs.Calls as by_client
 use Rattle.txn_journals.proofs.Ties.{TiedTo, effected_tied, turn_answer, turn_own, turn_other, turn_size, failing_tied, left_own, left_other, left_size}
 use Rattle.txn_journals.proofs.Lefts.{lefts_begin, lefts_look, lefts_lacks, lefts_got, lefts_given, lefts_failed, lefts_killed}
 use Rattle.txn_journals.proofs.Killing.{killed_own, killed_other, killed_loose, killed_within}
@@ -483,7 +484,7 @@ module _ {T : Type 0} (page : ℕ) (encode : T → List ℕ) (decode : List ℕ 
       allowed = allowed encode decode get_epoch set_epoch s reached client part begins views t call v.permits in_world;
       step = record {
         reads_back = reads_named page encode decode get_epoch set_epoch (number views client) call v.reads_back;
-        word = word_named (number views client) call v.word;
+        word = (by_client.same (number views client) call).word v.word;
         next = v.next;
         starts = v.starts ∙ (starts_named page encode decode get_epoch set_epoch (number views client) call (seen_view (used_by part.views (view_used call)))
             ∙ (ap (started page encode get_epoch set_epoch new_call) (sym (now_same encode decode get_epoch set_epoch s reached client part begins views t call v.permits))

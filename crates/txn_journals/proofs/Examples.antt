@@ -1,5 +1,5 @@
 -- Two clients of one store: one writes while the other reads.
-use Rattle.std.proofs.Common.{◌≡◌, ℕ, zero, suc, ◌+◌, List, [], ◌∷◌, false, Option, Some, None, Ok, Err, inl, inr, refl, arith}
+use Rattle.std.proofs.Common.{◌≡◌, ℕ, zero, suc, ◌+◌, List, [], ◌∷◌, false, Option, Some, None, Ok, Err, length, inl, inr, refl, arith}
 use Rattle.std.specs.FinMap.{empty, get, insert}
 use Rattle.txn_store.specs.Store.{State as StoreState}
 use Rattle.txn_store.specs.declared.request.Request.{Request}
@@ -12,13 +12,13 @@ use Rattle.txn_history.specs.Names.{world_names, world_boundary}
 use Rattle.txn_store.specs.VersionName.{version_path}
 use Rattle.txn_store.specs.declared.store.Got.{Got}
 use Rattle.txn_store.specs.declared.store.StoreError.TheVariants as errors
-use Rattle.txn_history.specs.Seen.{Ask}
+use Rattle.txn_history.specs.Seen.{Ask, Store, Look}
 use Rattle.txn_machine_inner.specs.Machine.{empty_store}
 use Rattle.txn_history.specs.declared.event.Call.{Call}
 use Rattle.txn_history.specs.declared.event.Call.TheVariants as any
 use Rattle.txn_machine.specs.declared.doing.Operation.{Operation}
-use Rattle.txn_machine.specs.Doing.{ended, refused, asked, started, turned}
-use Rattle.txn_machine.specs.Machine.{seen_view, used_by}
+use Rattle.txn_machine.specs.Doing.{Next, ended, refused, asked, started, turned, ReadsBack, FitsWord, IsMadeSo, Turns}
+use Rattle.txn_machine.specs.Machine.{seen_view, used_by, answered}
 use Rattle.txn_history.specs.Calls.{view_used}
 use Rattle.std.proofs.Common.{reverse, ◌≢◌}
 use Rattle.txn_journals.specs.declared.fault.AuditFault.TheVariants as faults
@@ -43,6 +43,7 @@ use Rattle.std.proofs.Common.{◌==◌, if◌then◌else◌, ap, subst, sym, ◌
 use Rattle.std.proofs.lemmas.Bool.{cases_eq, eq-eqb, ne_eqb}
 use Rattle.txn_journals.specs.declared.rows.LogRow.{LogRow}
 use Rattle.txn_journals.specs.declared.rows.Receipt.{Receipt}
+use Rattle.txn_journals.specs.declared.rows.Act.{Act}
 use Rattle.txn_journals.specs.declared.rows.Act.TheVariants as acts
 use Rattle.std.specs.Prelude.{Vec}
 use Rattle.std.specs.declared.alloc.Global.{Global}
@@ -80,14 +81,11 @@ operation_or (Some o) = o
 abbrev operation : Part ℕ → ℕ → Operation ℕ
 operation part op = operation_or (numbered part.operations op)
 
-abbrev begin : ℕ → Part ℕ → Call ℕ → Part ℕ
-begin client part call = diary.begun get_epoch client part call (started 1000 encode get_epoch set_epoch call (seen_view (used_by part.views (view_used call))))
+abbrev start : Part ℕ → Call ℕ → Next ℕ
+start part call = started 1000 encode get_epoch set_epoch call (seen_view (used_by part.views (view_used call)))
 
-abbrev go : Part ℕ → ℕ → Option Reply → Part ℕ
-go part op reply = diary.turned get_epoch part op (operation part op) (turned 1000 encode decode get_epoch set_epoch false (operation part op).doing part.caches reply)
-
-abbrev asks : Part ℕ → ℕ → Option Ask
-asks part op = asked (operation part op).doing
+abbrev turn : Part ℕ → ℕ → Option Reply → Next ℕ
+turn part op reply = turned 1000 encode decode get_epoch set_epoch false (operation part op).doing part.caches reply
 
 abbrev path : List (List ℕ)
 path = version_path world_names 1
@@ -141,210 +139,177 @@ misses other ne n =
 second : version_path world_names 2 ≡ path → ⊥
 second e = absurd (let same = one_path world_names 2 1 (omega arith) (omega arith) e in omega (arith, same))
 
--- one row more
+-- a list of two clients so far, and what each of them has done
+record Scene : Type 0 where
+  list : Merged ℕ
+  parts : ℕ → Part ℕ
 
-abbrev Holds : Merged ℕ → (ℕ → Part ℕ) → StoreState → Type 0
-Holds m parts store = IsMerged 1000 encode decode get_epoch set_epoch m parts store
-
-abbrev with_part : (ℕ → Part ℕ) → ℕ → Part ℕ → ℕ → Part ℕ
-with_part parts client part d = if client == d then part else parts d
+abbrev Holds : Scene → StoreState → Type 0
+Holds s store = IsMerged 1000 encode decode get_epoch set_epoch s.list s.parts store
 
 abbrev row : Step ℕ → Option (Answer ℕ) → JournalRow ℕ
 row step answer = record { step = step; answer = answer }
 
-grown : (m : Merged ℕ) (parts : ℕ → Part ℕ) (store after : StoreState) (client : ℕ) (step : Step ℕ) (answer : Option (Answer ℕ)) (new : Part ℕ) → Holds m parts store → Follows 1000 encode decode get_epoch set_epoch client (parts client) step answer new → IsLog (with_receipt client step (log_of m)) after → Lives (part_of client m) →
-    Holds (Did client (row step answer) ∷ m) (with_part parts client new) after
-grown m parts store after client step answer new h follows log lives =
+-- one row more
+abbrev grow : ℕ → Step ℕ → Option (Answer ℕ) → Part ℕ → Scene → Scene
+grow client step answer new s = record { list = Did client (row step answer) ∷ s.list; parts = λ d. if client == d then new else s.parts d }
+
+grown : (s : Scene) (store after : StoreState) (client : ℕ) (step : Step ℕ) (answer : Option (Answer ℕ)) (new : Part ℕ) → Holds s store → Follows 1000 encode decode get_epoch set_epoch client (s.parts client) step answer new → IsLog (with_receipt client step (log_of s.list)) after → Lives (part_of client s.list) →
+    Holds (grow client step answer new s) after
+grown s store after client step answer new h follows log lives =
+    let t = grow client step answer new s in
     record {
       journals = λ d. elim (cases_eq client d) [
-        | inl is ↦ subst (λ (c : ℕ). Replays 1000 encode decode get_epoch set_epoch c (part_of c (Did client (row step answer) ∷ m)) (with_part parts client new c)) is (rw (eq-eqb client client refl) (parts client, h.journals client, follows, lives))
+        | inl is ↦ subst (λ (c : ℕ). Replays 1000 encode decode get_epoch set_epoch c (part_of c t.list) (t.parts c)) is (rw (eq-eqb client client refl) (s.parts client, h.journals client, follows, lives))
         | inr ne ↦ rw (ne_eqb client d ne) (h.journals d)
       ];
       log = log;
       landings = h.landings;
     }
 
-landed_more : (m : Merged ℕ) (parts : ℕ → Part ℕ) (store after : StoreState) (landing : Landing) → Holds m parts store → CanLand m landing → IsLog (landing_row landing ∷ log_of m) after → Holds (Lands landing ∷ m) parts after
-landed_more m parts store after landing h lands log = record { journals = h.journals; log = log; landings = (lands, h.landings) }
+-- a call begins
+abbrev begins : ℕ → Call ℕ → Scene → Scene
+begins client call s =
+    let part = s.parts client in
+    grow client (steps.Begin call) (answered (length part.views) (view_used call) (start part call).1) (diary.begun get_epoch client part call (start part call)) s
+
+begun : (s : Scene) (store : StoreState) (client : ℕ) (call : Call ℕ) → Holds s store → begin_fault get_epoch client (s.parts client) call ≡ None → ReadsBack encode decode call → FitsWord call → IsMadeSo encode decode get_epoch (start (s.parts client) call).0 → Lives (part_of client s.list) → Holds (begins client call s) store
+begun s store client call h permits reads word made lives =
+    let part = s.parts client in
+    grown s store store client (steps.Begin call) (answered (length part.views) (view_used call) (start part call).1) (diary.begun get_epoch client part call (start part call)) h (record { permits = permits; reads_back = reads; word = word; next = start part call; starts = refl; made = made; tells = refl; part = refl }) h.log lives
+
+-- an operation takes its turn
+abbrev takes : ℕ → ℕ → Act → Option Reply → Scene → Scene
+takes client op act reply s =
+    let part = s.parts client in
+    grow client (steps.Act op act) (answer_in part (operation part op) (turn part op reply)) (diary.turned get_epoch part op (operation part op) (turn part op reply)) s
+
+-- an operation that asks for this is there, and has the memory that its turn wants
+record Asks (part : Part ℕ) (op : ℕ) (ask : Ask) (reply : Option Reply) : Type 0 where
+  found : numbered part.operations op ≡ Some (operation part op)
+  asks : asked (operation part op).doing ≡ Some ask
+  turns : Turns 1000 encode decode get_epoch set_epoch (operation part op).doing part.caches reply (turn part op reply)
+
+looked : (s : Scene) (store : StoreState) (client op : ℕ) → Holds s store → Asks (s.parts client) op Look None → Lives (part_of client s.list) → Holds (takes client op acts.Look None s) store
+looked s store client op h asks lives =
+    let part = s.parts client in
+    grown s store store client (steps.Act op acts.Look) (answer_in part (operation part op) (turn part op None)) (diary.turned get_epoch part op (operation part op) (turn part op None)) h (record { operation = operation part op; found = asks.found; asks = asks.asks; next = turn part op None; turns = asks.turns; tells = refl; part = refl }) h.log lives
+
+abbrev receives : ℕ → ℕ → ℕ → Request → Reply → Scene → Scene
+receives client op place request reply s = takes client op (acts.Receive (record { place = place; request = request; reply = reply })) (Some reply) s
+
+received : (s : Scene) (store after : StoreState) (client op place : ℕ) (request : Request) (reply : Reply) → Holds s store → Asks (s.parts client) op (Store request) (Some reply) → Serves request store reply after → after.failures ≡ 0 → Lives (part_of client s.list) → Holds (receives client op place request reply s) after
+received s store after client op place request reply h asks serves fails lives =
+    let part = s.parts client in
+    grown s store after client (steps.Act op (acts.Receive (record { place = place; request = request; reply = reply }))) (answer_in part (operation part op) (turn part op (Some reply))) (diary.turned get_epoch part op (operation part op) (turn part op (Some reply))) h (record { operation = operation part op; found = asks.found; asks = asks.asks; next = turn part op (Some reply); turns = asks.turns; tells = refl; part = refl }) (store, h.log, serves, fails) lives
+
+-- a landing more
+abbrev lands : Landing → Scene → Scene
+lands landing s = record { list = Lands landing ∷ s.list; parts = s.parts }
+
+landed_more : (s : Scene) (store after : StoreState) (landing : Landing) → Holds s store → CanLand s.list landing → IsLog (landing_row landing ∷ log_of s.list) after → Holds (lands landing s) after
+landed_more s store after landing h lands log = record { journals = h.journals; log = log; landings = (lands, h.landings) }
 
 -- client 1 writes the first version, which client 2 reads then, and reads it too
 
-abbrev m0 : Merged ℕ
-m0 = []
+abbrev s0 : Scene
+s0 = record { list = []; parts = λ client. no_part }
 
-abbrev parts0 : ℕ → Part ℕ
-parts0 client = no_part
-
-h0 : Holds m0 parts0 empty_store
+h0 : Holds s0 empty_store
 h0 = record { journals = λ client. refl; log = refl; landings = tt }
 
-abbrev p1 : Part ℕ
-p1 = begin 2 no_part (any.Plain (calls.ReadUnchecked 1))
+abbrev read_first : Call ℕ
+read_first = any.Plain (calls.ReadUnchecked 1)
 
-abbrev m1 : Merged ℕ
-m1 = Did 2 (row (steps.Begin (any.Plain (calls.ReadUnchecked 1))) (None)) ∷ m0
+abbrev write_first : Call ℕ
+write_first = any.Plain (calls.Write None 7)
 
-abbrev parts1 : ℕ → Part ℕ
-parts1 = with_part parts0 2 p1
+abbrev put_asked : Request
+put_asked = requests.Put path (encode 7) Create
 
-h1 : Holds m1 parts1 empty_store
-h1 = grown m0 parts0 empty_store empty_store 2 (steps.Begin (any.Plain (calls.ReadUnchecked 1))) (None) p1 h0 (record { permits = refl; reads_back = tt; word = omega arith; next = started 1000 encode get_epoch set_epoch (any.Plain (calls.ReadUnchecked 1)) None; starts = refl; made = tt; tells = refl; part = refl }) h0.log tt
+abbrev s1 : Scene
+s1 = begins 2 read_first s0
 
-abbrev p2 : Part ℕ
-p2 = begin 1 no_part (any.Plain (calls.Write None 7))
+h1 : Holds s1 empty_store
+h1 = begun s0 empty_store 2 read_first h0 refl tt (omega arith) tt tt
 
-abbrev m2 : Merged ℕ
-m2 = Did 1 (row (steps.Begin (any.Plain (calls.Write None 7))) (None)) ∷ m1
+abbrev s2 : Scene
+s2 = begins 1 write_first s1
 
-abbrev parts2 : ℕ → Part ℕ
-parts2 = with_part parts1 1 p2
+h2 : Holds s2 empty_store
+h2 = begun s1 empty_store 1 write_first h1 refl (λ e. refl) tt tt tt
 
-h2 : Holds m2 parts2 empty_store
-h2 = grown m1 parts1 empty_store empty_store 1 (steps.Begin (any.Plain (calls.Write None 7))) (None) p2 h1 (record { permits = refl; reads_back = λ e. refl; word = tt; next = started 1000 encode get_epoch set_epoch (any.Plain (calls.Write None 7)) None; starts = refl; made = tt; tells = refl; part = refl }) h1.log tt
+abbrev s3 : Scene
+s3 = receives 1 1 0 put_asked reply_put s2
 
-abbrev p3 : Part ℕ
-p3 = go p2 1 (Some reply_put)
+h3 : Holds s3 (stored 1)
+h3 = received s2 empty_store (stored 1) 1 1 0 put_asked reply_put h2 (record { found = refl; asks = refl; turns = record { refused = false; turns = refl; may = tt; made = λ h. absurd h } }) puts refl refl
 
-abbrev m3 : Merged ℕ
-m3 = Did 1 (row (steps.Act 1 (acts.Receive (record { place = 0; request = requests.Put path (encode 7) Create; reply = reply_put }))) (answer_in p2 (operation p2 1) (turned 1000 encode decode get_epoch set_epoch false (operation p2 1).doing p2.caches (Some reply_put)))) ∷ m2
+abbrev s4 : Scene
+s4 = receives 2 1 1 (requests.Get path None) reply_got s3
 
-abbrev parts3 : ℕ → Part ℕ
-parts3 = with_part parts2 1 p3
+h4 : Holds s4 (stored 2)
+h4 = received s3 (stored 1) (stored 2) 2 1 1 (requests.Get path None) reply_got h3 (record { found = refl; asks = refl; turns = record { refused = false; turns = refl; may = tt; made = λ h. absurd h } }) (gets 1) refl refl
 
-h3 : Holds m3 parts3 (stored 1)
-h3 = grown m2 parts2 empty_store (stored 1) 1 (steps.Act 1 (acts.Receive (record { place = 0; request = requests.Put path (encode 7) Create; reply = reply_put }))) (answer_in p2 (operation p2 1) (turned 1000 encode decode get_epoch set_epoch false (operation p2 1).doing p2.caches (Some reply_put))) p3 h2 (record { operation = operation p2 1; found = refl; asks = refl; next = turned 1000 encode decode get_epoch set_epoch false (operation p2 1).doing p2.caches (Some reply_put); turns = record { refused = false; turns = refl; may = tt; made = λ h. absurd h }; tells = refl; part = refl }) (empty_store, h2.log, puts, refl) refl
+abbrev s5 : Scene
+s5 = takes 1 1 acts.Look None s4
 
-abbrev p4 : Part ℕ
-p4 = go p1 1 (Some reply_got)
+h5 : Holds s5 (stored 2)
+h5 = looked s4 (stored 2) 1 1 h4 (record { found = refl; asks = refl; turns = record { refused = false; turns = refl; may = tt; made = λ h. absurd h } }) refl
 
-abbrev m4 : Merged ℕ
-m4 = Did 2 (row (steps.Act 1 (acts.Receive (record { place = 1; request = requests.Get path None; reply = reply_got }))) (answer_in p1 (operation p1 1) (turned 1000 encode decode get_epoch set_epoch false (operation p1 1).doing p1.caches (Some reply_got)))) ∷ m3
+abbrev s6 : Scene
+s6 = takes 1 1 acts.Look None s5
 
-abbrev parts4 : ℕ → Part ℕ
-parts4 = with_part parts3 2 p4
+h6 : Holds s6 (stored 2)
+h6 = looked s5 (stored 2) 1 1 h5 (record { found = refl; asks = refl; turns = record { refused = false; turns = refl; may = tt; made = λ h. absurd h } }) refl
 
-h4 : Holds m4 parts4 (stored 2)
-h4 = grown m3 parts3 (stored 1) (stored 2) 2 (steps.Act 1 (acts.Receive (record { place = 1; request = requests.Get path None; reply = reply_got }))) (answer_in p1 (operation p1 1) (turned 1000 encode decode get_epoch set_epoch false (operation p1 1).doing p1.caches (Some reply_got))) p4 h3 (record { operation = operation p1 1; found = refl; asks = refl; next = turned 1000 encode decode get_epoch set_epoch false (operation p1 1).doing p1.caches (Some reply_got); turns = record { refused = false; turns = refl; may = tt; made = λ h. absurd h }; tells = refl; part = refl }) ((stored 1), h3.log, gets 1, refl) refl
+abbrev s7 : Scene
+s7 = takes 1 1 acts.Look None s6
 
-abbrev p5 : Part ℕ
-p5 = go p3 1 None
+h7 : Holds s7 (stored 2)
+h7 = looked s6 (stored 2) 1 1 h6 (record { found = refl; asks = refl; turns = record { refused = false; turns = refl; may = tt; made = λ h. absurd h } }) refl
 
-abbrev m5 : Merged ℕ
-m5 = Did 1 (row (steps.Act 1 acts.Look) (answer_in p3 (operation p3 1) (turned 1000 encode decode get_epoch set_epoch false (operation p3 1).doing p3.caches None))) ∷ m4
+abbrev s8 : Scene
+s8 = receives 1 1 2 (requests.Get world_boundary None) reply_none s7
 
-abbrev parts5 : ℕ → Part ℕ
-parts5 = with_part parts4 1 p5
+h8 : Holds s8 (stored 3)
+h8 = received s7 (stored 2) (stored 3) 1 1 2 (requests.Get world_boundary None) reply_none h7 (record { found = refl; asks = refl; turns = record { refused = false; turns = refl; may = tt; made = λ h. absurd h } }) (misses world_boundary (apart 1) 2) refl refl
 
-h5 : Holds m5 parts5 (stored 2)
-h5 = grown m4 parts4 (stored 2) (stored 2) 1 (steps.Act 1 acts.Look) (answer_in p3 (operation p3 1) (turned 1000 encode decode get_epoch set_epoch false (operation p3 1).doing p3.caches None)) p5 h4 (record { operation = operation p3 1; found = refl; asks = refl; next = turned 1000 encode decode get_epoch set_epoch false (operation p3 1).doing p3.caches None; turns = record { refused = false; turns = refl; may = tt; made = λ h. absurd h }; tells = refl; part = refl }) h4.log refl
+abbrev s9 : Scene
+s9 = begins 1 (any.Plain calls.Read) s8
 
-abbrev p6 : Part ℕ
-p6 = go p5 1 None
+h9 : Holds s9 (stored 3)
+h9 = begun s8 (stored 3) 1 (any.Plain calls.Read) h8 refl tt tt tt refl
 
-abbrev m6 : Merged ℕ
-m6 = Did 1 (row (steps.Act 1 acts.Look) (answer_in p5 (operation p5 1) (turned 1000 encode decode get_epoch set_epoch false (operation p5 1).doing p5.caches None))) ∷ m5
+abbrev s10 : Scene
+s10 = takes 1 2 acts.Look None s9
 
-abbrev parts6 : ℕ → Part ℕ
-parts6 = with_part parts5 1 p6
+h10 : Holds s10 (stored 3)
+h10 = looked s9 (stored 3) 1 2 h9 (record { found = refl; asks = refl; turns = record { refused = false; turns = refl; may = tt; made = λ h. absurd h } }) refl
 
-h6 : Holds m6 parts6 (stored 2)
-h6 = grown m5 parts5 (stored 2) (stored 2) 1 (steps.Act 1 acts.Look) (answer_in p5 (operation p5 1) (turned 1000 encode decode get_epoch set_epoch false (operation p5 1).doing p5.caches None)) p6 h5 (record { operation = operation p5 1; found = refl; asks = refl; next = turned 1000 encode decode get_epoch set_epoch false (operation p5 1).doing p5.caches None; turns = record { refused = false; turns = refl; may = tt; made = λ h. absurd h }; tells = refl; part = refl }) h5.log refl
+abbrev s11 : Scene
+s11 = receives 1 2 3 (requests.Get (version_path world_names 2) None) reply_none s10
 
-abbrev p7 : Part ℕ
-p7 = go p6 1 None
+h11 : Holds s11 (stored 4)
+h11 = received s10 (stored 3) (stored 4) 1 2 3 (requests.Get (version_path world_names 2) None) reply_none h10 (record { found = refl; asks = refl; turns = record { refused = false; turns = refl; may = tt; made = λ h. absurd h } }) (misses (version_path world_names 2) second 3) refl refl
 
-abbrev m7 : Merged ℕ
-m7 = Did 1 (row (steps.Act 1 acts.Look) (answer_in p6 (operation p6 1) (turned 1000 encode decode get_epoch set_epoch false (operation p6 1).doing p6.caches None))) ∷ m6
+abbrev s12 : Scene
+s12 = takes 1 2 acts.Look None s11
 
-abbrev parts7 : ℕ → Part ℕ
-parts7 = with_part parts6 1 p7
+h12 : Holds s12 (stored 4)
+h12 = looked s11 (stored 4) 1 2 h11 (record { found = refl; asks = refl; turns = record { refused = false; turns = refl; may = tt; made = λ h. absurd h } }) refl
 
-h7 : Holds m7 parts7 (stored 2)
-h7 = grown m6 parts6 (stored 2) (stored 2) 1 (steps.Act 1 acts.Look) (answer_in p6 (operation p6 1) (turned 1000 encode decode get_epoch set_epoch false (operation p6 1).doing p6.caches None)) p7 h6 (record { operation = operation p6 1; found = refl; asks = refl; next = turned 1000 encode decode get_epoch set_epoch false (operation p6 1).doing p6.caches None; turns = record { refused = false; turns = refl; may = tt; made = λ h. absurd h }; tells = refl; part = refl }) h6.log refl
+abbrev s13 : Scene
+s13 = takes 1 2 acts.Look None s12
 
-abbrev p8 : Part ℕ
-p8 = go p7 1 (Some reply_none)
+h13 : Holds s13 (stored 4)
+h13 = looked s12 (stored 4) 1 2 h12 (record { found = refl; asks = refl; turns = record { refused = false; turns = refl; may = tt; made = λ h. absurd h } }) refl
 
-abbrev m8 : Merged ℕ
-m8 = Did 1 (row (steps.Act 1 (acts.Receive (record { place = 2; request = requests.Get world_boundary None; reply = reply_none }))) (answer_in p7 (operation p7 1) (turned 1000 encode decode get_epoch set_epoch false (operation p7 1).doing p7.caches (Some reply_none)))) ∷ m7
+abbrev s14 : Scene
+s14 = receives 1 2 4 (requests.Get world_boundary None) reply_none s13
 
-abbrev parts8 : ℕ → Part ℕ
-parts8 = with_part parts7 1 p8
-
-h8 : Holds m8 parts8 (stored 3)
-h8 = grown m7 parts7 (stored 2) (stored 3) 1 (steps.Act 1 (acts.Receive (record { place = 2; request = requests.Get world_boundary None; reply = reply_none }))) (answer_in p7 (operation p7 1) (turned 1000 encode decode get_epoch set_epoch false (operation p7 1).doing p7.caches (Some reply_none))) p8 h7 (record { operation = operation p7 1; found = refl; asks = refl; next = turned 1000 encode decode get_epoch set_epoch false (operation p7 1).doing p7.caches (Some reply_none); turns = record { refused = false; turns = refl; may = tt; made = λ h. absurd h }; tells = refl; part = refl }) ((stored 2), h7.log, misses world_boundary (apart 1) 2, refl) refl
-
-abbrev p9 : Part ℕ
-p9 = begin 1 p8 (any.Plain calls.Read)
-
-abbrev m9 : Merged ℕ
-m9 = Did 1 (row (steps.Begin (any.Plain calls.Read)) (None)) ∷ m8
-
-abbrev parts9 : ℕ → Part ℕ
-parts9 = with_part parts8 1 p9
-
-h9 : Holds m9 parts9 (stored 3)
-h9 = grown m8 parts8 (stored 3) (stored 3) 1 (steps.Begin (any.Plain calls.Read)) (None) p9 h8 (record { permits = refl; reads_back = tt; word = tt; next = started 1000 encode get_epoch set_epoch (any.Plain calls.Read) None; starts = refl; made = tt; tells = refl; part = refl }) h8.log refl
-
-abbrev p10 : Part ℕ
-p10 = go p9 2 None
-
-abbrev m10 : Merged ℕ
-m10 = Did 1 (row (steps.Act 2 acts.Look) (answer_in p9 (operation p9 2) (turned 1000 encode decode get_epoch set_epoch false (operation p9 2).doing p9.caches None))) ∷ m9
-
-abbrev parts10 : ℕ → Part ℕ
-parts10 = with_part parts9 1 p10
-
-h10 : Holds m10 parts10 (stored 3)
-h10 = grown m9 parts9 (stored 3) (stored 3) 1 (steps.Act 2 acts.Look) (answer_in p9 (operation p9 2) (turned 1000 encode decode get_epoch set_epoch false (operation p9 2).doing p9.caches None)) p10 h9 (record { operation = operation p9 2; found = refl; asks = refl; next = turned 1000 encode decode get_epoch set_epoch false (operation p9 2).doing p9.caches None; turns = record { refused = false; turns = refl; may = tt; made = λ h. absurd h }; tells = refl; part = refl }) h9.log refl
-
-abbrev p11 : Part ℕ
-p11 = go p10 2 (Some reply_none)
-
-abbrev m11 : Merged ℕ
-m11 = Did 1 (row (steps.Act 2 (acts.Receive (record { place = 3; request = requests.Get (version_path world_names 2) None; reply = reply_none }))) (answer_in p10 (operation p10 2) (turned 1000 encode decode get_epoch set_epoch false (operation p10 2).doing p10.caches (Some reply_none)))) ∷ m10
-
-abbrev parts11 : ℕ → Part ℕ
-parts11 = with_part parts10 1 p11
-
-h11 : Holds m11 parts11 (stored 4)
-h11 = grown m10 parts10 (stored 3) (stored 4) 1 (steps.Act 2 (acts.Receive (record { place = 3; request = requests.Get (version_path world_names 2) None; reply = reply_none }))) (answer_in p10 (operation p10 2) (turned 1000 encode decode get_epoch set_epoch false (operation p10 2).doing p10.caches (Some reply_none))) p11 h10 (record { operation = operation p10 2; found = refl; asks = refl; next = turned 1000 encode decode get_epoch set_epoch false (operation p10 2).doing p10.caches (Some reply_none); turns = record { refused = false; turns = refl; may = tt; made = λ h. absurd h }; tells = refl; part = refl }) ((stored 3), h10.log, misses (version_path world_names 2) second 3, refl) refl
-
-abbrev p12 : Part ℕ
-p12 = go p11 2 None
-
-abbrev m12 : Merged ℕ
-m12 = Did 1 (row (steps.Act 2 acts.Look) (answer_in p11 (operation p11 2) (turned 1000 encode decode get_epoch set_epoch false (operation p11 2).doing p11.caches None))) ∷ m11
-
-abbrev parts12 : ℕ → Part ℕ
-parts12 = with_part parts11 1 p12
-
-h12 : Holds m12 parts12 (stored 4)
-h12 = grown m11 parts11 (stored 4) (stored 4) 1 (steps.Act 2 acts.Look) (answer_in p11 (operation p11 2) (turned 1000 encode decode get_epoch set_epoch false (operation p11 2).doing p11.caches None)) p12 h11 (record { operation = operation p11 2; found = refl; asks = refl; next = turned 1000 encode decode get_epoch set_epoch false (operation p11 2).doing p11.caches None; turns = record { refused = false; turns = refl; may = tt; made = λ h. absurd h }; tells = refl; part = refl }) h11.log refl
-
-abbrev p13 : Part ℕ
-p13 = go p12 2 None
-
-abbrev m13 : Merged ℕ
-m13 = Did 1 (row (steps.Act 2 acts.Look) (answer_in p12 (operation p12 2) (turned 1000 encode decode get_epoch set_epoch false (operation p12 2).doing p12.caches None))) ∷ m12
-
-abbrev parts13 : ℕ → Part ℕ
-parts13 = with_part parts12 1 p13
-
-h13 : Holds m13 parts13 (stored 4)
-h13 = grown m12 parts12 (stored 4) (stored 4) 1 (steps.Act 2 acts.Look) (answer_in p12 (operation p12 2) (turned 1000 encode decode get_epoch set_epoch false (operation p12 2).doing p12.caches None)) p13 h12 (record { operation = operation p12 2; found = refl; asks = refl; next = turned 1000 encode decode get_epoch set_epoch false (operation p12 2).doing p12.caches None; turns = record { refused = false; turns = refl; may = tt; made = λ h. absurd h }; tells = refl; part = refl }) h12.log refl
-
-abbrev p14 : Part ℕ
-p14 = go p13 2 (Some reply_none)
-
-abbrev m14 : Merged ℕ
-m14 = Did 1 (row (steps.Act 2 (acts.Receive (record { place = 4; request = requests.Get world_boundary None; reply = reply_none }))) (answer_in p13 (operation p13 2) (turned 1000 encode decode get_epoch set_epoch false (operation p13 2).doing p13.caches (Some reply_none)))) ∷ m13
-
-abbrev parts14 : ℕ → Part ℕ
-parts14 = with_part parts13 1 p14
-
-h14 : Holds m14 parts14 (stored 5)
-h14 = grown m13 parts13 (stored 4) (stored 5) 1 (steps.Act 2 (acts.Receive (record { place = 4; request = requests.Get world_boundary None; reply = reply_none }))) (answer_in p13 (operation p13 2) (turned 1000 encode decode get_epoch set_epoch false (operation p13 2).doing p13.caches (Some reply_none))) p14 h13 (record { operation = operation p13 2; found = refl; asks = refl; next = turned 1000 encode decode get_epoch set_epoch false (operation p13 2).doing p13.caches (Some reply_none); turns = record { refused = false; turns = refl; may = tt; made = λ h. absurd h }; tells = refl; part = refl }) ((stored 4), h13.log, misses world_boundary (apart 1) 4, refl) refl
+h14 : Holds s14 (stored 5)
+h14 = received s13 (stored 4) (stored 5) 1 2 4 (requests.Get world_boundary None) reply_none h13 (record { found = refl; asks = refl; turns = record { refused = false; turns = refl; may = tt; made = λ h. absurd h } }) (misses world_boundary (apart 1) 4) refl refl
 
 -- the answers
 
@@ -357,24 +322,24 @@ answers_in (Effect op request ∷ rows) = answers_in rows
 abbrev plain : ℕ → Rattle.txn_history.specs.declared.event.PlainAnswer.PlainAnswer ℕ → Row ℕ
 plain op answer = Answered op (answers.Plain answer)
 
-pub found : answers_in (trace_of m14) ≡ plain 1 (plain_answers.Value (Some 7)) ∷ plain 2 (plain_answers.Wrote 1) ∷ plain 3 (plain_answers.Read (Some (1, 7))) ∷ []
+pub found : answers_in (trace_of s14.list) ≡ plain 1 (plain_answers.Value (Some 7)) ∷ plain 2 (plain_answers.Wrote 1) ∷ plain 3 (plain_answers.Read (Some (1, 7))) ∷ []
 found = refl
 
 -- what client 1 was told
-pub told : (parts14 1).told ≡ (1, 0) ∷ (1, 0) ∷ []
+pub told : (s14.parts 1).told ≡ (1, 0) ∷ (1, 0) ∷ []
 told = refl
 
 -- the list is a run of a world of two clients
-pub runs : IsRun 1000 encode decode get_epoch set_epoch 2 m14 parts14 (stored 5)
-runs = merged_runs 1000 encode decode get_epoch set_epoch 2 m14 parts14 (stored 5) (omega arith) (omega arith) h14
+pub runs : IsRun 1000 encode decode get_epoch set_epoch 2 s14.list s14.parts (stored 5)
+runs = merged_runs 1000 encode decode get_epoch set_epoch 2 s14.list s14.parts (stored 5) (omega arith) (omega arith) h14
 
 -- the audit
 
 abbrev log : List LogRow
-log = reverse (log_of m14)
+log = reverse (log_of s14.list)
 
 abbrev diary_of : ℕ → Diary ℕ
-diary_of client = record { client = client; rows = reverse (part_of client m14); part = parts14 client }
+diary_of client = record { client = client; rows = reverse (part_of client s14.list); part = s14.parts client }
 
 other : (client d : ℕ) → client ≢ d → HasClient {T = ℕ} (diary_of d ∷ []) client → ⊥
 other client d ne h = elim h [ inl e ↦ ne (sym e) | inr none ↦ none ]
@@ -407,71 +372,56 @@ found_merged = refl
 
 -- A put of client 1 fails, and lands while client 2 reads, who finds it.
 
-abbrev put_asked : Request
-put_asked = requests.Put path (encode 7) Create
+abbrev k1 : Scene
+k1 = begins 1 write_first s0
+
+e1 : Holds k1 empty_store
+e1 = begun s0 empty_store 1 write_first h0 refl (λ e. refl) tt tt tt
 
 abbrev q1 : Part ℕ
-q1 = begin 1 no_part (any.Plain (calls.Write None 7))
+q1 = k1.parts 1
 
-abbrev k1 : Merged ℕ
-k1 = Did 1 (row (steps.Begin (any.Plain (calls.Write None 7))) None) ∷ []
+abbrev failed : Part ℕ
+failed = diary.turned_with get_epoch q1 1 (operation q1 1) (refused 2) q1.caches
 
-abbrev kept1 : ℕ → Part ℕ
-kept1 = with_part parts0 1 q1
+abbrev k2 : Scene
+k2 = grow 1 (steps.Act 1 (acts.Fails put_asked)) (answer_in q1 (operation q1 1) (refused 2)) failed k1
 
-e1 : Holds k1 kept1 empty_store
-e1 = grown m0 parts0 empty_store empty_store 1 (steps.Begin (any.Plain (calls.Write None 7))) None q1 h0 (record { permits = refl; reads_back = λ e. refl; word = tt; next = started 1000 encode get_epoch set_epoch (any.Plain (calls.Write None 7)) None; starts = refl; made = tt; tells = refl; part = refl }) h0.log tt
+e2 : Holds k2 empty_store
+e2 = grown k1 empty_store empty_store 1 (steps.Act 1 (acts.Fails put_asked)) (answer_in q1 (operation q1 1) (refused 2)) failed e1 (record { operation = operation q1 1; found = refl; asks = refl; tells = refl; part = refl }) e1.log refl
 
-abbrev q2 : Part ℕ
-q2 = diary.turned_with get_epoch q1 1 (operation q1 1) (refused 2) q1.caches
+abbrev k3 : Scene
+k3 = begins 2 read_first k2
 
-abbrev k2 : Merged ℕ
-k2 = Did 1 (row (steps.Act 1 (acts.Fails put_asked)) (answer_in q1 (operation q1 1) (refused 2))) ∷ k1
-
-abbrev kept2 : ℕ → Part ℕ
-kept2 = with_part kept1 1 q2
-
-e2 : Holds k2 kept2 empty_store
-e2 = grown k1 kept1 empty_store empty_store 1 (steps.Act 1 (acts.Fails put_asked)) (answer_in q1 (operation q1 1) (refused 2)) q2 e1 (record { operation = operation q1 1; found = refl; asks = refl; tells = refl; part = refl }) e1.log refl
-
-abbrev k3 : Merged ℕ
-k3 = Did 2 (row (steps.Begin (any.Plain (calls.ReadUnchecked 1))) None) ∷ k2
-
-abbrev kept3 : ℕ → Part ℕ
-kept3 = with_part kept2 2 p1
-
-e3 : Holds k3 kept3 empty_store
-e3 = grown k2 kept2 empty_store empty_store 2 (steps.Begin (any.Plain (calls.ReadUnchecked 1))) None p1 e2 (record { permits = refl; reads_back = tt; word = omega arith; next = started 1000 encode get_epoch set_epoch (any.Plain (calls.ReadUnchecked 1)) None; starts = refl; made = tt; tells = refl; part = refl }) e2.log tt
+e3 : Holds k3 empty_store
+e3 = begun k2 empty_store 2 read_first e2 refl tt (omega arith) tt tt
 
 abbrev landing : Landing
 landing = record { client = 1; op = 1; request = put_asked; reply = reply_put }
 
-abbrev k4 : Merged ℕ
-k4 = Lands landing ∷ k3
+abbrev k4 : Scene
+k4 = lands landing k3
 
-e4 : Holds k4 kept3 (stored 1)
-e4 = landed_more k3 kept3 empty_store (stored 1) landing e3 (refl, refl) (empty_store, e3.log, puts, refl)
+e4 : Holds k4 (stored 1)
+e4 = landed_more k3 empty_store (stored 1) landing e3 (refl, refl) (empty_store, e3.log, puts, refl)
 
-abbrev k5 : Merged ℕ
-k5 = Did 2 (row (steps.Act 1 (acts.Receive (record { place = 1; request = requests.Get path None; reply = reply_got }))) (answer_in p1 (operation p1 1) (turned 1000 encode decode get_epoch set_epoch false (operation p1 1).doing p1.caches (Some reply_got)))) ∷ k4
+abbrev k5 : Scene
+k5 = receives 2 1 1 (requests.Get path None) reply_got k4
 
-abbrev kept5 : ℕ → Part ℕ
-kept5 = with_part kept3 2 p4
+e5 : Holds k5 (stored 2)
+e5 = received k4 (stored 1) (stored 2) 2 1 1 (requests.Get path None) reply_got e4 (record { found = refl; asks = refl; turns = record { refused = false; turns = refl; may = tt; made = λ h. absurd h } }) (gets 1) refl refl
 
-e5 : Holds k5 kept5 (stored 2)
-e5 = grown k4 kept3 (stored 1) (stored 2) 2 (steps.Act 1 (acts.Receive (record { place = 1; request = requests.Get path None; reply = reply_got }))) (answer_in p1 (operation p1 1) (turned 1000 encode decode get_epoch set_epoch false (operation p1 1).doing p1.caches (Some reply_got))) p4 e4 (record { operation = operation p1 1; found = refl; asks = refl; next = turned 1000 encode decode get_epoch set_epoch false (operation p1 1).doing p1.caches (Some reply_got); turns = record { refused = false; turns = refl; may = tt; made = λ h. absurd h }; tells = refl; part = refl }) ((stored 1), e4.log, gets 1, refl) refl
-
-pub found_landed : answers_in (trace_of k5) ≡ plain 1 (plain_answers.Refused 2) ∷ plain 2 (plain_answers.Value (Some 7)) ∷ []
+pub found_landed : answers_in (trace_of k5.list) ≡ plain 1 (plain_answers.Refused 2) ∷ plain 2 (plain_answers.Value (Some 7)) ∷ []
 found_landed = refl
 
-pub runs_landed : IsRun 1000 encode decode get_epoch set_epoch 2 k5 kept5 (stored 2)
-runs_landed = merged_runs 1000 encode decode get_epoch set_epoch 2 k5 kept5 (stored 2) (omega arith) (omega arith) e5
+pub runs_landed : IsRun 1000 encode decode get_epoch set_epoch 2 k5.list k5.parts (stored 2)
+runs_landed = merged_runs 1000 encode decode get_epoch set_epoch 2 k5.list k5.parts (stored 2) (omega arith) (omega arith) e5
 
 abbrev landed_log : List LogRow
-landed_log = reverse (log_of k5)
+landed_log = reverse (log_of k5.list)
 
 abbrev landed_diary : ℕ → Diary ℕ
-landed_diary client = record { client = client; rows = reverse (part_of client k5); part = kept5 client }
+landed_diary client = record { client = client; rows = reverse (part_of client k5.list); part = k5.parts client }
 
 pub agrees_landed : IsDue landed_log (landed_diary 1 ∷ landed_diary 2 ∷ []) (Ok tt)
 agrees_landed = ((other_landed 1 2 one_is_not_two, (λ h. h, tt)), (inl refl, (inr (inl refl), tt)), (refl, (refl, tt)), ((refl, refl), (tt, tt)))
@@ -483,7 +433,7 @@ pub found_landed_merged : answers_in (trace_of (reverse (merged landed_log (land
 found_landed_merged = refl
 
 -- without the row of the failure its landing is of what nobody left
-pub unknown_landed : IsDue landed_log (record { client = 1; rows = row (steps.Begin (any.Plain (calls.Write None 7))) None ∷ []; part = q1 } ∷ landed_diary 2 ∷ []) (Err faults.LandingUnknown)
+pub unknown_landed : IsDue landed_log (record { client = 1; rows = row (steps.Begin write_first) None ∷ []; part = q1 } ∷ landed_diary 2 ∷ []) (Err faults.LandingUnknown)
 unknown_landed = ((other_landed 1 2 one_is_not_two, (λ h. h, tt)), (inl refl, (inr (inl refl), tt)), (refl, (refl, tt)), λ h. nothing h.0.0)
   where
     other_landed : (client d : ℕ) → client ≢ d → HasClient {T = ℕ} (landed_diary d ∷ []) client → ⊥
@@ -497,23 +447,23 @@ unknown_landed = ((other_landed 1 2 one_is_not_two, (λ h. h, tt)), (inl refl, (
 abbrev lacked : Part ℕ
 lacked = diary.turned_with get_epoch q1 1 (operation q1 1) (refused 9) q1.caches
 
-abbrev l2 : Merged ℕ
-l2 = Did 1 (row (steps.Act 1 acts.Lacks) (answer_in q1 (operation q1 1) (refused 9))) ∷ k1
+abbrev l2 : Scene
+l2 = grow 1 (steps.Act 1 acts.Lacks) (answer_in q1 (operation q1 1) (refused 9)) lacked k1
 
-holds_lacked : Holds l2 (with_part kept1 1 lacked) empty_store
-holds_lacked = grown k1 kept1 empty_store empty_store 1 (steps.Act 1 acts.Lacks) (answer_in q1 (operation q1 1) (refused 9)) lacked e1 (record { operation = operation q1 1; request = put_asked; found = refl; asks = refl; tells = refl; part = refl }) e1.log refl
+holds_lacked : Holds l2 empty_store
+holds_lacked = grown k1 empty_store empty_store 1 (steps.Act 1 acts.Lacks) (answer_in q1 (operation q1 1) (refused 9)) lacked e1 (record { operation = operation q1 1; request = put_asked; found = refl; asks = refl; tells = refl; part = refl }) e1.log refl
 
-pub runs_lacked : IsRun 1000 encode decode get_epoch set_epoch 1 l2 (with_part kept1 1 lacked) empty_store
-runs_lacked = merged_runs 1000 encode decode get_epoch set_epoch 1 l2 (with_part kept1 1 lacked) empty_store (omega arith) (omega arith) holds_lacked
+pub runs_lacked : IsRun 1000 encode decode get_epoch set_epoch 1 l2.list l2.parts empty_store
+runs_lacked = merged_runs 1000 encode decode get_epoch set_epoch 1 l2.list l2.parts empty_store (omega arith) (omega arith) holds_lacked
 
-pub found_lacked : answers_in (trace_of l2) ≡ plain 1 (plain_answers.Refused 9) ∷ []
+pub found_lacked : answers_in (trace_of l2.list) ≡ plain 1 (plain_answers.Refused 9) ∷ []
 found_lacked = refl
 
-pub none_failed : (failed_of l2 ≡ []) × (loose_of l2 ≡ [])
+pub none_failed : (failed_of l2.list ≡ []) × (loose_of l2.list ≡ [])
 none_failed = (refl, refl)
 
 -- what failed in the other list, and may land still
-pub one_failed : (failed_of k5 ≡ 1 ∷ []) × (loose_of k5 ≡ (1, put_asked) ∷ [])
+pub one_failed : (failed_of k5.list ≡ 1 ∷ []) × (loose_of k5.list ≡ (1, put_asked) ∷ [])
 one_failed = (refl, refl)
 
 -- client 1 is killed between asking for the put and its reply, and the put lands then
@@ -521,24 +471,21 @@ one_failed = (refl, refl)
 abbrev put_left : Left
 put_left = record { op = 1; request = put_asked }
 
-abbrev killed2 : Vec Left Global → Merged ℕ
-killed2 lefts = Did 1 (row (steps.Killed lefts) None) ∷ k1
+abbrev killed2 : Vec Left Global → Scene
+killed2 lefts = grow 1 (steps.Killed lefts) None (diary.killed 1 q1) k1
 
-abbrev kept_killed : ℕ → Part ℕ
-kept_killed = with_part kept1 1 (diary.killed 1 q1)
+holds_killed : (lefts : Vec Left Global) → lefts.items ≡ put_left ∷ [] → Holds (killed2 lefts) empty_store
+holds_killed lefts is = grown k1 empty_store empty_store 1 (steps.Killed lefts) None (diary.killed 1 q1) e1 (record { some = omega arith; leaves = ap (λ (ls : List Left). Rattle.std.proofs.Common.map noted.as_pair ls) is; tells = refl; part = refl }) e1.log refl
 
-holds_killed : (lefts : Vec Left Global) → lefts.items ≡ put_left ∷ [] → Holds (killed2 lefts) kept_killed empty_store
-holds_killed lefts is = grown k1 kept1 empty_store empty_store 1 (steps.Killed lefts) None (diary.killed 1 q1) e1 (record { some = omega arith; leaves = ap (λ (ls : List Left). Rattle.std.proofs.Common.map noted.as_pair ls) is; tells = refl; part = refl }) e1.log refl
+abbrev killed3 : Vec Left Global → Scene
+killed3 lefts = lands landing (killed2 lefts)
 
-abbrev killed3 : Vec Left Global → Merged ℕ
-killed3 lefts = Lands landing ∷ killed2 lefts
+holds_after : (lefts : Vec Left Global) → lefts.items ≡ put_left ∷ [] → Holds (killed3 lefts) (stored 1)
+holds_after lefts is = (let h = holds_killed lefts is in landed_more (killed2 lefts) empty_store (stored 1) landing h (ap (λ (ls : List Left). noted.left_among 1 ls None) is, refl) (empty_store, h.log, puts, refl))
 
-holds_after : (lefts : Vec Left Global) → lefts.items ≡ put_left ∷ [] → Holds (killed3 lefts) kept_killed (stored 1)
-holds_after lefts is = (let h = holds_killed lefts is in landed_more (killed2 lefts) kept_killed empty_store (stored 1) landing h (ap (λ (ls : List Left). noted.left_among 1 ls None) is, refl) (empty_store, h.log, puts, refl))
-
-pub runs_killed : (lefts : Vec Left Global) → lefts.items ≡ put_left ∷ [] → IsRun 1000 encode decode get_epoch set_epoch 1 (killed3 lefts) kept_killed (stored 1)
-runs_killed lefts is = merged_runs 1000 encode decode get_epoch set_epoch 1 (killed3 lefts) kept_killed (stored 1) (omega arith) (omega arith) (holds_after lefts is)
+pub runs_killed : (lefts : Vec Left Global) → lefts.items ≡ put_left ∷ [] → IsRun 1000 encode decode get_epoch set_epoch 1 (killed3 lefts).list (killed3 lefts).parts (stored 1)
+runs_killed lefts is = merged_runs 1000 encode decode get_epoch set_epoch 1 (killed3 lefts).list (killed3 lefts).parts (stored 1) (omega arith) (omega arith) (holds_after lefts is)
 
 -- the put is in the trace, and was not answered
-pub found_killed : (lefts : Vec Left Global) → trace_of (killed3 lefts) ≡ Begun 1 (any.Plain (calls.Write None 7)) ∷ Effect 1 put_asked ∷ []
+pub found_killed : (lefts : Vec Left Global) → trace_of (killed3 lefts).list ≡ Begun 1 write_first ∷ Effect 1 put_asked ∷ []
 found_killed lefts = refl
