@@ -348,6 +348,14 @@ fn argument<'a>(alloc: Global, row: &Argument) -> Arg<'a> {
     arg.default_value(default)
 }
 
+fn with_argument<'a>(
+    alloc: Global,
+    words: Words<'a>,
+    row: &Argument,
+) -> Result<Words<'a>, AllocError> {
+    words.arg(argument(alloc, row))
+}
+
 fn with_arguments<'a>(
     alloc: Global,
     words: Words<'a>,
@@ -355,7 +363,7 @@ fn with_arguments<'a>(
 ) -> Result<Words<'a>, AllocError> {
     let mut words = words;
     for row in rows {
-        words = words.arg(argument(alloc, row))?;
+        words = with_argument(alloc, words, row)?;
     }
     Ok(words)
 }
