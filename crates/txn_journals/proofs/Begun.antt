@@ -22,7 +22,7 @@ use Rattle.txn_machine_views.specs.Layer.{Used}
 use Rattle.txn_machine.specs.Machine.{State, seen_view, seen_views, seen_of, used_in, used_by, view_now, refusal_of, IsReached}
 use Rattle.txn_machine.proofs.Busy.{reached_busy}
 use Rattle.txn_journals.specs.Parts as diary
-use Rattle.txn_journals.specs.Parts.{Part, seen_in, knows_base, is_below_known, epoch_told, is_low, is_in_use, epoch_written}
+use Rattle.txn_journals.specs.Parts.{Part, seen_in, knows_base, is_below_known, epoch_told, is_low, is_in_use}
 use Rattle.txn_journals.specs.Numbers.{count, number}
 use Rattle.txn_journals.specs.Traces.{named_call}
 use Rattle.txn_journals.proofs.Numbers.{IsWithin}

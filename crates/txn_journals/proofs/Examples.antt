@@ -1,5 +1,5 @@
 -- Two clients of one store: one writes while the other reads.
-use Rattle.std.proofs.Common.{◌≡◌, ℕ, zero, suc, ◌+◌, List, [], ◌∷◌, false, Option, Some, None, Ok, Err, length, inl, inr, refl, arith}
+use Rattle.std.proofs.Common.{◌≡◌, ℕ, ◌+◌, List, [], ◌∷◌, false, Option, Some, None, Ok, Err, length, inl, inr, refl, arith}
 use Rattle.std.specs.FinMap.{empty, get, insert}
 use Rattle.txn_store.specs.Store.{State as StoreState}
 use Rattle.txn_store.specs.declared.request.Request.{Request}

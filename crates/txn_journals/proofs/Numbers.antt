@@ -1,6 +1,6 @@
 -- Numbers of what clients count by themselves.
 use Rattle.std.proofs.Common.{◌≡◌, ◌≢◌, ℕ, ◌+◌, ◌<◌, ◌≤◌, List, [], ◌∷◌, length, ◌==◌, nat_lt, false, ◌⊎◌, inl, inr, refl, sym, ◌∙◌, ap, arith}
-use Rattle.std.proofs.lemmas.Bool.{cases_Bool, cases_eq, eqb-true, eqb-false, eq-eqb, ne_eqb, lt-ltb, ltb-false}
+use Rattle.std.proofs.lemmas.Bool.{cases_Bool, cases_eq, eq-eqb, ne_eqb, lt-ltb}
 use Rattle.txn_journals.specs.Numbers.{count, number, number_or_next}
 
 pub count_own : (client : ℕ) (owners : List ℕ) → count client (client ∷ owners) ≡ count client owners + 1

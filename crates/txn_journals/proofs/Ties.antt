@@ -19,7 +19,7 @@ use Rattle.txn_history.specs.Trace.{Row}
 use Rattle.txn_history.specs.OneHistory.{IsOneHistory}
 use Rattle.txn_machine.specs.declared.doing.Operation.{Operation}
 use Rattle.txn_machine.specs.Doing.{Next, ended}
-use Rattle.txn_machine.specs.Machine.{State, let_go, views_after, views_taken, answered, acted, effected, loosened, failing, given_up, new_operation, next_op, begun_as}
+use Rattle.txn_machine.specs.Machine.{State, let_go, views_after, answered, acted, effected, loosened, failing, given_up}
 use Rattle.txn_journals.specs.Parts as diary
 use Rattle.txn_journals.specs.Parts.{Part, note_of, written_in, epoch_written, answer_in}
 use Rattle.txn_journals.specs.Numbers.{count, number, number_or_next}
