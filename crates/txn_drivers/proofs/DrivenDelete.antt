@@ -25,19 +25,7 @@ use Rattle.txn_drivers.specs.DrivenDeletes.{kept_answer, DeleteKept, DeleteFence
 use Rattle.txn_drivers.proofs.DriveCounts.{delete_within}
 use Rattle.txn_drivers.proofs.DriveLemmas.{delete_driven}
 use Rattle.txn_drivers.proofs.DrivenCheck.{check_driven}
-
-is_invalid : (error : TransactionalObjectError) → error_number error ≡ 7 → error ≡ kinds.InvalidObjectState
-is_invalid kinds.InvalidObjectState is = refl
-is_invalid kinds.IoError is = absurd (omega (arith, is))
-is_invalid (kinds.ObjectStoreError e) is = absurd (omega (arith, is))
-is_invalid (kinds.ObjectUpdateTimeout timeout) is = absurd (omega (arith, is))
-is_invalid kinds.LatestRecordMissing is = absurd (omega (arith, is))
-is_invalid kinds.ObjectVersionExists is = absurd (omega (arith, is))
-is_invalid kinds.Fenced is = absurd (omega (arith, is))
-is_invalid (kinds.CallbackError e) is = absurd (omega (arith, is))
-is_invalid kinds.NoMemory is = absurd (omega (arith, is))
-is_invalid kinds.IdExhausted is = absurd (omega (arith, is))
-is_invalid kinds.TurnsExhausted is = absurd (omega (arith, is))
+use Rattle.txn_drivers.proofs.Refusals.{is_invalid}
 
 -- its check, and its removal
 abbrev checking : Scene DeleteOp → Scene CheckOp

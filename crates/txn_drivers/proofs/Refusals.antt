@@ -10,54 +10,40 @@ use Rattle.txn_caches.specs.declared.turned.Turned.{Turned}
 use Rattle.txn_caches.specs.declared.turned.Turned.TheVariants.{Goes, Done}
 use Rattle.txn_caches.specs.Steps.{turned_by_number, IsErrorOf, TellsErrorOf}
 
-pub is_no_memory : (error : TransactionalObjectError) → error_number error ≡ 9 → error ≡ kinds.NoMemory
-is_no_memory kinds.NoMemory is = refl
-is_no_memory kinds.IoError is = absurd (omega (arith, is))
-is_no_memory (kinds.ObjectStoreError e) is = absurd (omega (arith, is))
-is_no_memory (kinds.ObjectUpdateTimeout timeout) is = absurd (omega (arith, is))
-is_no_memory kinds.LatestRecordMissing is = absurd (omega (arith, is))
-is_no_memory kinds.ObjectVersionExists is = absurd (omega (arith, is))
-is_no_memory kinds.Fenced is = absurd (omega (arith, is))
-is_no_memory kinds.InvalidObjectState is = absurd (omega (arith, is))
-is_no_memory (kinds.CallbackError e) is = absurd (omega (arith, is))
-is_no_memory kinds.IdExhausted is = absurd (omega (arith, is))
-is_no_memory kinds.TurnsExhausted is = absurd (omega (arith, is))
+-- an error that is known by its number
+
+pub is_missing : (error : TransactionalObjectError) → error_number error ≡ 4 → error ≡ kinds.LatestRecordMissing
+is_missing kinds.LatestRecordMissing is = refl
+is_missing error is = absurd (omega (arith, is))
 
 pub is_conflict : (error : TransactionalObjectError) → error_number error ≡ 5 → error ≡ kinds.ObjectVersionExists
 is_conflict kinds.ObjectVersionExists is = refl
-is_conflict kinds.IoError is = absurd (omega (arith, is))
-is_conflict (kinds.ObjectStoreError e) is = absurd (omega (arith, is))
-is_conflict (kinds.ObjectUpdateTimeout timeout) is = absurd (omega (arith, is))
-is_conflict kinds.LatestRecordMissing is = absurd (omega (arith, is))
-is_conflict kinds.Fenced is = absurd (omega (arith, is))
-is_conflict kinds.InvalidObjectState is = absurd (omega (arith, is))
-is_conflict (kinds.CallbackError e) is = absurd (omega (arith, is))
-is_conflict kinds.NoMemory is = absurd (omega (arith, is))
-is_conflict kinds.IdExhausted is = absurd (omega (arith, is))
-is_conflict kinds.TurnsExhausted is = absurd (omega (arith, is))
+is_conflict error is = absurd (omega (arith, is))
+
+pub is_fenced : (error : TransactionalObjectError) → error_number error ≡ 6 → error ≡ kinds.Fenced
+is_fenced kinds.Fenced is = refl
+is_fenced error is = absurd (omega (arith, is))
+
+pub is_invalid : (error : TransactionalObjectError) → error_number error ≡ 7 → error ≡ kinds.InvalidObjectState
+is_invalid kinds.InvalidObjectState is = refl
+is_invalid error is = absurd (omega (arith, is))
+
+pub is_no_memory : (error : TransactionalObjectError) → error_number error ≡ 9 → error ≡ kinds.NoMemory
+is_no_memory kinds.NoMemory is = refl
+is_no_memory error is = absurd (omega (arith, is))
+
+pub is_exhausted : (error : TransactionalObjectError) → error_number error ≡ 10 → error ≡ kinds.IdExhausted
+is_exhausted kinds.IdExhausted is = refl
+is_exhausted error is = absurd (omega (arith, is))
 
 is_stores : (e : StoreError) (error : TransactionalObjectError) → error_number error ≡ 2 → IsErrorOf (Some e) error → error ≡ kinds.ObjectStoreError e
 is_stores e (kinds.ObjectStoreError own) is told = ap kinds.ObjectStoreError (sym (same_Some e own told))
-is_stores e kinds.IoError is told = absurd (omega (arith, is))
-is_stores e (kinds.ObjectUpdateTimeout timeout) is told = absurd (omega (arith, is))
-is_stores e kinds.LatestRecordMissing is told = absurd (omega (arith, is))
-is_stores e kinds.ObjectVersionExists is told = absurd (omega (arith, is))
-is_stores e kinds.Fenced is told = absurd (omega (arith, is))
-is_stores e kinds.InvalidObjectState is told = absurd (omega (arith, is))
-is_stores e (kinds.CallbackError f) is told = absurd (omega (arith, is))
-is_stores e kinds.NoMemory is told = absurd (omega (arith, is))
-is_stores e kinds.IdExhausted is told = absurd (omega (arith, is))
-is_stores e kinds.TurnsExhausted is told = absurd (omega (arith, is))
+is_stores e error is told = absurd (omega (arith, is))
 
 -- an error that has the number of the store's error, and holds no other, is what that becomes
 is_told : (e : StoreError) (error : TransactionalObjectError) → error_number error ≡ store_error_number e → IsErrorOf (Some e) error → error ≡ error_of_store e
-is_told errors.NotFound error is told = is_stores errors.NotFound error is told
-is_told errors.AlreadyExists error is told = is_stores errors.AlreadyExists error is told
-is_told errors.Precondition error is told = is_stores errors.Precondition error is told
-is_told errors.NotModified error is told = is_stores errors.NotModified error is told
-is_told errors.Failed error is told = is_stores errors.Failed error is told
 is_told errors.NoMemory error is told = is_no_memory error is
-is_told errors.TokensExhausted error is told = is_stores errors.TokensExhausted error is told
+is_told e error is told = is_stores e error is told
 
 module _ {A : Type 0} where
   -- what goes on by number goes on

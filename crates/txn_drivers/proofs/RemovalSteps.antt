@@ -124,43 +124,15 @@ module _ {T : Type 0} (names : Names) (decode : List ℕ → Option T) (id : ℕ
   done_or_not : (result : Result (Unit {0}) TransactionalObjectError) → DeleteLeaves (version_path names id) id old new latest latest' result → Kept old new ⊎ Removed (version_path names id) old new
   done_or_not (Ok done) leaves = inr leaves.0
   done_or_not (Err (kinds.ObjectStoreError errors.Failed)) leaves = leaves.0
-  done_or_not (Err (kinds.ObjectStoreError errors.TokensExhausted)) leaves = inl leaves.0
-  done_or_not (Err (kinds.ObjectStoreError errors.NotFound)) leaves = inl leaves.0
-  done_or_not (Err (kinds.ObjectStoreError errors.AlreadyExists)) leaves = inl leaves.0
-  done_or_not (Err (kinds.ObjectStoreError errors.Precondition)) leaves = inl leaves.0
-  done_or_not (Err (kinds.ObjectStoreError errors.NotModified)) leaves = inl leaves.0
-  done_or_not (Err (kinds.ObjectStoreError errors.NoMemory)) leaves = inl leaves.0
-  done_or_not (Err kinds.ObjectVersionExists) leaves = inl leaves.0
-  done_or_not (Err kinds.NoMemory) leaves = inl leaves.0
-  done_or_not (Err kinds.IdExhausted) leaves = inl leaves.0
-  done_or_not (Err kinds.IoError) leaves = inl leaves.0
-  done_or_not (Err (kinds.ObjectUpdateTimeout timeout)) leaves = inl leaves.0
-  done_or_not (Err kinds.LatestRecordMissing) leaves = inl leaves.0
-  done_or_not (Err kinds.Fenced) leaves = inl leaves.0
-  done_or_not (Err kinds.InvalidObjectState) leaves = inl leaves.0
-  done_or_not (Err (kinds.CallbackError e)) leaves = inl leaves.0
-  done_or_not (Err kinds.TurnsExhausted) leaves = inl leaves.0
+  done_or_not (Err (kinds.ObjectStoreError error)) leaves = inl leaves.0
+  done_or_not (Err error) leaves = inl leaves.0
 
   -- what is held then
   held_then : (result : Result (Unit {0}) TransactionalObjectError) → DeleteLeaves (version_path names id) id old new latest latest' result → (latest' ≡ latest) ⊎ (latest' ≡ without id latest)
   held_then (Ok done) leaves = inr leaves.1
   held_then (Err (kinds.ObjectStoreError errors.Failed)) leaves = inl leaves.1
-  held_then (Err (kinds.ObjectStoreError errors.TokensExhausted)) leaves = inl leaves.1
-  held_then (Err (kinds.ObjectStoreError errors.NotFound)) leaves = inl leaves.1
-  held_then (Err (kinds.ObjectStoreError errors.AlreadyExists)) leaves = inl leaves.1
-  held_then (Err (kinds.ObjectStoreError errors.Precondition)) leaves = inl leaves.1
-  held_then (Err (kinds.ObjectStoreError errors.NotModified)) leaves = inl leaves.1
-  held_then (Err (kinds.ObjectStoreError errors.NoMemory)) leaves = inl leaves.1
-  held_then (Err kinds.ObjectVersionExists) leaves = inl leaves.1
-  held_then (Err kinds.NoMemory) leaves = inl leaves.1
-  held_then (Err kinds.IdExhausted) leaves = inl leaves.1
-  held_then (Err kinds.IoError) leaves = inl leaves.1
-  held_then (Err (kinds.ObjectUpdateTimeout timeout)) leaves = inl leaves.1
-  held_then (Err kinds.LatestRecordMissing) leaves = inl leaves.1
-  held_then (Err kinds.Fenced) leaves = inl leaves.1
-  held_then (Err kinds.InvalidObjectState) leaves = inl leaves.1
-  held_then (Err (kinds.CallbackError e)) leaves = inl leaves.1
-  held_then (Err kinds.TurnsExhausted) leaves = inl leaves.1
+  held_then (Err (kinds.ObjectStoreError error)) leaves = inl leaves.1
+  held_then (Err error) leaves = inl leaves.1
 
   -- a delete that ended
   pub deleted : (result : Result (Unit {0}) TransactionalObjectError) → DeleteEnds (version_path names id) id old new latest latest' result → Deleted names decode id old new latest latest' result
