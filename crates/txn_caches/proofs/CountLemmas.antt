@@ -38,12 +38,7 @@ text_calls request token (Some n) = omega arith
 got_spends : (request : _) (answer : Result Got StoreError) → SpendsOne (Some (replies.Get answer)) (boundary_left (read.Gets request)) (after_read (boundary_got (read.Gets request) answer))
 got_spends request (Ok got) = (text_spends request got.token (boundary_read got.bytes), text_calls request got.token (boundary_read got.bytes))
 got_spends request (Err errors.NotFound) = (omega arith, omega arith)
-got_spends request (Err errors.NotModified) = (omega arith, omega arith)
-got_spends request (Err errors.AlreadyExists) = (omega arith, omega arith)
-got_spends request (Err errors.Precondition) = (omega arith, omega arith)
-got_spends request (Err errors.Failed) = (omega arith, omega arith)
-got_spends request (Err errors.NoMemory) = (omega arith, omega arith)
-got_spends request (Err errors.TokensExhausted) = (omega arith, omega arith)
+got_spends request (Err error) = (omega arith, omega arith)
 
 held_spends : (known cached : Option CachedBoundary) → SpendsOne None (boundary_left (read.Holds known)) (after_read (boundary_held (read.Holds known) known cached))
 held_spends (Some known) cached = (omega arith, omega arith)
@@ -55,9 +50,7 @@ read_spends (read.Looks path) cached None is = (omega arith, omega arith)
 read_spends (read.Looks path) cached (Some reply) is = absurd is
 read_spends (read.Gets request) cached None is = absurd is
 read_spends (read.Gets request) cached (Some (replies.Get answer)) is = got_spends request answer
-read_spends (read.Gets request) cached (Some (replies.Put answer)) is = absurd is
-read_spends (read.Gets request) cached (Some (replies.List answer)) is = absurd is
-read_spends (read.Gets request) cached (Some (replies.Delete answer)) is = absurd is
+read_spends (read.Gets request) cached (Some reply) is = absurd is
 read_spends (read.Holds known) cached None is = held_spends known cached
 read_spends (read.Holds known) cached (Some reply) is = absurd is
 

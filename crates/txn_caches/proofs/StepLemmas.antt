@@ -34,12 +34,7 @@ text_same op token (Some n) a e = absurd (cc)
 got_same : (op : BoundaryRead) (answer : Result Got StoreError) (a : Result Known ℕ) → (boundary_got op answer).1 ≡ Done a → (boundary_got op answer).0 ≡ op
 got_same op (Ok got) a e = text_same op got.token (boundary_read got.bytes) a e
 got_same op (Err errors.NotModified) a e = absurd (cc)
-got_same op (Err errors.NotFound) a e = refl
-got_same op (Err errors.AlreadyExists) a e = refl
-got_same op (Err errors.Precondition) a e = refl
-got_same op (Err errors.Failed) a e = refl
-got_same op (Err errors.NoMemory) a e = refl
-got_same op (Err errors.TokensExhausted) a e = refl
+got_same op (Err error) a e = refl
 
 held_same : (op : BoundaryRead) (known cached : Option CachedBoundary) → (boundary_held op known cached).0 ≡ op
 held_same op (Some known) cached = refl
@@ -48,9 +43,7 @@ held_same op None None = refl
 
 replied_same : (op : BoundaryRead) (reply : Option Reply) (a : Result Known ℕ) → (boundary_replied op reply).1 ≡ Done a → (boundary_replied op reply).0 ≡ op
 replied_same op (Some (replies.Get answer)) a e = got_same op answer a e
-replied_same op (Some (replies.Put answer)) a e = refl
-replied_same op (Some (replies.List answer)) a e = refl
-replied_same op (Some (replies.Delete answer)) a e = refl
+replied_same op (Some reply) a e = refl
 replied_same op None a e = refl
 
 pub ended_same : (r : BoundaryRead) (cached : Option CachedBoundary) (reply : Option Reply) (a : Result Known ℕ) → (boundary_turned r cached reply).1 ≡ Done a → (boundary_turned r cached reply).0 ≡ r

@@ -39,18 +39,11 @@ after_unchecked x = left_after x.1 (unchecked_left x.0)
 put_spends : (version : Cached) (request : _) (answer : Result ℕ StoreError) → SpendsOne (Some (replies.Put answer)) one_of_each (after_unchecked (put_answered (unchecked.Puts version request) answer))
 put_spends version request (Ok token) = (omega arith, omega arith)
 put_spends version request (Err errors.AlreadyExists) = (omega arith, omega arith)
-put_spends version request (Err errors.NotFound) = (omega arith, omega arith)
-put_spends version request (Err errors.NotModified) = (omega arith, omega arith)
-put_spends version request (Err errors.Precondition) = (omega arith, omega arith)
-put_spends version request (Err errors.Failed) = (omega arith, omega arith)
-put_spends version request (Err errors.NoMemory) = (omega arith, omega arith)
-put_spends version request (Err errors.TokensExhausted) = (omega arith, omega arith)
+put_spends version request (Err error) = (omega arith, omega arith)
 
 pub unchecked_spends : (op : WriteUncheckedOp) (reply : Option Reply) → IsUncheckedReply op reply → SpendsOne reply (unchecked_left op) (after_unchecked (unchecked_turned op reply))
 unchecked_spends (unchecked.Puts version request) (Some (replies.Put answer)) is = put_spends version request answer
-unchecked_spends (unchecked.Puts version request) (Some (replies.Get answer)) is = absurd is
-unchecked_spends (unchecked.Puts version request) (Some (replies.List answer)) is = absurd is
-unchecked_spends (unchecked.Puts version request) (Some (replies.Delete answer)) is = absurd is
+unchecked_spends (unchecked.Puts version request) (Some reply) is = absurd is
 unchecked_spends (unchecked.Puts version request) None is = absurd is
 unchecked_spends (unchecked.Keeps version) None is = (omega arith, omega arith)
 unchecked_spends (unchecked.Keeps version) (Some reply) is = absurd is
@@ -90,9 +83,7 @@ removed_spends op (Err error) = (omega arith, omega arith)
 
 removal_spends_at : (s : RemovalStep) (op : DeleteUncheckedOp) (reply : Option Reply) → IsRemovalReplyAt s reply → SpendsOne reply (removal_left_at s) (after_removal (removal_turned_at s op reply))
 removal_spends_at removals.Removes op (Some (replies.Delete answer)) is = removed_spends op answer
-removal_spends_at removals.Removes op (Some (replies.Put answer)) is = absurd is
-removal_spends_at removals.Removes op (Some (replies.Get answer)) is = absurd is
-removal_spends_at removals.Removes op (Some (replies.List answer)) is = absurd is
+removal_spends_at removals.Removes op (Some reply) is = absurd is
 removal_spends_at removals.Removes op None is = absurd is
 removal_spends_at removals.Drops op None is = (omega arith, omega arith)
 removal_spends_at removals.Drops op (Some reply) is = absurd is
@@ -149,20 +140,13 @@ module _ {T : Type 0} (names : Names) (decode : List ℕ → Option T) where
   got_spends : (id : ℕ) (request : _) (answer : Result Got StoreError) → SpendsOne (Some (replies.Get answer)) one_of_each (after_seen (seen_got names decode (seen.Gets id request) id answer))
   got_spends id request (Ok got) = (keeping_looks id request (record { id = id; bytes = got.bytes }) (decode got.bytes), keeping_calls id request (record { id = id; bytes = got.bytes }) (decode got.bytes))
   got_spends id request (Err errors.NotFound) = (omega arith, omega arith)
-  got_spends id request (Err errors.AlreadyExists) = (omega arith, omega arith)
-  got_spends id request (Err errors.NotModified) = (omega arith, omega arith)
-  got_spends id request (Err errors.Precondition) = (omega arith, omega arith)
-  got_spends id request (Err errors.Failed) = (omega arith, omega arith)
-  got_spends id request (Err errors.NoMemory) = (omega arith, omega arith)
-  got_spends id request (Err errors.TokensExhausted) = (omega arith, omega arith)
+  got_spends id request (Err error) = (omega arith, omega arith)
 
   pub seen_spends : (op : ReadSeenOp T) (latest : List Cached) (reply : Option Reply) → IsSeenReply op reply → SpendsOne reply (seen_left op) (after_seen (seen_turned names decode op latest reply))
   seen_spends (seen.Looks id) latest None is = looked_spends id (held id latest)
   seen_spends (seen.Looks id) latest (Some reply) is = absurd is
   seen_spends (seen.Gets id request) latest (Some (replies.Get answer)) is = got_spends id request answer
-  seen_spends (seen.Gets id request) latest (Some (replies.Put answer)) is = absurd is
-  seen_spends (seen.Gets id request) latest (Some (replies.List answer)) is = absurd is
-  seen_spends (seen.Gets id request) latest (Some (replies.Delete answer)) is = absurd is
+  seen_spends (seen.Gets id request) latest (Some reply) is = absurd is
   seen_spends (seen.Gets id request) latest None is = absurd is
   seen_spends (seen.Keeps version value) latest None is = (omega arith, omega arith)
   seen_spends (seen.Keeps version value) latest (Some reply) is = absurd is

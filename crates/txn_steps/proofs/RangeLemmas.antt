@@ -70,12 +70,7 @@ module _ {T : Type 0} (names : Names) (page : ℕ) (decode : List ℕ → Option
   probed_stays : (hand : Cached) (found next : ℕ) (request : _) (answer : Result Got StoreError) → found < 4 → InRange (probed decode (Probes hand found next request) hand found next answer).0
   probed_stays hand found next request (Ok got) h = omega (arith, h)
   probed_stays hand found next request (Err errors.NotFound) h = hand_stays (Probes hand found next request) hand.id (decode hand.bytes) h
-  probed_stays hand found next request (Err errors.AlreadyExists) h = h
-  probed_stays hand found next request (Err errors.NotModified) h = h
-  probed_stays hand found next request (Err errors.Precondition) h = h
-  probed_stays hand found next request (Err errors.Failed) h = h
-  probed_stays hand found next request (Err errors.NoMemory) h = h
-  probed_stays hand found next request (Err errors.TokensExhausted) h = h
+  probed_stays hand found next request (Err error) h = h
 
   paged_stays : (after : Option Segments) (found : Option ℕ) → Stays (paged_turned names page after found)
   paged_stays None found = tt
@@ -88,12 +83,7 @@ module _ {T : Type 0} (names : Names) (page : ℕ) (decode : List ℕ → Option
   latest_got_stays : (id : ℕ) (request : _) (answer : Result Got StoreError) → InRange (latest_got names page decode (Gets id request) id answer).0
   latest_got_stays id request (Ok got) = got_stays (Gets id request) (record { id = id; bytes = got.bytes }) (decode got.bytes) tt
   latest_got_stays id request (Err errors.NotFound) = tt
-  latest_got_stays id request (Err errors.AlreadyExists) = tt
-  latest_got_stays id request (Err errors.NotModified) = tt
-  latest_got_stays id request (Err errors.Precondition) = tt
-  latest_got_stays id request (Err errors.Failed) = tt
-  latest_got_stays id request (Err errors.NoMemory) = tt
-  latest_got_stays id request (Err errors.TokensExhausted) = tt
+  latest_got_stays id request (Err error) = tt
 
   pub latest_stays : (op : LatestOp T) (latest : List Cached) (reply : Option Reply) → InRange op → InRange (latest_turned names page decode op latest reply).0
   latest_stays Looks latest reply h = begins_stay (greatest_held latest)
@@ -103,19 +93,13 @@ module _ {T : Type 0} (names : Names) (page : ℕ) (decode : List ℕ → Option
   latest_stays (Drops id) latest reply h = tt
   latest_stays Ended latest reply h = tt
   latest_stays (Probes hand found next request) latest (Some (replies.Get answer)) h = probed_stays hand found next request answer h
-  latest_stays (Probes hand found next request) latest (Some (replies.Put answer)) h = h
-  latest_stays (Probes hand found next request) latest (Some (replies.List answer)) h = h
-  latest_stays (Probes hand found next request) latest (Some (replies.Delete answer)) h = h
+  latest_stays (Probes hand found next request) latest (Some reply) h = h
   latest_stays (Probes hand found next request) latest None h = h
   latest_stays (Lists found request) latest (Some (replies.List answer)) h = listed_stays found request answer
-  latest_stays (Lists found request) latest (Some (replies.Put answer)) h = tt
-  latest_stays (Lists found request) latest (Some (replies.Get answer)) h = tt
-  latest_stays (Lists found request) latest (Some (replies.Delete answer)) h = tt
+  latest_stays (Lists found request) latest (Some reply) h = tt
   latest_stays (Lists found request) latest None h = tt
   latest_stays (Gets id request) latest (Some (replies.Get answer)) h = latest_got_stays id request answer
-  latest_stays (Gets id request) latest (Some (replies.Put answer)) h = tt
-  latest_stays (Gets id request) latest (Some (replies.List answer)) h = tt
-  latest_stays (Gets id request) latest (Some (replies.Delete answer)) h = tt
+  latest_stays (Gets id request) latest (Some reply) h = tt
   latest_stays (Gets id request) latest None h = tt
 
   reads_stay : (boundary : BoundaryRead) (x : LatestOp T × Turned (ReadAnswer T)) → InRange x.0 → IsInRange (reads_turned boundary x).0
