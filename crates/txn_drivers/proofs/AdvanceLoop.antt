@@ -1,5 +1,5 @@
 -- An advance of the boundary: a step with its error named, and the loop.
-use Rattle.std.proofs.Common.{◌≡◌, ◌⊎◌, ℕ, ◌+◌, ◌*◌, ◌<◌, ◌≤◌, max, Bool, true, false, Option, Some, Result, Ok, Err, IsErrOf, Contains, refl, sym, subst, ◌∙◌, inl, inr, arith}
+use Rattle.std.proofs.Common.{◌≡◌, ◌⊎◌, ℕ, ◌+◌, ◌*◌, ◌<◌, ◌≤◌, max, Bool, true, false, Option, Some, Result, Ok, Err, OnOk, IfErr, IsErrOf, Contains, refl, sym, subst, ◌∙◌, inl, inr, arith}
 use Rattle.std.specs.Fmt.{decimal}
 use Rattle.txn_store.specs.Paths.{Segments}
 use Rattle.txn_store.specs.Store.{State, Kept}
@@ -43,14 +43,7 @@ cause_of told old new (kinds.ObjectStoreError error) is cause = by_cause cause
     by_cause (inl (two, why)) = why error is
     by_cause (inr (inl seven)) = absurd (omega (arith, seven))
     by_cause (inr (inr nine)) = absurd (omega (arith, nine))
-cause_of told old new kinds.IoError is cause = absurd (none_at told old new 1 cause (λ e. omega (arith, e)) (λ e. omega (arith, e)) (λ e. omega (arith, e)))
-cause_of told old new (kinds.ObjectUpdateTimeout timeout) is cause = absurd (none_at told old new 3 cause (λ e. omega (arith, e)) (λ e. omega (arith, e)) (λ e. omega (arith, e)))
-cause_of told old new kinds.LatestRecordMissing is cause = absurd (none_at told old new 4 cause (λ e. omega (arith, e)) (λ e. omega (arith, e)) (λ e. omega (arith, e)))
-cause_of told old new kinds.ObjectVersionExists is cause = absurd (none_at told old new 5 cause (λ e. omega (arith, e)) (λ e. omega (arith, e)) (λ e. omega (arith, e)))
-cause_of told old new kinds.Fenced is cause = absurd (none_at told old new 6 cause (λ e. omega (arith, e)) (λ e. omega (arith, e)) (λ e. omega (arith, e)))
-cause_of told old new (kinds.CallbackError error) is cause = absurd (none_at told old new 8 cause (λ e. omega (arith, e)) (λ e. omega (arith, e)) (λ e. omega (arith, e)))
-cause_of told old new kinds.IdExhausted is cause = absurd (none_at told old new 10 cause (λ e. omega (arith, e)) (λ e. omega (arith, e)) (λ e. omega (arith, e)))
-cause_of told old new kinds.TurnsExhausted is cause = absurd (none_at told old new 11 cause (λ e. omega (arith, e)) (λ e. omega (arith, e)) (λ e. omega (arith, e)))
+cause_of told old new error is cause = absurd (none_at told old new (error_number error) cause (λ e. omega (arith, e)) (λ e. omega (arith, e)) (λ e. omega (arith, e)))
 
 -- a cause of the last step is one of the whole call
 cause_on : (unheld : Type 0) (left : ℕ) (old mid new : State) (error : TransactionalObjectError) → old.failures ≤ mid.failures → (error_number error ≡ 7 → unheld) → HasCauseOfAdvance (Unit {0}) 1 mid new error → HasCauseOfAdvance unheld left old new error
@@ -58,13 +51,7 @@ cause_on unheld left old mid new kinds.InvalidObjectState rise seven cause = sev
 cause_on unheld left old mid new kinds.NoMemory rise seven cause = tt
 cause_on unheld left old mid new (kinds.ObjectStoreError error) rise seven cause = store_cause_on old mid new error rise cause
 cause_on unheld left old mid new kinds.TurnsExhausted rise seven cause = absurd (omega (arith, cause))
-cause_on unheld left old mid new kinds.ObjectVersionExists rise seven cause = cause
-cause_on unheld left old mid new kinds.IoError rise seven cause = cause
-cause_on unheld left old mid new (kinds.ObjectUpdateTimeout timeout) rise seven cause = cause
-cause_on unheld left old mid new kinds.LatestRecordMissing rise seven cause = cause
-cause_on unheld left old mid new kinds.Fenced rise seven cause = cause
-cause_on unheld left old mid new (kinds.CallbackError error) rise seven cause = cause
-cause_on unheld left old mid new kinds.IdExhausted rise seven cause = cause
+cause_on unheld left old mid new error rise seven cause = cause
 
 tokens_most : (op : BoundaryAdvance) → advance_tokens op ≤ 1
 tokens_most (Looks target) = omega arith
@@ -223,50 +210,40 @@ module _ (path : Segments) (goal : ℕ) (old mid new : State) (turns turns' : �
     not_spent : (error : TransactionalObjectError) → HasCauseOfAdvance (Unit {0}) 1 mid new error → IsErrOf {T = Unit {0}} (Err error) kinds.TurnsExhausted → ⊥
     not_spent error cause is = let same : error ≡ kinds.TurnsExhausted = cc in let none : 1 ≡ 0 = subst (HasCauseOfAdvance (Unit {0}) 1 mid new) same cause in omega (arith, none)
 
+    keeps : (told : Turned (Result (Unit {0}) TransactionalObjectError)) → IsAdvanceStep path goal mid new cached cached' op op' told → (b : ℕ) → BoundaryStands path first old b → AdvanceKeeps path goal cached' new b (so_far.spent + one_if (asks_put op)) op' told
+    keeps told step b stands = step.holds b so_far.spent (so_far.holds b stands)
+
+    -- an end, whatever it answers, from what its answer says
+    ended_as : (turns'' : ℕ) → Paid turns'' → (answer : Result (Unit {0}) TransactionalObjectError) → IsAdvanceStep path goal mid new cached cached' op op' (Done answer)
+        → new.calls ≤ mid.calls + advance_calls cached op + 2 * one_if (asks_put op) → mid.left + advance_tokens op ≤ new.left + 1 → OnOk answer (goal ≤ number_of cached') → IfErr answer (HasCauseOfAdvance (Unbounded path first old) turns'' old new)
+        → OnOk answer ((b : ℕ) → BoundaryStands path first old b → BoundaryStands path cached' new (max b goal)) → IfErr answer (λ error. (b : ℕ) → BoundaryStands path first old b → BoundaryStands path cached' new b ⊎ BoundaryStands path cached' new (max b goal))
+        → ((b : ℕ) → BoundaryStands path first old b → so_far.spent + one_if (asks_put op) ≤ 2) → (IsErrOf answer kinds.TurnsExhausted → ⊥) → Advanced path goal old new turns turns'' first cached' answer
+    ended_as turns'' paid answer step calls tokens known cause raised kept few enough =
+        let m = moves_on path old mid new so_far.moves step.moves in
+        let s = so_far.spent_is in
+        let c = so_far.calls_most in
+        let l = so_far.left_least in
+        record {
+          others = m.others;
+          given = m.given;
+          spends = record { turns_fall = omega (arith, s, paid); calls_rise = m.calls_rise; calls_most = omega (arith, c, calls, paid); failures_rise = m.failures_rise; left_falls = m.left_falls; left_least = omega (arith, l, tokens) };
+          unspent = λ e. unput (asks_put op) step.unput (omega (arith, e, s, paid));
+          written = written_on path goal old mid new so_far.moves.given step.moves.given so_far.written step.written;
+          rises = (let f = so_far.rises in let s = step.rises in omega (arith, f, s));
+          known = known;
+          reached = λ is. absurd (cc (unreached, is));
+          cause = cause;
+          raised = raised;
+          kept = kept;
+          few = λ b stands. (let most = few b stands in omega (arith, most, s, paid));
+          enough = λ two b stands. enough;
+        }
+
     pub advance_ended : (turns'' : ℕ) → Paid turns'' → (answer : Result (Unit {0}) TransactionalObjectError) → IsAdvanceStep path goal mid new cached cached' op op' (Done answer) → Advanced path goal old new turns turns'' first cached' answer
     advance_ended turns'' paid (Ok done) step =
-        let m = moves_on path old mid new so_far.moves step.moves in
-        let s = so_far.spent_is in
-        let c = so_far.calls_most in
-        let d = step.steps.0 in
-        let l = so_far.left_least in
-        let n = step.steps.1 in
-        let at = λ (b : ℕ) (stands : BoundaryStands path first old b). step.holds b so_far.spent (so_far.holds b stands) in
-        record {
-          others = m.others;
-          given = m.given;
-          spends = record { turns_fall = omega (arith, s, paid); calls_rise = m.calls_rise; calls_most = omega (arith, c, d, paid); failures_rise = m.failures_rise; left_falls = m.left_falls; left_least = omega (arith, l, n) };
-          unspent = λ e. unput (asks_put op) step.unput (omega (arith, e, s, paid));
-          written = written_on path goal old mid new so_far.moves.given step.moves.given so_far.written step.written;
-          rises = (let f = so_far.rises in let s = step.rises in omega (arith, f, s));
-          known = step.steps.2;
-          reached = λ is. absurd (cc (unreached, is));
-          cause = tt;
-          raised = λ b stands. (at b stands).0;
-          kept = tt;
-          few = λ b stands. (let few = (at b stands).1 in omega (arith, few, s, paid));
-          enough = λ two b stands is. absurd (cc);
-        }
+        let at = keeps (Done (Ok done)) step in
+        ended_as turns'' paid (Ok done) step step.steps.0 step.steps.1 step.steps.2 tt (λ b stands. (at b stands).0) tt (λ b stands. (at b stands).1) (λ is. absurd (cc))
     advance_ended turns'' paid (Err error) step =
-        let m = moves_on path old mid new so_far.moves step.moves in
-        let s = so_far.spent_is in
-        let c = so_far.calls_most in
-        let d = step.steps.0 in
-        let l = so_far.left_least in
-        let n = step.steps.1 in
-        let at = λ (b : ℕ) (stands : BoundaryStands path first old b). step.holds b so_far.spent (so_far.holds b stands) in
-        record {
-          others = m.others;
-          given = m.given;
-          spends = record { turns_fall = omega (arith, s, paid); calls_rise = m.calls_rise; calls_most = omega (arith, c, d, paid); failures_rise = m.failures_rise; left_falls = m.left_falls; left_least = omega (arith, l, n) };
-          unspent = λ e. unput (asks_put op) step.unput (omega (arith, e, s, paid));
-          written = written_on path goal old mid new so_far.moves.given step.moves.given so_far.written step.written;
-          rises = (let f = so_far.rises in let s = step.rises in omega (arith, f, s));
-          known = tt;
-          reached = λ is. absurd (cc (unreached, is));
-          cause = cause_on (Unbounded path first old) turns'' old mid new error so_far.moves.failures_rise (λ seven b stands. (at b stands).1 seven) step.steps.2;
-          raised = tt;
-          kept = λ b stands. (at b stands).0;
-          few = λ b stands. (let few = (at b stands).2 in omega (arith, few, s, paid));
-          enough = λ two b stands is. not_spent error step.steps.2 is;
-        }
+        let at = keeps (Done (Err error)) step in
+        let cause = cause_on (Unbounded path first old) turns'' old mid new error so_far.moves.failures_rise (λ seven b stands. (at b stands).1 seven) step.steps.2 in
+        ended_as turns'' paid (Err error) step step.steps.0 step.steps.1 tt cause tt (λ b stands. (at b stands).0) (λ b stands. (at b stands).2) (not_spent error step.steps.2)

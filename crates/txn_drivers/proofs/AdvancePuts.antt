@@ -140,13 +140,9 @@ module _ (path : Segments) (old new : State) where
     by_answer : (answer : Result ℕ StoreError) → old.calls ≤ new.calls → old.failures ≤ new.failures → IfOk answer (λ tk. Placed path (decimal target) tk old new)
         → IfErr answer (PutRefused (put_fault (raise_mode token) (map.get old.files path)) (TookPut path (decimal target) (raise_mode token) old new) old new) → PutLeaves target
     by_answer (Ok tk) c f placed err = placed_leaves target tk placed c f
-    by_answer (Err errors.NotFound) c f placed err = kept_leaves target err.1 c f
-    by_answer (Err errors.AlreadyExists) c f placed err = kept_leaves target err.1 c f
-    by_answer (Err errors.Precondition) c f placed err = kept_leaves target err.1 c f
-    by_answer (Err errors.NotModified) c f placed err = kept_leaves target err.1 c f
-    by_answer (Err errors.NoMemory) c f placed err = kept_leaves target err.1 c f
     by_answer (Err errors.TokensExhausted) c f placed err = kept_leaves target err.2 c f
     by_answer (Err errors.Failed) c f placed err = elim err.1 [ inl kept ↦ kept_leaves target kept c f | inr took ↦ placed_leaves target took.token took.placed c f ]
+    by_answer (Err error) c f placed err = kept_leaves target err.1 c f
 
     pub put_leaves : (answer : Result ℕ StoreError) → StorePuts path (decimal target) (raise_mode token) old answer new → PutLeaves target
     put_leaves answer told = let c = told.counted.calls in by_answer answer (omega (arith, c)) told.counted.failures told.placed told.err

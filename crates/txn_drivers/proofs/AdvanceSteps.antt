@@ -194,9 +194,6 @@ module _ (path : Segments) (goal : ℕ) (old new : State) where
           (put_stands path old new b target tk reads up told.placed cached stands, omega (arith, up), put_current path old new b target tk reads up told.placed, twice)
       put_keeps (Err errors.AlreadyExists) told = (still told.err.1, tt, was_first errors.AlreadyExists told.err.0)
       put_keeps (Err errors.Precondition) told = (still told.err.1, tt, was_first errors.Precondition told.err.0)
-      put_keeps (Err errors.NotFound) told = (inl (still told.err.1), (λ e. cc), twice)
-      put_keeps (Err errors.NotModified) told = (inl (still told.err.1), (λ e. cc), twice)
-      put_keeps (Err errors.NoMemory) told = (inl (still told.err.1), (λ e. cc), twice)
       put_keeps (Err errors.TokensExhausted) told = (inl (still told.err.2), (λ e. cc), twice)
       put_keeps (Err errors.Failed) told = (
         elim told.err.1 [
@@ -208,6 +205,7 @@ module _ (path : Segments) (goal : ℕ) (old new : State) where
         (λ e. cc),
         twice,
       )
+      put_keeps (Err error) told = (inl (still told.err.1), (λ e. cc), twice)
 
   keep_keeps : (target tk b spent : ℕ) (cached : Option CachedBoundary) → target ≡ goal → Kept old new → AdvanceHolds path cached old b spent (Keeps target tk)
       → NumberedKeeps (Some (greater_known cached (record { number = target; token = tk }))) b spent (advance_kept (Keeps target tk))
@@ -275,9 +273,7 @@ module _ (path : Segments) (goal : ℕ) (old new : State) where
         steps = put_steps target request cached is answer put;
         keeps = λ b spent spent' more at. put_keeps target request cached is b spent spent' more at.0 at.1 less (subst (λ t. boundary_read (decimal t) ≡ Some t) (sym is) reads) answer put;
       }
-  one reads (Puts target request) cached (Some (replies.Get answer)) (is, request_is, less) told = absurd (rw request_is at told)
-  one reads (Puts target request) cached (Some (replies.List answer)) (is, request_is, less) told = absurd (rw request_is at told)
-  one reads (Puts target request) cached (Some (replies.Delete answer)) (is, request_is, less) told = absurd (rw request_is at told)
+  one reads (Puts target request) cached (Some reply) (is, request_is, less) told = absurd (rw request_is at told)
   one reads (Keeps target tk) cached None is same =
       let r = look_reads old new same in
       let calls : new.calls ≡ old.calls = ap (λ s. s.calls) same in

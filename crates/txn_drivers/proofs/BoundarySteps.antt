@@ -144,9 +144,7 @@ module _ (path : Segments) (old new : State) where
   got_reply : (known : Option ℕ) (request : Request) (reply : Option Reply) → request ≡ requests.Get path known → Replies (Some request) old reply new → IsGot reply × Reads old new
   got_reply known request None is told = absurd told
   got_reply known request (Some (replies.Get answer)) is told = (tt, get_reads known answer (rw is at told))
-  got_reply known request (Some (replies.Put answer)) is told = absurd (rw is at told)
-  got_reply known request (Some (replies.List answer)) is told = absurd (rw is at told)
-  got_reply known request (Some (replies.Delete answer)) is told = absurd (rw is at told)
+  got_reply known request (Some reply) is told = absurd (rw is at told)
 
   -- what a read of the boundary asks for is replied in kind, and changes nothing
   pub read_replied : (op : BoundaryRead) (cached : Option CachedBoundary) (reply : Option Reply) → ReadFormed path cached op → Replies (boundary_read_asked op) old reply new → IsBoundaryReply op reply × Reads old new
@@ -208,9 +206,7 @@ module _ (path : Segments) (old new : State) where
   read_steps_on (read.Looks p) cached (Some reply) formed is same = absurd is
   read_steps_on (read.Gets request) cached None formed is told = absurd is
   read_steps_on (read.Gets request) cached (Some (replies.Get answer)) formed is told = got_steps request cached (token_of cached) answer (rw formed at told)
-  read_steps_on (read.Gets request) cached (Some (replies.Put answer)) formed is told = absurd is
-  read_steps_on (read.Gets request) cached (Some (replies.List answer)) formed is told = absurd is
-  read_steps_on (read.Gets request) cached (Some (replies.Delete answer)) formed is told = absurd is
+  read_steps_on (read.Gets request) cached (Some reply) formed is told = absurd is
   read_steps_on (read.Holds known) cached None formed is same = held_steps known cached (ap (λ s. s.calls) same)
   read_steps_on (read.Holds known) cached (Some reply) formed is same = absurd is
 
@@ -294,9 +290,7 @@ module _ (path : Segments) (old new : State) where
     read_keeps_on (read.Looks p) cached (Some reply) formed is same stands at = absurd is
     read_keeps_on (read.Gets request) cached None formed is told stands at = absurd is
     read_keeps_on (read.Gets request) cached (Some (replies.Get answer)) formed is told stands at = got_keeps request cached answer stands (rw formed at told)
-    read_keeps_on (read.Gets request) cached (Some (replies.Put answer)) formed is told stands at = absurd is
-    read_keeps_on (read.Gets request) cached (Some (replies.List answer)) formed is told stands at = absurd is
-    read_keeps_on (read.Gets request) cached (Some (replies.Delete answer)) formed is told stands at = absurd is
+    read_keeps_on (read.Gets request) cached (Some reply) formed is told stands at = absurd is
     read_keeps_on (read.Holds known) cached None formed is same stands at = held_keeps known cached same stands at
     read_keeps_on (read.Holds known) cached (Some reply) formed is same stands at = absurd is
 
@@ -346,8 +340,6 @@ module _ (path : Segments) (old new : State) where
   read_says_on (read.Looks p) cached (Some reply) formed is same tells = absurd is
   read_says_on (read.Gets request) cached None formed is told tells = absurd is
   read_says_on (read.Gets request) cached (Some (replies.Get answer)) formed is told tells = got_says request cached answer (rw formed at told)
-  read_says_on (read.Gets request) cached (Some (replies.Put answer)) formed is told tells = absurd is
-  read_says_on (read.Gets request) cached (Some (replies.List answer)) formed is told tells = absurd is
-  read_says_on (read.Gets request) cached (Some (replies.Delete answer)) formed is told tells = absurd is
+  read_says_on (read.Gets request) cached (Some reply) formed is told tells = absurd is
   read_says_on (read.Holds known) cached None formed is same tells = held_says known cached tells
   read_says_on (read.Holds known) cached (Some reply) formed is same tells = absurd is

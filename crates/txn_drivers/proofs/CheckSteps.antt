@@ -24,7 +24,7 @@ use Rattle.txn_caches.specs.Boundaries.{Known, refused_by}
 use Rattle.txn_caches.specs.BoundaryReads.{boundary_held, boundary_turned, boundary_cached}
 use Rattle.txn_caches.specs.BoundaryChecks.{boundary_check_asked, boundary_check_turned, boundary_check_cached, asked_at, turned_at, cached_at, reads_by, reads_turned, IsReplyAt, IsBoundaryCheckReply}
 use Rattle.txn_drivers.specs.Asked.{Replies}
-use Rattle.txn_drivers.specs.Calls.{HasStoreCause, HasCauseOfCheck}
+use Rattle.txn_drivers.specs.Calls.{Spends, HasStoreCause, HasCauseOfCheck}
 use Rattle.txn_drivers.specs.Standing.{BoundaryFits, BoundaryStands}
 use Rattle.txn_drivers.specs.BoundaryRuns.{ReadTells, CheckTells, Reads, ReadFormed, ReadHolds, check_steps, check_calls, FormedAt, CheckFormed, CheckSteps, CheckHolds, IsCheckStep, CheckRunning}
 use Rattle.txn_drivers.specs.Checking.{Unbounded, Checked, MissingOrCurrent, number_of, read_says}
@@ -52,36 +52,28 @@ cause_of told old new (kinds.ObjectStoreError error) is cause = by_cause cause
     by_cause (inr (inl (two, why))) = why error is
     by_cause (inr (inr (inl seven))) = absurd (omega (arith, seven))
     by_cause (inr (inr (inr nine))) = absurd (omega (arith, nine))
-cause_of told old new kinds.IoError is cause = absurd (none_at told old new 1 cause (λ e. omega (arith, e)) (λ e. omega (arith, e)) (λ e. omega (arith, e)) (λ e. omega (arith, e)))
-cause_of told old new (kinds.ObjectUpdateTimeout timeout) is cause = absurd (none_at told old new 3 cause (λ e. omega (arith, e)) (λ e. omega (arith, e)) (λ e. omega (arith, e)) (λ e. omega (arith, e)))
-cause_of told old new kinds.LatestRecordMissing is cause = absurd (none_at told old new 4 cause (λ e. omega (arith, e)) (λ e. omega (arith, e)) (λ e. omega (arith, e)) (λ e. omega (arith, e)))
-cause_of told old new kinds.Fenced is cause = absurd (none_at told old new 6 cause (λ e. omega (arith, e)) (λ e. omega (arith, e)) (λ e. omega (arith, e)) (λ e. omega (arith, e)))
-cause_of told old new (kinds.CallbackError error) is cause = absurd (none_at told old new 8 cause (λ e. omega (arith, e)) (λ e. omega (arith, e)) (λ e. omega (arith, e)) (λ e. omega (arith, e)))
-cause_of told old new kinds.IdExhausted is cause = absurd (none_at told old new 10 cause (λ e. omega (arith, e)) (λ e. omega (arith, e)) (λ e. omega (arith, e)) (λ e. omega (arith, e)))
-cause_of told old new kinds.TurnsExhausted is cause = absurd (none_at told old new 11 cause (λ e. omega (arith, e)) (λ e. omega (arith, e)) (λ e. omega (arith, e)) (λ e. omega (arith, e)))
+cause_of told old new error is cause = absurd (none_at told old new (error_number error) cause (λ e. omega (arith, e)) (λ e. omega (arith, e)) (λ e. omega (arith, e)) (λ e. omega (arith, e)))
 
 -- a cause of the last step is one of the whole call
 pub store_cause_on : (old mid new : State) (error : StoreError) → old.failures ≤ mid.failures → HasStoreCause mid new error → HasStoreCause old new error
 store_cause_on old mid new errors.Failed rise cause = omega (arith, rise, cause)
-store_cause_on old mid new errors.TokensExhausted rise cause = cause
-store_cause_on old mid new errors.NotFound rise cause = cause
-store_cause_on old mid new errors.AlreadyExists rise cause = cause
-store_cause_on old mid new errors.Precondition rise cause = cause
-store_cause_on old mid new errors.NotModified rise cause = cause
-store_cause_on old mid new errors.NoMemory rise cause = cause
+store_cause_on old mid new error rise cause = cause
 
 cause_on : (unheld : Type 0) (old mid new : State) (error : TransactionalObjectError) → old.failures ≤ mid.failures → (error_number error ≡ 7 → unheld) → HasCauseOfCheck (Unit {0}) mid new error → HasCauseOfCheck unheld old new error
 cause_on unheld old mid new kinds.ObjectVersionExists rise seven cause = tt
 cause_on unheld old mid new kinds.InvalidObjectState rise seven cause = seven refl
 cause_on unheld old mid new kinds.NoMemory rise seven cause = tt
 cause_on unheld old mid new (kinds.ObjectStoreError error) rise seven cause = store_cause_on old mid new error rise cause
-cause_on unheld old mid new kinds.IoError rise seven cause = cause
-cause_on unheld old mid new (kinds.ObjectUpdateTimeout timeout) rise seven cause = cause
-cause_on unheld old mid new kinds.LatestRecordMissing rise seven cause = cause
-cause_on unheld old mid new kinds.Fenced rise seven cause = cause
-cause_on unheld old mid new (kinds.CallbackError error) rise seven cause = cause
-cause_on unheld old mid new kinds.IdExhausted rise seven cause = cause
-cause_on unheld old mid new kinds.TurnsExhausted rise seven cause = cause
+cause_on unheld old mid new error rise seven cause = cause
+
+-- a cached boundary that refuses an id has reached it
+pub refused_above : (path : Segments) (store : State) (id : ℕ) (cached : Option CachedBoundary) (b : ℕ) → BoundaryFits path store.files store.given b cached → refused_by id cached ≡ true → id ≤ b
+refused_above path store id None b fits is = absurd (cc)
+refused_above path store id (Some known) b fits is = let le = leb-true id known.number is in let most = fits.at_most in omega (arith, le, most)
+
+pub reached_by : (id : ℕ) (cached : Option CachedBoundary) → refused_by id cached ≡ true → id ≤ number_of cached
+reached_by id None is = absurd (cc)
+reached_by id (Some known) is = leb-true id known.number is
 
 module _ (path : Segments) (goal : ℕ) (old new : State) where
   -- by the number of the error
@@ -114,14 +106,6 @@ module _ (path : Segments) (goal : ℕ) (old new : State) where
   named_holds cached b op' Goes holds = holds
   named_holds cached b op' (Done (Ok accepted)) holds = holds
   named_holds cached b op' (Done (Err e)) holds = holds
-
-  refused_at : (id : ℕ) (cached : Option CachedBoundary) (b : ℕ) → BoundaryFits path old.files old.given b cached → refused_by id cached ≡ true → id ≤ b
-  refused_at id None b fits is = absurd (cc)
-  refused_at id (Some known) b fits is = let le = leb-true id known.number is in let most = fits.at_most in omega (arith, le, most)
-
-  reached_at : (id : ℕ) (cached : Option CachedBoundary) → refused_by id cached ≡ true → id ≤ number_of cached
-  reached_at id None is = absurd (cc)
-  reached_at id (Some known) is = leb-true id known.number is
 
   -- a read that ends leaves what it says cached, but for a missing file
   ends_at : (r : BoundaryRead) (cached : Option CachedBoundary) (known : Known) → ReadEnds path old new r cached known → known.0 ≤ number_of cached
@@ -168,7 +152,7 @@ module _ (path : Segments) (goal : ℕ) (old new : State) where
     look_steps cached None at formed (read.Looks p) is begins same =
         let calls : new.calls ≡ old.calls = ap (λ s. s.calls) same in
         branch (Numbered cached None op) (refused_by op.id cached) _ _
-        (λ t. (omega (arith, calls), inl refl, λ five. let le = reached_at op.id cached t in omega (arith, le, id_is)))
+        (λ t. (omega (arith, calls), inl refl, λ five. let le = reached_by op.id cached t in omega (arith, le, id_is)))
         (λ t. (record { id_is = id_is; read = formed; begins = tt }, rw (at, is) (omega arith), omega (arith, calls)))
     look_steps cached None at formed (read.Gets request) is begins same = absurd begins
     look_steps cached None at formed (read.Holds known) is begins same = absurd begins
@@ -182,7 +166,7 @@ module _ (path : Segments) (goal : ℕ) (old new : State) where
     holds_by : (at : BoundaryStep) (cached : Option CachedBoundary) (reply : Option Reply) (b : ℕ) → Kept old new → ReadFormed path cached op.read → FormedAt at op.read → IsReplyAt at op.read reply → Replies (asked_at at op.read) old reply new
         → BoundaryStands path cached old b → ReadHolds path cached old b op.read → NumberedHolds (cached_at at op.read cached) b (turned_at at op cached reply)
     holds_by step.Looks cached reply b kept formed begins replied told stands holds = branch (NumberedHolds cached b) (refused_by op.id cached) _ _
-        (λ t. let le = refused_at op.id cached b stands.fits t in (stands_kept path cached old new b kept stands, (λ e. omega (arith, le, id_is)), λ e. cc))
+        (λ t. let le = refused_above path old op.id cached b stands.fits t in (stands_kept path cached old new b kept stands, (λ e. omega (arith, le, id_is)), λ e. cc))
         (λ t. (stands_kept path cached old new b kept stands, begun op.read begins))
       where
         begun : (r : BoundaryRead) → FormedAt step.Looks r → ReadHolds path cached new b r
@@ -264,15 +248,32 @@ module _ (path : Segments) (goal : ℕ) (old mid new : State) (first cached cach
       let before : ReadTells cached (map.get mid.files path) op.read = subst (λ k. ReadTells k (map.get mid.files path) op.read) (sym so_far.cached_is) (subst (λ f. ReadTells first f op.read) (sym same) so_far.tells) in
       subst (λ f. CheckTells first cached' f goal next told) same (subst (λ k. CheckTells k cached' (map.get mid.files path) goal next told) so_far.cached_is (step.tells before))
 
+  -- what is left after a further step, whatever it tells
+  module _ (told : Turned (Result (Unit {0}) TransactionalObjectError)) (step : IsCheckStep path goal mid new cached cached' op op' told) where
+    reads_then : Reads old new
+    reads_then = reads_on old mid new so_far.reads step.reads
+
+    spends_then : new.calls ≤ mid.calls + check_calls op → Spends 1 0 old new
+    spends_then few =
+        let so_many = so_far.calls_are in
+        let left = reads_then.kept.left in
+        record { calls_rise = reads_then.calls_rise; calls_most = omega (arith, so_many, few); failures_rise = reads_then.failures_rise; left_falls = omega (arith, left); left_least = omega (arith, left) }
+
+    rises_then : number_of first ≤ number_of cached'
+    rises_then = let before = so_far.rises in let now = step.rises in omega (arith, before, now)
+
+    holds_then : (b : ℕ) → BoundaryStands path first old b → CheckHolds path cached' goal new b op' told
+    holds_then b stands = let at = so_far.holds b stands in step.holds b at.0 at.1
+
   pub check_goes : IsCheckStep path goal mid new cached cached' op op' Goes → CheckRunning path goal old new first cached' op'
   check_goes step = record {
     formed = step.steps.0;
-    reads = reads_on old mid new so_far.reads step.reads;
-    rises = (let f = so_far.rises in let s = step.rises in omega (arith, f, s));
+    reads = reads_then Goes step;
+    rises = rises_then Goes step;
     cached_is = (told_of op' Goes step).0;
     tells = (told_of op' Goes step).1;
     calls_are = (let f = so_far.calls_are in let s = step.steps.2 in omega (arith, f, s));
-    holds = λ b stands. let at = so_far.holds b stands in step.holds b at.0 at.1;
+    holds = holds_then Goes step;
   }
 
   pub check_less : IsCheckStep path goal mid new cached cached' op op' Goes → check_steps op' < check_steps op
@@ -287,50 +288,37 @@ module _ (path : Segments) (goal : ℕ) (old mid new : State) (first cached cach
   -- how a check ends where the cached boundary does not refuse the id
   pub check_ended : refused_by goal first ≡ false → (answer : Result (Unit {0}) TransactionalObjectError) → IsCheckStep path goal mid new cached cached' op op' (Done answer) → Checked path goal old new first cached' answer
   check_ended unreached (Ok accepted) step =
-      let r = reads_on old mid new so_far.reads step.reads in
-      let f = so_far.calls_are in
-      let g = step.steps in
-      let at = λ (b : ℕ) (stands : BoundaryStands path first old b). (let h = so_far.holds b stands in step.holds b h.0 h.1) in
-      let left = r.kept.left in
-      let u = so_far.rises in
-      let v = step.rises in
+      let so_many = so_far.calls_are in
+      let calls = step.steps in
       record {
-        kept = r.kept;
-        spends = record { calls_rise = r.calls_rise; calls_most = omega (arith, f, g); failures_rise = r.failures_rise; left_falls = omega (arith, left); left_least = omega (arith, left) };
-        asked = omega (arith, f, g);
-        rises = omega (arith, u, v);
+        kept = (reads_then (Done (Ok accepted)) step).kept;
+        spends = spends_then (Done (Ok accepted)) step (omega (arith, calls));
+        asked = omega (arith, so_many, calls);
+        rises = rises_then (Done (Ok accepted)) step;
         reached = λ is. absurd (cc);
         from_cache = λ is. absurd (cc (unreached, is));
         accepts = told_of op' (Done (Ok accepted)) step;
         refuses = λ is. absurd (cc);
         invalid = λ is. absurd (cc);
         cause = tt;
-        stands = λ b stands. (at b stands).0;
-        above = λ b stands. (at b stands).1;
-        known = λ b stands. (at b stands).2;
+        stands = λ b stands. (holds_then (Done (Ok accepted)) step b stands).0;
+        above = λ b stands. (holds_then (Done (Ok accepted)) step b stands).1;
+        known = λ b stands. (holds_then (Done (Ok accepted)) step b stands).2;
         fenced = λ is. absurd (cc);
       }
-  check_ended unreached (Err error) step =
-      let r = reads_on old mid new so_far.reads step.reads in
-      let f = so_far.calls_are in
-      let g = step.steps.0 in
-      let at = λ (b : ℕ) (stands : BoundaryStands path first old b). (let h = so_far.holds b stands in step.holds b h.0 h.1) in
-      let left = r.kept.left in
-      let u = so_far.rises in
-      let v = step.rises in
-      record {
-        kept = r.kept;
-        spends = record { calls_rise = r.calls_rise; calls_most = omega (arith, f, g); failures_rise = r.failures_rise; left_falls = omega (arith, left); left_least = omega (arith, left) };
-        asked = tt;
-        rises = omega (arith, u, v);
-        reached = λ is. step.steps.2 (five_is error is);
-        from_cache = λ is. absurd (cc (unreached, is));
-        accepts = tt;
-        refuses = λ is. (told_of op' (Done (Err error)) step).0 (five_is error is);
-        invalid = λ is. (told_of op' (Done (Err error)) step).1 (seven_is error is);
-        cause = cause_on (Unbounded path first old) old mid new error so_far.reads.failures_rise (λ seven b stands. (at b stands).2 seven) step.steps.1;
-        stands = λ b stands. (at b stands).0;
-        above = tt;
-        known = tt;
-        fenced = λ is b stands. (at b stands).1 (five_is error is);
-      }
+  check_ended unreached (Err error) step = record {
+    kept = (reads_then (Done (Err error)) step).kept;
+    spends = spends_then (Done (Err error)) step step.steps.0;
+    asked = tt;
+    rises = rises_then (Done (Err error)) step;
+    reached = λ is. step.steps.2 (five_is error is);
+    from_cache = λ is. absurd (cc (unreached, is));
+    accepts = tt;
+    refuses = λ is. (told_of op' (Done (Err error)) step).0 (five_is error is);
+    invalid = λ is. (told_of op' (Done (Err error)) step).1 (seven_is error is);
+    cause = cause_on (Unbounded path first old) old mid new error so_far.reads.failures_rise (λ seven b stands. (holds_then (Done (Err error)) step b stands).2 seven) step.steps.1;
+    stands = λ b stands. (holds_then (Done (Err error)) step b stands).0;
+    above = tt;
+    known = tt;
+    fenced = λ is b stands. (holds_then (Done (Err error)) step b stands).1 (five_is error is);
+  }

@@ -55,9 +55,7 @@ use Rattle.txn_drivers.specs.WriteRuns.{CanWrite}
 
 is_got : (request : Request) (old new : State) (reply : Option Reply) → CanGet request → Replies (Some request) old reply new → IsGot reply
 is_got (requests.Get path known) old new (Some (replies.Get answer)) can told = tt
-is_got (requests.Get path known) old new (Some (replies.Put answer)) can told = absurd told
-is_got (requests.Get path known) old new (Some (replies.List answer)) can told = absurd told
-is_got (requests.Get path known) old new (Some (replies.Delete answer)) can told = absurd told
+is_got (requests.Get path known) old new (Some reply) can told = absurd told
 is_got request old new None can told = absurd told
 is_got (requests.Put path bytes mode) old new (Some reply) can told = absurd can
 is_got (requests.List prefix after limit) old new (Some reply) can told = absurd can
@@ -82,9 +80,7 @@ check_reply (checks.Drops id) old new reply can told = is_look old new reply tol
 
 unchecked_reply : (op : WriteUncheckedOp) (old new : State) (reply : Option Reply) → CanWrite op → Replies (unchecked_asked op) old reply new → IsUncheckedReply op reply
 unchecked_reply (unchecked.Puts version (requests.Put path bytes mode)) old new (Some (replies.Put answer)) can told = tt
-unchecked_reply (unchecked.Puts version (requests.Put path bytes mode)) old new (Some (replies.Get answer)) can told = absurd told
-unchecked_reply (unchecked.Puts version (requests.Put path bytes mode)) old new (Some (replies.List answer)) can told = absurd told
-unchecked_reply (unchecked.Puts version (requests.Put path bytes mode)) old new (Some (replies.Delete answer)) can told = absurd told
+unchecked_reply (unchecked.Puts version (requests.Put path bytes mode)) old new (Some reply) can told = absurd told
 unchecked_reply (unchecked.Puts version request) old new None can told = absurd told
 unchecked_reply (unchecked.Puts version (requests.Get path known)) old new (Some reply) can told = absurd can
 unchecked_reply (unchecked.Puts version (requests.List prefix after limit)) old new (Some reply) can told = absurd can
@@ -98,9 +94,7 @@ write_reply writes.Checks op old new reply can check told = check_reply op.check
 
 is_deleted : (request : Request) (old new : State) (reply : Option Reply) → CanRemove removals.Removes request → Replies (Some request) old reply new → IsDeleted reply
 is_deleted (requests.Delete path) old new (Some (replies.Delete answer)) can told = tt
-is_deleted (requests.Delete path) old new (Some (replies.Get answer)) can told = absurd told
-is_deleted (requests.Delete path) old new (Some (replies.Put answer)) can told = absurd told
-is_deleted (requests.Delete path) old new (Some (replies.List answer)) can told = absurd told
+is_deleted (requests.Delete path) old new (Some reply) can told = absurd told
 is_deleted request old new None can told = absurd told
 is_deleted (requests.Put path bytes mode) old new (Some reply) can told = absurd can
 is_deleted (requests.Get path known) old new (Some reply) can told = absurd can

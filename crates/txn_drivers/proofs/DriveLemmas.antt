@@ -134,9 +134,7 @@ is_list_step names page a b told step = record { reply = step.reply; replies = s
 
 list_counted : (names : Names) (after : Option Segments) (page : ℕ) (old new : State) (reply : Option Reply) → Replies (Some (version_page names after page)) old reply new → new.calls ≡ old.calls + 1
 list_counted names after page old new (Some (replies.List answer)) served = served.counted.calls
-list_counted names after page old new (Some (replies.Put answer)) served = absurd served
-list_counted names after page old new (Some (replies.Get answer)) served = absurd served
-list_counted names after page old new (Some (replies.Delete answer)) served = absurd served
+list_counted names after page old new (Some reply) served = absurd served
 list_counted names after page old new None served = absurd served
 
 module _ {T : Type 0} (names : Names) (decode : List ℕ → Option T) (page : ℕ) (room : 1 ≤ page) (from to : Bound ℕ) (a : Scene ListOp) (starts : a.op ≡ listing_started names page from to) where

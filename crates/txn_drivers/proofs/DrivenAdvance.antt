@@ -33,7 +33,7 @@ use Rattle.txn_drivers.specs.DriveSteps.{AdvanceSteps}
 use Rattle.txn_drivers.specs.DrivenChecks.{AdvanceLeaves, LackedMemory, AdvancesBoundary, AdvanceDriven}
 use Rattle.txn_drivers.specs.Standing.{BoundaryStands}
 use Rattle.txn_drivers.proofs.AdvanceLoop.{advance_step, advance_goes, advance_less, advance_ended}
-use Rattle.txn_drivers.proofs.DrivenCheck.{refused_above, reached_by}
+use Rattle.txn_drivers.proofs.CheckSteps.{refused_above, reached_by}
 use Rattle.txn_drivers.proofs.LatestTurns.{asked_look}
 use Rattle.txn_drivers.proofs.Refusals.{is_no_memory}
 
@@ -89,17 +89,8 @@ lacking_after path target old new turns turns' first cached unreached r = record
 
 -- any other error than of memory leaves what is held
 others_left : (target : ℕ) (latest latest' : List Cached) (error : TransactionalObjectError) → latest' ≡ latest → AdvanceLeaves target (Err error) latest latest'
-others_left target latest latest' kinds.IoError same = same
-others_left target latest latest' (kinds.ObjectStoreError e) same = same
-others_left target latest latest' (kinds.ObjectUpdateTimeout timeout) same = same
-others_left target latest latest' kinds.LatestRecordMissing same = same
-others_left target latest latest' kinds.ObjectVersionExists same = same
-others_left target latest latest' kinds.Fenced same = same
-others_left target latest latest' kinds.InvalidObjectState same = same
-others_left target latest latest' (kinds.CallbackError e) same = same
 others_left target latest latest' kinds.NoMemory same = inl same
-others_left target latest latest' kinds.IdExhausted same = same
-others_left target latest latest' kinds.TurnsExhausted same = same
+others_left target latest latest' error same = same
 
 module _ (path : Segments) (target : ℕ) (a : Scene AdvanceOp) (Pending : ℕ → Scene AdvanceOp → BoundaryAdvance → Type 0) where
   abbrev Answers : Scene AdvanceOp → ℕ → Result (Unit {0}) TransactionalObjectError → Type 0

@@ -1,6 +1,6 @@
 -- A check that runs alone from its start: what it leaves.
 use Rattle.std.proofs.Common.{◌≡◌, ◌==◌, ℕ, ◌+◌, zero, suc, ◌≤◌, Bool, true, false, if◌then◌else◌, List, Option, Some, None, Result, Ok, Err, refl, sym, ap, subst, ◌∙◌, ◌⊎◌, inl, inr, arith}
-use Rattle.std.proofs.lemmas.Bool.{eqb-true, leb-true}
+use Rattle.std.proofs.lemmas.Bool.{eqb-true}
 use Rattle.txn_store.specs.Paths.{Segments}
 use Rattle.txn_store.specs.Store.{State, Kept}
 use Rattle.txn_store.specs.declared.request.Reply.{Reply}
@@ -23,12 +23,12 @@ use Rattle.txn_caches.specs.declared.turned.Turned.{Turned}
 use Rattle.txn_caches.specs.declared.turned.Turned.TheVariants.{Goes, Done}
 use Rattle.txn_drivers.specs.Asked.{Replies}
 use Rattle.txn_drivers.specs.BoundaryRuns.{CheckRunning, IsCheckStep}
-use Rattle.txn_drivers.specs.Checking.{Checked, number_of}
+use Rattle.txn_drivers.specs.Checking.{Checked}
 use Rattle.txn_drivers.specs.DriveRuns.{Scene, GoesOn, Drives}
 use Rattle.txn_drivers.specs.DriveSteps.{CheckSteps}
 use Rattle.txn_drivers.specs.DrivenChecks.{checked_latest, CheckDriven}
-use Rattle.txn_drivers.specs.Standing.{BoundaryFits, BoundaryStands}
-use Rattle.txn_drivers.proofs.CheckSteps.{check_step, check_leaves, check_goes, check_ended}
+use Rattle.txn_drivers.specs.Standing.{BoundaryStands}
+use Rattle.txn_drivers.proofs.CheckSteps.{refused_above, reached_by, check_step, check_leaves, check_goes, check_ended}
 use Rattle.txn_drivers.proofs.DriveCounts.{check_within}
 use Rattle.txn_drivers.proofs.Frames.{kept-trans}
 use Rattle.txn_drivers.proofs.LatestTurns.{asked_look}
@@ -40,25 +40,8 @@ pair op told = (op, told)
 
 -- any other error than a conflict leaves what is held
 others_left : (id : ℕ) (latest : List Cached) (error : TransactionalObjectError) → (error_number error ≡ 5 → ⊥) → latest ≡ checked_latest id (Err error) latest
-others_left id latest kinds.IoError other = refl
-others_left id latest (kinds.ObjectStoreError e) other = refl
-others_left id latest (kinds.ObjectUpdateTimeout timeout) other = refl
-others_left id latest kinds.LatestRecordMissing other = refl
 others_left id latest kinds.ObjectVersionExists other = absurd (other refl)
-others_left id latest kinds.Fenced other = refl
-others_left id latest kinds.InvalidObjectState other = refl
-others_left id latest (kinds.CallbackError e) other = refl
-others_left id latest kinds.NoMemory other = refl
-others_left id latest kinds.IdExhausted other = refl
-others_left id latest kinds.TurnsExhausted other = refl
-
-pub refused_above : (path : Segments) (store : State) (id : ℕ) (cached : Option CachedBoundary) (b : ℕ) → BoundaryFits path store.files store.given b cached → refused_by id cached ≡ true → id ≤ b
-refused_above path store id None b fits is = absurd (cc)
-refused_above path store id (Some known) b fits is = let le = leb-true id known.number is in let most = fits.at_most in omega (arith, le, most)
-
-pub reached_by : (id : ℕ) (cached : Option CachedBoundary) → refused_by id cached ≡ true → id ≤ number_of cached
-reached_by id None is = absurd (cc)
-reached_by id (Some known) is = leb-true id known.number is
+others_left id latest error other = refl
 
 -- the cached boundary alone is the answer
 pub from_cache : (path : Segments) (id : ℕ) (store : State) (first : Option CachedBoundary) → refused_by id first ≡ true → Checked path id store store first first (Err kinds.ObjectVersionExists)

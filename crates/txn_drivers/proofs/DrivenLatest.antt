@@ -56,9 +56,7 @@ module _ {T : Type 0} (names : Names) (page : ℕ) (room : 1 ≤ page) (decode :
   lists_few : (op op' : LatestOp T) (latest : List Cached) (reply : Option Reply) → one_if (is_listing op) ≡ 1 → op' ≡ (latest_turned names page decode op latest reply).0 → steps_left true op' ≤ 5
   lists_few (Lists found request) op' latest (Some (replies.List (Ok told))) one is = subst (λ op. steps_left true op ≤ 5) (sym is) (paged_few (next_after told) (greatest_from found names told.metas))
   lists_few (Lists found request) op' latest (Some (replies.List (Err e))) one is = subst (λ op. steps_left true op ≤ 5) (sym is) (omega arith)
-  lists_few (Lists found request) op' latest (Some (replies.Put answer)) one is = subst (λ op. steps_left true op ≤ 5) (sym is) (omega arith)
-  lists_few (Lists found request) op' latest (Some (replies.Get answer)) one is = subst (λ op. steps_left true op ≤ 5) (sym is) (omega arith)
-  lists_few (Lists found request) op' latest (Some (replies.Delete answer)) one is = subst (λ op. steps_left true op ≤ 5) (sym is) (omega arith)
+  lists_few (Lists found request) op' latest (Some reply) one is = subst (λ op. steps_left true op ≤ 5) (sym is) (omega arith)
   lists_few (Lists found request) op' latest None one is = subst (λ op. steps_left true op ≤ 5) (sym is) (omega arith)
   lists_few Looks op' latest reply one is = absurd (omega (arith, one))
   lists_few (Probes hand found next request) op' latest reply one is = absurd (omega (arith, one))

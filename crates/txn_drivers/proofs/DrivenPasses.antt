@@ -38,44 +38,25 @@ use Rattle.txn_drivers.proofs.Windows.{above_fits}
 -- causes of a part are causes of the whole
 
 cause_of_read : (unheld : Type 0) (old mid new : State) (error : TransactionalObjectError) → old.failures ≤ mid.failures → HasCauseOfRead 1 mid new error → HasCauseOfNewest unheld old new error
-cause_of_read unheld old mid new kinds.IoError rise cause = cause
 cause_of_read unheld old mid new (kinds.ObjectStoreError e) rise cause = store_cause_on old mid new e rise cause
-cause_of_read unheld old mid new (kinds.ObjectUpdateTimeout timeout) rise cause = cause
-cause_of_read unheld old mid new kinds.LatestRecordMissing rise cause = cause
-cause_of_read unheld old mid new kinds.ObjectVersionExists rise cause = cause
-cause_of_read unheld old mid new kinds.Fenced rise cause = cause
 cause_of_read unheld old mid new kinds.InvalidObjectState rise cause = absurd cause
 cause_of_read unheld old mid new (kinds.CallbackError e) rise cause = tt
 cause_of_read unheld old mid new kinds.NoMemory rise cause = tt
-cause_of_read unheld old mid new kinds.IdExhausted rise cause = cause
 cause_of_read unheld old mid new kinds.TurnsExhausted rise cause = absurd (omega (arith, cause))
+cause_of_read unheld old mid new error rise cause = cause
 
 pub cause_of_check : (unheld unheld' : Type 0) (old mid new : State) (error : TransactionalObjectError) → old.failures ≤ mid.failures → (unheld → unheld') → (error_number error ≡ 5 → ⊥) → HasCauseOfCheck unheld mid new error → HasCauseOfNewest unheld' old new error
-cause_of_check unheld unheld' old mid new kinds.IoError rise on other cause = cause
 cause_of_check unheld unheld' old mid new (kinds.ObjectStoreError e) rise on other cause = store_cause_on old mid new e rise cause
-cause_of_check unheld unheld' old mid new (kinds.ObjectUpdateTimeout timeout) rise on other cause = cause
-cause_of_check unheld unheld' old mid new kinds.LatestRecordMissing rise on other cause = cause
 cause_of_check unheld unheld' old mid new kinds.ObjectVersionExists rise on other cause = absurd (other refl)
-cause_of_check unheld unheld' old mid new kinds.Fenced rise on other cause = cause
 cause_of_check unheld unheld' old mid new kinds.InvalidObjectState rise on other cause = on cause
 cause_of_check unheld unheld' old mid new (kinds.CallbackError e) rise on other cause = tt
 cause_of_check unheld unheld' old mid new kinds.NoMemory rise on other cause = tt
-cause_of_check unheld unheld' old mid new kinds.IdExhausted rise on other cause = cause
-cause_of_check unheld unheld' old mid new kinds.TurnsExhausted rise on other cause = cause
+cause_of_check unheld unheld' old mid new error rise on other cause = cause
 
 -- a check never answers that a codec refused
 pub check_reads_none : (unheld : Type 0) (old new : State) (error : TransactionalObjectError) → HasCauseOfCheck unheld old new error → error_number error ≡ 8 → ⊥
-check_reads_none unheld old new kinds.IoError cause is = omega (arith, is)
-check_reads_none unheld old new (kinds.ObjectStoreError e) cause is = omega (arith, is)
-check_reads_none unheld old new (kinds.ObjectUpdateTimeout timeout) cause is = omega (arith, is)
-check_reads_none unheld old new kinds.LatestRecordMissing cause is = omega (arith, is)
-check_reads_none unheld old new kinds.ObjectVersionExists cause is = omega (arith, is)
-check_reads_none unheld old new kinds.Fenced cause is = omega (arith, is)
-check_reads_none unheld old new kinds.InvalidObjectState cause is = omega (arith, is)
 check_reads_none unheld old new (kinds.CallbackError e) cause is = absurd cause
-check_reads_none unheld old new kinds.NoMemory cause is = omega (arith, is)
-check_reads_none unheld old new kinds.IdExhausted cause is = omega (arith, is)
-check_reads_none unheld old new kinds.TurnsExhausted cause is = omega (arith, is)
+check_reads_none unheld old new error cause is = omega (arith, is)
 
 module _ {T : Type 0} where
   -- an answer leaves of what is held what going on does
@@ -209,17 +190,10 @@ module _ {T : Type 0} (names : Names) (path : Segments) (page : ℕ) (room : 1 �
       absurd (cc some)
 
   sure_cause : (h : List T) (n : ℕ) → Stood h n → (new : State) (error : TransactionalObjectError) → HasCauseOfNewest (Unbounded path a.caches.boundary a.store) a.store new error → (error_number error ≡ 8 → IsRefused names decode a.store.files a.caches.latest) → HasCause a.store new error
-  sure_cause h n stood new kinds.IoError cause refused = cause
-  sure_cause h n stood new (kinds.ObjectStoreError e) cause refused = cause
-  sure_cause h n stood new (kinds.ObjectUpdateTimeout timeout) cause refused = cause
-  sure_cause h n stood new kinds.LatestRecordMissing cause refused = cause
-  sure_cause h n stood new kinds.ObjectVersionExists cause refused = cause
-  sure_cause h n stood new kinds.Fenced cause refused = cause
   sure_cause h n stood new kinds.InvalidObjectState cause refused = absurd (cause n stood.boundary)
   sure_cause h n stood new (kinds.CallbackError e) cause refused = absurd (none_refused h n stood (refused refl))
   sure_cause h n stood new kinds.NoMemory cause refused = tt
-  sure_cause h n stood new kinds.IdExhausted cause refused = cause
-  sure_cause h n stood new kinds.TurnsExhausted cause refused = cause
+  sure_cause h n stood new error cause refused = cause
 
   sure_by : (h : List T) (n : ℕ) → Stood h n → (new : State) (answer : Result (Option (ℕ × T)) TransactionalObjectError) → IfErr answer (HasCauseOfNewest (Unbounded path a.caches.boundary a.store) a.store new) → IfErr answer (λ error. error_number error ≡ 8 → IsRefused names decode a.store.files a.caches.latest) → IfErr answer (HasCause a.store new)
   sure_by h n stood new (Ok found) cause refused = tt

@@ -34,12 +34,7 @@ missing (Some g) e = absurd (cc)
 
 not_refused : (e : StoreError) → store_error_number e ≡ 8 → ⊥
 not_refused errors.NotFound is = omega (arith, is)
-not_refused errors.AlreadyExists is = omega (arith, is)
-not_refused errors.Precondition is = omega (arith, is)
-not_refused errors.NotModified is = omega (arith, is)
-not_refused errors.Failed is = omega (arith, is)
-not_refused errors.NoMemory is = omega (arith, is)
-not_refused errors.TokensExhausted is = omega (arith, is)
+not_refused error is = omega (arith, is)
 
 module _ {T : Type 0} (names : Names) (page : ℕ) (room : 1 ≤ page) (decode : List ℕ → Option T) (files : Files) (first : List Cached) (ascending : Ascends first) (small_first : IfSome (greatest_held first) (λ version. version.id < 2 ^ 64)) where
   abbrev P : Cached → Type 0
@@ -214,12 +209,7 @@ module _ {T : Type 0} (names : Names) (page : ℕ) (room : 1 ≤ page) (decode :
   probes hand found next spent calls paged latest most request (Err errors.NotFound) w has few is small every within there gone =
       answers (λ told. latest) spent (calls + 1) (15 - 2 * found) most (λ told. every) (Probes hand found next request) found hand w.from (decode hand.bytes) refl w.greatest w.walked few w.unspent
       (inr (omega (arith, small, is), ap (λ k. map.get files (version_path names k)) (sym is) ∙ gone refl, (let c = w.calls_are in omega (arith, c)))) (λ answer. w.up_to) (λ answer. has) paged
-  probes hand found next spent calls paged latest most request (Err errors.AlreadyExists) w has few is small every within there gone = (every, λ e. absurd (omega (arith, e)))
-  probes hand found next spent calls paged latest most request (Err errors.Precondition) w has few is small every within there gone = (every, λ e. absurd (omega (arith, e)))
-  probes hand found next spent calls paged latest most request (Err errors.NotModified) w has few is small every within there gone = (every, λ e. absurd (omega (arith, e)))
-  probes hand found next spent calls paged latest most request (Err errors.Failed) w has few is small every within there gone = (every, λ e. absurd (omega (arith, e)))
-  probes hand found next spent calls paged latest most request (Err errors.NoMemory) w has few is small every within there gone = (every, λ e. absurd (omega (arith, e)))
-  probes hand found next spent calls paged latest most request (Err errors.TokensExhausted) w has few is small every within there gone = (every, λ e. absurd (omega (arith, e)))
+  probes hand found next spent calls paged latest most request (Err error) w has few is small every within there gone = (every, λ e. absurd (omega (arith, e)))
 
   -- a page has its turn, and the calls that are left have theirs
   page_steps : (paged : Bool) (left : ℕ) → left ≤ 5 → left < 5 + one_if (not paged) + 16 * one_if paged
@@ -326,12 +316,7 @@ module _ {T : Type 0} (names : Names) (page : ℕ) (room : 1 ≤ page) (decode :
   gets id request spent calls paged latest most (Ok got) seeks g every within there gone =
       keeps_read (λ told. latest) spent (calls + 1) 3 most (λ told. every) (Gets id request) paged (record { id = id; bytes = got.bytes }) (decode got.bytes) refl seeks g (record { small = g.small; file = got; is_file = there; bytes = refl }) (omega arith) within
   gets id request spent calls paged latest most (Err errors.NotFound) seeks g every within there gone = absurd (g.there (gone refl))
-  gets id request spent calls paged latest most (Err errors.AlreadyExists) seeks g every within there gone = (every, λ e. absurd (omega (arith, e)))
-  gets id request spent calls paged latest most (Err errors.Precondition) seeks g every within there gone = (every, λ e. absurd (omega (arith, e)))
-  gets id request spent calls paged latest most (Err errors.NotModified) seeks g every within there gone = (every, λ e. absurd (omega (arith, e)))
-  gets id request spent calls paged latest most (Err errors.Failed) seeks g every within there gone = (every, λ e. absurd (omega (arith, e)))
-  gets id request spent calls paged latest most (Err errors.NoMemory) seeks g every within there gone = (every, λ e. absurd (omega (arith, e)))
-  gets id request spent calls paged latest most (Err errors.TokensExhausted) seeks g every within there gone = (every, λ e. absurd (omega (arith, e)))
+  gets id request spent calls paged latest most (Err error) seeks g every within there gone = (every, λ e. absurd (omega (arith, e)))
 
   pub keeps : (version : Cached) (value : T) (spent calls : ℕ) (paged : Bool) (latest : List Cached) (steps most : ℕ) → Seeks names page decode files first latest → IsGreatest names page decode files first version.id → IsStored names files version → decode version.bytes ≡ Some value → Grown latest
       → Leaves (λ told. kept version latest) spent calls paged steps most (Ended, Done (Ok (Some (version.id, value))))

@@ -37,14 +37,10 @@ pub record Reads (calls : ℕ) (old new : State) : Type 0 where
   pub failures_rise : old.failures ≤ new.failures
 
 pub refused_kept : (fault : Option StoreError) (old new : State) (e : StoreError) → Refused fault ⊥ old new e → Kept old new
-refused_kept fault old new errors.NotFound r = r.1
-refused_kept fault old new errors.AlreadyExists r = r.1
-refused_kept fault old new errors.Precondition r = r.1
-refused_kept fault old new errors.NotModified r = r.1
 refused_kept fault old new errors.Failed (rose, inl kept) = kept
 refused_kept fault old new errors.Failed (rose, inr never) = absurd never
-refused_kept fault old new errors.NoMemory r = r.1
 refused_kept fault old new errors.TokensExhausted r = absurd r
+refused_kept fault old new error r = r.1
 
 pub look_reads : (old new : State) → new ≡ old → Reads 0 old new
 look_reads old new same = subst (λ s. Reads 0 old s) (sym same) (record { kept = record { files = refl; given = refl; left = refl }; calls_are = omega arith; failures_rise = omega arith })
@@ -68,24 +64,17 @@ told_failed old new rose = inl (refl, λ e same. subst (HasStoreCause old new) (
 
 pub get_failed : (now : Option Got) (old new : State) (e : StoreError) → (e ≡ errors.NotFound → ⊥) → Refused (get_fault None now) ⊥ old new e → NumberCause old new (Some e) (store_error_number e)
 get_failed now old new errors.NotFound other r = absurd (other refl)
-get_failed None old new errors.AlreadyExists other r = absurd (let f = r.0 in cc)
-get_failed (Some g) old new errors.AlreadyExists other r = absurd (let f = r.0 in cc)
-get_failed None old new errors.Precondition other r = absurd (let f = r.0 in cc)
-get_failed (Some g) old new errors.Precondition other r = absurd (let f = r.0 in cc)
-get_failed None old new errors.NotModified other r = absurd (let f = r.0 in cc)
-get_failed (Some g) old new errors.NotModified other r = absurd (let f = r.0 in cc)
 get_failed now old new errors.Failed other r = told_failed old new r.0
 get_failed now old new errors.NoMemory other r = inr (inr refl)
 get_failed now old new errors.TokensExhausted other r = absurd r
+get_failed None old new error other r = absurd (let f = r.0 in cc)
+get_failed (Some g) old new error other r = absurd (let f = r.0 in cc)
 
 pub list_failed : (old new : State) (e : StoreError) → Refused None ⊥ old new e → NumberCause old new (Some e) (store_error_number e)
-list_failed old new errors.NotFound r = absurd (let f = r.0 in cc)
-list_failed old new errors.AlreadyExists r = absurd (let f = r.0 in cc)
-list_failed old new errors.Precondition r = absurd (let f = r.0 in cc)
-list_failed old new errors.NotModified r = absurd (let f = r.0 in cc)
 list_failed old new errors.Failed r = told_failed old new r.0
 list_failed old new errors.NoMemory r = inr (inr refl)
 list_failed old new errors.TokensExhausted r = absurd r
+list_failed old new error r = absurd (let f = r.0 in cc)
 
 -- what a get tells of the files
 pub found_in : (files : Files) (path : Segments) (old new : State) (answer : Result Got StoreError) → old.files ≡ files → StoreGets path None old answer new → IfOk answer (λ got. map.get files path ≡ Some got)
@@ -95,12 +84,7 @@ found_in files path old new (Err e) same told = tt
 pub gone_in : (files : Files) (path : Segments) (old new : State) (answer : Result Got StoreError) → old.files ≡ files → StoreGets path None old answer new → answer ≡ Err errors.NotFound → map.get files path ≡ None
 gone_in files path old new (Ok got) same told is = cc
 gone_in files path old new (Err errors.NotFound) same told is = ap (λ fs. map.get fs path) (sym same) ∙ missing (map.get old.files path) told.err.0
-gone_in files path old new (Err errors.AlreadyExists) same told is = cc
-gone_in files path old new (Err errors.Precondition) same told is = cc
-gone_in files path old new (Err errors.NotModified) same told is = cc
-gone_in files path old new (Err errors.Failed) same told is = cc
-gone_in files path old new (Err errors.NoMemory) same told is = cc
-gone_in files path old new (Err errors.TokensExhausted) same told is = cc
+gone_in files path old new (Err error) same told is = cc
 
 pub listed_in : (files : Files) (prefix : Segments) (after : Option Segments) (limit : ℕ) (old new : State) (answer : Result Page StoreError) → old.files ≡ files → StoreLists prefix after limit old answer new → IfOk answer (λ told. told ≡ page_of limit (listing prefix after (map.entries files)))
 listed_in files prefix after limit old new (Ok page) same told = told.listed ∙ ap (λ fs. page_of limit (listing prefix after (map.entries fs))) same
@@ -111,16 +95,12 @@ listed_in files prefix after limit old new (Err e) same told = tt
 pub asked_get : (path : Segments) (request : Request) (old new : State) (reply : Option Reply) → request ≡ requests.Get path None → Replies (Some request) old reply new → (answer : Result Got StoreError) × (reply ≡ Some (replies.Get answer)) × StoreGets path None old answer new
 asked_get path request old new None is told = absurd told
 asked_get path request old new (Some (replies.Get answer)) is told = (answer, refl, rw is at told)
-asked_get path request old new (Some (replies.Put answer)) is told = absurd (rw is at told)
-asked_get path request old new (Some (replies.List answer)) is told = absurd (rw is at told)
-asked_get path request old new (Some (replies.Delete answer)) is told = absurd (rw is at told)
+asked_get path request old new (Some reply) is told = absurd (rw is at told)
 
 pub asked_list : (prefix : Segments) (after : Option Segments) (limit : ℕ) (request : Request) (old new : State) (reply : Option Reply) → request ≡ requests.List prefix after limit → Replies (Some request) old reply new → (answer : Result Page StoreError) × (reply ≡ Some (replies.List answer)) × StoreLists prefix after limit old answer new
 asked_list prefix after limit request old new None is told = absurd told
 asked_list prefix after limit request old new (Some (replies.List answer)) is told = (answer, refl, rw is at told)
-asked_list prefix after limit request old new (Some (replies.Put answer)) is told = absurd (rw is at told)
-asked_list prefix after limit request old new (Some (replies.Get answer)) is told = absurd (rw is at told)
-asked_list prefix after limit request old new (Some (replies.Delete answer)) is told = absurd (rw is at told)
+asked_list prefix after limit request old new (Some reply) is told = absurd (rw is at told)
 
 pub asked_look : (old new : State) (reply : Option Reply) → Replies None old reply new → (reply ≡ None) × (new ≡ old)
 asked_look old new None told = (refl, told)

@@ -51,12 +51,8 @@ lacks_is (Done (Err error)) is = ap (λ (k : TransactionalObjectError). Done (Er
 kept_by : (prefix : Segments) (after : Option Segments) (limit : ℕ) (old new : State) (answer : Result Page StoreError) → StoreLists prefix after limit old answer new → Kept old new
 kept_by prefix after limit old new (Ok page) lists = lists.kept
 kept_by prefix after limit old new (Err errors.Failed) lists = elim lists.err.1 [ inl kept ↦ kept | inr none ↦ absurd none ]
-kept_by prefix after limit old new (Err errors.NoMemory) lists = lists.err.1
 kept_by prefix after limit old new (Err errors.TokensExhausted) lists = absurd lists.err
-kept_by prefix after limit old new (Err errors.NotFound) lists = lists.err.1
-kept_by prefix after limit old new (Err errors.AlreadyExists) lists = lists.err.1
-kept_by prefix after limit old new (Err errors.Precondition) lists = lists.err.1
-kept_by prefix after limit old new (Err errors.NotModified) lists = lists.err.1
+kept_by prefix after limit old new (Err error) lists = lists.err.1
 
 module _ (names : Names) (page : ℕ) (room : 1 ≤ page) (from to : Bound ℕ) (old mid new : State) (op : ListOp) (runs : ListRuns names page from to old mid op) where
   abbrev all : List ObjectMeta
@@ -197,9 +193,7 @@ module _ (names : Names) (page : ℕ) (room : 1 ≤ page) (from to : Bound ℕ) 
 
   goes_by : (reply : Option Reply) → Replies (Some op.request) mid reply new → (op', turned_by_number told) ≡ unless_lacking (lacks_memory (turned_by_number told)) op (listing_turned names page op reply) → TellsErrorOf (reply_told reply) told → Leads told
   goes_by (Some (replies.List answer)) served turned own = after_list answer (let asks = runs.asks in rw asks at served) turned own
-  goes_by (Some (replies.Put answer)) served turned own = absurd (let asks = runs.asks in rw asks at served)
-  goes_by (Some (replies.Get answer)) served turned own = absurd (let asks = runs.asks in rw asks at served)
-  goes_by (Some (replies.Delete answer)) served turned own = absurd (let asks = runs.asks in rw asks at served)
+  goes_by (Some reply) served turned own = absurd (let asks = runs.asks in rw asks at served)
   goes_by None served turned own = absurd served
 
 -- one step of a listing that runs

@@ -103,9 +103,7 @@ module _ (path : Segments) (id : ℕ) (old new : State) (latest : List Cached) w
       subst (λ (w : List Cached). RemovalGoes path id old new latest w (op_at Removes request) op' told) (sym holds)
       (after_removal request op' told answer (subst (λ (s : State). StoreDeletes path s answer new) same deletes) turned own)
   goes_by mid latest' Removes request op' None told runs served turned holds own = absurd served
-  goes_by mid latest' Removes request op' (Some (replies.Put answer)) told runs served turned holds own = absurd (rw runs.0 at served)
-  goes_by mid latest' Removes request op' (Some (replies.Get answer)) told runs served turned holds own = absurd (rw runs.0 at served)
-  goes_by mid latest' Removes request op' (Some (replies.List answer)) told runs served turned holds own = absurd (rw runs.0 at served)
+  goes_by mid latest' Removes request op' (Some reply) told runs served turned holds own = absurd (rw runs.0 at served)
   goes_by mid latest' Drops request op' None told (gone, spends) served turned holds own = after_look mid latest' request op' told gone spends served turned holds
   goes_by mid latest' Drops request op' (Some reply) told runs served turned holds own = absurd served
 

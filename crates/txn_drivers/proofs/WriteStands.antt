@@ -24,21 +24,11 @@ done_or_not : (path : Segments) (bytes : List ℕ) (id : ℕ) (old new : State) 
 done_or_not path bytes id old new latest latest' stored (Ok n) leaves name = inr leaves.1
 done_or_not path bytes id old new latest latest' stored (Err (kinds.ObjectStoreError errors.Failed)) leaves name = leaves.0
 done_or_not path bytes id old new latest latest' stored (Err (kinds.ObjectStoreError errors.TokensExhausted)) leaves name = inl leaves.0
-done_or_not path bytes id old new latest latest' stored (Err (kinds.ObjectStoreError errors.NotFound)) leaves name = absurd name
-done_or_not path bytes id old new latest latest' stored (Err (kinds.ObjectStoreError errors.AlreadyExists)) leaves name = absurd name
-done_or_not path bytes id old new latest latest' stored (Err (kinds.ObjectStoreError errors.Precondition)) leaves name = absurd name
-done_or_not path bytes id old new latest latest' stored (Err (kinds.ObjectStoreError errors.NotModified)) leaves name = absurd name
-done_or_not path bytes id old new latest latest' stored (Err (kinds.ObjectStoreError errors.NoMemory)) leaves name = absurd name
+done_or_not path bytes id old new latest latest' stored (Err (kinds.ObjectStoreError error)) leaves name = absurd name
 done_or_not path bytes id old new latest latest' stored (Err kinds.ObjectVersionExists) leaves name = inl leaves.0
 done_or_not path bytes id old new latest latest' stored (Err kinds.NoMemory) leaves name = inl leaves.0
 done_or_not path bytes id old new latest latest' stored (Err kinds.IdExhausted) leaves name = inl (kept-refl old new leaves.0)
-done_or_not path bytes id old new latest latest' stored (Err kinds.IoError) leaves name = absurd name
-done_or_not path bytes id old new latest latest' stored (Err (kinds.ObjectUpdateTimeout timeout)) leaves name = absurd name
-done_or_not path bytes id old new latest latest' stored (Err kinds.LatestRecordMissing) leaves name = absurd name
-done_or_not path bytes id old new latest latest' stored (Err kinds.Fenced) leaves name = absurd name
-done_or_not path bytes id old new latest latest' stored (Err kinds.InvalidObjectState) leaves name = absurd name
-done_or_not path bytes id old new latest latest' stored (Err (kinds.CallbackError e)) leaves name = absurd name
-done_or_not path bytes id old new latest latest' stored (Err kinds.TurnsExhausted) leaves name = absurd name
+done_or_not path bytes id old new latest latest' stored (Err error) leaves name = absurd name
 
 others_by : (path : Segments) (bytes : List ℕ) (old new : State) → Kept old new ⊎ Creates path bytes old new → SameBut path old new
 others_by path bytes old new (inl kept) = same_but-kept path old new kept
@@ -107,21 +97,11 @@ module _ {T : Type 0} (names : Names) (decode : List ℕ → Option T) (bytes : 
   stands_by stored (Ok n) leaves name = wrote leaves.1 leaves.2
   stands_by stored (Err (kinds.ObjectStoreError errors.Failed)) leaves name = failed leaves.0 leaves.1
   stands_by stored (Err (kinds.ObjectStoreError errors.TokensExhausted)) leaves name = left leaves
-  stands_by stored (Err (kinds.ObjectStoreError errors.NotFound)) leaves name = absurd name
-  stands_by stored (Err (kinds.ObjectStoreError errors.AlreadyExists)) leaves name = absurd name
-  stands_by stored (Err (kinds.ObjectStoreError errors.Precondition)) leaves name = absurd name
-  stands_by stored (Err (kinds.ObjectStoreError errors.NotModified)) leaves name = absurd name
-  stands_by stored (Err (kinds.ObjectStoreError errors.NoMemory)) leaves name = absurd name
+  stands_by stored (Err (kinds.ObjectStoreError error)) leaves name = absurd name
   stands_by stored (Err kinds.ObjectVersionExists) leaves name = left leaves
   stands_by stored (Err kinds.NoMemory) leaves name = left leaves
   stands_by stored (Err kinds.IdExhausted) leaves name = left (kept-refl old new leaves.0, leaves.1)
-  stands_by stored (Err kinds.IoError) leaves name = absurd name
-  stands_by stored (Err (kinds.ObjectUpdateTimeout timeout)) leaves name = absurd name
-  stands_by stored (Err kinds.LatestRecordMissing) leaves name = absurd name
-  stands_by stored (Err kinds.Fenced) leaves name = absurd name
-  stands_by stored (Err kinds.InvalidObjectState) leaves name = absurd name
-  stands_by stored (Err (kinds.CallbackError e)) leaves name = absurd name
-  stands_by stored (Err kinds.TurnsExhausted) leaves name = absurd name
+  stands_by stored (Err error) leaves name = absurd name
 
 module _ {T : Type 0} (names : Names) (decode : List ℕ → Option T) (base : Option ℕ) (bytes : List ℕ) (value : T) (old new : State) (latest latest' : List Cached) where
   -- a write that began and ended

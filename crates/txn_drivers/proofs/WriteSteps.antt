@@ -132,9 +132,7 @@ module _ (path : Segments) (bytes : List ℕ) (id base : ℕ) (old new : State) 
       subst (λ (w : List Cached). WriteGoes path bytes id base old new latest w (Puts version request) op' told) (sym (holds ∙ window))
       (after_put version request op' told answer is (subst (λ (s : State). StorePuts path bytes Create s answer new) same puts) turned own)
   goes_by mid held latest' (Puts version request) op' None told runs served turned holds own = absurd served
-  goes_by mid held latest' (Puts version request) op' (Some (replies.Get answer)) told runs served turned holds own = absurd (rw runs.1 at served)
-  goes_by mid held latest' (Puts version request) op' (Some (replies.List answer)) told runs served turned holds own = absurd (rw runs.1 at served)
-  goes_by mid held latest' (Puts version request) op' (Some (replies.Delete answer)) told runs served turned holds own = absurd (rw runs.1 at served)
+  goes_by mid held latest' (Puts version request) op' (Some reply) told runs served turned holds own = absurd (rw runs.1 at served)
   goes_by mid held latest' (Keeps version) op' None told runs served turned holds own = after_look mid held latest' version op' told runs served turned holds
   goes_by mid held latest' (Keeps version) op' (Some reply) told runs served turned holds own = absurd served
   goes_by mid held latest' Ended op' reply told runs served turned holds own = absurd runs

@@ -57,13 +57,8 @@ text_next op token (Some number) can = tt
 
 got_next : (op : BoundaryRead) (answer : Result Got StoreError) → CanReadBoundary op → CanReadBoundary (boundary_got op answer).0
 got_next op (Ok got) can = text_next op got.token (boundary_read got.bytes) can
-got_next op (Err errors.NotFound) can = can
 got_next op (Err errors.NotModified) can = tt
-got_next op (Err errors.AlreadyExists) can = can
-got_next op (Err errors.Precondition) can = can
-got_next op (Err errors.Failed) can = can
-got_next op (Err errors.NoMemory) can = can
-got_next op (Err errors.TokensExhausted) can = can
+got_next op (Err error) can = can
 
 held_next : (op : BoundaryRead) (known cached : Option CachedBoundary) → CanReadBoundary op → CanReadBoundary (boundary_held op known cached).0
 held_next op (Some known) cached can = can
@@ -73,9 +68,7 @@ held_next op None None can = can
 pub read_next : (op : BoundaryRead) (cached : Option CachedBoundary) (reply : Option Reply) → CanReadBoundary op → CanReadBoundary (boundary_turned op cached reply).0
 read_next (boundary.Looks path) cached reply can = tt
 read_next (boundary.Gets request) cached (Some (replies.Get answer)) can = got_next (boundary.Gets request) answer can
-read_next (boundary.Gets request) cached (Some (replies.Put answer)) can = can
-read_next (boundary.Gets request) cached (Some (replies.List answer)) can = can
-read_next (boundary.Gets request) cached (Some (replies.Delete answer)) can = can
+read_next (boundary.Gets request) cached (Some reply) can = can
 read_next (boundary.Gets request) cached None can = can
 read_next (boundary.Holds known) cached reply can = held_next (boundary.Holds known) known cached can
 
@@ -123,19 +116,13 @@ answered_next : (path : Segments) (op : BoundaryAdvance) (target : ℕ) (answer 
 answered_next path op target (Ok token) can = tt
 answered_next path op target (Err errors.AlreadyExists) can = tt
 answered_next path op target (Err errors.Precondition) can = tt
-answered_next path op target (Err errors.NotFound) can = can
-answered_next path op target (Err errors.NotModified) can = can
-answered_next path op target (Err errors.Failed) can = can
-answered_next path op target (Err errors.NoMemory) can = can
-answered_next path op target (Err errors.TokensExhausted) can = can
+answered_next path op target (Err error) can = can
 
 pub raise_next : (path : Segments) (op : BoundaryAdvance) (cached : Option CachedBoundary) (reply : Option Reply) → CanRaise op → CanRaise (boundary_advance_turned path op cached reply).0
 raise_next path (raises.Looks target) cached reply can = looks_next path target cached
 raise_next path (raises.Reads target again read) cached reply can = after_next path target again (boundary_turned read cached reply) (read_next read cached reply can)
 raise_next path (raises.Puts target request) cached (Some (replies.Put answer)) can = answered_next path (raises.Puts target request) target answer can
-raise_next path (raises.Puts target request) cached (Some (replies.Get answer)) can = can
-raise_next path (raises.Puts target request) cached (Some (replies.List answer)) can = can
-raise_next path (raises.Puts target request) cached (Some (replies.Delete answer)) can = can
+raise_next path (raises.Puts target request) cached (Some reply) can = can
 raise_next path (raises.Puts target request) cached None can = can
 raise_next path (raises.Keeps target token) cached reply can = tt
 

@@ -42,27 +42,13 @@ module _ {O A : Type 0} (may_grow : Bool) (asked : O → Option Request) (turned
 pub write_next : (op : WriteUncheckedOp) (reply : Option Reply) → CanWrite op → Goes ≡ (unchecked_turned op reply).1 → CanWrite (unchecked_turned op reply).0
 write_next (Puts version request) (Some (replies.Put (Ok token))) can goes = tt
 write_next (Puts version request) (Some (replies.Put (Err errors.NotFound))) can goes = can
-write_next (Puts version request) (Some (replies.Put (Err errors.AlreadyExists))) can goes = can
-write_next (Puts version request) (Some (replies.Put (Err errors.Precondition))) can goes = can
-write_next (Puts version request) (Some (replies.Put (Err errors.NotModified))) can goes = can
-write_next (Puts version request) (Some (replies.Put (Err errors.Failed))) can goes = can
-write_next (Puts version request) (Some (replies.Put (Err errors.NoMemory))) can goes = can
-write_next (Puts version request) (Some (replies.Put (Err errors.TokensExhausted))) can goes = can
-write_next (Puts version request) (Some (replies.Get answer)) can goes = can
-write_next (Puts version request) (Some (replies.List answer)) can goes = can
-write_next (Puts version request) (Some (replies.Delete answer)) can goes = can
+write_next (Puts version request) (Some (replies.Put (Err error))) can goes = can
+write_next (Puts version request) (Some reply) can goes = can
 write_next (Puts version request) None can goes = can
 write_next (Keeps version) (Some (replies.Put (Ok token))) can goes = tt
 write_next (Keeps version) (Some (replies.Put (Err errors.NotFound))) can goes = can
-write_next (Keeps version) (Some (replies.Put (Err errors.AlreadyExists))) can goes = can
-write_next (Keeps version) (Some (replies.Put (Err errors.Precondition))) can goes = can
-write_next (Keeps version) (Some (replies.Put (Err errors.NotModified))) can goes = can
-write_next (Keeps version) (Some (replies.Put (Err errors.Failed))) can goes = can
-write_next (Keeps version) (Some (replies.Put (Err errors.NoMemory))) can goes = can
-write_next (Keeps version) (Some (replies.Put (Err errors.TokensExhausted))) can goes = can
-write_next (Keeps version) (Some (replies.Get answer)) can goes = can
-write_next (Keeps version) (Some (replies.List answer)) can goes = can
-write_next (Keeps version) (Some (replies.Delete answer)) can goes = can
+write_next (Keeps version) (Some (replies.Put (Err error))) can goes = can
+write_next (Keeps version) (Some reply) can goes = can
 write_next (Keeps version) None can goes = absurd (cc)
 write_next Ended reply can goes = absurd can
 
@@ -72,9 +58,7 @@ write_unchecked_asks = asks_by _ _ _ _ CanWrite (λ op caches reply can goes. wr
 pub removal_next : (step : RemovalStep) (op : DeleteUncheckedOp) (reply : Option Reply) → op.step ≡ step → CanRemove op.step op.request → Goes ≡ (removal_turned_at step op reply).1 → CanRemove (removal_turned_at step op reply).0.step (removal_turned_at step op reply).0.request
 removal_next Removes op (Some (replies.Delete (Ok done))) is can goes = tt
 removal_next Removes op (Some (replies.Delete (Err e))) is can goes = can
-removal_next Removes op (Some (replies.Put answer)) is can goes = can
-removal_next Removes op (Some (replies.Get answer)) is can goes = can
-removal_next Removes op (Some (replies.List answer)) is can goes = can
+removal_next Removes op (Some reply) is can goes = can
 removal_next Removes op None is can goes = can
 removal_next Drops op reply is can goes = can
 
@@ -89,9 +73,7 @@ module _ (names : Names) (page : ℕ) (room : 1 ≤ page) where
   pub list_next : (op : ListOp) (reply : Option Reply) → CanList op.request → CanList (listing_turned names page op reply).0.request
   list_next op (Some (replies.List (Ok told))) can = after_next op told.metas (next_after told) can
   list_next op (Some (replies.List (Err e))) can = can
-  list_next op (Some (replies.Put answer)) can = can
-  list_next op (Some (replies.Get answer)) can = can
-  list_next op (Some (replies.Delete answer)) can = can
+  list_next op (Some reply) can = can
   list_next op None can = can
 
   pub list_asks : (a b : Scene ListOp) → CanList a.op.request → ListSteps names page a Goes b → CanList b.op.request

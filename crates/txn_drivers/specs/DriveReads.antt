@@ -53,19 +53,12 @@ module _ {T : Type 0} (names : Names) (decode : List ℕ → Option T) where
   seen_got_next : (op : ReadSeenOp T) (id : ℕ) (answer : Result Got StoreError) → CanReadSeen op → CanReadSeen (of_seen.seen_got names decode op id answer).0
   seen_got_next op id (Ok got) can = seen_keeping_next op (record { id = id; bytes = got.bytes }) (decode got.bytes) can
   seen_got_next op id (Err errors.NotFound) can = can
-  seen_got_next op id (Err errors.AlreadyExists) can = can
-  seen_got_next op id (Err errors.Precondition) can = can
-  seen_got_next op id (Err errors.NotModified) can = can
-  seen_got_next op id (Err errors.Failed) can = can
-  seen_got_next op id (Err errors.NoMemory) can = can
-  seen_got_next op id (Err errors.TokensExhausted) can = can
+  seen_got_next op id (Err error) can = can
 
   pub seen_next : (op : ReadSeenOp T) (versions : List Cached) (reply : Option Reply) → CanReadSeen op → Goes ≡ (of_seen.seen_turned names decode op versions reply).1 → CanReadSeen (of_seen.seen_turned names decode op versions reply).0
   seen_next (seen.Looks id) versions reply can goes = seen_looked_next (seen.Looks id) id (held id versions) can
   seen_next (seen.Gets id request) versions (Some (replies.Get answer)) can goes = seen_got_next (seen.Gets id request) id answer can
-  seen_next (seen.Gets id request) versions (Some (replies.Put answer)) can goes = can
-  seen_next (seen.Gets id request) versions (Some (replies.List answer)) can goes = can
-  seen_next (seen.Gets id request) versions (Some (replies.Delete answer)) can goes = can
+  seen_next (seen.Gets id request) versions (Some reply) can goes = can
   seen_next (seen.Gets id request) versions None can goes = can
   seen_next (seen.Keeps version value) versions reply can goes = absurd (cc)
   seen_next seen.Ended versions reply can goes = absurd can
@@ -120,22 +113,12 @@ module _ {T : Type 0} (names : Names) (page : ℕ) (room : 1 ≤ page) (decode :
   probed_next : (op : LatestOp T) (hand : Cached) (found next : ℕ) (answer : Result Got StoreError) → found < 4 → CanReadLatest op → CanReadLatest (of_latest.probed decode op hand found next answer).0
   probed_next op hand found next (Ok got) few can = omega (arith, few)
   probed_next op hand found next (Err errors.NotFound) few can = hand_next op hand.id (decode hand.bytes) can
-  probed_next op hand found next (Err errors.AlreadyExists) few can = can
-  probed_next op hand found next (Err errors.Precondition) few can = can
-  probed_next op hand found next (Err errors.NotModified) few can = can
-  probed_next op hand found next (Err errors.Failed) few can = can
-  probed_next op hand found next (Err errors.NoMemory) few can = can
-  probed_next op hand found next (Err errors.TokensExhausted) few can = can
+  probed_next op hand found next (Err error) few can = can
 
   got_next : (op : LatestOp T) (id : ℕ) (answer : Result Got StoreError) → CanReadLatest op → CanReadLatest (of_latest.latest_got names page decode op id answer).0
   got_next op id (Ok got) can = keeping_next op (record { id = id; bytes = got.bytes }) (decode got.bytes) can
   got_next op id (Err errors.NotFound) can = room
-  got_next op id (Err errors.AlreadyExists) can = can
-  got_next op id (Err errors.Precondition) can = can
-  got_next op id (Err errors.NotModified) can = can
-  got_next op id (Err errors.Failed) can = can
-  got_next op id (Err errors.NoMemory) can = can
-  got_next op id (Err errors.TokensExhausted) can = can
+  got_next op id (Err error) can = can
 
   latest_next : (op : LatestOp T) (versions : List Cached) (reply : Option Reply) → CanReadLatest op → Goes ≡ (of_latest.latest_turned names page decode op versions reply).1 → CanReadLatest (of_latest.latest_turned names page decode op versions reply).0
   latest_next latest.Looks versions reply can goes = begins_next latest.Looks (greatest_held versions) can
@@ -144,19 +127,13 @@ module _ {T : Type 0} (names : Names) (page : ℕ) (room : 1 ≤ page) (decode :
   latest_next (latest.Keeps version value) versions reply can goes = absurd (cc)
   latest_next (latest.Drops id) versions reply can goes = tt
   latest_next (latest.Probes hand found next request) versions (Some (replies.Get answer)) can goes = probed_next (latest.Probes hand found next request) hand found next answer can.1 can
-  latest_next (latest.Probes hand found next request) versions (Some (replies.Put answer)) can goes = can
-  latest_next (latest.Probes hand found next request) versions (Some (replies.List answer)) can goes = can
-  latest_next (latest.Probes hand found next request) versions (Some (replies.Delete answer)) can goes = can
+  latest_next (latest.Probes hand found next request) versions (Some reply) can goes = can
   latest_next (latest.Probes hand found next request) versions None can goes = can
   latest_next (latest.Lists found request) versions (Some (replies.List answer)) can goes = listed_next (latest.Lists found request) found answer can
-  latest_next (latest.Lists found request) versions (Some (replies.Put answer)) can goes = can
-  latest_next (latest.Lists found request) versions (Some (replies.Get answer)) can goes = can
-  latest_next (latest.Lists found request) versions (Some (replies.Delete answer)) can goes = can
+  latest_next (latest.Lists found request) versions (Some reply) can goes = can
   latest_next (latest.Lists found request) versions None can goes = can
   latest_next (latest.Gets id request) versions (Some (replies.Get answer)) can goes = got_next (latest.Gets id request) id answer can
-  latest_next (latest.Gets id request) versions (Some (replies.Put answer)) can goes = can
-  latest_next (latest.Gets id request) versions (Some (replies.List answer)) can goes = can
-  latest_next (latest.Gets id request) versions (Some (replies.Delete answer)) can goes = can
+  latest_next (latest.Gets id request) versions (Some reply) can goes = can
   latest_next (latest.Gets id request) versions None can goes = can
   latest_next latest.Ended versions reply can goes = absurd can
 
