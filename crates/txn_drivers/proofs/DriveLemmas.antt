@@ -43,6 +43,11 @@ use Rattle.txn_drivers.proofs.WriteSteps.{write_goes}
 pub goes_on : {O A : Type 0} (Steps : Scene O → Turned A → Scene O → Type 0) (n : ℕ) (a b c : Scene O) → GoesOn Steps n a b → Steps b Goes c → GoesOn Steps (n + 1) a c
 goes_on Steps n a b c on step = let more : suc n ≡ n + 1 = omega arith in subst (λ k. GoesOn Steps k a c) more (b, on, step)
 
+-- what holds at the start, and after each step that goes on, holds after any number of them
+pub after_steps : {O A : Type 0} (Steps : Scene O → Turned A → Scene O → Type 0) (At : ℕ → Scene O → Type 0) (a : Scene O) → At 0 a → ((n : ℕ) (b c : Scene O) → At n b → Steps b Goes c → At (n + 1) c) → (n : ℕ) (b : Scene O) → GoesOn Steps n a b → At n b
+after_steps Steps At a start next zero b same = subst (At 0) (sym same) start
+after_steps Steps At a start next (suc n) c (b, on, step) = let more : n + 1 ≡ suc n = omega arith in subst (λ k. At k c) more (next n b c (after_steps Steps At a start next n b on) step)
+
 -- an unchecked write
 
 is_write_step : (a b : Scene WriteUncheckedOp) (told : Turned (Result ℕ TransactionalObjectError)) → WriteUncheckedSteps a told b → IsWriteStep a.store b.store a.caches.latest b.caches.latest a.op b.op told

@@ -32,6 +32,7 @@ use Rattle.txn_drivers.specs.DriveRuns.{Scene, GoesOn, Drives}
 use Rattle.txn_drivers.specs.DriveSteps.{AdvanceSteps}
 use Rattle.txn_drivers.specs.DrivenChecks.{AdvanceLeaves, LackedMemory, AdvancesBoundary, AdvanceDriven}
 use Rattle.txn_drivers.specs.Standing.{BoundaryStands}
+use Rattle.txn_drivers.proofs.DriveLemmas.{after_steps}
 use Rattle.txn_drivers.proofs.AdvanceLoop.{advance_step, advance_goes, advance_less, advance_ended}
 use Rattle.txn_drivers.proofs.CheckSteps.{refused_above, reached_by}
 use Rattle.txn_drivers.proofs.LatestTurns.{asked_look}
@@ -144,8 +145,7 @@ module _ (path : Segments) (target : ℕ) (a : Scene AdvanceOp) (Pending : ℕ �
     stepped n b c told at step = from_op n b c b.op told step.reply at step.replies step.takes step.leaves step.error
 
     advance_on : At 0 a a.op → (n : ℕ) (b : Scene AdvanceOp) → GoesOn (AdvanceSteps path) n a b → At n b b.op
-    advance_on start zero b same = subst (λ (s : Scene AdvanceOp). At 0 s s.op) (sym same) start
-    advance_on start (suc n) c (b, on, step) = let more : n + 1 ≡ suc n = omega arith in subst (λ k. At k c c.op) more (stepped n b c Goes (advance_on start n b on) step)
+    advance_on start = after_steps (AdvanceSteps path) (λ n b. At n b b.op) a start (λ n b c at step. stepped n b c Goes at step)
 
     driven : At 0 a a.op → (few : (n : ℕ) (b : Scene AdvanceOp) (raise : BoundaryAdvance) → Pending n b raise → (stood : ℕ) → BoundaryStands path a.caches.boundary a.store stood → n < 43) → (steps : ℕ) (result : Option (Result (Unit {0}) TransactionalObjectError)) (b : Scene AdvanceOp) → Drives (AdvanceSteps path) steps a result b → AdvanceDriven path target steps a result b
     driven start few steps (Some answer) c (n, b, within, on, step) = stepped n b c (Done answer) (advance_on start n b on) step

@@ -28,6 +28,7 @@ use Rattle.txn_drivers.specs.DriveRuns.{Scene, GoesOn, Drives}
 use Rattle.txn_drivers.specs.DriveSteps.{CheckSteps}
 use Rattle.txn_drivers.specs.DrivenChecks.{checked_latest, CheckDriven}
 use Rattle.txn_drivers.specs.Standing.{BoundaryStands}
+use Rattle.txn_drivers.proofs.DriveLemmas.{after_steps}
 use Rattle.txn_drivers.proofs.CheckSteps.{refused_above, reached_by, check_step, check_leaves, check_goes, check_ended}
 use Rattle.txn_drivers.proofs.DriveCounts.{check_within}
 use Rattle.txn_drivers.proofs.Frames.{kept-trans}
@@ -98,8 +99,7 @@ module _ (path : Segments) (id : ℕ) (a : Scene CheckOp) (Pending : Scene Check
     stepped b c told at step = from_op b c b.op told step.reply at step.replies step.takes step.leaves step.error
 
     check_on : At a a.op → (n : ℕ) (b : Scene CheckOp) → GoesOn CheckSteps n a b → At b b.op
-    check_on start zero b same = subst (λ (s : Scene CheckOp). At s s.op) (sym same) start
-    check_on start (suc n) c (b, on, step) = stepped b c Goes (check_on start n b on) step
+    check_on start = after_steps CheckSteps (λ n b. At b b.op) a start (λ n b c at step. stepped b c Goes at step)
 
     ends : At a a.op → (n : ℕ) (b c : Scene CheckOp) (answer : Result (Unit {0}) TransactionalObjectError) → GoesOn CheckSteps n a b → CheckSteps b (Done answer) c → After c c.op (Done answer)
     ends start n b c answer on step = stepped b c (Done answer) (check_on start n b on) step

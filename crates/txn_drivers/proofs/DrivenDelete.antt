@@ -23,7 +23,7 @@ use Rattle.txn_drivers.specs.DriveRuns.{Scene, GoesOn, Drives}
 use Rattle.txn_drivers.specs.DriveSteps.{DeleteUncheckedSteps, CheckSteps, DeleteSteps}
 use Rattle.txn_drivers.specs.DrivenDeletes.{kept_answer, DeleteKept, DeleteFenced, CheckedDeleteDriven}
 use Rattle.txn_drivers.proofs.DriveCounts.{delete_within}
-use Rattle.txn_drivers.proofs.DriveLemmas.{delete_driven}
+use Rattle.txn_drivers.proofs.DriveLemmas.{after_steps, delete_driven}
 use Rattle.txn_drivers.proofs.DrivenCheck.{check_driven}
 use Rattle.txn_drivers.proofs.Refusals.{is_invalid}
 
@@ -123,9 +123,9 @@ module _ {T : Type 0} (names : Names) (decode : List ℕ → Option T) (path : S
   stepped b c told at step = by_step b c step.reply b.op.step told refl at step.replies step.takes step.leaves step.error
 
   delete_on : (n : ℕ) (b : Scene DeleteOp) → GoesOn DeleteSteps n a b → At b.op.step b
-  delete_on zero b same = subst (λ (s : Scene DeleteOp). At s.op.step s) (sym same)
+  delete_on = after_steps DeleteSteps (λ n b. At b.op.step b) a
       (subst (λ s. At s a) (sym (ap (λ (op : DeleteOp). op.step) starts)) (0, refl, ap (λ (op : DeleteOp). op.removal) starts))
-  delete_on (suc n) c (b, on, step) = stepped b c Goes (delete_on n b on) step
+      (λ n b c at step. stepped b c Goes at step)
 
   pub checked_delete_driven : (steps : ℕ) (result : Option (Result (Unit {0}) TransactionalObjectError)) (b : Scene DeleteOp) → Drives DeleteSteps steps a result b → CheckedDeleteDriven names decode path id steps a result b
   checked_delete_driven steps None b on = delete_within names path id steps a b None starts on

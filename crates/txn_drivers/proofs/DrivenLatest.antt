@@ -24,6 +24,7 @@ use Rattle.txn_drivers.specs.DrivenReads.{LatestDriven}
 use Rattle.txn_drivers.specs.LatestReads.{Ended as ReadEnded}
 use Rattle.txn_drivers.specs.LatestRuns.{is_listing, steps_left, Pays, Holds, IsStep, Running}
 use Rattle.txn_drivers.specs.PageCount.{files_below}
+use Rattle.txn_drivers.proofs.DriveLemmas.{after_steps}
 use Rattle.txn_drivers.proofs.LatestDriver.{begins, goes_on, less, ended}
 use Rattle.txn_drivers.proofs.NextPages.{page_within}
 
@@ -137,14 +138,13 @@ module _ {T : Type 0} (names : Names) (page : ℕ) (room : 1 ≤ page) (decode :
           ended names page room decode a.store b.store ((left + due) + so_far.runs.spent) (left + due) a.caches.latest b.caches.latest so_far.listed b.op (here (left + due)) c.store left c.caches.latest listed' c.op (paid left) answer (is_latest_step b c (Done answer) step)
 
     latest_on : (n : ℕ) (b : Scene (LatestOp T)) → GoesOn (LatestSteps names page decode) n a b → LatestOn n b
-    latest_on zero b same = subst (LatestOn 0) (sym same) (record {
+    latest_on = after_steps (LatestSteps names page decode) LatestOn a (record {
       listed = false;
       turns = 0;
       runs = begins names page decode a.store 0 a.caches.latest a.op ascending small starts;
       count = subst (λ op. 0 + steps_left false op ≤ 16 + 0) (sym starts) (omega arith);
       boundary = refl;
-    })
-    latest_on (suc n) c (b, on, step) = let more : n + 1 ≡ suc n = omega arith in subst (λ k. LatestOn k c) more (next n b c (latest_on n b on) step)
+    }) next
 
     pub latest_driven : (steps : ℕ) (result : Option (Result (Option (ℕ × T)) TransactionalObjectError)) (b : Scene (LatestOp T)) → Drives (LatestSteps names page decode) steps a result b → LatestDriven names decode page steps a result b
     latest_driven steps None b on =

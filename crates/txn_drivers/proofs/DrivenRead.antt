@@ -32,6 +32,7 @@ use Rattle.txn_drivers.specs.DrivenChecks.{checked_latest}
 use Rattle.txn_drivers.specs.DrivenReads.{AllStand, ReadEnds, ReadDriven}
 use Rattle.txn_drivers.specs.LatestReads.{IsHeldOrStored}
 use Rattle.txn_drivers.specs.PageCount.{pages_below}
+use Rattle.txn_drivers.proofs.DriveLemmas.{after_steps}
 use Rattle.txn_drivers.proofs.DrivenCheck.{Between, check_driven, check_between}
 use Rattle.txn_drivers.proofs.DrivenLatest.{latest_driven}
 use Rattle.txn_drivers.proofs.DrivenPasses.{cause_of_check, check_reads_none, found_leaves, Began, Found, found, early_pass, ends_unchecked, check_fails, accepts, restarts}
@@ -291,8 +292,7 @@ module _ {T : Type 0} (names : Names) (path : Segments) (page : ℕ) (room : 1 �
     }
 
     read_on : (n : ℕ) (b : Scene (ReadOp T)) → GoesOn (ReadSteps names path page decode) n a b → At n b b.op
-    read_on zero b same = subst (λ (s : Scene (ReadOp T)). At 0 s s.op) (sym same) (subst (At 0 a) (sym starts) begins)
-    read_on (suc n) c (b, on, step) = let more : n + 1 ≡ suc n = omega arith in subst (λ k. At k c c.op) more (stepped n b c Goes (read_on n b on) step)
+    read_on = after_steps (ReadSteps names path page decode) (λ n b. At n b b.op) a (subst (At 0 a) (sym starts) begins) (λ n b c at step. stepped n b c Goes at step)
 
     soon : (n : ℕ) (b : Scene (ReadOp T)) (op : ReadOp T) → At n b op → (h : List T) (k : ℕ) → AllStand names decode path a.store a.caches h k → n < 40 + 2 * pages
     soon n b (Reads op read) at h k stood =

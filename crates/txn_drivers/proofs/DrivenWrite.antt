@@ -23,7 +23,7 @@ use Rattle.txn_drivers.specs.DriveRuns.{Scene, GoesOn, Drives}
 use Rattle.txn_drivers.specs.DriveSteps.{WriteUncheckedSteps, CheckSteps, WriteSteps}
 use Rattle.txn_drivers.specs.DrivenWrites.{write_answer, WriteFailed, WriteChecked, CheckedWriteDriven}
 use Rattle.txn_drivers.proofs.DriveCounts.{write_within}
-use Rattle.txn_drivers.proofs.DriveLemmas.{write_driven}
+use Rattle.txn_drivers.proofs.DriveLemmas.{after_steps, write_driven}
 use Rattle.txn_drivers.proofs.DrivenCheck.{check_driven}
 
 -- its unchecked write, and its check
@@ -143,9 +143,9 @@ module _ {T : Type 0} (names : Names) (decode : List ℕ → Option T) (path : S
   stepped b c told at step = by_step b c step.reply b.op.step told refl at step.replies step.takes step.leaves step.error
 
   write_on : (n : ℕ) (b : Scene WriteOp) → GoesOn WriteSteps n a b → At b.op.step b
-  write_on zero b same = subst (λ (s : Scene WriteOp). At s.op.step s) (sym same)
+  write_on = after_steps WriteSteps (λ n b. At b.op.step b) a
       (subst (λ s. At s a) (sym (ap (λ (op : WriteOp). op.step) starts)) (0, refl, ap (λ (op : WriteOp). op.check) starts, ap (λ (op : WriteOp). op.id) starts))
-  write_on (suc n) c (b, on, step) = stepped b c Goes (write_on n b on) step
+      (λ n b c at step. stepped b c Goes at step)
 
   pub checked_write_driven : (steps : ℕ) (result : Option (Result ℕ TransactionalObjectError)) (b : Scene WriteOp) → Drives WriteSteps steps a result b → CheckedWriteDriven names decode path base bytes value steps a result b
   checked_write_driven steps None b on = write_within names path base bytes steps a b None starts on
