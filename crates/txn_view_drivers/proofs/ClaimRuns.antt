@@ -28,9 +28,11 @@ use Rattle.txn_drivers.specs.DrivenWrites.{WriteFailed, WriteChecked}
 use Rattle.txn_drivers.specs.LatestReads.{IsLatest}
 use Rattle.txn_drivers.specs.PageCount.{pages_below}
 use Rattle.txn_drivers.specs.WriteRuns.{WriteLeaves}
+use Rattle.txn_drivers.proofs.DriveLemmas.{after_steps}
 use Rattle.txn_drivers.proofs.DrivenRead.{read_driven}
 use Rattle.txn_drivers.proofs.DrivenWrite.{checked_write_driven}
 use Rattle.txn_drivers.proofs.PageCounts.{pages_written}
+use Rattle.txn_drivers.proofs.Refusals.{is_fenced, is_exhausted}
 use Rattle.txn_drivers.proofs.Windows.{greatest_fits}
 use Rattle.txn_view_steps.specs.declared.claiming.Claiming.{Claiming}
 use Rattle.txn_view_steps.specs.declared.claiming.Claiming.TheVariants.{Writes, Reads, Ended}
@@ -69,32 +71,6 @@ claimed_error_asked false epoch error is = absurd (cc)
 claimed_error : (asked : Option ℕ) (stored : ℕ) (error : TransactionalObjectError) → claimed_epoch asked stored ≡ Err error → (error ≡ kinds.Fenced) ⊎ (error ≡ kinds.IdExhausted)
 claimed_error None stored error is = claimed_error_next (stored == 18446744073709551615) stored error is
 claimed_error (Some epoch) stored error is = claimed_error_asked (nat_le epoch stored) epoch error is
-
-is_fenced : (error : TransactionalObjectError) → error_number error ≡ 6 → error ≡ kinds.Fenced
-is_fenced kinds.Fenced is = refl
-is_fenced kinds.IoError is = absurd (cc)
-is_fenced (kinds.ObjectStoreError e) is = absurd (cc)
-is_fenced (kinds.ObjectUpdateTimeout t) is = absurd (cc)
-is_fenced kinds.LatestRecordMissing is = absurd (cc)
-is_fenced kinds.ObjectVersionExists is = absurd (cc)
-is_fenced kinds.InvalidObjectState is = absurd (cc)
-is_fenced (kinds.CallbackError e) is = absurd (cc)
-is_fenced kinds.NoMemory is = absurd (cc)
-is_fenced kinds.IdExhausted is = absurd (cc)
-is_fenced kinds.TurnsExhausted is = absurd (cc)
-
-is_exhausted : (error : TransactionalObjectError) → error_number error ≡ 10 → error ≡ kinds.IdExhausted
-is_exhausted kinds.IdExhausted is = refl
-is_exhausted kinds.IoError is = absurd (cc)
-is_exhausted (kinds.ObjectStoreError e) is = absurd (cc)
-is_exhausted (kinds.ObjectUpdateTimeout t) is = absurd (cc)
-is_exhausted kinds.LatestRecordMissing is = absurd (cc)
-is_exhausted kinds.ObjectVersionExists is = absurd (cc)
-is_exhausted kinds.Fenced is = absurd (cc)
-is_exhausted kinds.InvalidObjectState is = absurd (cc)
-is_exhausted (kinds.CallbackError e) is = absurd (cc)
-is_exhausted kinds.NoMemory is = absurd (cc)
-is_exhausted kinds.TurnsExhausted is = absurd (cc)
 
 -- the newest version is a version
 at_latest : {T : Type 0} (h : List T) (id : ℕ) (value : T) → IsLatest h id value → IsAt h id value
@@ -179,6 +155,30 @@ module _ {T : Type 0} (names : Names) (path : Segments) (page : ℕ) (room : 1 �
   abbrev After : ℕ → Scene (Claiming T) → Turned (Result (Outcome T) TransactionalObjectError) → Type 0
   After n c Goes = At (n + 1) c c.op
   After n c (Done answer) = Ends c answer
+
+  -- an attempt that begins
+  attempt_begins : (n : ℕ) (c : Scene (Claiming T)) (id : ℕ) (value : T) → IsAt h id value → Begun names path encode epoch_of with_epoch asked id value c.op → IsMade encode decode epoch_of c.op → Stands c.store c.caches → a.store.failures ≤ c.store.failures → Which n c id → At n c c.op
+  attempt_begins n c id value at begin made stands failures which =
+      let made' = subst (IsMade encode decode epoch_of) begin.is made in
+      let last = made'.last in
+      subst (At n c) (sym begin.is) (record {
+        s = c;
+        base = id;
+        from = value;
+        at = at;
+        next = begin.next;
+        value_is = refl;
+        own = made'.own;
+        reads = made'.reads_back;
+        small = last;
+        stands = stands;
+        failures = failures;
+        before = n;
+        which = which;
+        k = 0;
+        on = refl;
+        count = omega arith;
+      })
 
   -- a failure since the claim began
   plain_cause : (mid : Scene (Claiming T)) (c : Scene (Claiming T)) (error : TransactionalObjectError) → a.store.failures ≤ mid.store.failures → HasCause mid.store c.store error → HasCauseOfClaim names decode path epoch_of with_epoch asked h a.store c.store error
@@ -344,27 +344,7 @@ module _ {T : Type 0} (names : Names) (path : Segments) (page : ℕ) (room : 1 �
 
     -- the second attempt
     again_on : (id : ℕ) (value : T) → IsLatest h id value → Begun names path encode epoch_of with_epoch asked id value c.op → IsMade encode decode epoch_of c.op → Stands c.store c.caches → a.store.failures ≤ c.store.failures → c.store.calls ≤ a.store.calls + 16 + 2 * pages → n + 1 ≤ 49 + 2 * pages → At (n + 1) c c.op
-    again_on id value latest begin made stands failures calls early =
-        let made' = subst (IsMade encode decode epoch_of) begin.is made in
-        let last = made'.last in
-        subst (At (n + 1) c) (sym begin.is) (record {
-          s = c;
-          base = id;
-          from = value;
-          at = at_latest h id value latest;
-          next = begin.next;
-          value_is = refl;
-          own = made'.own;
-          reads = made'.reads_back;
-          small = last;
-          stands = stands;
-          failures = failures;
-          before = n + 1;
-          which = inr (early, calls, latest.id_is);
-          k = 0;
-          on = refl;
-          count = omega arith;
-        })
+    again_on id value latest begin made stands failures calls early = attempt_begins (n + 1) c id value (at_latest h id value latest) begin made stands failures (inr (early, calls, latest.id_is))
 
     rises : (next : ReadOp T) (told : Result (Option (ℕ × T)) TransactionalObjectError) → ReadSteps names path page decode (part_of read x) (Done told) (part_of next c) → a.store.failures ≤ c.store.failures
     rises next told step =
@@ -432,37 +412,13 @@ module _ {T : Type 0} (names : Names) (path : Segments) (page : ℕ) (room : 1 �
     after n Ended x c told at led = absurd at
 
     first : At 0 a a.op
-    first =
-        let begin = begun names path encode epoch_of with_epoch asked id object a.op starts in
-        let made' = subst (IsMade encode decode epoch_of) begin.is made in
-        let last = made'.last in
-        subst (At 0 a) (sym begin.is) (record {
-          s = a;
-          base = id;
-          from = object;
-          at = view;
-          next = begin.next;
-          value_is = refl;
-          own = made'.own;
-          reads = made'.reads_back;
-          small = last;
-          stands = stood;
-          failures = omega arith;
-          before = 0;
-          which = inl (refl, refl, ascending);
-          k = 0;
-          on = refl;
-          count = refl;
-        })
+    first = attempt_begins 0 a id object view (begun names path encode epoch_of with_epoch asked id object a.op starts) made stood (omega arith) (inl (refl, refl, ascending))
 
     abbrev Steps : Scene (Claiming T) → Turned (Result (Outcome T) TransactionalObjectError) → Scene (Claiming T) → Type 0
     Steps = AttemptStepped names path page encode decode epoch_of with_epoch asked
 
     claim_on : (n : ℕ) (c : Scene (Claiming T)) → GoesOn Steps n a c → At n c c.op
-    claim_on zero c same = subst (λ (s : Scene (Claiming T)). At 0 s s.op) (sym same) first
-    claim_on (suc n) c (x, on, step) =
-        let more : n + 1 ≡ suc n = omega arith in
-        subst (λ k. At k c c.op) more (after n x.op x c Goes (claim_on n x on) (claim_led names path page encode decode epoch_of with_epoch asked x c Goes step))
+    claim_on = after_steps Steps (λ n c. At n c c.op) a first (λ n x c at step. after n x.op x c Goes at (claim_led names path page encode decode epoch_of with_epoch asked x c Goes step))
 
     soon_ends : (n : ℕ) (c : Scene (Claiming T)) (op : Claiming T) → At n c op → n < 56 + 2 * pages
     soon_ends n c (Writes write value epoch) at =

@@ -23,6 +23,7 @@ use Rattle.txn_drivers.specs.DrivenWrites.{write_answer, WriteFailed, WriteCheck
 use Rattle.txn_drivers.specs.LatestReads.{IsLatest}
 use Rattle.txn_drivers.specs.Standing.{WindowFits, BoundaryStands}
 use Rattle.txn_drivers.specs.WriteRuns.{TellsName, VersionsStand, WriteStands, Written}
+use Rattle.txn_drivers.proofs.CheckSteps.{store_cause_on}
 use Rattle.txn_drivers.proofs.Frames.{BoundaryStands-frame, FilesStand-kept}
 use Rattle.txn_drivers.proofs.Windows.{above_fits}
 use Rattle.txn_view_steps.specs.declared.outcome.Outcome.TheVariants.{Viewed}
@@ -50,13 +51,8 @@ checked_fits decode h n id (Err error) latest fits = fits
 
 -- why it failed, since an earlier store
 
-store_cause_since : (old mid new : State) (error : StoreError) → old.failures ≤ mid.failures → HasStoreCause mid new error → HasStoreCause old new error
-store_cause_since old mid new errors.Failed rise cause = omega (arith, rise, cause)
-store_cause_since old mid new errors.TokensExhausted rise cause = cause
-store_cause_since old mid new error rise cause = absurd cause
-
 pub cause_since : (old mid new : State) (error : TransactionalObjectError) → old.failures ≤ mid.failures → HasCause mid new error → HasCause old new error
-cause_since old mid new (kinds.ObjectStoreError error) rise cause = store_cause_since old mid new error rise cause
+cause_since old mid new (kinds.ObjectStoreError error) rise cause = store_cause_on old mid new error rise cause
 cause_since old mid new kinds.NoMemory rise cause = cause
 cause_since old mid new error rise cause = absurd cause
 

@@ -7,7 +7,6 @@ use Rattle.txn_store.specs.declared.request.Reply.{Reply}
 use Rattle.txn_types.specs.Errors.{error_number}
 use Rattle.txn_types.specs.Epochs.{epoch_tested}
 use Rattle.txn_types.specs.declared.error.TransactionalObjectError.{TransactionalObjectError}
-use Rattle.txn_types.specs.declared.error.TransactionalObjectError.TheVariants as kinds
 use Rattle.txn_types.specs.declared.error.TransactionalObjectError.TheVariants.{LatestRecordMissing, InvalidObjectState}
 use Rattle.txn_caches.specs.declared.caches.Caches.{Caches}
 use Rattle.txn_caches.specs.declared.turned.Turned.{Turned}
@@ -20,6 +19,7 @@ use Rattle.txn_steps.specs.declared.write.WriteOp.{WriteOp}
 use Rattle.txn_steps.specs.Latest.{ReadAnswer}
 use Rattle.txn_steps.specs.Reads.{read_asked, read_turned, read_left}
 use Rattle.txn_steps.specs.Writes.{write_asked, write_turned, write_caches}
+use Rattle.txn_drivers.proofs.Refusals.{is_missing, is_invalid}
 use Rattle.txn_view_steps.specs.declared.entry.EntryOp.{EntryOp}
 use Rattle.txn_view_steps.specs.declared.entry.EntryOp.TheVariants as entries
 use Rattle.txn_view_steps.specs.declared.outcome.Outcome.{Outcome}
@@ -38,32 +38,6 @@ use Rattle.txn_view_drivers.specs.Layers.{Alike, Layer, layered}
 use Rattle.txn_view_drivers.specs.Seen.{entry_seen, view_read_seen}
 
 -- an answer that is known by its number
-
-missing : (error : TransactionalObjectError) → error_number error ≡ 4 → error ≡ LatestRecordMissing
-missing kinds.LatestRecordMissing is = refl
-missing kinds.IoError is = absurd (cc)
-missing (kinds.ObjectStoreError e) is = absurd (cc)
-missing (kinds.ObjectUpdateTimeout t) is = absurd (cc)
-missing kinds.ObjectVersionExists is = absurd (cc)
-missing kinds.Fenced is = absurd (cc)
-missing kinds.InvalidObjectState is = absurd (cc)
-missing (kinds.CallbackError e) is = absurd (cc)
-missing kinds.NoMemory is = absurd (cc)
-missing kinds.IdExhausted is = absurd (cc)
-missing kinds.TurnsExhausted is = absurd (cc)
-
-pub invalid : (error : TransactionalObjectError) → error_number error ≡ 7 → error ≡ InvalidObjectState
-invalid kinds.InvalidObjectState is = refl
-invalid kinds.IoError is = absurd (cc)
-invalid (kinds.ObjectStoreError e) is = absurd (cc)
-invalid (kinds.ObjectUpdateTimeout t) is = absurd (cc)
-invalid kinds.LatestRecordMissing is = absurd (cc)
-invalid kinds.ObjectVersionExists is = absurd (cc)
-invalid kinds.Fenced is = absurd (cc)
-invalid (kinds.CallbackError e) is = absurd (cc)
-invalid kinds.NoMemory is = absurd (cc)
-invalid kinds.IdExhausted is = absurd (cc)
-invalid kinds.TurnsExhausted is = absurd (cc)
 
 module _ {B : Type 0} where
   settles_ok : (value : B) (answer : Result B TransactionalObjectError) → by_number answer ≡ Ok value → answer ≡ Ok value
@@ -122,11 +96,11 @@ module _ {T : Type 0} (epoch_of : T → ℕ) where
 
   shown_settles : (purpose : Purpose) (found : Option (ℕ × T)) (answer : Result (Outcome T) TransactionalObjectError) → by_number answer ≡ by_number (view_read_seen epoch_of purpose found) → answer ≡ view_read_seen epoch_of purpose found
   shown_settles Load (Some found) answer is = settles_ok (Viewed found.0 found.1) answer is
-  shown_settles Load None answer is = settles_err 4 LatestRecordMissing missing answer is
+  shown_settles Load None answer is = settles_err 4 LatestRecordMissing is_missing answer is
   shown_settles Refresh (Some found) answer is = settles_ok (Viewed found.0 found.1) answer is
-  shown_settles Refresh None answer is = settles_err 7 InvalidObjectState invalid answer is
+  shown_settles Refresh None answer is = settles_err 7 InvalidObjectState is_invalid answer is
   shown_settles (HolderRefresh local) (Some found) answer is = settles_ok (holder_viewed found (epoch_tested local (epoch_of found.1))) answer is
-  shown_settles (HolderRefresh local) None answer is = settles_err 7 InvalidObjectState invalid answer is
+  shown_settles (HolderRefresh local) None answer is = settles_err 7 InvalidObjectState is_invalid answer is
 
 module _ {T X : Type 0} where
   -- a call at a state of its read
