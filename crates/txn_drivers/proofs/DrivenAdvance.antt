@@ -257,8 +257,7 @@ module _ (path : Segments) (target : ℕ) (reads : boundary_read (decimal target
     by_turn x true (Done (Ok done)) turned takes tells = let e = ap (λ p. p.1) takes in absurd (cc)
     by_turn x true (Done (Err error)) turned takes tells = failed raise error true (ap (λ p. (raise, p.1)) takes) tells
     by_turn (next, Goes) false Goes turned takes tells = subst (At path target a Runs (n + 1) c) (sym (ap (λ p. p.0) takes)) (is_target, goes next (one next Goes false turned tells), latest)
-    by_turn (next, Goes) false (Done (Ok done)) turned takes tells = let e = ap (λ p. p.1) takes in absurd (cc)
-    by_turn (next, Goes) false (Done (Err error)) turned takes tells = let e = ap (λ p. p.1) takes in absurd (cc)
+    by_turn (next, Goes) false (Done answer) turned takes tells = let e = ap (λ p. p.1) takes in absurd (cc)
     by_turn (next, Done (Ok done)) false Goes turned takes tells =
         let answers = ended next (Ok tt) (one next (Done (Ok tt)) false turned tt) in
         let some = few_left raise in

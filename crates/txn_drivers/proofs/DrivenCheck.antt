@@ -149,8 +149,7 @@ module _ (path : Segments) (id : ℕ) (a : Scene CheckOp) (unreached : refused_b
     refuses next number true is Goes turned takes tells =
         let five : 5 ≡ number = sym (eqb-true number 5 is) in
         subst (At path id a Runs c) (sym (ap (λ p. p.0) takes)) (runs.formed.id_is, ended next (Err kinds.ObjectVersionExists) (ap (λ n. (next, Done (Err n))) five ∙ turned) tt, latest)
-    refuses next number true is (Done (Ok accepted)) turned takes tells = let e = ap (λ p. p.1) takes in absurd (cc)
-    refuses next number true is (Done (Err error)) turned takes tells = let e = ap (λ p. p.1) takes in absurd (cc)
+    refuses next number true is (Done answer) turned takes tells = let e = ap (λ p. p.1) takes in absurd (cc)
     refuses next number false is Goes turned takes tells = let e = ap (λ p. p.1) takes in absurd (cc)
     refuses next number false is (Done (Ok accepted)) turned takes tells = let e = ap (λ p. p.1) takes in absurd (cc)
     refuses next number false is (Done (Err error)) turned takes tells =
@@ -161,8 +160,7 @@ module _ (path : Segments) (id : ℕ) (a : Scene CheckOp) (unreached : refused_b
     by_turn : (x : BoundaryCheck × Turned (Result (Unit {0}) ℕ)) (told : Turned (Result (Unit {0}) TransactionalObjectError)) → x ≡ boundary_check_turned check b.caches.boundary reply → (c.op, turned_by_number told) ≡ checks_turned check.id x → TellsErrorOf (reply_told reply) told → After path id a Runs c c.op told
     by_turn (next, Goes) Goes turned takes tells =
         subst (At path id a Runs c) (sym (ap (λ p. p.0) takes)) (check_goes path id a.store b.store c.store a.caches.boundary b.caches.boundary c.caches.boundary check next runs (one next Goes turned tells), latest)
-    by_turn (next, Goes) (Done (Ok accepted)) turned takes tells = let e = ap (λ p. p.1) takes in absurd (cc)
-    by_turn (next, Goes) (Done (Err error)) turned takes tells = let e = ap (λ p. p.1) takes in absurd (cc)
+    by_turn (next, Goes) (Done answer) turned takes tells = let e = ap (λ p. p.1) takes in absurd (cc)
     by_turn (next, Done (Ok accepted)) Goes turned takes tells = let e = ap (λ p. p.1) takes in absurd (cc)
     by_turn (next, Done (Ok accepted)) (Done (Ok answer)) turned takes tells = (ended next (Ok answer) (ap (λ p. (next, p.1)) takes ∙ turned) tells, latest)
     by_turn (next, Done (Ok accepted)) (Done (Err error)) turned takes tells = let e = ap (λ p. p.1) takes in absurd (cc)

@@ -70,8 +70,7 @@ module _ {T : Type 0} (names : Names) (decode : List ℕ → Option T) (path : S
           inl (record { checked = checked; check = ended.0; held = ended.1; answer_is = answer_is })
 
       refused_by : (k : CheckOp) (number : ℕ) (t : Bool) → (number == 5) ≡ t → (told : Turned (Result (Unit {0}) TransactionalObjectError)) → (k, Done (Err number)) ≡ check_turned b.op.check b.caches reply → (c.op, turned_by_number told) ≡ (if t then pair (at_check b.op steps.Removes k) Goes else pair (at_check b.op b.op.step k) (Done (Err number))) → TellsErrorOf (reply_told reply) told → After c told
-      refused_by k number true five (Done (Ok done)) turned takes tells = let e = ap (λ p. p.1) takes in absurd (cc)
-      refused_by k number true five (Done (Err error)) turned takes tells = let e = ap (λ p. p.1) takes in absurd (cc)
+      refused_by k number true five (Done answer) turned takes tells = let e = ap (λ p. p.1) takes in absurd (cc)
       refused_by k number true five Goes turned takes tells =
           let op = ap (λ p. p.0) takes in
           let check : c.op.check ≡ k = ap (λ (op : DeleteOp). op.check) op in
@@ -92,8 +91,7 @@ module _ {T : Type 0} (names : Names) (decode : List ℕ → Option T) (path : S
           let check : c.op.check ≡ k = ap (λ (op : DeleteOp). op.check) op in
           subst (λ s. At s c) (sym (ap (λ (op : DeleteOp). op.step) op ∙ is))
           (suc at.0, (checking b, at.1, one Goes (ap (λ k. (k, Goes)) check ∙ turned) tells), ap (λ (op : DeleteOp). op.removal) op ∙ at.2)
-      checks_by (k, Goes) (Done (Ok done)) turned takes tells = let e = ap (λ p. p.1) takes in absurd (cc)
-      checks_by (k, Goes) (Done (Err error)) turned takes tells = let e = ap (λ p. p.1) takes in absurd (cc)
+      checks_by (k, Goes) (Done answer) turned takes tells = let e = ap (λ p. p.1) takes in absurd (cc)
       checks_by (k, Done (Ok accepted)) Goes turned takes tells = let e = ap (λ p. p.1) takes in absurd (cc)
       checks_by (k, Done (Ok accepted)) (Done (Ok done)) turned takes tells = let e = ap (λ p. p.1) takes in absurd (cc)
       checks_by (k, Done (Ok accepted)) (Done (Err error)) turned takes tells =

@@ -161,8 +161,7 @@ module _ {T : Type 0} (names : Names) (path : Segments) (page : ℕ) (room : 1 �
       reads_by (op', Done (Ok (Some found))) Goes made takes leaves tells =
           subst (At (n + 1) c) (sym (ap (λ p. p.0) takes))
           (chooses op' found.0 found.1 (inner op' (Done (Ok (Some (found.0, found.1)))) made (leaves ∙ ap (λ l. with_latest l b.caches) (found_leaves op b.caches.latest (Some (found.0, found.1)))) tt))
-      reads_by (op', Done (Ok None)) Goes made takes leaves tells = let e = ap (λ p. p.1) takes in absurd (cc)
-      reads_by (op', Done (Err number)) Goes made takes leaves tells = let e = ap (λ p. p.1) takes in absurd (cc)
+      reads_by (op', Done answer) Goes made takes leaves tells = let e = ap (λ p. p.1) takes in absurd (cc)
       reads_by (op', Done (Ok None)) (Done (Ok None)) made takes leaves tells =
           ends_unchecked names path page room decode a at.before at.s c (Ok None) (λ h n answers. answers.0) (λ n stood. tt) (stops op' (Ok None) (inner op' (Done (Ok None)) made leaves tt))
       reads_by (op', Goes) (Done (Ok answer)) made takes leaves tells = let e = ap (λ p. p.1) takes in absurd (cc)

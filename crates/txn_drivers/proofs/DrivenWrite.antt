@@ -92,8 +92,7 @@ module _ {T : Type 0} (names : Names) (decode : List ℕ → Option T) (path : S
           let write : c.op.write ≡ w = ap (λ (op : WriteOp). op.write) op in
           subst (λ s. At s c) (sym (ap (λ (op : WriteOp). op.step) op ∙ is))
           (suc at.0, (writing b, at.1, one Goes (ap (λ w. (w, Goes)) write ∙ turned) tells), ap (λ (op : WriteOp). op.check) op ∙ at.2, ap (λ (op : WriteOp). op.id) op ∙ at.3)
-      writes_by (w, Goes) (Done (Ok id)) turned takes tells = let e = ap (λ p. p.1) takes in absurd (cc)
-      writes_by (w, Goes) (Done (Err error)) turned takes tells = let e = ap (λ p. p.1) takes in absurd (cc)
+      writes_by (w, Goes) (Done answer) turned takes tells = let e = ap (λ p. p.1) takes in absurd (cc)
       writes_by (w, Done (Ok id)) Goes turned takes tells =
           let op = ap (λ p. p.0) takes in
           let write : c.op.write ≡ w = ap (λ (op : WriteOp). op.write) op in
@@ -118,8 +117,7 @@ module _ {T : Type 0} (names : Names) (decode : List ℕ → Option T) (path : S
           let check : c.op.check ≡ k = ap (λ (op : WriteOp). op.check) op in
           subst (λ s. At s c) (sym (ap (λ (op : WriteOp). op.step) op ∙ is))
           (at.0, at.1, at.2, suc at.3, (checking b, at.4, checks Goes (ap (λ k. (k, Goes)) check ∙ turned) tells), ap (λ (op : WriteOp). op.id) op ∙ at.5)
-      checks_by (k, Goes) (Done (Ok n)) turned takes tells = let e = ap (λ p. p.1) takes in absurd (cc)
-      checks_by (k, Goes) (Done (Err error)) turned takes tells = let e = ap (λ p. p.1) takes in absurd (cc)
+      checks_by (k, Goes) (Done answer) turned takes tells = let e = ap (λ p. p.1) takes in absurd (cc)
       checks_by (k, Done (Ok accepted)) Goes turned takes tells = let e = ap (λ p. p.1) takes in absurd (cc)
       checks_by (k, Done (Ok accepted)) (Done (Err error)) turned takes tells = let e = ap (λ p. p.1) takes in absurd (cc)
       checks_by (k, Done (Ok accepted)) (Done (Ok n)) turned takes tells =

@@ -49,8 +49,7 @@ module _ {A : Type 0} where
   -- what goes on by number goes on
   pub goes : (told : Turned (Result A TransactionalObjectError)) → turned_by_number told ≡ Goes → told ≡ Goes
   goes Goes is = refl
-  goes (Done (Ok x)) is = absurd (cc)
-  goes (Done (Err error)) is = absurd (cc)
+  goes (Done answer) is = absurd (cc)
 
   -- what answers by number answers
   pub answers : (told : Turned (Result A TransactionalObjectError)) (x : A) → turned_by_number told ≡ Done (Ok x) → told ≡ Done (Ok x)
