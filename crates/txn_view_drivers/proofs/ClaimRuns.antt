@@ -114,8 +114,8 @@ module _ {T : Type 0} (names : Names) (path : Segments) (page : ℕ) (room : 1 �
   abbrev Which : ℕ → Scene (Claiming T) → ℕ → Type 0
   Which before s base = ((before ≡ 0) × (s.store ≡ a.store) × Ascends s.caches.latest) ⊎ ((before ≤ 49 + 2 * pages) × (s.store.calls ≤ a.store.calls + 16 + 2 * pages) × (base ≡ length h))
 
-  -- an attempt on a version of the history, so many steps after it began
-  record Attempting (n : ℕ) (c : Scene (Claiming T)) (write : WriteOp) (value : T) (epoch : ℕ) : Type 0 where
+  -- an attempt on a version of the history, as it began
+  record Attempt (value : T) (epoch : ℕ) : Type 0 where
     s : Scene (Claiming T)
     base : ℕ
     from : T
@@ -129,12 +129,16 @@ module _ {T : Type 0} (names : Names) (path : Segments) (page : ℕ) (room : 1 �
     failures : a.store.failures ≤ s.store.failures
     before : ℕ
     which : Which before s base
-    k : ℕ
-    on : GoesOn WriteSteps k (part_of (write_started names path (Some base) (encode value)) s) (part_of write c)
-    count : n ≡ before + k
 
-  -- the read after the first attempt
-  record Reading (n : ℕ) (c : Scene (Claiming T)) (read : ReadOp T) : Type 0 where
+  -- so many steps later
+  record Attempting (n : ℕ) (c : Scene (Claiming T)) (write : WriteOp) (value : T) (epoch : ℕ) : Type 0 where
+    began : Attempt value epoch
+    k : ℕ
+    on : GoesOn WriteSteps k (part_of (write_started names path (Some began.base) (encode value)) began.s) (part_of write c)
+    count : n ≡ began.before + k
+
+  -- the read after the first attempt, as it began
+  record ReadBegun : Type 0 where
     s : Scene (Claiming T)
     stands : Stands s.store s.caches
     ascends : Ascends s.caches.latest
@@ -143,9 +147,13 @@ module _ {T : Type 0} (names : Names) (path : Segments) (page : ℕ) (room : 1 �
     few : pages_below names page s.store.files ≤ pages + 1
     before : ℕ
     early : before ≤ 7
+
+  -- so many steps later
+  record Reading (n : ℕ) (c : Scene (Claiming T)) (read : ReadOp T) : Type 0 where
+    began : ReadBegun
     k : ℕ
-    on : GoesOn (ReadSteps names path page decode) k (part_of (read_started path) s) (part_of read c)
-    count : n ≡ before + k
+    on : GoesOn (ReadSteps names path page decode) k (part_of (read_started path) began.s) (part_of read c)
+    count : n ≡ began.before + k
 
   abbrev At : ℕ → Scene (Claiming T) → Claiming T → Type 0
   At n c (Writes write value epoch) = Attempting n c write value epoch
@@ -162,19 +170,21 @@ module _ {T : Type 0} (names : Names) (path : Segments) (page : ℕ) (room : 1 �
       let made' = subst (IsMade encode decode epoch_of) begin.is made in
       let last = made'.last in
       subst (At n c) (sym begin.is) (record {
-        s = c;
-        base = id;
-        from = value;
-        at = at;
-        next = begin.next;
-        value_is = refl;
-        own = made'.own;
-        reads = made'.reads_back;
-        small = last;
-        stands = stands;
-        failures = failures;
-        before = n;
-        which = which;
+        began = record {
+          s = c;
+          base = id;
+          from = value;
+          at = at;
+          next = begin.next;
+          value_is = refl;
+          own = made'.own;
+          reads = made'.reads_back;
+          small = last;
+          stands = stands;
+          failures = failures;
+          before = n;
+          which = which;
+        };
         k = 0;
         on = refl;
         count = omega arith;
@@ -188,34 +198,22 @@ module _ {T : Type 0} (names : Names) (path : Segments) (page : ℕ) (room : 1 �
 
   module _ (n : ℕ) (x c : Scene (Claiming T)) (write : WriteOp) (value : T) (epoch : ℕ) (at : Attempting n x write value epoch) where
     abbrev start : Scene WriteOp
-    start = part_of (write_started names path (Some at.base) (encode value)) at.s
+    start = part_of (write_started names path (Some at.began.base) (encode value)) at.began.s
 
-    wrote : (next : WriteOp) (told : Result ℕ TransactionalObjectError) → WriteSteps (part_of write x) (Done told) (part_of next c) → WriteFailed names decode path (Some at.base) (encode value) value start (part_of next c) told ⊎ WriteChecked names decode path (Some at.base) (encode value) value start (part_of next c) told
-    wrote next told step = checked_write_driven names decode path (Some at.base) (encode value) value at.reads at.small start refl (at.k + 1) (Some told) (part_of next c) (at.k, part_of write x, omega arith, at.on, step)
+    wrote : (next : WriteOp) (told : Result ℕ TransactionalObjectError) → WriteSteps (part_of write x) (Done told) (part_of next c) → WriteFailed names decode path (Some at.began.base) (encode value) value start (part_of next c) told ⊎ WriteChecked names decode path (Some at.began.base) (encode value) value start (part_of next c) told
+    wrote next told step = checked_write_driven names decode path (Some at.began.base) (encode value) value at.began.reads at.began.small start refl (at.k + 1) (Some told) (part_of next c) (at.k, part_of write x, omega arith, at.on, step)
 
     soon : at.k < 7
-    soon = checked_write_driven names decode path (Some at.base) (encode value) value at.reads at.small start refl at.k None (part_of write x) at.on
+    soon = checked_write_driven names decode path (Some at.began.base) (encode value) value at.began.reads at.began.small start refl at.k None (part_of write x) at.on
 
-    entered : (next : WriteOp) (told : Result ℕ TransactionalObjectError) → WriteSteps (part_of write x) (Done told) (part_of next c) → EntryStood names decode path h b at.base value at.s.store c.store c.caches (seen_as (entry_seen value) told)
-    entered next told step = write_answers names decode path (Some at.base) (encode value) value start (part_of next c) at.small apart h b at.stands at.at.within told (wrote next told step)
+    entered : (next : WriteOp) (told : Result ℕ TransactionalObjectError) → WriteSteps (part_of write x) (Done told) (part_of next c) → EntryStood names decode path h b at.began.base value at.began.s.store c.store c.caches (seen_as (entry_seen value) told)
+    entered next told step = write_answers names decode path (Some at.began.base) (encode value) value start (part_of next c) at.began.small apart h b at.began.stands at.began.at.within told (wrote next told step)
 
     on_writing : (next : WriteOp) → WriteSteps (part_of write x) Goes (part_of next c) → c.op ≡ Writes next value epoch → At (n + 1) c c.op
     on_writing next step is =
         let count = at.count in
         subst (At (n + 1) c) (sym is) (record {
-          s = at.s;
-          base = at.base;
-          from = at.from;
-          at = at.at;
-          next = at.next;
-          value_is = at.value_is;
-          own = at.own;
-          reads = at.reads;
-          small = at.small;
-          stands = at.stands;
-          failures = at.failures;
-          before = at.before;
-          which = at.which;
+          began = at.began;
           k = suc at.k;
           on = (part_of write x, at.on, step);
           count = omega (arith, count);
@@ -226,26 +224,28 @@ module _ {T : Type 0} (names : Names) (path : Segments) (page : ℕ) (room : 1 �
     overtaken next step is =
         let stood = (entered next (Err kinds.ObjectVersionExists) step).answers in
         let less = stood.0 in
-        let spends = write_spends names decode path (Some at.base) (encode value) value start (part_of next c) at.small (Err kinds.ObjectVersionExists) (wrote next (Err kinds.ObjectVersionExists) step) in
+        let spends = write_spends names decode path (Some at.began.base) (encode value) value start (part_of next c) at.began.small (Err kinds.ObjectVersionExists) (wrote next (Err kinds.ObjectVersionExists) step) in
         let rise = spends.failures_rise in
-        let failed = at.failures in
+        let failed = at.began.failures in
         let most = spends.calls_most in
         let count = at.count in
         let few = soon in
-        elim at.which [
+        elim at.began.which [
           | inl first ↦
               let none = first.0 in
               let same = first.1 in
-              let calls : at.s.store.calls ≡ a.store.calls = ap (λ (st : State). st.calls) same in
+              let calls : at.began.s.store.calls ≡ a.store.calls = ap (λ (st : State). st.calls) same in
               subst (At (n + 1) c) (sym is) (record {
-                s = c;
-                stands = stood.1;
-                ascends = conflict_ascends names decode path page room (Some at.base) (encode value) value start (part_of next c) first.2 (Err kinds.ObjectVersionExists) refl (wrote next (Err kinds.ObjectVersionExists) step);
-                failures = omega (arith, rise, failed);
-                calls = omega (arith, most, calls);
-                few = subst (λ (st : State). pages_below names page c.store.files ≤ pages_below names page st.files + 1) same (conflict_pages names decode path page room (Some at.base) (encode value) value start (part_of next c) first.2 (Err kinds.ObjectVersionExists) (wrote next (Err kinds.ObjectVersionExists) step));
-                before = n + 1;
-                early = omega (arith, count, few, none);
+                began = record {
+                  s = c;
+                  stands = stood.1;
+                  ascends = conflict_ascends names decode path page room (Some at.began.base) (encode value) value start (part_of next c) first.2 (Err kinds.ObjectVersionExists) refl (wrote next (Err kinds.ObjectVersionExists) step);
+                  failures = omega (arith, rise, failed);
+                  calls = omega (arith, most, calls);
+                  few = subst (λ (st : State). pages_below names page c.store.files ≤ pages_below names page st.files + 1) same (conflict_pages names decode path page room (Some at.began.base) (encode value) value start (part_of next c) first.2 (Err kinds.ObjectVersionExists) (wrote next (Err kinds.ObjectVersionExists) step));
+                  before = n + 1;
+                  early = omega (arith, count, few, none);
+                };
                 k = 0;
                 on = refl;
                 count = omega arith;
@@ -255,29 +255,29 @@ module _ {T : Type 0} (names : Names) (path : Segments) (page : ℕ) (room : 1 �
 
     few_calls : (next : WriteOp) (told : Result ℕ TransactionalObjectError) → WriteSteps (part_of write x) (Done told) (part_of next c) → c.store.calls ≤ a.store.calls + 18 + 2 * pages
     few_calls next told step =
-        let spends = write_spends names decode path (Some at.base) (encode value) value start (part_of next c) at.small told (wrote next told step) in
+        let spends = write_spends names decode path (Some at.began.base) (encode value) value start (part_of next c) at.began.small told (wrote next told step) in
         let most = spends.calls_most in
-        elim at.which [ inl first ↦ let calls : at.s.store.calls ≡ a.store.calls = ap (λ (st : State). st.calls) first.1 in omega (arith, most, calls) | inr second ↦ let calls = second.1 in omega (arith, most, calls) ]
+        elim at.began.which [ inl first ↦ let calls : at.began.s.store.calls ≡ a.store.calls = ap (λ (st : State). st.calls) first.1 in omega (arith, most, calls) | inr second ↦ let calls = second.1 in omega (arith, most, calls) ]
 
-    not_claimed : (error : TransactionalObjectError) → (error_number error ≡ 5 → ⊥) → EntryAnswers names decode path h b at.base value c.store c.caches (Err error) → NotClaimed names decode path epoch_of with_epoch asked h b c.store c.caches
+    not_claimed : (error : TransactionalObjectError) → (error_number error ≡ 5 → ⊥) → EntryAnswers names decode path h b at.began.base value c.store c.caches (Err error) → NotClaimed names decode path epoch_of with_epoch asked h b c.store c.caches
     not_claimed kinds.ObjectVersionExists other answers = absurd (other refl)
     not_claimed error other (inl stays) = inl stays
-    not_claimed error other (inr grown) = inr (at.from, epoch, latest_at h at.base at.from at.at grown.0, at.next, subst (λ (v : T). AllStand names decode path c.store c.caches (h ++ v ∷ []) b) at.value_is grown.1)
+    not_claimed error other (inr grown) = inr (at.began.from, epoch, latest_at h at.began.base at.began.from at.began.at grown.0, at.began.next, subst (λ (v : T). AllStand names decode path c.store c.caches (h ++ v ∷ []) b) at.began.value_is grown.1)
 
-    entry_cause : (error : TransactionalObjectError) → (error_number error ≡ 5 → ⊥) → HasCauseOfEntry at.s.store c.store error → HasCauseOfClaim names decode path epoch_of with_epoch asked h a.store c.store error
+    entry_cause : (error : TransactionalObjectError) → (error_number error ≡ 5 → ⊥) → HasCauseOfEntry at.began.s.store c.store error → HasCauseOfClaim names decode path epoch_of with_epoch asked h a.store c.store error
     entry_cause kinds.ObjectVersionExists other cause = absurd (other refl)
-    entry_cause error other cause = plain_cause at.s c error at.failures cause
+    entry_cause error other cause = plain_cause at.began.s c error at.began.failures cause
 
     held_as : (next : WriteOp) (told : Result ℕ TransactionalObjectError) (answer : Result (Outcome T) TransactionalObjectError) → WriteSteps (part_of write x) (Done told) (part_of next c) → HeldAs value epoch told answer → Ends c answer
     held_as next (Ok id) answer step is =
         let on_base = (entered next (Ok id) step).answers in
         subst (Ends c) (sym is) (record {
           answers = record {
-            newest = at.from;
-            latest = latest_at h at.base at.from at.at on_base.newest;
-            next = at.next;
-            value = at.value_is;
-            own = at.own;
+            newest = at.began.from;
+            latest = latest_at h at.began.base at.began.from at.began.at on_base.newest;
+            next = at.began.next;
+            value = at.began.value_is;
+            own = at.began.own;
             stands = on_base.stands;
             at = on_base.at;
           };
@@ -302,41 +302,34 @@ module _ {T : Type 0} (names : Names) (path : Segments) (page : ℕ) (room : 1 �
 
   module _ (view : 1 ≤ length h) (n : ℕ) (x c : Scene (Claiming T)) (read : ReadOp T) (at : Reading n x read) where
     abbrev begin : Scene (ReadOp T)
-    begin = part_of (read_started path) at.s
+    begin = part_of (read_started path) at.began.s
 
-    small_by : (found : Option Cached) → greatest_held at.s.caches.latest ≡ found → IfSome found (λ version. version.id < 2 ^ 64)
+    small_by : (found : Option Cached) → greatest_held at.began.s.caches.latest ≡ found → IfSome found (λ version. version.id < 2 ^ 64)
     small_by None is = tt
     small_by (Some version) is =
-        let carried = greatest_fits decode h b at.s.caches.latest version at.stands.window is in
+        let carried = greatest_fits decode h b at.began.s.caches.latest version at.began.stands.window is in
         let within = carried.within in
-        let fits = at.stands.files.fits in
+        let fits = at.began.stands.files.fits in
         omega (arith, within, fits)
 
-    was_read : (next : ReadOp T) (told : Result (Option (ℕ × T)) TransactionalObjectError) → ReadSteps names path page decode (part_of read x) (Done told) (part_of next c) → NewestRead names decode path page h b at.s.store c.store c.caches told
-    was_read next told step = (read_driven names path page room decode begin refl at.ascends (small_by (greatest_held at.s.caches.latest) refl) (at.k + 1) (Some told) (part_of next c) (at.k, part_of read x, omega arith, at.on, step)).stands h b at.stands
+    was_read : (next : ReadOp T) (told : Result (Option (ℕ × T)) TransactionalObjectError) → ReadSteps names path page decode (part_of read x) (Done told) (part_of next c) → NewestRead names decode path page h b at.began.s.store c.store c.caches told
+    was_read next told step = (read_driven names path page room decode begin refl at.began.ascends (small_by (greatest_held at.began.s.caches.latest) refl) (at.k + 1) (Some told) (part_of next c) (at.k, part_of read x, omega arith, at.on, step)).stands h b at.began.stands
 
-    soon_read : at.k < 40 + 2 * pages_below names page at.s.store.files
-    soon_read = read_driven names path page room decode begin refl at.ascends (small_by (greatest_held at.s.caches.latest) refl) at.k None (part_of read x) at.on h b at.stands
+    soon_read : at.k < 40 + 2 * pages_below names page at.began.s.store.files
+    soon_read = read_driven names path page room decode begin refl at.began.ascends (small_by (greatest_held at.began.s.caches.latest) refl) at.k None (part_of read x) at.on h b at.began.stands
 
     few_reads : (next : ReadOp T) (told : Result (Option (ℕ × T)) TransactionalObjectError) → ReadSteps names path page decode (part_of read x) (Done told) (part_of next c) → c.store.calls ≤ a.store.calls + 16 + 2 * pages
     few_reads next told step =
         let most = (was_read next told step).calls in
-        let calls = at.calls in
-        let few = at.few in
+        let calls = at.began.calls in
+        let few = at.began.few in
         omega (arith, most, calls, few)
 
     on_reading : (next : ReadOp T) → ReadSteps names path page decode (part_of read x) Goes (part_of next c) → c.op ≡ Reads next → At (n + 1) c c.op
     on_reading next step is =
         let count = at.count in
         subst (At (n + 1) c) (sym is) (record {
-          s = at.s;
-          stands = at.stands;
-          ascends = at.ascends;
-          failures = at.failures;
-          calls = at.calls;
-          few = at.few;
-          before = at.before;
-          early = at.early;
+          began = at.began;
           k = suc at.k;
           on = (part_of read x, at.on, step);
           count = omega (arith, count);
@@ -348,17 +341,17 @@ module _ {T : Type 0} (names : Names) (path : Segments) (page : ℕ) (room : 1 �
 
     rises : (next : ReadOp T) (told : Result (Option (ℕ × T)) TransactionalObjectError) → ReadSteps names path page decode (part_of read x) (Done told) (part_of next c) → a.store.failures ≤ c.store.failures
     rises next told step =
-        let ended = read_driven names path page room decode begin refl at.ascends (small_by (greatest_held at.s.caches.latest) refl) (at.k + 1) (Some told) (part_of next c) (at.k, part_of read x, omega arith, at.on, step) in
+        let ended = read_driven names path page room decode begin refl at.began.ascends (small_by (greatest_held at.began.s.caches.latest) refl) (at.k + 1) (Some told) (part_of next c) (at.k, part_of read x, omega arith, at.on, step) in
         let rise = ended.failures_rise in
-        let failed = at.failures in
+        let failed = at.began.failures in
         omega (arith, rise, failed)
 
     found_on : (next : ReadOp T) (found : Option (ℕ × T)) → ReadSteps names path page decode (part_of read x) (Done (Ok found)) (part_of next c) → IsNewest h found → attempted_again names path encode epoch_of with_epoch asked found ≡ Ok c.op → IsMade encode decode epoch_of c.op → At (n + 1) c c.op
     found_on next None step newest again made = absurd (cc)
     found_on next (Some found) step newest again made =
         let soon = soon_read in
-        let few = at.few in
-        let early = at.early in
+        let few = at.began.few in
+        let early = at.began.early in
         let count = at.count in
         again_on found.0 found.1 newest (begun names path encode epoch_of with_epoch asked found.0 found.1 c.op again) made (was_read next (Ok (Some found)) step).stands (rises next (Ok (Some found)) step) (few_reads next (Ok (Some found)) step) (omega (arith, soon, few, early, count))
 
@@ -395,7 +388,7 @@ module _ {T : Type 0} (names : Names) (path : Segments) (page : ℕ) (room : 1 �
     read_ended next (Err error) answer step is =
         let newest = was_read next (Err error) step in
         let calls = few_reads next (Err error) step in
-        subst (Ends c) (sym is) (record { answers = inl newest.stands; cause = plain_cause at.s c error at.failures newest.cause; calls = omega (arith, calls) })
+        subst (Ends c) (sym is) (record { answers = inl newest.stands; cause = plain_cause at.began.s c error at.began.failures newest.cause; calls = omega (arith, calls) })
 
     after_read : (told : Turned (Result (Outcome T) TransactionalObjectError)) → ReadLed names path page encode decode epoch_of with_epoch asked (part_of read x) told c → IsMade encode decode epoch_of c.op → After n c told
     after_read Goes (inl on) made = on_reading on.0 on.1 on.2
@@ -424,12 +417,12 @@ module _ {T : Type 0} (names : Names) (path : Segments) (page : ℕ) (room : 1 �
     soon_ends n c (Writes write value epoch) at =
         let few = soon n c c write value epoch at in
         let count = at.count in
-        elim at.which [ inl first ↦ let none = first.0 in omega (arith, few, count, none) | inr second ↦ let early = second.0 in omega (arith, few, count, early) ]
+        elim at.began.which [ inl first ↦ let none = first.0 in omega (arith, few, count, none) | inr second ↦ let early = second.0 in omega (arith, few, count, early) ]
     soon_ends n c (Reads read) at =
         let few = soon_read some n c c read at in
         let count = at.count in
-        let early = at.early in
-        let grown = at.few in
+        let early = at.began.early in
+        let grown = at.began.few in
         omega (arith, few, count, early, grown)
     soon_ends n c Ended at = absurd at
 
