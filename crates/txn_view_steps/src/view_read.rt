@@ -6,7 +6,7 @@ ghost use Rattle.txn_caches.specs.Asking.{asks, reply_told, unless_lacking};
 ghost use Rattle.txn_steps.specs.Reads.{read_left};
 ghost use Rattle.txn_view_steps.specs.Lacking.{lacks, or_lacking};
 ghost use Rattle.txn_view_steps.specs.Readings.{said};
-ghost use Rattle.txn_view_steps.specs.ViewReads.{view_read_started, view_read_ended, view_read_asked, view_read_turned, loaded, refreshed, holder_refreshed, shown, IsViewReadReply, IsViewReadInRange};
+ghost use Rattle.txn_view_steps.specs.ViewReads.{view_read_started, view_read_ended, view_read_asked, view_read_turned, holder_refreshed, shown, IsViewReadReply, IsViewReadInRange};
 
 use crate::copies::Copies;
 use crate::outcome::{Outcome, ViewAnswer};
@@ -43,43 +43,17 @@ pub struct ViewReadOp<T> {
     pub read: ReadOp<T>,
 }
 
-/// What a load makes of what its read found.
-fn loaded<T: Clone>(found: Option<(MonotonicId, T)>) -> ViewAnswer<T>
-    requires { IsExactClone T.is_clone }
-    ensures loaded { by_number result ≡ or_lacking (lacks (by_number result)) (loaded found) }
-    ensures store_error { HasErrorOf None result }
-{
-    match found {
-        Some((id, value)) => Ok(Outcome::Viewed(id, Copies::of(value)?)),
-        None => Err(TransactionalObjectError::LatestRecordMissing),
-    }
-}
-
-/// What a refresh makes of what its read found.
-fn refreshed<T: Clone>(found: Option<(MonotonicId, T)>) -> ViewAnswer<T>
-    requires { IsExactClone T.is_clone }
-    ensures refreshed { by_number result ≡ or_lacking (lacks (by_number result)) (refreshed found) }
-    ensures store_error { HasErrorOf None result }
-{
-    match found {
-        Some((id, value)) => Ok(Outcome::Viewed(id, Copies::of(value)?)),
-        None => Err(TransactionalObjectError::InvalidObjectState),
-    }
-}
-
-/// What a holder's refresh makes of what its read found: the view is at it, be its epoch the holder's or not.
+/// What a holder's refresh makes of the version that its read found: the view is at it, be its epoch the holder's or not.
 fn holder_refreshed<T: Clone, X: EpochField<T>>(
     epochs: &X,
     local: u64,
-    found: Option<(MonotonicId, T)>,
+    id: MonotonicId,
+    value: T,
 ) -> ViewAnswer<T>
     requires { IsExactClone T.is_clone }
-    ensures refreshed { by_number result ≡ or_lacking (lacks (by_number result)) (holder_refreshed (X.epoch_of epochs.now) local found) }
+    ensures refreshed { by_number result ≡ or_lacking (lacks (by_number result)) (holder_refreshed (X.epoch_of epochs.now) local (Some (id, value))) }
     ensures store_error { HasErrorOf None result }
 {
-    let Some((id, value)) = found else {
-        return Err(TransactionalObjectError::InvalidObjectState);
-    };
     match test_epoch(local, epochs.get_epoch(&value)) {
         Ok(()) => Ok(Outcome::Viewed(id, Copies::of(value)?)),
         Err(error) => Ok(Outcome::Shut(id, value, error)),
@@ -96,10 +70,15 @@ fn shown<T: Clone, X: EpochField<T>>(
     ensures shown { by_number result ≡ or_lacking (lacks (by_number result)) (shown (X.epoch_of epochs.now) purpose found) }
     ensures store_error { HasErrorOf None result }
 {
-    match purpose {
-        Purpose::Load => loaded(found),
-        Purpose::Refresh => refreshed(found),
-        Purpose::HolderRefresh(local) => holder_refreshed(epochs, local, found),
+    match (purpose, found) {
+        (Purpose::Load, None) => Err(TransactionalObjectError::LatestRecordMissing),
+        (_, None) => Err(TransactionalObjectError::InvalidObjectState),
+        (Purpose::Load | Purpose::Refresh, Some((id, value))) => {
+            Ok(Outcome::Viewed(id, Copies::of(value)?))
+        }
+        (Purpose::HolderRefresh(local), Some((id, value))) => {
+            holder_refreshed(epochs, local, id, value)
+        }
     }
 }
 
