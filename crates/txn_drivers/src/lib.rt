@@ -7,7 +7,6 @@ pub mod drive_checked;
 pub mod drive_reads;
 pub mod drive_version;
 pub mod driven_checks;
-pub mod driven_deletes;
 pub mod driven_reads;
 pub mod driven_writes;
 pub mod latest;
