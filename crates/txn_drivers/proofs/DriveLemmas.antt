@@ -48,6 +48,18 @@ pub after_steps : {O A : Type 0} (Steps : Scene O → Turned A → Scene O → T
 after_steps Steps At a start next zero b same = subst (At 0) (sym same) start
 after_steps Steps At a start next (suc n) c (b, on, step) = let more : n + 1 ≡ suc n = omega arith in subst (λ k. At k c) more (next n b c (after_steps Steps At a start next n b on) step)
 
+-- so many steps after one scene, which came after so many
+pub record Since {O A : Type 0} (Steps : Scene O → Turned A → Scene O → Type 0) (a : Scene O) (before n : ℕ) (b : Scene O) : Type 0 where
+  pub k : ℕ
+  pub on : GoesOn Steps k a b
+  pub count : n ≡ before + k
+
+pub since_now : {O A : Type 0} (Steps : Scene O → Turned A → Scene O → Type 0) (a : Scene O) (n : ℕ) → Since Steps a n n a
+since_now Steps a n = record { k = 0; on = refl; count = omega arith }
+
+pub since_goes : {O A : Type 0} (Steps : Scene O → Turned A → Scene O → Type 0) (a b c : Scene O) (before n : ℕ) → Since Steps a before n b → Steps b Goes c → Since Steps a before (n + 1) c
+since_goes Steps a b c before n since step = let count = since.count in record { k = suc since.k; on = (b, since.on, step); count = omega (arith, count) }
+
 -- an unchecked write
 
 is_write_step : (a b : Scene WriteUncheckedOp) (told : Turned (Result ℕ TransactionalObjectError)) → WriteUncheckedSteps a told b → IsWriteStep a.store b.store a.caches.latest b.caches.latest a.op b.op told

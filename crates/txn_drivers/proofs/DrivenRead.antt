@@ -32,7 +32,7 @@ use Rattle.txn_drivers.specs.DrivenChecks.{checked_latest}
 use Rattle.txn_drivers.specs.DrivenReads.{AllStand, ReadEnds, ReadDriven}
 use Rattle.txn_drivers.specs.LatestReads.{IsHeldOrStored}
 use Rattle.txn_drivers.specs.PageCount.{pages_below}
-use Rattle.txn_drivers.proofs.DriveLemmas.{after_steps}
+use Rattle.txn_drivers.proofs.DriveLemmas.{after_steps, Since, since_now, since_goes}
 use Rattle.txn_drivers.proofs.DrivenCheck.{Between, check_driven, check_between}
 use Rattle.txn_drivers.proofs.DrivenLatest.{latest_driven}
 use Rattle.txn_drivers.proofs.DrivenPasses.{cause_of_check, check_reads_none, found_leaves, Began, Found, found, early_pass, ends_unchecked, check_fails, accepts, restarts}
@@ -73,10 +73,8 @@ module _ {T : Type 0} (names : Names) (path : Segments) (page : ℕ) (room : 1 �
     before : ℕ
     s : Scene (LatestOp T)
     began : PassBegan before s
-    k : ℕ
-    on : GoesOn LSteps k s (reading b op)
+    since : Since LSteps s before n (reading b op)
     read_is : read ≡ boundary.Looks path
-    count : n ≡ before + k
 
   -- it checks what it found
   record AtChecks (n : ℕ) (b : Scene (ReadOp T)) (id : ℕ) (value : T) (check : CheckOp) : Type 0 where
@@ -87,9 +85,7 @@ module _ {T : Type 0} (names : Names) (path : Segments) (page : ℕ) (room : 1 �
     found : PassFound before s (Ok (Some (id, value))) m.store m.caches
     k : ℕ
     few : k < 15 + pages
-    j : ℕ
-    on : GoesOn CheckSteps j (check_begun m id) (checking b check)
-    count : n ≡ before + k + 1 + j
+    since : Since CheckSteps (check_begun m id) (before + k + 1) n (checking b check)
 
   abbrev At : ℕ → Scene (ReadOp T) → ReadOp T → Type 0
   At n b (Reads op read) = AtReads n b op read
@@ -118,22 +114,20 @@ module _ {T : Type 0} (names : Names) (path : Segments) (page : ℕ) (room : 1 �
       inner op' told takes leaves tells = record { reply = reply; replies = served; takes = takes; leaves = leaves; error = tells }
 
       stops : (op' : LatestOp T) (answer : Result (Option (ℕ × T)) TransactionalObjectError) → LSteps (reading b op) (Done answer) (reading c op') → PassFound at.before at.s answer c.store c.caches
-      stops op' answer step = found names path page room decode a at.before at.s (reading c op') answer at.k (reading b op) at.began at.on step
+      stops op' answer step = found names path page room decode a at.before at.s (reading c op') answer at.since.k (reading b op) at.began at.since.on step
 
       chooses : (op' : LatestOp T) (id : ℕ) (value : T) → LSteps (reading b op) (Done (Ok (Some (id, value)))) (reading c op') → AtChecks (n + 1) c id value (check_of_read id read)
       chooses op' id value step =
-          let count = at.count in
+          let count = at.since.count in
           record {
             before = at.before;
             s = at.s;
             began = at.began;
             m = reading c op';
             found = stops op' (Ok (Some (id, value))) step;
-            k = at.k;
-            few = few_reads at.before at.s (reading b op) at.k at.began at.on;
-            j = 0;
-            on = ap (λ r. checking c (check_of_read id r)) at.read_is;
-            count = omega (arith, count);
+            k = at.since.k;
+            few = few_reads at.before at.s (reading b op) at.since.k at.began at.since.on;
+            since = record { k = 0; on = ap (λ r. checking c (check_of_read id r)) at.read_is; count = omega (arith, count) };
           }
 
       read_fails : (x : LatestOp T × Turned (ReadAnswer T)) (error : TransactionalObjectError) (t : Bool) → (error_number error == 9) ≡ t → x ≡ makes → (c.op, Done (Err (error_number error))) ≡ unless_lacking t (Reads op read) (reads_turned read x) → c.caches ≡ with_latest (latest_left op b.caches.latest (Done (Err (error_number error)))) b.caches → TellsErrorOf {A = Option (ℕ × T)} (reply_told reply) (Done (Err error)) → PassFound at.before at.s (Err error) c.store c.caches
@@ -148,16 +142,7 @@ module _ {T : Type 0} (names : Names) (path : Segments) (page : ℕ) (room : 1 �
 
       reads_by : (x : LatestOp T × Turned (ReadAnswer T)) (told : Turned (Result (Option (ℕ × T)) TransactionalObjectError)) → x ≡ makes → (c.op, turned_by_number told) ≡ unless_lacking (lacks_memory (turned_by_number told)) (Reads op read) (reads_turned read x) → c.caches ≡ read_left (Reads op read) b.caches (turned_by_number told) → TellsErrorOf (reply_told reply) told → After n c told
       reads_by (op', Goes) Goes made takes leaves tells =
-          let count = at.count in
-          subst (At (n + 1) c) (sym (ap (λ p. p.0) takes)) (record {
-            before = at.before;
-            s = at.s;
-            began = at.began;
-            k = suc at.k;
-            on = (reading b op, at.on, inner op' Goes made leaves tt);
-            read_is = at.read_is;
-            count = omega (arith, count);
-          })
+          subst (At (n + 1) c) (sym (ap (λ p. p.0) takes)) (record { before = at.before; s = at.s; began = at.began; since = since_goes LSteps at.s (reading b op) (reading c op') at.before n at.since (inner op' Goes made leaves tt); read_is = at.read_is })
       reads_by (op', Done (Ok (Some found))) Goes made takes leaves tells =
           subst (At (n + 1) c) (sym (ap (λ p. p.0) takes))
           (chooses op' found.0 found.1 (inner op' (Done (Ok (Some (found.0, found.1)))) made (leaves ∙ ap (λ l. with_latest l b.caches) (found_leaves op b.caches.latest (Some (found.0, found.1)))) tt))
@@ -173,29 +158,27 @@ module _ {T : Type 0} (names : Names) (path : Segments) (page : ℕ) (room : 1 �
 
     module _ (id : ℕ) (value : T) (check : CheckOp) (at : AtChecks n b id value check) (served : Replies (check_asked check) b.store reply c.store) (leaves : c.caches ≡ check_caches check b.caches) where
       between : Between path id (check_begun at.m id) c.store c.caches
-      between = check_between path id (check_begun at.m id) refl at.j (checking b check) reply c.store c.caches at.on served leaves
+      between = check_between path id (check_begun at.m id) refl at.since.k (checking b check) reply c.store c.caches at.since.on served leaves
 
       one : (check' : CheckOp) (told : Turned (Result (Unit {0}) TransactionalObjectError)) → (check', turned_by_number told) ≡ check_turned check b.caches reply → TellsErrorOf (reply_told reply) told → CheckSteps (checking b check) told (checking c check')
       one check' told takes tells = record { reply = reply; replies = served; takes = takes; leaves = leaves; error = tells }
 
       ended : (check' : CheckOp) (answer : Result (Unit {0}) TransactionalObjectError) → CheckSteps (checking b check) (Done answer) (checking c check') → Checked path id at.m.store c.store at.m.caches.boundary c.caches.boundary answer × (c.caches.latest ≡ checked_latest id answer at.m.caches.latest)
-      ended check' answer step = check_driven path id (check_begun at.m id) refl (at.j + 1) (Some answer) (checking c check') (at.j, checking b check, omega arith, at.on, step)
+      ended check' answer step = check_driven path id (check_begun at.m id) refl (at.since.k + 1) (Some answer) (checking c check') (at.since.k, checking b check, omega arith, at.since.on, step)
 
       refused : (check' : CheckOp) → (check', Done (Err 5)) ≡ check_turned check b.caches reply → c.op ≡ read_started path → At (n + 1) c c.op
       refused check' turned is =
           let e = ended check' (Err kinds.ObjectVersionExists) (one check' (Done (Err kinds.ObjectVersionExists)) turned tt) in
           let empty : c.caches.latest ≡ [] = e.1 ∙ none_above id at.m.caches.latest at.found.answers.1 in
-          let count = at.count in
+          let count = at.since.count in
           let few = at.few in
-          let soon = few_checks at.m id (checking b check) at.j at.on in
+          let soon = few_checks at.m id (checking b check) at.since.k at.since.on in
           subst (At (n + 1) c) (sym is) (record {
             before = n + 1;
             s = reading c latest.Looks;
             began = restarts names path page room decode a at.before at.s at.m id value at.found c between (λ k stands. e.0.fenced refl k stands) empty (n + 1) (omega (arith, count, few, soon));
-            k = 0;
-            on = refl;
+            since = since_now LSteps (reading c latest.Looks) (n + 1);
             read_is = refl;
-            count = omega arith;
           })
 
       fails : (check' : CheckOp) (error : TransactionalObjectError) → (error_number error ≡ 5 → ⊥) → CheckSteps (checking b check) (Done (Err error)) (checking c check') → ReadEnds names decode path page a c (Err error)
@@ -234,7 +217,6 @@ module _ {T : Type 0} (names : Names) (path : Segments) (page : ℕ) (room : 1 �
 
       checks_by : (x : CheckOp × Turned (Result (Unit {0}) ℕ)) (told : Turned (Result (Option (ℕ × T)) TransactionalObjectError)) → x ≡ check_turned check b.caches reply → (c.op, turned_by_number told) ≡ unless_lacking (lacks_memory (turned_by_number told)) (Checks id value check) (checks_turned path id value x) → TellsErrorOf (reply_told reply) told → After n c told
       checks_by (k, Goes) Goes turned takes tells =
-          let count = at.count in
           subst (At (n + 1) c) (sym (ap (λ p. p.0) takes)) (record {
             before = at.before;
             s = at.s;
@@ -243,9 +225,7 @@ module _ {T : Type 0} (names : Names) (path : Segments) (page : ℕ) (room : 1 �
             found = at.found;
             k = at.k;
             few = at.few;
-            j = suc at.j;
-            on = (checking b check, at.on, one k Goes turned tt);
-            count = omega (arith, count);
+            since = since_goes CheckSteps (check_begun at.m id) (checking b check) (checking c k) (at.before + at.k + 1) n at.since (one k Goes turned tt);
           })
       checks_by (k, Goes) (Done (Ok answer)) turned takes tells = let e = ap (λ p. p.1) takes in absurd (cc)
       checks_by (k, Done (Ok accepted)) Goes turned takes tells = let e = ap (λ p. p.1) takes in absurd (cc)
@@ -284,10 +264,8 @@ module _ {T : Type 0} (names : Names) (path : Segments) (page : ℕ) (room : 1 �
         small = small;
         stands = λ h n stood. (stood, inl (refl, refl));
       };
-      k = 0;
-      on = refl;
+      since = since_now LSteps (reading a latest.Looks) 0;
       read_is = refl;
-      count = omega arith;
     }
 
     read_on : (n : ℕ) (b : Scene (ReadOp T)) → GoesOn (ReadSteps names path page decode) n a b → At n b b.op
@@ -295,14 +273,14 @@ module _ {T : Type 0} (names : Names) (path : Segments) (page : ℕ) (room : 1 �
 
     soon : (n : ℕ) (b : Scene (ReadOp T)) (op : ReadOp T) → At n b op → (h : List T) (k : ℕ) → AllStand names decode path a.store a.caches h k → n < 40 + 2 * pages
     soon n b (Reads op read) at h k stood =
-        let few = few_reads at.before at.s (reading b op) at.k at.began at.on in
-        let count = at.count in
+        let few = few_reads at.before at.s (reading b op) at.since.k at.began at.since.on in
+        let count = at.since.count in
         let early = early_pass names path page room decode a at.before at.s (at.began.stands h k stood).1 in
         omega (arith, few, count, early)
     soon n b (Checks id value check) at h k stood =
         let few = at.few in
-        let fewer = few_checks at.m id (checking b check) at.j at.on in
-        let count = at.count in
+        let fewer = few_checks at.m id (checking b check) at.since.k at.since.on in
+        let count = at.since.count in
         let early = early_pass names path page room decode a at.before at.s (at.began.stands h k stood).1 in
         omega (arith, few, fewer, count, early)
     soon n b Ended at h k stood = absurd at

@@ -28,7 +28,7 @@ use Rattle.txn_drivers.specs.DrivenWrites.{WriteFailed, WriteChecked}
 use Rattle.txn_drivers.specs.LatestReads.{IsLatest}
 use Rattle.txn_drivers.specs.PageCount.{pages_below}
 use Rattle.txn_drivers.specs.WriteRuns.{WriteLeaves}
-use Rattle.txn_drivers.proofs.DriveLemmas.{after_steps}
+use Rattle.txn_drivers.proofs.DriveLemmas.{after_steps, Since, since_now, since_goes}
 use Rattle.txn_drivers.proofs.DrivenRead.{read_driven}
 use Rattle.txn_drivers.proofs.DrivenWrite.{checked_write_driven}
 use Rattle.txn_drivers.proofs.PageCounts.{pages_written}
@@ -133,9 +133,7 @@ module _ {T : Type 0} (names : Names) (path : Segments) (page : ℕ) (room : 1 �
   -- so many steps later
   record Attempting (n : ℕ) (c : Scene (Claiming T)) (write : WriteOp) (value : T) (epoch : ℕ) : Type 0 where
     began : Attempt value epoch
-    k : ℕ
-    on : GoesOn WriteSteps k (part_of (write_started names path (Some began.base) (encode value)) began.s) (part_of write c)
-    count : n ≡ began.before + k
+    since : Since WriteSteps (part_of (write_started names path (Some began.base) (encode value)) began.s) began.before n (part_of write c)
 
   -- the read after the first attempt, as it began
   record ReadBegun : Type 0 where
@@ -151,9 +149,7 @@ module _ {T : Type 0} (names : Names) (path : Segments) (page : ℕ) (room : 1 �
   -- so many steps later
   record Reading (n : ℕ) (c : Scene (Claiming T)) (read : ReadOp T) : Type 0 where
     began : ReadBegun
-    k : ℕ
-    on : GoesOn (ReadSteps names path page decode) k (part_of (read_started path) began.s) (part_of read c)
-    count : n ≡ began.before + k
+    since : Since (ReadSteps names path page decode) (part_of (read_started path) began.s) began.before n (part_of read c)
 
   abbrev At : ℕ → Scene (Claiming T) → Claiming T → Type 0
   At n c (Writes write value epoch) = Attempting n c write value epoch
@@ -185,9 +181,7 @@ module _ {T : Type 0} (names : Names) (path : Segments) (page : ℕ) (room : 1 �
           before = n;
           which = which;
         };
-        k = 0;
-        on = refl;
-        count = omega arith;
+        since = since_now WriteSteps (part_of (write_started names path (Some id) (encode (with_epoch value begin.epoch))) c) n;
       })
 
   -- a failure since the claim began
@@ -201,23 +195,17 @@ module _ {T : Type 0} (names : Names) (path : Segments) (page : ℕ) (room : 1 �
     start = part_of (write_started names path (Some at.began.base) (encode value)) at.began.s
 
     wrote : (next : WriteOp) (told : Result ℕ TransactionalObjectError) → WriteSteps (part_of write x) (Done told) (part_of next c) → WriteFailed names decode path (Some at.began.base) (encode value) value start (part_of next c) told ⊎ WriteChecked names decode path (Some at.began.base) (encode value) value start (part_of next c) told
-    wrote next told step = checked_write_driven names decode path (Some at.began.base) (encode value) value at.began.reads at.began.small start refl (at.k + 1) (Some told) (part_of next c) (at.k, part_of write x, omega arith, at.on, step)
+    wrote next told step = checked_write_driven names decode path (Some at.began.base) (encode value) value at.began.reads at.began.small start refl (at.since.k + 1) (Some told) (part_of next c) (at.since.k, part_of write x, omega arith, at.since.on, step)
 
-    soon : at.k < 7
-    soon = checked_write_driven names decode path (Some at.began.base) (encode value) value at.began.reads at.began.small start refl at.k None (part_of write x) at.on
+    soon : at.since.k < 7
+    soon = checked_write_driven names decode path (Some at.began.base) (encode value) value at.began.reads at.began.small start refl at.since.k None (part_of write x) at.since.on
 
     entered : (next : WriteOp) (told : Result ℕ TransactionalObjectError) → WriteSteps (part_of write x) (Done told) (part_of next c) → EntryStood names decode path h b at.began.base value at.began.s.store c.store c.caches (seen_as (entry_seen value) told)
     entered next told step = write_answers names decode path (Some at.began.base) (encode value) value start (part_of next c) at.began.small apart h b at.began.stands at.began.at.within told (wrote next told step)
 
     on_writing : (next : WriteOp) → WriteSteps (part_of write x) Goes (part_of next c) → c.op ≡ Writes next value epoch → At (n + 1) c c.op
     on_writing next step is =
-        let count = at.count in
-        subst (At (n + 1) c) (sym is) (record {
-          began = at.began;
-          k = suc at.k;
-          on = (part_of write x, at.on, step);
-          count = omega (arith, count);
-        })
+        subst (At (n + 1) c) (sym is) (record { began = at.began; since = since_goes WriteSteps start (part_of write x) (part_of next c) at.began.before n at.since step })
 
     -- a conflict leads to the read, but never in the second attempt
     overtaken : (next : WriteOp) → WriteSteps (part_of write x) (Done (Err kinds.ObjectVersionExists)) (part_of next c) → c.op ≡ Reads (read_started path) → At (n + 1) c c.op
@@ -228,7 +216,7 @@ module _ {T : Type 0} (names : Names) (path : Segments) (page : ℕ) (room : 1 �
         let rise = spends.failures_rise in
         let failed = at.began.failures in
         let most = spends.calls_most in
-        let count = at.count in
+        let count = at.since.count in
         let few = soon in
         elim at.began.which [
           | inl first ↦
@@ -246,9 +234,7 @@ module _ {T : Type 0} (names : Names) (path : Segments) (page : ℕ) (room : 1 �
                   before = n + 1;
                   early = omega (arith, count, few, none);
                 };
-                k = 0;
-                on = refl;
-                count = omega arith;
+                since = since_now (ReadSteps names path page decode) (part_of (read_started path) c) (n + 1);
               })
           | inr second ↦ let last = second.2 in absurd (omega (arith, less, last))
         ]
@@ -313,10 +299,10 @@ module _ {T : Type 0} (names : Names) (path : Segments) (page : ℕ) (room : 1 �
         omega (arith, within, fits)
 
     was_read : (next : ReadOp T) (told : Result (Option (ℕ × T)) TransactionalObjectError) → ReadSteps names path page decode (part_of read x) (Done told) (part_of next c) → NewestRead names decode path page h b at.began.s.store c.store c.caches told
-    was_read next told step = (read_driven names path page room decode begin refl at.began.ascends (small_by (greatest_held at.began.s.caches.latest) refl) (at.k + 1) (Some told) (part_of next c) (at.k, part_of read x, omega arith, at.on, step)).stands h b at.began.stands
+    was_read next told step = (read_driven names path page room decode begin refl at.began.ascends (small_by (greatest_held at.began.s.caches.latest) refl) (at.since.k + 1) (Some told) (part_of next c) (at.since.k, part_of read x, omega arith, at.since.on, step)).stands h b at.began.stands
 
-    soon_read : at.k < 40 + 2 * pages_below names page at.began.s.store.files
-    soon_read = read_driven names path page room decode begin refl at.began.ascends (small_by (greatest_held at.began.s.caches.latest) refl) at.k None (part_of read x) at.on h b at.began.stands
+    soon_read : at.since.k < 40 + 2 * pages_below names page at.began.s.store.files
+    soon_read = read_driven names path page room decode begin refl at.began.ascends (small_by (greatest_held at.began.s.caches.latest) refl) at.since.k None (part_of read x) at.since.on h b at.began.stands
 
     few_reads : (next : ReadOp T) (told : Result (Option (ℕ × T)) TransactionalObjectError) → ReadSteps names path page decode (part_of read x) (Done told) (part_of next c) → c.store.calls ≤ a.store.calls + 16 + 2 * pages
     few_reads next told step =
@@ -327,13 +313,7 @@ module _ {T : Type 0} (names : Names) (path : Segments) (page : ℕ) (room : 1 �
 
     on_reading : (next : ReadOp T) → ReadSteps names path page decode (part_of read x) Goes (part_of next c) → c.op ≡ Reads next → At (n + 1) c c.op
     on_reading next step is =
-        let count = at.count in
-        subst (At (n + 1) c) (sym is) (record {
-          began = at.began;
-          k = suc at.k;
-          on = (part_of read x, at.on, step);
-          count = omega (arith, count);
-        })
+        subst (At (n + 1) c) (sym is) (record { began = at.began; since = since_goes (ReadSteps names path page decode) begin (part_of read x) (part_of next c) at.began.before n at.since step })
 
     -- the second attempt
     again_on : (id : ℕ) (value : T) → IsLatest h id value → Begun names path encode epoch_of with_epoch asked id value c.op → IsMade encode decode epoch_of c.op → Stands c.store c.caches → a.store.failures ≤ c.store.failures → c.store.calls ≤ a.store.calls + 16 + 2 * pages → n + 1 ≤ 49 + 2 * pages → At (n + 1) c c.op
@@ -341,7 +321,7 @@ module _ {T : Type 0} (names : Names) (path : Segments) (page : ℕ) (room : 1 �
 
     rises : (next : ReadOp T) (told : Result (Option (ℕ × T)) TransactionalObjectError) → ReadSteps names path page decode (part_of read x) (Done told) (part_of next c) → a.store.failures ≤ c.store.failures
     rises next told step =
-        let ended = read_driven names path page room decode begin refl at.began.ascends (small_by (greatest_held at.began.s.caches.latest) refl) (at.k + 1) (Some told) (part_of next c) (at.k, part_of read x, omega arith, at.on, step) in
+        let ended = read_driven names path page room decode begin refl at.began.ascends (small_by (greatest_held at.began.s.caches.latest) refl) (at.since.k + 1) (Some told) (part_of next c) (at.since.k, part_of read x, omega arith, at.since.on, step) in
         let rise = ended.failures_rise in
         let failed = at.began.failures in
         omega (arith, rise, failed)
@@ -352,7 +332,7 @@ module _ {T : Type 0} (names : Names) (path : Segments) (page : ℕ) (room : 1 �
         let soon = soon_read in
         let few = at.began.few in
         let early = at.began.early in
-        let count = at.count in
+        let count = at.since.count in
         again_on found.0 found.1 newest (begun names path encode epoch_of with_epoch asked found.0 found.1 c.op again) made (was_read next (Ok (Some found)) step).stands (rises next (Ok (Some found)) step) (few_reads next (Ok (Some found)) step) (omega (arith, soon, few, early, count))
 
     refused_as : (found : ℕ × T) (error blocked : TransactionalObjectError) → IsLatest h found.0 found.1 → claimed_epoch asked (epoch_of found.1) ≡ Err blocked → error_number error ≡ error_number blocked → (blocked ≡ kinds.Fenced) ⊎ (blocked ≡ kinds.IdExhausted) → HasCauseOfClaim names decode path epoch_of with_epoch asked h a.store c.store error
@@ -416,11 +396,11 @@ module _ {T : Type 0} (names : Names) (path : Segments) (page : ℕ) (room : 1 �
     soon_ends : (n : ℕ) (c : Scene (Claiming T)) (op : Claiming T) → At n c op → n < 56 + 2 * pages
     soon_ends n c (Writes write value epoch) at =
         let few = soon n c c write value epoch at in
-        let count = at.count in
+        let count = at.since.count in
         elim at.began.which [ inl first ↦ let none = first.0 in omega (arith, few, count, none) | inr second ↦ let early = second.0 in omega (arith, few, count, early) ]
     soon_ends n c (Reads read) at =
         let few = soon_read some n c c read at in
-        let count = at.count in
+        let count = at.since.count in
         let early = at.began.early in
         let grown = at.began.few in
         omega (arith, few, count, early, grown)
