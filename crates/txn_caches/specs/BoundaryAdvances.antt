@@ -96,9 +96,7 @@ advance_read path target again (read, told) = advance_after path (Reads target a
 
 abbrev pub put_turned : Segments → BoundaryAdvance → ℕ → Option Reply → Raised
 put_turned path op target (Some (replies.Put answer)) = put_answered path op target answer
-put_turned path op target (Some (replies.Get answer)) = (op, Goes)
-put_turned path op target (Some (replies.List answer)) = (op, Goes)
-put_turned path op target (Some (replies.Delete answer)) = (op, Goes)
+put_turned path op target (Some reply) = (op, Goes)
 put_turned path op target None = (op, Goes)
 
 -- what it makes of a look or a reply, memory aside

@@ -64,9 +64,7 @@ IsBoundaryReply (Holds known) reply = IsLook reply
 
 abbrev pub boundary_replied : BoundaryRead → Option Reply → BoundaryRead × Turned (Result Known ℕ)
 boundary_replied op (Some (replies.Get answer)) = boundary_got op answer
-boundary_replied op (Some (replies.Put answer)) = (op, Goes)
-boundary_replied op (Some (replies.List answer)) = (op, Goes)
-boundary_replied op (Some (replies.Delete answer)) = (op, Goes)
+boundary_replied op (Some reply) = (op, Goes)
 boundary_replied op None = (op, Goes)
 
 -- what it makes of a look or a reply

@@ -97,16 +97,12 @@ module _ {T : Type 0} where
 -- what is asked is a get
 abbrev pub CanGet : Request → Type 0
 CanGet (requests.Get path known) = Unit {0}
-CanGet (requests.Put path bytes mode) = ⊥
-CanGet (requests.List prefix after limit) = ⊥
-CanGet (requests.Delete path) = ⊥
+CanGet request = ⊥
 
 -- what is asked is a put
 abbrev pub CanPut : Request → Type 0
 CanPut (requests.Put path bytes mode) = Unit {0}
-CanPut (requests.Get path known) = ⊥
-CanPut (requests.List prefix after limit) = ⊥
-CanPut (requests.Delete path) = ⊥
+CanPut request = ⊥
 
 -- a read of the boundary asks for a get
 abbrev pub CanReadBoundary : BoundaryRead → Type 0

@@ -43,16 +43,12 @@ pub record ListRuns (names : Names) (page : ℕ) (from to : Bound ℕ) (old new 
 -- how many files a page that is asked for may come from
 abbrev pub list_rank : Files → Request → ℕ
 list_rank files (requests.List prefix after limit) = length (listing prefix after (finmap.entries files))
-list_rank files (requests.Put path bytes mode) = 0
-list_rank files (requests.Get path known) = 0
-list_rank files (requests.Delete path) = 0
+list_rank files request = 0
 
 -- what it asks of the store is a page with room for one file at least
 abbrev pub CanList : Request → Type 0
 CanList (requests.List prefix after limit) = 1 ≤ limit
-CanList (requests.Put path bytes mode) = ⊥
-CanList (requests.Get path known) = ⊥
-CanList (requests.Delete path) = ⊥
+CanList request = ⊥
 
 -- one store call: the store replies to what it asks, and it takes that
 pub record IsListStep (names : Names) (page : ℕ) (old new : State) (op op' : ListOp) (told : Turned (Result (List Listed) TransactionalObjectError)) : Type 0 where

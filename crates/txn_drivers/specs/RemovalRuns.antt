@@ -46,9 +46,7 @@ removal_rank Drops = 1
 -- what it asks of the store is a removal
 abbrev pub CanRemove : RemovalStep → Request → Type 0
 CanRemove Removes (requests.Delete path) = Unit {0}
-CanRemove Removes (requests.Put path bytes mode) = ⊥
-CanRemove Removes (requests.Get path known) = ⊥
-CanRemove Removes (requests.List prefix after limit) = ⊥
+CanRemove Removes request = ⊥
 CanRemove Drops request = Unit {0}
 
 -- one look or one store call: the store replies to what it asks, and it takes that

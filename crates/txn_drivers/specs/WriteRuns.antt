@@ -70,9 +70,7 @@ write_rank Ended = 0
 -- it has not ended, and what it asks of the store is a put
 abbrev pub CanWrite : WriteUncheckedOp → Type 0
 CanWrite (Puts version (requests.Put path bytes mode)) = Unit {0}
-CanWrite (Puts version (requests.Get path known)) = ⊥
-CanWrite (Puts version (requests.List prefix after limit)) = ⊥
-CanWrite (Puts version (requests.Delete path)) = ⊥
+CanWrite (Puts version request) = ⊥
 CanWrite (Keeps version) = Unit {0}
 CanWrite Ended = ⊥
 

@@ -52,9 +52,7 @@ removed op (Err error) = (op, Done (Err (store_error_number error)))
 
 abbrev pub removal_replied : DeleteUncheckedOp → Option Reply → DeleteUncheckedOp × Turned (Result (Unit {0}) ℕ)
 removal_replied op (Some (replies.Delete answer)) = removed op answer
-removal_replied op (Some (replies.Put answer)) = (op, Goes)
-removal_replied op (Some (replies.Get answer)) = (op, Goes)
-removal_replied op (Some (replies.List answer)) = (op, Goes)
+removal_replied op (Some reply) = (op, Goes)
 removal_replied op None = (op, Goes)
 
 abbrev pub removal_turned_at : RemovalStep → DeleteUncheckedOp → Option Reply → DeleteUncheckedOp × Turned (Result (Unit {0}) ℕ)

@@ -46,7 +46,5 @@ listing_answered names page op (Err error) = (op, Done (Err (store_error_number 
 -- what it makes of a reply, memory aside
 abbrev pub listing_turned : Names → ℕ → ListOp → Option Reply → ListOp × Turned (Result (List Listed) ℕ)
 listing_turned names page op (Some (replies.List answer)) = listing_answered names page op answer
-listing_turned names page op (Some (replies.Put answer)) = (op, Goes)
-listing_turned names page op (Some (replies.Get answer)) = (op, Goes)
-listing_turned names page op (Some (replies.Delete answer)) = (op, Goes)
+listing_turned names page op (Some reply) = (op, Goes)
 listing_turned names page op None = (op, Goes)

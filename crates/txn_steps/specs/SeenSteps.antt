@@ -41,9 +41,7 @@ module _ {T : Type 0} (decode : List ℕ → Option T) where
   -- what an unchecked read makes of the reply to its get
   abbrev pub unchecked_turned : Option Reply → Turned (Result (Option T) ℕ)
   unchecked_turned (Some (replies.Get answer)) = Done (value_got answer)
-  unchecked_turned (Some (replies.Put answer)) = Goes
-  unchecked_turned (Some (replies.List answer)) = Goes
-  unchecked_turned (Some (replies.Delete answer)) = Goes
+  unchecked_turned (Some reply) = Goes
   unchecked_turned None = Goes
 
 module _ {T : Type 0} where
@@ -98,9 +96,7 @@ module _ {T : Type 0} (names : Names) (decode : List ℕ → Option T) where
 
   abbrev pub seen_replied : ReadSeenOp T → ℕ → Option Reply → ReadSeenOp T × Turned (Result (Option T) ℕ)
   seen_replied op id (Some (replies.Get answer)) = seen_got op id answer
-  seen_replied op id (Some (replies.Put answer)) = (op, Goes)
-  seen_replied op id (Some (replies.List answer)) = (op, Goes)
-  seen_replied op id (Some (replies.Delete answer)) = (op, Goes)
+  seen_replied op id (Some reply) = (op, Goes)
   seen_replied op id None = (op, Goes)
 
   -- what it makes of a look or a reply, memory aside

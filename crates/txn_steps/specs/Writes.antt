@@ -72,9 +72,7 @@ unchecked_kept Ended = (Ended, Goes)
 -- what it makes of a look or a reply
 abbrev pub unchecked_turned : WriteUncheckedOp → Option Reply → WriteUncheckedOp × Turned (Result ℕ ℕ)
 unchecked_turned op (Some (replies.Put answer)) = put_answered op answer
-unchecked_turned op (Some (replies.Get answer)) = (op, Goes)
-unchecked_turned op (Some (replies.List answer)) = (op, Goes)
-unchecked_turned op (Some (replies.Delete answer)) = (op, Goes)
+unchecked_turned op (Some reply) = (op, Goes)
 unchecked_turned op None = unchecked_kept op
 
 -- what it leaves of the cached versions
