@@ -6,7 +6,6 @@ use Rattle.txn_store.specs.Paths.{Segments}
 use Rattle.txn_store.specs.VersionName.{Names, version_path}
 use Rattle.txn_store.specs.Store.{State}
 use Rattle.txn_store.specs.declared.store.Got.{Got}
-use Rattle.txn_store.specs.declared.store.StoreError.{StoreError}
 use Rattle.txn_store.specs.declared.store.StoreError.TheVariants as errors
 use Rattle.txn_types.specs.Numbers.{number_of}
 use Rattle.txn_types.specs.declared.error.TransactionalObjectError.{TransactionalObjectError}
@@ -14,7 +13,7 @@ use Rattle.txn_types.specs.declared.error.TransactionalObjectError.TheVariants a
 use Rattle.txn_caches.specs.declared.caches.Cached.{Cached}
 use Rattle.txn_caches.specs.declared.caches.CachedBoundary.{CachedBoundary}
 use Rattle.txn_steps.specs.declared.write.WriteOp.{WriteOp}
-use Rattle.txn_drivers.specs.Calls.{SameAt, Spends, HasStoreCause, HasCause, HasCauseOfCheck, HasCauseOfPut}
+use Rattle.txn_drivers.specs.Calls.{SameAt, Spends, HasCause, HasCauseOfCheck, HasCauseOfPut}
 use Rattle.txn_drivers.specs.Checking.{Checked, Unbounded}
 use Rattle.txn_drivers.specs.DriveRuns.{Scene}
 use Rattle.txn_drivers.specs.DrivenChecks.{checked_latest}
