@@ -9,22 +9,25 @@ use Rattle.txn_history.specs.declared.event.Call.{Call}
 use Rattle.txn_history.specs.declared.event.Call.TheVariants as any
 use Rattle.txn_history.specs.declared.event.Answer.TheVariants as answers
 use Rattle.txn_history.specs.Trace.{Row}
-use Rattle.txn_history.specs.OneHistory.{Holds, AnswerFits, IsOneHistory}
+use Rattle.txn_history.specs.OneHistory.{Shows, Holds, AnswerFits, IsOneHistory}
 use Rattle.txn_history.specs.Laws.{HasOneClaimer}
 use Rattle.txn_history.proofs.Legal.{are_moves}
 
 module _ {T : Type 0} (decode : List ℕ → Option T) (get_epoch : T → ℕ) (set_epoch : T → ℕ → T) (failed : List ℕ) where
-  -- a claim that is held
+  -- a claim that is held: it shows the view that its call used, and holds
+  pub held_says : (before : List (Row T)) (op view n epoch : ℕ) (value : T) (call : Call T) → AnswerFits decode get_epoch failed before op call (answers.Held view n value epoch) → ((used : ℕ) × Shows before used view n) × Holds decode get_epoch before op n value epoch
+  held_says before op view n epoch value (any.View (view_calls.Claim w)) h = ((w, h.0), h.1)
+  held_says before op view n epoch value (any.View (view_calls.ClaimAt w at)) h = ((w, h.0), h.1)
+  held_says before op view n epoch value (any.Plain call) h = absurd h
+  held_says before op view n epoch value (any.View (view_calls.Init v)) h = absurd h
+  held_says before op view n epoch value (any.View view_calls.Load) h = absurd h
+  held_says before op view n epoch value (any.View (view_calls.Refresh w)) h = absurd h
+  held_says before op view n epoch value (any.View (view_calls.Update w v)) h = absurd h
+  held_says before op view n epoch value (any.View (view_calls.HolderRefresh w)) h = absurd h
+  held_says before op view n epoch value (any.View (view_calls.HolderUpdate w v)) h = absurd h
+
   pub held_fits : (before : List (Row T)) (op view n epoch : ℕ) (value : T) (call : Call T) → AnswerFits decode get_epoch failed before op call (answers.Held view n value epoch) → Holds decode get_epoch before op n value epoch
-  held_fits before op view n epoch value (any.View (view_calls.Claim w)) h = h.1
-  held_fits before op view n epoch value (any.View (view_calls.ClaimAt w at)) h = h.1
-  held_fits before op view n epoch value (any.Plain call) h = absurd h
-  held_fits before op view n epoch value (any.View (view_calls.Init v)) h = absurd h
-  held_fits before op view n epoch value (any.View view_calls.Load) h = absurd h
-  held_fits before op view n epoch value (any.View (view_calls.Refresh w)) h = absurd h
-  held_fits before op view n epoch value (any.View (view_calls.Update w v)) h = absurd h
-  held_fits before op view n epoch value (any.View (view_calls.HolderRefresh w)) h = absurd h
-  held_fits before op view n epoch value (any.View (view_calls.HolderUpdate w v)) h = absurd h
+  held_fits before op view n epoch value call h = (held_says before op view n epoch value call h).1
 
   -- of two claims that are held with one epoch, neither entry is above the other
   not_above : (rows : List (Row T)) → IsOneHistory decode get_epoch set_epoch failed rows → (i j k op other n m epoch : ℕ) (v u : T) → j ≤ i → k ≤ i → Holds decode get_epoch (take j rows) op n v epoch → Holds decode get_epoch (take k rows) other m u epoch → n < m → ⊥
