@@ -1,8 +1,8 @@
--- The row of a request that was served, where it had an effect, and the row of an answer, where one is told.
-use Rattle.std.proofs.Common.{◌≡◌, ◌≢◌, ℕ, List, not, Bool, true, false, cond, is_some, Option, Some, None, Result, Ok, Err, inl, inr, refl, ◌∙◌}
+-- The row of a request that was served, where it had an effect, and the row of an answer, where one is told. So what an event adds.
+use Rattle.std.proofs.Common.{◌≡◌, ◌≢◌, ℕ, List, [], ◌∷◌, ◌++◌, not, Bool, true, false, cond, is_some, Option, Some, None, Result, Ok, Err, inl, inr, refl, sym, ◌∙◌, ap, subst}
 use Rattle.std.specs.FinMap.{get}
 use Rattle.txn_store.specs.Paths.{Segments}
-use Rattle.txn_store.specs.Store.{State as StoreState, Placed, Removed, Puts, Deletes}
+use Rattle.txn_store.specs.Store.{State as StoreState, Files, Placed, Removed, Puts, Deletes}
 use Rattle.txn_store.specs.Requests.{Serves}
 use Rattle.txn_store.specs.declared.store.PutMode.{PutMode}
 use Rattle.txn_store.specs.declared.store.StoreError.{StoreError}
@@ -13,7 +13,11 @@ use Rattle.txn_store.specs.declared.request.Reply.{Reply}
 use Rattle.txn_store.specs.declared.request.Reply.TheVariants as replies
 use Rattle.txn_history.specs.declared.event.ToldOf.{ToldOf}
 use Rattle.txn_history.specs.declared.event.ToldOf.TheVariants as told
-use Rattle.txn_history.specs.Added.{is_empty, Tells, told_of, answer_row, answer_rows, effect_rows, IsEffectRow}
+use Rattle.txn_history.specs.declared.trace.RowOf.{RowOf}
+use Rattle.txn_history.specs.declared.trace.RowOf.TheVariants.{Answered}
+use Rattle.txn_history.specs.Lists.{numbered}
+use Rattle.txn_history.specs.Seen.{Store, Seen, asks_of}
+use Rattle.txn_history.specs.Added.{is_empty, Tells, told_of, answer_row, answer_rows, effect_rows, IsEffectRow, AddsEffect, AddsLanding, AddsAnswer}
 use Rattle.txn_machine_inner.specs.Machine.{effect_of}
 use Rattle.txn_machine_inner.proofs.Stands.{AllGiven}
 use Rattle.txn_machine_inner.proofs.Effects.{removed_missing}
@@ -90,3 +94,32 @@ module _ {C A : Type 0} where
   pub began_row : (op : ℕ) (answer : Option A) → answer_rows {C = C} op answer ≡ answer_row (told_of (told.Began op) op answer)
   began_row op None = refl
   began_row op (Some answer) = refl
+
+  -- what an event adds
+
+  -- an operation is answered so, and nothing reaches the store
+  pub adds_answer : (op : ℕ) (answer : A) (old new : List (RowOf C A)) (before after : Files) (said : ToldOf A) → said ≡ told.Answered op answer → new ≡ old ++ Answered op answer ∷ [] → after ≡ before → AddsAnswer op old before said new after
+  adds_answer op answer old new before after said tells added files = (inr (answer, tells), added ∙ ap (λ (t : ToldOf A). old ++ answer_row t) (sym tells), files)
+
+  -- a request is served, and this is told of its operation
+  pub adds_effect : (seen : Seen) (op : ℕ) (request : Request) (reply : Reply) (store served : StoreState) (old new : List (RowOf C A)) (after : Files) (said : ToldOf A) → asks_of seen op ≡ Some (Store request) → AllGiven store → Serves request store reply served → served.failures ≡ 0 →
+      after ≡ served.files → Tells (told.Went op) op said → new ≡ (old ++ effect_rows op (effect_of store.files request reply)) ++ answer_row said → AddsEffect seen op old store.files said new after
+  adds_effect seen op request reply store served old new after said asked given serves honest files tells added =
+      let rows : List (RowOf C A) = effect_rows op (effect_of store.files request reply) in
+      record { request = request; asked = asked; rows = rows; effect = subst (λ (f : Files). IsEffectRow op request store.files f rows) (sym files) (served_row C A op store served request reply given serves honest); told = tells; added = added }
+
+  -- a loose request is served
+  pub adds_landing : (seen : Seen) (k op : ℕ) (request : Request) (reply : Reply) (store served : StoreState) (old new : List (RowOf C A)) (after : Files) (said : ToldOf A) → numbered seen.loose k ≡ Some (op, request) → AllGiven store → Serves request store reply served → served.failures ≡ 0 →
+      after ≡ served.files → said ≡ told.Landed k (is_some (effect_of store.files request reply)) → new ≡ old ++ effect_rows op (effect_of store.files request reply) → AddsLanding seen k old store.files said new after
+  adds_landing seen k op request reply store served old new after said loose given serves honest files tells added =
+      let effect = effect_of store.files request reply in
+      let rows : List (RowOf C A) = effect_rows op effect in
+      record {
+        op = op;
+        request = request;
+        loose = loose;
+        rows = rows;
+        effect = subst (λ (f : Files). IsEffectRow op request store.files f rows) (sym files) (served_row C A op store served request reply given serves honest);
+        told = tells ∙ ap (told.Landed k) (effect_empty C A op effect);
+        added = added;
+      }

@@ -1,9 +1,11 @@
 -- Which operations what is told ends, of any calls: the one it is told of, or a client's. All others run on.
-use Rattle.std.proofs.Common.{◌≡◌, ◌≢◌, ℕ, zero, suc, ◌+◌, ◌≤◌, List, [], ◌∷◌, ◌++◌, length, map, set, slice_get, Bool, true, false, not, ◌==◌, ◌&&◌, is_some, Option, Some, None, inl, inr, refl, sym, ◌∙◌, ap, arith}
+use Rattle.std.proofs.Common.{◌≡◌, ◌≢◌, ℕ, zero, suc, ◌+◌, ◌-◌, ◌≤◌, List, [], ◌∷◌, ◌++◌, length, map, set, slice_get, slice_set, option_map, Bool, true, false, not, ◌==◌, ◌&&◌, is_some, Option, Some, None, inl, inr, refl, sym, ◌∙◌, ap, arith}
 use Rattle.std.proofs.lemmas.Bool.{cases_Bool, both_ways, eqb-true, eq-eqb, ne_eqb}
-use Rattle.std.proofs.lemmas.Option.{same_Some}
+use Rattle.std.proofs.lemmas.List.{length-map, map-append, map-set}
+use Rattle.std.proofs.lemmas.Option.{same_Some, slice_get-map}
 use Rattle.txn_history.specs.declared.event.ToldOf.{ToldOf}
 use Rattle.txn_history.specs.declared.event.ToldOf.TheVariants as told
+use Rattle.txn_history.specs.Lists.{numbered}
 use Rattle.txn_history.specs.Seen.{Operation}
 use Rattle.txn_history.specs.GoesOn.{state_of, ends_operation, state_after, states_after}
 use Rattle.txn_history.specs.Added.{told_of}
@@ -69,6 +71,26 @@ module _ {A : Type 0} where
   states_begun t from op ends (x ∷ os) new at one fits =
       ap (λ s. s ∷ map state_of (os ++ new ∷ [])) (state_stays t from x (one.others x.client from (λ same. omega (arith, at, same))))
       ∙ ap (λ ss. state_after t from x ∷ ss) (states_begun t (from + 1) op ends os new (omega (arith, at)) one fits)
+
+-- operations of any kind, by what is seen of them
+module _ {O : Type 0} (seen : O → Operation) where
+  -- an operation that is there is seen to be there
+  pub seen_got : (os : List O) (k : ℕ) (o : O) → slice_get os k ≡ Some o → slice_get (map seen os) k ≡ Some (seen o)
+  seen_got os k o e = slice_get-map seen os k ∙ ap (option_map seen) e
+
+  -- one of them does something else
+  pub states_acted : {A : Type 0} (t : ToldOf A) (op : ℕ) (ends : Bool) (os : List O) (o next : O) → numbered os op ≡ Some o → EndsOne t op ends → (seen next).client ≡ (seen o).client → is_some (seen o).asks ≡ true → is_some (seen next).asks ≡ not ends →
+      map state_of (map seen (slice_set os (op - 1) next)) ≡ states_after t 1 (map seen os) None
+  states_acted t zero ends os o next e one client runs fits = cc
+  states_acted t (suc k) ends os o next e one client runs fits =
+      ap (λ n. map state_of (map seen (set os n next))) (omega arith) ∙ ap (map state_of) (map-set seen os k next)
+      ∙ states_set t 1 k (suc k) ends (map seen os) (seen o) (seen next) (seen_got os k o e) (omega arith) one client runs fits
+
+  -- a new one goes on or has ended
+  pub states_new : {A : Type 0} (t : ToldOf A) (ends : Bool) (os : List O) (new : O) → EndsOne t (length os + 1) ends → is_some (seen new).asks ≡ not ends → map state_of (map seen (os ++ new ∷ [])) ≡ states_after t 1 (map seen os) (Some (seen new).client)
+  states_new t ends os new one fits =
+      ap (map state_of) (map-append seen os (new ∷ []))
+      ∙ states_begun t 1 (length os + 1) ends (map seen os) (seen new) (omega (arith, length-map os seen)) one fits
 
 module _ (A : Type 0) where
   -- the operations of a client that crashed end

@@ -50,6 +50,7 @@ use Rattle.txn_machine_inner.specs.declared.doing.PlainDoing.TheVariants.{Write,
 use Rattle.txn_machine_inner.specs.Doing.{ids_of}
 use Rattle.txn_history.proofs.More.{begins_other, ends_other, call_kept, begun_kept, at_kept, version_kept_by, newest_grows_by, epoch_kept, created_kept, entered_kept}
 use Rattle.txn_machine_inner.proofs.Rows.{affects_other}
+use Rattle.txn_machine_inner.proofs.Rising.{op_on}
 use Rattle.txn_machine_inner.proofs.Stands.{affects, has_effect, AreOthers, IsKnown, Frame, Fit, KnownFits, Open, TokenStands, ReadingStands, StepStands, CheckStands, Room, KnownBelow, PutStands, RaiseStands, AdvanceStands, WasAbove, WasGone, WasEmpty, RemovalStands, DeleteStepStands, Only, KnowsFound, ListingStands, FoundStands, ChosenStands, CollectingStands, Carried, WindowFits, CachesStand, LatestStands, ReadStands, SeenStands, Creates, PuttingStands, CreatedStands, UncheckedStands, WrittenStands, WriteStands, DoingStands, Asks, Runs, RunStands, OpStands, Fresh, bytes_at}
 
 get_split : {A : Type 0} (xs ys : List A) (k : ℕ) (y : A) → slice_get (xs ++ ys) k ≡ Some y → (slice_get xs k ≡ Some y) ⊎ ((j : ℕ) × (slice_get ys j ≡ Some y))
@@ -371,16 +372,7 @@ module _ {T : Type 0} (decode : List ℕ → Option T) (get_epoch : T → ℕ) (
     run_more cached call doing h = record { runs = runs_more call h.runs; range = h.range; stands = doing_more cached call doing h.stands }
 
     pub op_more : (cached : Option CachedBoundary) (doing : PlainDoing T) → OpStands decode get_epoch rows store cached op doing → OpStands decode get_epoch after new cached op doing
-    op_more cached (Write write) h = (h.0, run_more cached h.0 (Write write) h.1)
-    op_more cached (WriteUnchecked write) h = (h.0, run_more cached h.0 (WriteUnchecked write) h.1)
-    op_more cached (Read read) h = (h.0, run_more cached h.0 (Read read) h.1)
-    op_more cached (ReadUnchecked read) h = (h.0, run_more cached h.0 (ReadUnchecked read) h.1)
-    op_more cached (ReadSeen read) h = (h.0, run_more cached h.0 (ReadSeen read) h.1)
-    op_more cached (ListIds list) h = (h.0, run_more cached h.0 (ListIds list) h.1)
-    op_more cached (Delete delete) h = (h.0, run_more cached h.0 (Delete delete) h.1)
-    op_more cached (Check check) h = (h.0, run_more cached h.0 (Check check) h.1)
-    op_more cached (Advance advance) h = (h.0, run_more cached h.0 (Advance advance) h.1)
-    op_more cached Ended h = begun_more op h
+    op_more cached doing h = op_on decode get_epoch op rows after store new cached cached doing (λ call r. run_more cached call doing r) (begun_more op) h
 
     pub zero_more : was_begun rows op ≡ false → was_begun after op ≡ false
     zero_more h = subst (λ (rs : List (PlainRow T)). was_begun rs op ≡ false) (sym f.is) (any_none (begins op) rows f.more h (no_begins op f.more others))

@@ -32,19 +32,14 @@ use Rattle.txn_machine_inner.specs.declared.doing.PlainDoing.TheVariants.{Write,
 use Rattle.txn_machine_inner.specs.declared.doing.PlainOperation.{PlainOperation}
 use Rattle.txn_machine_inner.specs.Doing.{Next, started, turned, caches_left, asked, next_of, or_no_memory, write_answer, read_answer, value_answer, ids_answer, done_answer}
 use Rattle.txn_machine_inner.specs.Machine.{State, seen_operation, seen_operations, seen_of, with_doing, effect_of, effected, acted, loosened, failing, given_up, told_failure, ended_by, crashed, next_op, begun_as, Acts, Fails, GivesUp, Lands, Crashes, Looks, Served, Begins, Takes}
-use Rattle.txn_machine_inner.proofs.Ends.{EndsOne, answer_ends, give_up_ends, told_ends, states_stay, states_set, states_begun, states_crashed}
+use Rattle.txn_machine_inner.proofs.Ends.{EndsOne, answer_ends, give_up_ends, told_ends, states_stay, seen_got, states_acted, states_new, states_crashed}
 
 module _ {T : Type 0} where
   -- what is seen of an operation
 
-  got_at : (os : List (PlainOperation T)) (k : ℕ) (o : PlainOperation T) → slice_get os k ≡ Some o → slice_get (seen_operations os) k ≡ Some (seen_operation o)
-  got_at [] k o e = cc
-  got_at (x ∷ os) zero o e = ap Some (ap seen_operation (same_Some x o e))
-  got_at (x ∷ os) (suc k) o e = got_at os k o e
-
   asks_at : (os : List (PlainOperation T)) (op : ℕ) (o : PlainOperation T) → numbered os op ≡ Some o → asks_in (numbered (seen_operations os) op) ≡ asked o.doing
   asks_at os zero o e = cc
-  asks_at os (suc k) o e = ap asks_in (got_at os k o e)
+  asks_at os (suc k) o e = ap asks_in (seen_got seen_operation os k o e)
 
   -- an operation that is there asks for what it is seen to ask for
   pub seen_at : (s : State T) (op : ℕ) (o : PlainOperation T) → numbered s.operations op ≡ Some o → asks_of (seen_of s) op ≡ asked o.doing
@@ -102,19 +97,12 @@ module _ {T : Type 0} where
   -- one of the operations does something else
   acted_states : (t : PlainTold T) (op : ℕ) (ends : Bool) (os : List (PlainOperation T)) (o : PlainOperation T) (ask : Ask) (doing : PlainDoing T) → numbered os op ≡ Some o → EndsOne t op ends → asked o.doing ≡ Some ask → is_some (asked doing) ≡ not ends →
       map state_of (seen_operations (with_doing os op o doing)) ≡ states_after t 1 (seen_operations os) None
-  acted_states t zero ends os o ask doing e one asks fits = cc
-  acted_states t (suc k) ends os o ask doing e one asks fits =
-      let next : PlainOperation T = record { client = o.client; doing = doing } in
-      ap (λ n. map state_of (seen_operations (set os n next))) (omega arith) ∙ ap (map state_of) (map-set seen_operation os k next)
-      ∙ states_set t 1 k (suc k) ends (seen_operations os) (seen_operation o) (seen_operation next) (got_at os k o e) (omega arith) one refl (ap is_some asks) fits
+  acted_states t op ends os o ask doing e one asks fits = states_acted seen_operation t op ends os o (record { client = o.client; doing = doing }) e one refl (ap is_some asks) fits
 
   -- a new operation, which goes on or has ended
   new_states : (t : PlainTold T) (client : ℕ) (ends : Bool) (os : List (PlainOperation T)) (doing : PlainDoing T) → EndsOne t (length os + 1) ends → is_some (asked doing) ≡ not ends →
       map state_of (seen_operations (os ++ record { client = client; doing = doing } ∷ [])) ≡ states_after t 1 (seen_operations os) (Some client)
-  new_states t client ends os doing one fits =
-      let new : PlainOperation T = record { client = client; doing = doing } in
-      ap (map state_of) (map-append seen_operation os (new ∷ []))
-      ∙ states_begun t 1 (length os + 1) ends (seen_operations os) (seen_operation new) (omega (arith, length-map os seen_operation)) one fits
+  new_states t client ends os doing one fits = states_new seen_operation t ends os (record { client = client; doing = doing }) one fits
 
   -- the operations of a client end
   ended_state : (client : ℕ) (o : PlainOperation T) → o.client ≡ client → state_of (seen_operation (ended_by client o)) ≡ (o.client, false)

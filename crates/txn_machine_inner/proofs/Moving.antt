@@ -21,7 +21,7 @@ use Rattle.txn_history.specs.declared.event.EventOf.TheVariants as events
 use Rattle.txn_history.specs.Lists.{numbered}
 use Rattle.txn_history.specs.Names.{world_names, world_boundary}
 use Rattle.txn_history.specs.Facts.{WasNewest}
-use Rattle.txn_history.specs.Seen.{Ask, Store, Look}
+use Rattle.txn_history.specs.Seen.{Store, Look}
 use Rattle.txn_history.proofs.Lists.{numbered_last}
 use Rattle.txn_machine_inner.specs.declared.doing.PlainDoing.{PlainDoing}
 use Rattle.txn_machine_inner.specs.declared.doing.PlainDoing.TheVariants.{Read, Ended}
@@ -33,7 +33,7 @@ use Rattle.txn_machine_inner.proofs.Lists.{numbered_here}
 use Rattle.txn_machine_inner.proofs.Stands.{IsQuiet, CachesStand, OpStands, ReadStands, Stands}
 use Rattle.txn_machine_inner.proofs.Faults.{get_kept, listed_kept}
 use Rattle.txn_machine_inner.proofs.Parts.{quiet_rows, check_asks}
-use Rattle.txn_machine_inner.proofs.States.{at_place}
+use Rattle.txn_machine_inner.proofs.States.{asks_runs, at_place}
 use Rattle.txn_machine_inner.proofs.BoundServes.{asks_request, asks_look}
 use Rattle.txn_machine_inner.proofs.Serves.{latest_quiet}
 use Rattle.txn_machine_inner.proofs.World.{takes_keeps, reached_stands}
@@ -192,15 +192,9 @@ module _ {T : Type 0} (encode : T → List ℕ) (decode : List ℕ → Option T)
   pub ended_still : (op : ℕ) (old new : State T) → doing_in old op ≡ Ended → Moves encode decode get_epoch op old new → ⊥
   ended_still op old new e m =
       elim m.1 [
-        | inl t ↦ asks_nothing t.step.operation Look t.step.acts.found t.step.acts.asks
-        | inr t ↦ asks_nothing t.step.operation (Store t.step.request) t.step.acts.found t.step.acts.asks
+        | inl t ↦ asks_runs t.step.operation.doing Look t.step.acts.asks (sym (ap doing_of t.step.acts.found) ∙ e)
+        | inr t ↦ asks_runs t.step.operation.doing (Store t.step.request) t.step.acts.asks (sym (ap doing_of t.step.acts.found) ∙ e)
       ]
-    where
-      asks_nothing : (o : PlainOperation T) (ask : Ask) → numbered old.operations op ≡ Some o → asked o.doing ≡ Some ask → ⊥
-      asks_nothing o ask there asks =
-          let is : o.doing ≡ Ended = sym (ap doing_of there) ∙ e in
-          let none : None ≡ Some ask = sym (ap asked is) ∙ asks in
-          cc
 
   -- where it begins
   pub begins : (s : State T) (client : ℕ) (said : PlainTold T) (first : State T) → Takes encode decode get_epoch s (events.Begin client calls.Read) said first → Standing s → (caches : Caches) × Reading first (next_op s) (read_started world_boundary) caches

@@ -1,5 +1,5 @@
 -- Two successful checked writes never have the same id.
-use Rattle.std.proofs.Common.{◌≡◌, ℕ, List, take, slice_get, Option, Some, subst}
+use Rattle.std.proofs.Common.{◌≡◌, ℕ, List, take, Option, Some, subst}
 use Rattle.std.proofs.lemmas.Option.{same_Some}
 use Rattle.txn_history.specs.declared.event.PlainCall.{PlainCall}
 use Rattle.txn_history.specs.declared.event.PlainCall.TheVariants as calls

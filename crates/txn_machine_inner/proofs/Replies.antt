@@ -1,5 +1,5 @@
 -- A reply is of the kind that the operation asks for, and a look is asked for where none is.
-use Rattle.std.proofs.Common.{◌≡◌, ℕ, List, Option, Some, None, sym, subst}
+use Rattle.std.proofs.Common.{◌≡◌, ℕ, List, Option, Some, None, sym, subst, ◌∙◌}
 use Rattle.std.proofs.lemmas.Option.{same_Some}
 use Rattle.txn_store.specs.Store.{State as StoreState}
 use Rattle.txn_store.specs.Requests.{Serves}
@@ -63,78 +63,30 @@ use Rattle.txn_machine_inner.proofs.Events.{run_of}
 use Rattle.txn_machine_inner.proofs.World.{reached_stands}
 
 module _ (old new : StoreState) (request : Request) (reply : Reply) (s : Serves request old reply new) where
-  -- a request of one kind has replies of that kind
+  -- a reply is of its request's kind
 
-  abbrev IsPutOf : Request → Type 0
-  IsPutOf (requests.Put path bytes mode) = Unit {0}
-  IsPutOf request = ⊥
+  abbrev IsReplyTo : Request → Reply → Type 0
+  IsReplyTo (requests.Put path bytes mode) r = IsPutReply r
+  IsReplyTo (requests.Get path known) r = IsGetReply r
+  IsReplyTo (requests.List prefix after limit) r = IsListReply r
+  IsReplyTo (requests.Delete path) r = IsDeleteReply r
 
-  put_kind : (own : Request) → own ≡ request → IsPutOf own → IsPutReply reply
-  put_kind own is k = by own reply (subst (λ (q : Request). Serves q old reply new) (sym is) s) k
+  of_kind : (own asks : Request) → own ≡ request → own ≡ asks → IsReplyTo asks reply
+  of_kind own asks is e = by asks reply (subst (λ (q : Request). Serves q old reply new) (sym is ∙ e) s)
     where
-      by : (q : Request) (r : Reply) → Serves q old r new → IsPutOf q → IsPutReply r
-      by (requests.Put path bytes mode) (replies.Put answer) s' k' = tt
-      by (requests.Put path bytes mode) (replies.Get answer) s' k' = absurd s'
-      by (requests.Put path bytes mode) (replies.List answer) s' k' = absurd s'
-      by (requests.Put path bytes mode) (replies.Delete answer) s' k' = absurd s'
-      by (requests.Get path known) r s' k' = absurd k'
-      by (requests.List prefix after limit) r s' k' = absurd k'
-      by (requests.Delete path) r s' k' = absurd k'
-
-  abbrev IsGetOf : Request → Type 0
-  IsGetOf (requests.Get path known) = Unit {0}
-  IsGetOf request = ⊥
-
-  get_kind : (own : Request) → own ≡ request → IsGetOf own → IsGetReply reply
-  get_kind own is k = by own reply (subst (λ (q : Request). Serves q old reply new) (sym is) s) k
-    where
-      by : (q : Request) (r : Reply) → Serves q old r new → IsGetOf q → IsGetReply r
-      by (requests.Get path known) (replies.Get answer) s' k' = tt
-      by (requests.Get path known) (replies.Put answer) s' k' = absurd s'
-      by (requests.Get path known) (replies.List answer) s' k' = absurd s'
-      by (requests.Get path known) (replies.Delete answer) s' k' = absurd s'
-      by (requests.Put path bytes mode) r s' k' = absurd k'
-      by (requests.List prefix after limit) r s' k' = absurd k'
-      by (requests.Delete path) r s' k' = absurd k'
-
-  abbrev IsListOf : Request → Type 0
-  IsListOf (requests.List prefix after limit) = Unit {0}
-  IsListOf request = ⊥
-
-  list_kind : (own : Request) → own ≡ request → IsListOf own → IsListReply reply
-  list_kind own is k = by own reply (subst (λ (q : Request). Serves q old reply new) (sym is) s) k
-    where
-      by : (q : Request) (r : Reply) → Serves q old r new → IsListOf q → IsListReply r
-      by (requests.List prefix after limit) (replies.List answer) s' k' = tt
-      by (requests.List prefix after limit) (replies.Put answer) s' k' = absurd s'
-      by (requests.List prefix after limit) (replies.Get answer) s' k' = absurd s'
-      by (requests.List prefix after limit) (replies.Delete answer) s' k' = absurd s'
-      by (requests.Put path bytes mode) r s' k' = absurd k'
-      by (requests.Get path known) r s' k' = absurd k'
-      by (requests.Delete path) r s' k' = absurd k'
-
-  abbrev IsDeleteOf : Request → Type 0
-  IsDeleteOf (requests.Delete path) = Unit {0}
-  IsDeleteOf request = ⊥
-
-  delete_kind : (own : Request) → own ≡ request → IsDeleteOf own → IsDeleteReply reply
-  delete_kind own is k = by own reply (subst (λ (q : Request). Serves q old reply new) (sym is) s) k
-    where
-      by : (q : Request) (r : Reply) → Serves q old r new → IsDeleteOf q → IsDeleteReply r
-      by (requests.Delete path) (replies.Delete answer) s' k' = tt
-      by (requests.Delete path) (replies.Put answer) s' k' = absurd s'
-      by (requests.Delete path) (replies.Get answer) s' k' = absurd s'
-      by (requests.Delete path) (replies.List answer) s' k' = absurd s'
-      by (requests.Put path bytes mode) r s' k' = absurd k'
-      by (requests.Get path known) r s' k' = absurd k'
-      by (requests.List prefix after limit) r s' k' = absurd k'
+      by : (q : Request) (r : Reply) → Serves q old r new → IsReplyTo q r
+      by (requests.Put path bytes mode) (replies.Put answer) s' = tt
+      by (requests.Get path known) (replies.Get answer) s' = tt
+      by (requests.List prefix after limit) (replies.List answer) s' = tt
+      by (requests.Delete path) (replies.Delete answer) s' = tt
+      by _ _ s' = absurd s'
 
   module _ {T : Type 0} (decode : List ℕ → Option T) (get_epoch : T → ℕ) (rows : List (PlainRow T)) (store : StoreState) (cached : Option CachedBoundary) (op : ℕ) (call : PlainCall T) where
     -- the parts
 
     reading_reply : (id : ℕ) (Q : Type 0) (read : BoundaryRead) → ReadingStands rows store cached id Q read → boundary_read_asked read ≡ Some request → IsBoundaryReply read (Some reply)
     reading_reply id Q (reading.Looks path) h e = cc
-    reading_reply id Q (reading.Gets own) h e = get_kind own (same_Some own request e) (subst IsGetOf (sym h.asks) tt)
+    reading_reply id Q (reading.Gets own) h e = of_kind own _ (same_Some own request e) h.asks
     reading_reply id Q (reading.Holds known) h e = cc
 
     step_reply : (id : ℕ) (Q : Type 0) (step : BoundaryStep) (read : BoundaryRead) → StepStands rows store cached id Q step read → asked_at step read ≡ Some request → IsReplyAt step read (Some reply)
@@ -148,13 +100,13 @@ module _ (old new : StoreState) (request : Request) (reply : Reply) (s : Serves 
     raise_reply : (target : ℕ) (raise : BoundaryAdvance) → RaiseStands rows store cached target raise → boundary_advance_asked raise ≡ Some request → IsBoundaryAdvanceReply raise (Some reply)
     raise_reply target (raising.Looks t) h e = cc
     raise_reply target (raising.Reads t again read) h e = reading_reply 0 ⊥ read h.1 e
-    raise_reply target (raising.Puts t own) h e = put_kind own (same_Some own request e) (subst IsPutOf (sym h.1.asks) tt)
+    raise_reply target (raising.Puts t own) h e = of_kind own _ (same_Some own request e) h.1.asks
     raise_reply target (raising.Keeps t token) h e = cc
 
     -- the operations
 
     unchecked_reply : (id : ℕ) (write : WriteUncheckedOp) → UncheckedStands decode get_epoch rows op call id write → unchecked_asked write ≡ Some request → IsUncheckedReply write (Some reply)
-    unchecked_reply id (unchecked.Puts version own) h e = put_kind own (same_Some own request e) (subst IsPutOf (sym h.asks) tt)
+    unchecked_reply id (unchecked.Puts version own) h e = of_kind own _ (same_Some own request e) h.asks
     unchecked_reply id (unchecked.Keeps version) h e = cc
     unchecked_reply id unchecked.Ended h e = cc
 
@@ -163,9 +115,9 @@ module _ (old new : StoreState) (request : Request) (reply : Reply) (s : Serves 
     write_reply writes.Checks write h e = check_reply write.id (Entered decode rows op write.id h.value) write.check h.checks e
 
     latest_reply : (read : LatestOp T) → LatestStands decode rows op read → latest_asked read ≡ Some request → IsLatestReply read (Some reply)
-    latest_reply (latest.Probes hand found next own) h e = get_kind own (same_Some own request e) (subst IsGetOf (sym h.3) tt)
-    latest_reply (latest.Lists found own) h e = list_kind own (same_Some own request e) (subst IsListOf (sym h.asks) tt)
-    latest_reply (latest.Gets id own) h e = get_kind own (same_Some own request e) (subst IsGetOf (sym h.1) tt)
+    latest_reply (latest.Probes hand found next own) h e = of_kind own _ (same_Some own request e) h.3
+    latest_reply (latest.Lists found own) h e = of_kind own _ (same_Some own request e) h.asks
+    latest_reply (latest.Gets id own) h e = of_kind own _ (same_Some own request e) h.1
     latest_reply latest.Looks h e = cc
     latest_reply (latest.Finds successor found) h e = cc
     latest_reply (latest.Chooses greatest) h e = cc
@@ -179,13 +131,13 @@ module _ (old new : StoreState) (request : Request) (reply : Reply) (s : Serves 
     read_reply reads.Ended h e = cc
 
     seen_reply : (read : ReadSeenOp T) → SeenStands decode rows call read → seen_asked read ≡ Some request → IsSeenReply read (Some reply)
-    seen_reply (seen.Gets id own) h e = get_kind own (same_Some own request e) (subst IsGetOf (sym h.2) tt)
+    seen_reply (seen.Gets id own) h e = of_kind own _ (same_Some own request e) h.2
     seen_reply (seen.Looks id) h e = cc
     seen_reply (seen.Keeps version value) h e = cc
     seen_reply seen.Ended h e = cc
 
     removal_reply : (id : ℕ) (step : RemovalStep) (removal : DeleteUncheckedOp) → RemovalStands rows op id step removal.request → removal_asked_at step removal ≡ Some request → IsRemovalReplyAt step (Some reply)
-    removal_reply id removals.Removes removal h e = delete_kind removal.request (same_Some removal.request request e) (subst IsDeleteOf (sym h.0) tt)
+    removal_reply id removals.Removes removal h e = of_kind removal.request _ (same_Some removal.request request e) h.0
     removal_reply id removals.Drops removal h e = cc
 
     delete_reply : (id : ℕ) (step : DeleteStep) (delete : DeleteOp) → DeleteStepStands rows store cached op id step delete → delete_asked_at step delete ≡ Some request → IsDeleteReplyAt step delete (Some reply)
@@ -200,9 +152,9 @@ module _ (old new : StoreState) (request : Request) (reply : Reply) (s : Serves 
     doing_reply (Write write) h e = write_reply write.step write h (asks_request (write_asked write) request e)
     doing_reply (WriteUnchecked write) h e = unchecked_reply h.0.0 write h.0.1 (asks_request (unchecked_asked write) request e)
     doing_reply (Read read) h e = read_reply read h.1 (asks_request (read_asked read) request e)
-    doing_reply (ReadUnchecked read) h e = get_kind read.request (same_Some read.request request (asks_request (Some read.request) request e)) (subst IsGetOf (sym h.3) tt)
+    doing_reply (ReadUnchecked read) h e = of_kind read.request _ (same_Some read.request request (asks_request (Some read.request) request e)) h.3
     doing_reply (ReadSeen read) h e = seen_reply read h (asks_request (seen_asked read) request e)
-    doing_reply (ListIds list) h e = list_kind list.request (same_Some list.request request (asks_request (Some list.request) request e)) (subst IsListOf (sym h.1.asks) tt)
+    doing_reply (ListIds list) h e = of_kind list.request _ (same_Some list.request request (asks_request (Some list.request) request e)) h.1.asks
     doing_reply (Delete delete) h e = delete_reply h.0 delete.step delete h.2 (asks_request (delete_asked delete) request e)
     doing_reply (Check check) h e = check_reply h.0 (WasAbove rows op h.0) check h.2 (asks_request (check_asked check) request e)
     doing_reply (Advance advance) h e = advance_reply advance h (asks_request (advance_asked advance) request e)

@@ -1,5 +1,5 @@
 -- A client's cached boundary only rises, which keeps what stands of its other operations.
-use Rattle.std.proofs.Common.{ℕ, List, Option, Some, None}
+use Rattle.std.proofs.Common.{◌≡◌, ℕ, List, true, Option, Some, None}
 use Rattle.txn_store.specs.Store.{State as StoreState}
 use Rattle.txn_caches.specs.declared.caches.CachedBoundary.{CachedBoundary}
 use Rattle.txn_caches.specs.declared.boundary_read.BoundaryRead.{BoundaryRead}
@@ -22,11 +22,27 @@ use Rattle.txn_steps.specs.declared.delete.DeleteStep.TheVariants as deletes
 use Rattle.txn_steps.specs.declared.delete.DeleteOp.{DeleteOp}
 use Rattle.txn_history.specs.declared.event.PlainCall.{PlainCall}
 use Rattle.txn_machine_inner.specs.PlainTrace.{PlainRow}
+use Rattle.txn_history.specs.Calls.{was_begun}
 use Rattle.txn_history.specs.Facts.{Entered, WasNewest}
 use Rattle.txn_machine_inner.specs.declared.doing.PlainDoing.{PlainDoing}
 use Rattle.txn_machine_inner.specs.declared.doing.PlainDoing.TheVariants.{Write, WriteUnchecked, Read, ReadUnchecked, ReadSeen, ListIds, Delete, Check, Advance, Ended}
 use Rattle.txn_machine_inner.proofs.Stands.{TokenStands, ReadingStands, StepStands, CheckStands, RaiseStands, AdvanceStands, WasAbove, DeleteStepStands, ReadStands, WrittenStands, WriteStands, DoingStands, RunStands, OpStands}
 use Rattle.txn_machine_inner.proofs.Turns.{RisesTo}
+
+module _ {T : Type 0} (decode : List ℕ → Option T) (get_epoch : T → ℕ) (op : ℕ) (rows rows' : List (PlainRow T)) (store store' : StoreState) (cached cached' : Option CachedBoundary) where
+  -- an operation stands on where its run does, or its begin
+  pub op_on : (doing : PlainDoing T) → ((call : PlainCall T) → RunStands decode get_epoch rows store cached op call doing → RunStands decode get_epoch rows' store' cached' op call doing) → (was_begun rows op ≡ true → was_begun rows' op ≡ true) →
+      OpStands decode get_epoch rows store cached op doing → OpStands decode get_epoch rows' store' cached' op doing
+  op_on (Write write) run begun h = (h.0, run h.0 h.1)
+  op_on (WriteUnchecked write) run begun h = (h.0, run h.0 h.1)
+  op_on (Read read) run begun h = (h.0, run h.0 h.1)
+  op_on (ReadUnchecked read) run begun h = (h.0, run h.0 h.1)
+  op_on (ReadSeen read) run begun h = (h.0, run h.0 h.1)
+  op_on (ListIds list) run begun h = (h.0, run h.0 h.1)
+  op_on (Delete delete) run begun h = (h.0, run h.0 h.1)
+  op_on (Check check) run begun h = (h.0, run h.0 h.1)
+  op_on (Advance advance) run begun h = (h.0, run h.0 h.1)
+  op_on Ended run begun h = begun h
 
 module _ {T : Type 0} (decode : List ℕ → Option T) (get_epoch : T → ℕ) (rows : List (PlainRow T)) (store : StoreState) (cached after : Option CachedBoundary) (rises : RisesTo cached after) where
   token_rises : (token : Option ℕ) → TokenStands rows store cached token → TokenStands rows store after token
@@ -90,13 +106,4 @@ module _ {T : Type 0} (decode : List ℕ → Option T) (get_epoch : T → ℕ) (
   run_rises op call doing h = record { runs = h.runs; range = h.range; stands = doing_rises op call doing h.stands }
 
   pub op_rises : (op : ℕ) (doing : PlainDoing T) → OpStands decode get_epoch rows store cached op doing → OpStands decode get_epoch rows store after op doing
-  op_rises op (Write write) h = (h.0, run_rises op h.0 (Write write) h.1)
-  op_rises op (WriteUnchecked write) h = (h.0, run_rises op h.0 (WriteUnchecked write) h.1)
-  op_rises op (Read read) h = (h.0, run_rises op h.0 (Read read) h.1)
-  op_rises op (ReadUnchecked read) h = (h.0, run_rises op h.0 (ReadUnchecked read) h.1)
-  op_rises op (ReadSeen read) h = (h.0, run_rises op h.0 (ReadSeen read) h.1)
-  op_rises op (ListIds list) h = (h.0, run_rises op h.0 (ListIds list) h.1)
-  op_rises op (Delete delete) h = (h.0, run_rises op h.0 (Delete delete) h.1)
-  op_rises op (Check check) h = (h.0, run_rises op h.0 (Check check) h.1)
-  op_rises op (Advance advance) h = (h.0, run_rises op h.0 (Advance advance) h.1)
-  op_rises op Ended h = h
+  op_rises op doing h = op_on decode get_epoch op rows rows store store cached after doing (λ call r. run_rises op call doing r) (λ begun. begun) h

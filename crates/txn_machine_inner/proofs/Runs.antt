@@ -1,8 +1,7 @@
 -- What holds of each state that a world reaches, as its public calls say it: its history, the kinds of replies, and the rows that an event adds.
-use Rattle.std.proofs.Common.{◌≡◌, ℕ, ◌+◌, ◌≤◌, List, [], ◌∷◌, ◌++◌, length, Bool, true, false, Option, inr, refl, sym, ◌∙◌, ap, subst}
+use Rattle.std.proofs.Common.{◌≡◌, ℕ, ◌+◌, ◌≤◌, List, [], ◌∷◌, ◌++◌, length, inr, refl, sym, ◌∙◌, ap, subst, Option}
 use Rattle.std.proofs.lemmas.List.{append-nil}
 use Rattle.txn_history.specs.declared.event.PlainCall.{PlainCall}
-use Rattle.txn_history.specs.declared.event.PlainAnswer.{PlainAnswer}
 use Rattle.txn_history.specs.declared.event.PlainAnswer.TheVariants as answers
 use Rattle.txn_history.specs.declared.event.Failure.{Failure}
 use Rattle.txn_history.specs.declared.event.Failure.TheVariants as failures
@@ -13,10 +12,10 @@ use Rattle.txn_history.specs.declared.trace.RowOf.TheVariants.{Begun}
 use Rattle.txn_history.specs.History.{stored, HasContents}
 use Rattle.txn_history.specs.Calls.{begun_count}
 use Rattle.txn_machine_inner.specs.PlainHistory.{IsOneHistory}
-use Rattle.txn_history.specs.Added.{Tells, answer_row, effect_rows, IsEffectRow, AddsRows}
-use Rattle.txn_machine_inner.specs.Machine.{State, opening, seen_of, effect_of, next_op, FailsFirst, Fails, Lands, Looks, Served, Begins, Takes, Runs, IsReached}
+use Rattle.txn_history.specs.Added.{Tells, answer_row, effect_rows, AddsRows}
+use Rattle.txn_machine_inner.specs.Machine.{State, opening, seen_of, effect_of, next_op, Fails, Lands, Looks, Served, Begins, Takes, Runs, IsReached}
 use Rattle.txn_machine_inner.proofs.Stands.{Stands}
-use Rattle.txn_machine_inner.proofs.EffectRows.{served_row, effect_empty, tells_answer, went_row, began_row}
+use Rattle.txn_machine_inner.proofs.EffectRows.{tells_answer, went_row, began_row, adds_answer, adds_effect, adds_landing}
 use Rattle.txn_machine_inner.proofs.Going.{seen_at}
 use Rattle.txn_machine_inner.proofs.World.{reached_stands}
 
@@ -70,15 +69,9 @@ module _ {T : Type 0} (encode : T → List ℕ) (decode : List ℕ → Option T)
 
   serve_adds : (old : State T) (op : ℕ) (said : PlainTold T) (new : State T) → Served decode old op said new → Stands decode get_epoch old → AddsRows (seen_of old) old.trace old.store.files (events.Serve op) said new.trace new.store.files
   serve_adds old op said new v st =
-      let rows = effect_rows op (effect_of old.store.files v.request v.reply) in
-      record {
-        request = v.request;
-        asked = seen_at old op v.operation v.acts.found ∙ v.acts.asks;
-        rows = rows;
-        effect = subst (λ (s : State T). IsEffectRow {C = PlainCall T} {A = PlainAnswer T} op v.request old.store.files s.store.files rows) (sym v.state) (served_row (PlainCall T) (PlainAnswer T) op old.store v.store v.request v.reply st.know.files.given v.reaches.serves v.reaches.honest);
-        told = subst (λ (t : PlainTold T). Tells (told.Went op) op t) (sym v.tells) (tells_answer (told.Went op) op v.next.1);
-        added = ap (λ (s : State T). s.trace) v.state ∙ ap (λ more. (old.trace ++ rows) ++ more) (went_row op v.next.1 ∙ ap answer_row (sym v.tells));
-      }
+      adds_effect (seen_of old) op v.request v.reply old.store v.store old.trace new.trace new.store.files said (seen_at old op v.operation v.acts.found ∙ v.acts.asks) st.know.files.given v.reaches.serves v.reaches.honest (ap (λ (s : State T). s.store.files) v.state)
+      (subst (λ (t : PlainTold T). Tells (told.Went op) op t) (sym v.tells) (tells_answer (told.Went op) op v.next.1))
+      (ap (λ (s : State T). s.trace) v.state ∙ ap (λ more. (old.trace ++ effect_rows op (effect_of old.store.files v.request v.reply)) ++ more) (went_row op v.next.1 ∙ ap answer_row (sym v.tells)))
 
   look_adds : (old : State T) (op : ℕ) (said : PlainTold T) (new : State T) → Looks decode old op said new → AddsRows (seen_of old) old.trace old.store.files (events.Look op) said new.trace new.store.files
   look_adds old op said new v = (
@@ -87,47 +80,18 @@ module _ {T : Type 0} (encode : T → List ℕ) (decode : List ℕ → Option T)
     ap (λ (s : State T). s.store.files) v.state,
   )
 
-  first_adds : (looses : Bool) (old : State T) (op : ℕ) (said : PlainTold T) (new : State T) → FailsFirst old op said looses new → (Tells (told.Went op) op said) × (new.trace ≡ old.trace ++ answer_row said) × (new.store.files ≡ old.store.files)
-  first_adds false old op said new v = (
-    inr (answers.Refused 2, v.tells),
-    ap (λ (s : State T). s.trace) v.state ∙ ap (λ (t : PlainTold T). old.trace ++ answer_row t) (sym v.tells),
-    ap (λ (s : State T). s.store.files) v.state,
-  )
-  first_adds true old op said new v = (
-    inr (answers.Refused 2, v.tells),
-    ap (λ (s : State T). s.trace) v.state ∙ ap (λ (t : PlainTold T). old.trace ++ answer_row t) (sym v.tells),
-    ap (λ (s : State T). s.store.files) v.state,
-  )
-
   fail_adds : (failure : Failure) (old : State T) (op : ℕ) (said : PlainTold T) (new : State T) → Fails old op failure said new → Stands decode get_epoch old → AddsRows (seen_of old) old.trace old.store.files (events.Fail op failure) said new.trace new.store.files
-  fail_adds failures.Before old op said new v st = ((answers.Refused 2, v.tells), first_adds false old op said new v)
-  fail_adds failures.Loose old op said new v st = ((answers.Refused 2, v.tells), first_adds true old op said new v)
-  fail_adds failures.After old op said new v st =
-      let rows = effect_rows op (effect_of old.store.files v.request v.reply) in (
-        (answers.Refused 2, v.tells),
-        record {
-          request = v.request;
-          asked = seen_at old op v.operation v.acts.found ∙ v.acts.asks;
-          rows = rows;
-          effect = subst (λ (s : State T). IsEffectRow {C = PlainCall T} {A = PlainAnswer T} op v.request old.store.files s.store.files rows) (sym v.state) (served_row (PlainCall T) (PlainAnswer T) op old.store v.store v.request v.reply st.know.files.given v.reaches.serves v.reaches.honest);
-          told = inr (answers.Refused 2, v.tells);
-          added = ap (λ (s : State T). s.trace) v.state ∙ ap (λ (t : PlainTold T). (old.trace ++ rows) ++ answer_row t) (sym v.tells);
-        },
-      )
+  fail_adds failures.Before old op said new v st = ((answers.Refused 2, v.tells), adds_answer op (answers.Refused 2) old.trace new.trace old.store.files new.store.files said v.tells (ap (λ (s : State T). s.trace) v.state) (ap (λ (s : State T). s.store.files) v.state))
+  fail_adds failures.Loose old op said new v st = ((answers.Refused 2, v.tells), adds_answer op (answers.Refused 2) old.trace new.trace old.store.files new.store.files said v.tells (ap (λ (s : State T). s.trace) v.state) (ap (λ (s : State T). s.store.files) v.state))
+  fail_adds failures.After old op said new v st = (
+    (answers.Refused 2, v.tells),
+    adds_effect (seen_of old) op v.request v.reply old.store v.store old.trace new.trace new.store.files said (seen_at old op v.operation v.acts.found ∙ v.acts.asks) st.know.files.given v.reaches.serves v.reaches.honest (ap (λ (s : State T). s.store.files) v.state) (inr (answers.Refused 2, v.tells))
+        (ap (λ (s : State T). s.trace) v.state ∙ ap (λ (t : PlainTold T). (old.trace ++ effect_rows op (effect_of old.store.files v.request v.reply)) ++ answer_row t) (sym v.tells)),
+  )
 
   land_adds : (old : State T) (k : ℕ) (said : PlainTold T) (new : State T) → Lands old k said new → Stands decode get_epoch old → AddsRows (seen_of old) old.trace old.store.files (events.Land k) said new.trace new.store.files
   land_adds old k said new v st =
-      let effect = effect_of old.store.files v.request v.reply in
-      let rows = effect_rows v.op effect in
-      record {
-        op = v.op;
-        request = v.request;
-        loose = v.found;
-        rows = rows;
-        effect = subst (λ (s : State T). IsEffectRow {C = PlainCall T} {A = PlainAnswer T} v.op v.request old.store.files s.store.files rows) (sym v.state) (served_row (PlainCall T) (PlainAnswer T) v.op old.store v.store v.request v.reply st.know.files.given v.reaches.serves v.reaches.honest);
-        told = v.tells ∙ ap (told.Landed k) (effect_empty (PlainCall T) (PlainAnswer T) v.op effect);
-        added = ap (λ (s : State T). s.trace) v.state;
-      }
+      adds_landing (seen_of old) k v.op v.request v.reply old.store v.store old.trace new.trace new.store.files said v.found st.know.files.given v.reaches.serves v.reaches.honest (ap (λ (s : State T). s.store.files) v.state) v.tells (ap (λ (s : State T). s.trace) v.state)
 
   begin_adds : (old : State T) (client : ℕ) (call : PlainCall T) (said : PlainTold T) (new : State T) → Begins encode decode old client call said new → Stands decode get_epoch old → AddsRows (seen_of old) old.trace old.store.files (events.Begin client call) said new.trace new.store.files
   begin_adds old client call said new v st =

@@ -38,38 +38,22 @@ abbrev pub framed_by : {T : Type 0} {rows : List (PlainRow T)} {store new : Stor
 framed_by more f = record { more = more; is = refl; up = f.up; given = f.given; same = f.same }
 
 module _ {T : Type 0} (decode : List ℕ → Option T) (get_epoch : T → ℕ) where
+  -- the same, but for another operation
+  but_for : (s : State T) (hole other : ℕ) → StandsBut decode get_epoch s hole → ((op : ℕ) (o : PlainOperation T) → op ≢ other → numbered s.operations op ≡ Some o → AtClient decode get_epoch s op o) → StandsBut decode get_epoch s other
+  but_for s hole other st each = record { paged = st.paged; know = st.know; wide = st.wide; caches = st.caches; count = st.count; zero = st.zero; fresh = st.fresh; loose = st.loose; each = each }
+
   -- opens one operation
   pub but : (s : State T) (op : ℕ) → Stands decode get_epoch s → StandsBut decode get_epoch s op
-  but s op st =
-      record {
-        paged = st.paged;
-        know = st.know;
-        wide = st.wide;
-        caches = st.caches;
-        count = st.count;
-        zero = st.zero;
-        fresh = st.fresh;
-        loose = st.loose;
-        each = λ n o _ e. st.each n o (λ z. omega (arith, z, (within s.operations n o e).0)) e;
-      }
+  but s op st = but_for s 0 op st (λ n o _ e. st.each n o (λ z. omega (arith, z, (within s.operations n o e).0)) e)
 
   -- closes it again
   pub close : (s : State T) (op : ℕ) → StandsBut decode get_epoch s op → ((o : PlainOperation T) → numbered s.operations op ≡ Some o → AtClient decode get_epoch s op o) → Stands decode get_epoch s
   close s op st at =
-      record {
-        paged = st.paged;
-        know = st.know;
-        wide = st.wide;
-        caches = st.caches;
-        count = st.count;
-        zero = st.zero;
-        fresh = st.fresh;
-        loose = st.loose;
-        each = λ n o _ e. elim (cases_eq n op) [
-          | inl h ↦ subst (λ (m : ℕ). AtClient decode get_epoch s m o) (sym h) (at o (subst (λ (m : ℕ). numbered s.operations m ≡ Some o) h e))
-          | inr h ↦ st.each n o h e
-        ];
-      }
+      but_for s op 0 st
+      (λ n o _ e. elim (cases_eq n op) [
+        | inl h ↦ subst (λ (m : ℕ). AtClient decode get_epoch s m o) (sym h) (at o (subst (λ (m : ℕ). numbered s.operations m ≡ Some o) h e))
+        | inr h ↦ st.each n o h e
+      ])
 
   -- what stands of an operation at its own place
   pub at_place : (s : State T) (op : ℕ) (o : PlainOperation T) → Stands decode get_epoch s → numbered s.operations op ≡ Some o → AtClient decode get_epoch s op o

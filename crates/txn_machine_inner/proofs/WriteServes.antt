@@ -85,18 +85,11 @@ module _ {T : Type 0} (decode : List ℕ → Option T) (get_epoch : T → ℕ) w
       }
 
   entered : (rows : List (PlainRow T)) (op id : ℕ) (bytes : List ℕ) (value : T) → id < 2 ^ 64 → was_begun rows op ≡ true → has_id (versions_of rows) id ≡ false → decode bytes ≡ Some value → Entered decode (rows ++ Effect op (create id bytes) ∷ []) op id value
+  unfolding made
   entered rows op id bytes value fits begun lacks reads =
       let row : PlainRow T = Effect op (create id bytes) in
-      record {
-        place = length rows;
-        request = create id bytes;
-        bytes = bytes;
-        effect = get_last rows row;
-        creates = created_is id bytes Create fits;
-        begun = subst (λ (rs : List (PlainRow T)). was_begun rs op ≡ true) (sym (front rows row)) begun;
-        first = subst (λ (rs : List (PlainRow T)). has_id (versions_of rs) id ≡ false) (sym (front rows row)) lacks;
-        reads = reads;
-      }
+      let m = made rows op id bytes fits begun in
+      record { place = m.place; request = m.request; bytes = m.bytes; effect = m.effect; creates = m.creates; begun = m.begun; first = subst (λ (rs : List (PlainRow T)). has_id (versions_of rs) id ≡ false) (sym (front rows row)) lacks; reads = reads }
 
   -- its version is known, and the boundary has reached it, or it is its own entry
   record Stays (rows : List (PlainRow T)) (op : ℕ) (value : T) (version : Cached) : Type 0 where
