@@ -1,16 +1,17 @@
 -- What more rows do to what a trace says.
-use Rattle.std.proofs.Common.{◌≡◌, ◌≢◌, ℕ, zero, suc, ◌+◌, ◌<◌, ◌≤◌, List, [], ◌∷◌, ◌++◌, length, take, map, slice_get, Bool, true, false, Option, Some, refl, sym, ◌∙◌, ap, subst, arith}
+use Rattle.std.proofs.Common.{◌≡◌, ◌≢◌, ℕ, zero, suc, ◌+◌, ◌<◌, ◌≤◌, ◌⊎◌, List, [], ◌∷◌, ◌++◌, length, take, map, slice_get, Bool, true, false, Option, Some, inl, inr, refl, sym, ◌∙◌, ap, subst, arith}
 use Rattle.std.proofs.lemmas.List.{append_assoc, append-nil, length-append, take-append-le, take_all}
 use Rattle.std.proofs.lemmas.List.Folds.{list_any-append}
 use Rattle.std.proofs.lemmas.Bool.{ne_eqb}
 use Rattle.std.proofs.lemmas.Option.{slice_get_within}
+use Rattle.txn_store.specs.declared.request.Request.{Request}
 use Rattle.txn_history.specs.declared.trace.RowOf.{RowOf}
 use Rattle.txn_history.specs.declared.trace.RowOf.TheVariants.{Effect, Begun, Answered}
 use Rattle.txn_history.specs.Lists.{numbered}
-use Rattle.txn_history.specs.History.{Version, has_id, versions_of, newest, put_count, epoch_in, epoch_at}
+use Rattle.txn_history.specs.History.{Version, created, has_id, versions_of, newest, put_count, epoch_in, epoch_at}
 use Rattle.txn_history.specs.Calls.{begins, ends, was_begun, IsCall, AtRow, begun_count}
 use Rattle.txn_history.specs.Facts.{Created, Entered}
-use Rattle.txn_history.proofs.Lists.{get_kept, numbered_kept}
+use Rattle.txn_history.proofs.Lists.{get_more, get_kept, numbered_kept}
 use Rattle.txn_history.proofs.Rows.{row_op, versions_grow}
 
 -- an element within the first of two lists
@@ -73,19 +74,30 @@ module _ {C A : Type 0} where
       }
 
 module _ {C A T : Type 0} (decode : List ℕ → Option T) where
-  pub entered_kept : (rows more : List (RowOf C A)) (op n : ℕ) (value : T) → Entered decode rows op n value → Entered decode (rows ++ more) op n value
-  entered_kept rows more op n value e =
-      let front = front_kept rows more e.place (Effect op e.request) e.effect in
+  -- the same row at the same place, after the same rows
+  entered_at : (rows rows' : List (RowOf C A)) (op n : ℕ) (value : T) → (e : Entered decode rows op n value) → slice_get rows' e.place ≡ Some (Effect op e.request) → take e.place rows' ≡ take e.place rows → Entered decode rows' op n value
+  entered_at rows rows' op n value e effect front =
       record {
         place = e.place;
         request = e.request;
         bytes = e.bytes;
-        effect = get_kept rows more e.place (Effect op e.request) e.effect;
+        effect = effect;
         creates = e.creates;
         begun = subst (λ (rs : List (RowOf C A)). was_begun rs op ≡ true) (sym front) e.begun;
         first = subst (λ (rs : List (RowOf C A)). has_id (versions_of rs) n ≡ false) (sym front) e.first;
         reads = e.reads;
       }
+
+  pub entered_kept : (rows more : List (RowOf C A)) (op n : ℕ) (value : T) → Entered decode rows op n value → Entered decode (rows ++ more) op n value
+  entered_kept rows more op n value e = entered_at rows (rows ++ more) op n value e (get_kept rows more e.place (Effect op e.request) e.effect) (front_kept rows more e.place (Effect op e.request) e.effect)
+
+  -- an entry with one more row is one of before, or of that row
+  pub entered_back : (rows : List (RowOf C A)) (row : RowOf C A) (op n : ℕ) (value : T) → Entered decode (rows ++ row ∷ []) op n value → Entered decode rows op n value ⊎ ((request : Request) × (bytes : List ℕ) × (row ≡ Effect op request) × (created request ≡ Some (n, bytes)))
+  entered_back rows row op n value e =
+      elim (get_more rows row e.place (Effect op e.request) e.effect) [
+        | inl old ↦ inl (entered_at (rows ++ row ∷ []) rows op n value e old (sym (front_kept rows (row ∷ []) e.place (Effect op e.request) old)))
+        | inr last ↦ inr (e.request, e.bytes, last.1, e.creates)
+      ]
 
 module _ {C A T : Type 0} (decode : List ℕ → Option T) (get_epoch : T → ℕ) where
   pub epoch_kept : (rows more : List (RowOf C A)) (n : ℕ) → n ≤ newest rows → epoch_at decode get_epoch (rows ++ more) n ≡ epoch_at decode get_epoch rows n

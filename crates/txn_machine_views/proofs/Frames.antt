@@ -2,17 +2,16 @@
 use Rattle.std.proofs.Common.{◌≡◌, ◌≢◌, ℕ, ◌≤◌, max, List, [], ◌∷◌, ◌++◌, length, Bool, true, false, ◌||◌, Option, Some, None, inl, inr, refl, sym, ◌∙◌, ap, subst, arith}
 use Rattle.std.specs.List.{list_any}
 use Rattle.std.proofs.lemmas.Bool.{cases_lt}
-use Rattle.std.proofs.lemmas.Option.{slice_get_within}
 use Rattle.txn_store.specs.declared.request.Request.{Request}
 use Rattle.txn_history.specs.declared.event.PlainCall.{PlainCall}
 use Rattle.txn_history.specs.declared.event.PlainCall.TheVariants as calls
 use Rattle.txn_history.specs.declared.trace.RowOf.TheVariants.{Effect, Begun, Answered}
-use Rattle.txn_history.specs.History.{created, has_id, versions_of, newest, boundary, IsEntry, epoch_at}
+use Rattle.txn_history.specs.History.{created, newest, boundary, IsEntry, epoch_at}
 use Rattle.txn_history.specs.Calls.{begins, ends, was_begun, before_begin, view_used}
 use Rattle.txn_history.specs.Facts.{base_on, Entered}
-use Rattle.txn_history.proofs.Lists.{get_more, any_false}
+use Rattle.txn_history.proofs.Lists.{any_false}
 use Rattle.txn_history.proofs.Rows.{row_op, newest_grows}
-use Rattle.txn_history.proofs.More.{IsCall-more, begun_kept, epoch_kept, begins_other, ends_other}
+use Rattle.txn_history.proofs.More.{entered_back, IsCall-more, begun_kept, epoch_kept, begins_other, ends_other}
 use Rattle.txn_history.proofs.Entries.{entry_more}
 use Rattle.txn_history.specs.declared.event.ViewCall.TheVariants as view_calls
 use Rattle.txn_history.specs.declared.event.Call.{Call}
@@ -162,24 +161,7 @@ module _ {T : Type 0} (decode : List ℕ → Option T) (get_epoch : T → ℕ) (
   -- entries of one operation, after a row that makes none for it
 
   pub entered_before : (rows : List (Row T)) (row : Row T) (op n : ℕ) (v : T) → NotBy row op → Entered decode (rows ++ row ∷ []) op n v → Entered decode rows op n v
-  entered_before rows row op n v nb e =
-      elim (get_more rows row e.place (Effect op e.request) e.effect) [
-        | inr last ↦ absurd (nb e.request n e.bytes last.1 e.creates)
-        | inl there ↦ (
-            let lt = slice_get_within rows e.place (Effect op e.request) there in
-            let same = front_before rows row e.place (omega (arith, lt)) in
-            record {
-              place = e.place;
-              request = e.request;
-              bytes = e.bytes;
-              effect = there;
-              creates = e.creates;
-              begun = subst (λ (front : List (Row T)). was_begun front op ≡ true) same e.begun;
-              first = subst (λ (front : List (Row T)). has_id (versions_of front) n ≡ false) same e.first;
-              reads = e.reads;
-            }
-            )
-      ]
+  entered_before rows row op n v nb e = elim (entered_back decode rows row op n v e) [ inl old ↦ old | inr last ↦ absurd (nb last.0 n last.1 last.2 last.3) ]
 
   pub own_more : (rows : List (Row T)) (row : Row T) (op : ℕ) → boundary rows ≤ boundary (rows ++ row ∷ []) → NotBy row op → OwnFenced decode get_epoch set_epoch rows op → OwnFenced decode get_epoch set_epoch (rows ++ row ∷ []) op
   own_more rows row op up nb h n v e = (let old = h n v (entered_before rows row op n v nb e) in omega (arith, old, up))

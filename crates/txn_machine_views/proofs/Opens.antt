@@ -9,7 +9,7 @@ use Rattle.txn_history.specs.History.{newest}
 use Rattle.txn_history.specs.Calls.{begins, ends, was_begun, before_begin, view_used}
 use Rattle.txn_history.proofs.Lists.{get_last, get_more, any_false, any_last}
 use Rattle.txn_history.proofs.Rows.{newest_grows}
-use Rattle.txn_history.proofs.More.{begun_count-begun}
+use Rattle.txn_history.proofs.More.{entered_back, begun_count-begun}
 use Rattle.txn_history.specs.declared.event.Call.{Call}
 use Rattle.txn_history.specs.Trace.{Row}
 use Rattle.txn_history.specs.Views.{view_count}
@@ -18,7 +18,7 @@ use Rattle.txn_machine_views.specs.Layer.{Used, Layer, look_up, with_busy, start
 use Rattle.txn_machine_views.specs.Steps.{Allowed}
 use Rattle.txn_machine_views.proofs.History.{front_before, front_all, one_history-more, boundary_up}
 use Rattle.txn_machine_views.proofs.Stands.{NeverBelow, Uses, OwnFenced, OpStands, ViewAt, Stands}
-use Rattle.txn_machine_views.proofs.Frames.{unseen_more, count_more, view_at_more, asked_more, fresh_more}
+use Rattle.txn_machine_views.proofs.Frames.{never_more, unseen_more, count_more, view_at_more, asked_more, fresh_more}
 use Rattle.txn_machine_views.proofs.Tables.{set_here, set_other, Leaves, set_leaves, known_of, op_leaves, op_row}
 use Rattle.txn_machine_views.proofs.Turns.{count_same}
 
@@ -43,27 +43,15 @@ module _ {T : Type 0} where
 
   -- at the rows of a call that begins now, the newest is that of now
   never_now : (op : ℕ) (rows : List (Row T)) (row : Row T) (id : ℕ) → was_begun rows op ≡ false → id ≤ newest rows → NeverBelow (rows ++ row ∷ []) op id
-  never_now op rows row id none known place within begun =
-      elim (cases_lt (length rows) place) [
-        | inl late ↦
-            let up = newest_grows rows row in
-            subst (λ (front : List (Row T)). id ≤ newest front) (sym (front_all rows row place late)) (omega (arith, known, up))
-        | inr le ↦
-            let same = front_before rows row place le in
-            absurd (both_ways (was_begun (take place rows) op) (any_take (begins op) rows place none) (subst (λ (front : List (Row T)). was_begun front op ≡ true) same begun))
-      ]
+  never_now op rows row id none known = never_more rows row op id known (λ place le begun. absurd (both_ways (was_begun (take place rows) op) (any_take (begins op) rows place none) begun))
 
 module _ {T : Type 0} (decode : List ℕ → Option T) (get_epoch : T → ℕ) (set_epoch : T → ℕ → T) where
   -- an operation that begins has no entries
   none_own : (op : ℕ) (rows : List (Row T)) (call : Call T) → was_begun rows op ≡ false → OwnFenced decode get_epoch set_epoch (rows ++ Begun op call ∷ []) op
   none_own op rows call none n v e =
-      elim (get_more rows (Begun op call) e.place (Effect op e.request) e.effect) [
-        | inr last ↦ absurd (let clash = last.1 in cc)
-        | inl there ↦ (
-            let lt = slice_get_within rows e.place (Effect op e.request) there in
-            let same = front_before rows (Begun op call) e.place (omega (arith, lt)) in
-            absurd (both_ways (was_begun (take e.place rows) op) (any_take (begins op) rows e.place none) (subst (λ (front : List (Row T)). was_begun front op ≡ true) same e.begun))
-            )
+      elim (entered_back decode rows (Begun op call) op n v e) [
+        | inl old ↦ absurd (both_ways (was_begun (take old.place rows) op) (any_take (begins op) rows old.place none) old.begun)
+        | inr last ↦ absurd (let clash = last.2 in cc)
       ]
 
   busied_at : (rows : List (Row T)) (count number op : ℕ) (used : Option (Used T)) → ViewAt decode get_epoch set_epoch rows count number used → ViewAt decode get_epoch set_epoch rows count number (option_map (with_busy (Some op)) used)
