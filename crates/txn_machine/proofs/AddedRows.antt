@@ -18,7 +18,7 @@ use Rattle.txn_history.specs.Added.{Tells, answer_row, answer_rows, effect_rows,
 use Rattle.txn_history.specs.Seen.{Store}
 use Rattle.txn_machine_inner.specs.Machine.{effect_of}
 use Rattle.txn_machine_inner.proofs.Stands.{AllGiven}
-use Rattle.txn_machine_inner.proofs.EffectRows.{served_row, effect_empty, tells_answer, went_row, began_row}
+use Rattle.txn_machine_inner.proofs.EffectRows.{tells_answer, went_row, began_row, adds_answer, adds_effect, adds_landing}
 use Rattle.txn_history.specs.declared.event.Call.{Call}
 use Rattle.txn_history.specs.declared.event.Answer.{Answer}
 use Rattle.txn_history.specs.declared.event.Answer.TheVariants as answers
@@ -33,18 +33,6 @@ use Rattle.txn_machine.proofs.TokensGiven.{served_given}
 module _ {T : Type 0} where
   -- the rows of failures and landings
 
-  first_adds : (looses : Bool) (old : State T) (op : ℕ) (said : Told T) (new : State T) → FailsFirst old op said looses new → (Tells (told.Went op) op said) × (new.trace ≡ old.trace ++ answer_row said) × (new.store.files ≡ old.store.files)
-  first_adds false old op said new v = (
-    inr (answers.Plain (plain_answers.Refused 2), v.tells),
-    ap (λ (s : State T). s.trace) v.state ∙ ap (λ (t : Told T). old.trace ++ answer_row t) (sym v.tells),
-    ap (λ (s : State T). s.store.files) v.state,
-  )
-  first_adds true old op said new v = (
-    inr (answers.Plain (plain_answers.Refused 2), v.tells),
-    ap (λ (s : State T). s.trace) v.state ∙ ap (λ (t : Told T). old.trace ++ answer_row t) (sym v.tells),
-    ap (λ (s : State T). s.store.files) v.state,
-  )
-
   lacks_adds : (old : State T) (op : ℕ) (said : Told T) (new : State T) → Lacks old op said new → AddsRows (seen_calls old) old.trace old.store.files (events.Serve op) said new.trace new.store.files
   lacks_adds old op said new v =
       record {
@@ -57,34 +45,17 @@ module _ {T : Type 0} where
       }
 
   fail_adds : (failure : Failure) (old : State T) (op : ℕ) (said : Told T) (new : State T) → Fails old op failure said new → AllGiven old.store → AddsRows (seen_calls old) old.trace old.store.files (events.Fail op failure) said new.trace new.store.files
-  fail_adds failures.Before old op said new v given = ((answers.Plain (plain_answers.Refused 2), v.tells), first_adds false old op said new v)
-  fail_adds failures.Loose old op said new v given = ((answers.Plain (plain_answers.Refused 2), v.tells), first_adds true old op said new v)
-  fail_adds failures.After old op said new v given =
-      let rows = effect_rows op (effect_of old.store.files v.request v.reply) in (
-        (answers.Plain (plain_answers.Refused 2), v.tells),
-        record {
-          request = v.request;
-          asked = seen_asks old.operations op v.operation v.acts.found ∙ v.acts.asks;
-          rows = rows;
-          effect = subst (λ (s : State T). IsEffectRow {C = Call T} {A = Answer T} op v.request old.store.files s.store.files rows) (sym v.state) (served_row (Call T) (Answer T) op old.store v.store v.request v.reply given v.reaches.serves v.reaches.honest);
-          told = inr (answers.Plain (plain_answers.Refused 2), v.tells);
-          added = ap (λ (s : State T). s.trace) v.state ∙ ap (λ (t : Told T). (old.trace ++ rows) ++ answer_row t) (sym v.tells);
-        },
-      )
+  fail_adds failures.Before old op said new v given = ((answers.Plain (plain_answers.Refused 2), v.tells), adds_answer op (answers.Plain (plain_answers.Refused 2)) old.trace new.trace old.store.files new.store.files said v.tells (ap (λ (s : State T). s.trace) v.state) (ap (λ (s : State T). s.store.files) v.state))
+  fail_adds failures.Loose old op said new v given = ((answers.Plain (plain_answers.Refused 2), v.tells), adds_answer op (answers.Plain (plain_answers.Refused 2)) old.trace new.trace old.store.files new.store.files said v.tells (ap (λ (s : State T). s.trace) v.state) (ap (λ (s : State T). s.store.files) v.state))
+  fail_adds failures.After old op said new v given = (
+    (answers.Plain (plain_answers.Refused 2), v.tells),
+    adds_effect (seen_calls old) op v.request v.reply old.store v.store old.trace new.trace new.store.files said (seen_asks old.operations op v.operation v.acts.found ∙ v.acts.asks) given v.reaches.serves v.reaches.honest (ap (λ (s : State T). s.store.files) v.state) (inr (answers.Plain (plain_answers.Refused 2), v.tells))
+        (ap (λ (s : State T). s.trace) v.state ∙ ap (λ (t : Told T). (old.trace ++ effect_rows op (effect_of old.store.files v.request v.reply)) ++ answer_row t) (sym v.tells)),
+  )
 
   land_adds : (old : State T) (k : ℕ) (said : Told T) (new : State T) → Lands old k said new → AllGiven old.store → AddsRows (seen_calls old) old.trace old.store.files (events.Land k) said new.trace new.store.files
   land_adds old k said new v given =
-      let effect = effect_of old.store.files v.request v.reply in
-      let rows = effect_rows v.op effect in
-      record {
-        op = v.op;
-        request = v.request;
-        loose = v.found;
-        rows = rows;
-        effect = subst (λ (s : State T). IsEffectRow {C = Call T} {A = Answer T} v.op v.request old.store.files s.store.files rows) (sym v.state) (served_row (Call T) (Answer T) v.op old.store v.store v.request v.reply given v.reaches.serves v.reaches.honest);
-        told = v.tells ∙ ap (told.Landed k) (effect_empty (Call T) (Answer T) v.op effect);
-        added = ap (λ (s : State T). s.trace) v.state;
-      }
+      adds_landing (seen_calls old) k v.op v.request v.reply old.store v.store old.trace new.trace new.store.files said v.found given v.reaches.serves v.reaches.honest (ap (λ (s : State T). s.store.files) v.state) v.tells (ap (λ (s : State T). s.trace) v.state)
 
 none_more : (operations rows more : ℕ) → operations ≡ rows → more ≡ 0 → operations ≡ rows + more
 none_more operations rows more e none = omega arith
@@ -156,16 +127,10 @@ module _ {T : Type 0} where
 module _ {T : Type 0} (encode : T → List ℕ) (decode : List ℕ → Option T) (get_epoch : T → ℕ) (set_epoch : T → ℕ → T) where
   serve_adds : (old : State T) (op : ℕ) (said : Told T) (new : State T) → Served encode decode get_epoch set_epoch old op said new → AllGiven old.store → AddsRows (seen_calls old) old.trace old.store.files (events.Serve op) said new.trace new.store.files
   serve_adds old op said new v given =
-      let rows = effect_rows op (effect_of old.store.files v.request v.reply) in
       let answer = answer_next old v.operation v.next in
-      record {
-        request = v.request;
-        asked = seen_asks old.operations op v.operation v.acts.found ∙ v.acts.asks;
-        rows = rows;
-        effect = subst (λ (s : State T). IsEffectRow {C = Call T} {A = Answer T} op v.request old.store.files s.store.files rows) (sym v.state) (served_row (Call T) (Answer T) op old.store v.store v.request v.reply given v.reaches.serves v.reaches.honest);
-        told = subst (λ (t : Told T). Tells (told.Went op) op t) (sym v.tells) (tells_answer (told.Went op) op answer);
-        added = ap (λ (s : State T). s.trace) v.state ∙ ap (λ more. (old.trace ++ rows) ++ more) (went_row op answer ∙ ap answer_row (sym v.tells));
-      }
+      adds_effect (seen_calls old) op v.request v.reply old.store v.store old.trace new.trace new.store.files said (seen_asks old.operations op v.operation v.acts.found ∙ v.acts.asks) given v.reaches.serves v.reaches.honest (ap (λ (s : State T). s.store.files) v.state)
+      (subst (λ (t : Told T). Tells (told.Went op) op t) (sym v.tells) (tells_answer (told.Went op) op answer))
+      (ap (λ (s : State T). s.trace) v.state ∙ ap (λ more. (old.trace ++ effect_rows op (effect_of old.store.files v.request v.reply)) ++ more) (went_row op answer ∙ ap answer_row (sym v.tells)))
 
   look_adds : (old : State T) (op : ℕ) (said : Told T) (new : State T) → Looks encode decode get_epoch set_epoch old op said new → AddsRows (seen_calls old) old.trace old.store.files (events.Look op) said new.trace new.store.files
   look_adds old op said new v =

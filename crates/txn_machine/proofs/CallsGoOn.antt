@@ -13,7 +13,7 @@ use Rattle.txn_history.specs.Seen.{Ask, Store, Look, asks_of}
 use Rattle.txn_history.specs.GoesOn.{left_loose, state_of, states_after, OperationsGoOn}
 use Rattle.txn_history.specs.Added.{told_of}
 use Rattle.txn_machine_inner.specs.Machine.{effect_of}
-use Rattle.txn_machine_inner.proofs.Ends.{EndsOne, answer_ends, give_up_ends, told_ends, states_stay, states_set, states_begun, states_crashed}
+use Rattle.txn_machine_inner.proofs.Ends.{EndsOne, answer_ends, give_up_ends, told_ends, states_stay, states_acted, states_new, states_crashed}
 use Rattle.txn_history.specs.declared.event.Call.{Call}
 use Rattle.txn_history.specs.declared.event.Answer.{Answer}
 use Rattle.txn_history.specs.declared.event.Answer.TheVariants as answers
@@ -28,26 +28,15 @@ use Rattle.txn_machine.proofs.Fits.{Fits, turned_fits, started_fits}
 use Rattle.txn_machine.proofs.Busy.{seen_asks}
 
 module _ {T : Type 0} where
-  -- an operation that is there is seen to be there
-  got_at : (os : List (Operation T)) (k : ℕ) (o : Operation T) → slice_get os k ≡ Some o → slice_get (seen_operations os) k ≡ Some (seen_operation o)
-  got_at os k o e = slice_get-map seen_operation os k ∙ ap (option_map seen_operation) e
-
   -- one of the operations does something else
   acted_states : (t : Told T) (op : ℕ) (ends : Bool) (os : List (Operation T)) (o : Operation T) (ask : Ask) (doing : Doing T) → numbered os op ≡ Some o → EndsOne t op ends → asked o.doing ≡ Some ask → is_some (asked doing) ≡ not ends →
       map state_of (seen_operations (with_doing os op o doing)) ≡ states_after t 1 (seen_operations os) None
-  acted_states t zero ends os o ask doing e one asks fits = cc
-  acted_states t (suc k) ends os o ask doing e one asks fits =
-      let next : Operation T = doing_next o doing in
-      ap (λ n. map state_of (seen_operations (set os n next))) (omega arith) ∙ ap (map state_of) (map-set seen_operation os k next)
-      ∙ states_set t 1 k (suc k) ends (seen_operations os) (seen_operation o) (seen_operation next) (got_at os k o e) (omega arith) one refl (ap is_some asks) fits
+  acted_states t op ends os o ask doing e one asks fits = states_acted seen_operation t op ends os o (doing_next o doing) e one refl (ap is_some asks) fits
 
   -- a new operation, which goes on or has ended
   new_states : (t : Told T) (client : ℕ) (call : Call T) (ends : Bool) (os : List (Operation T)) (doing : Doing T) → EndsOne t (length os + 1) ends → is_some (asked doing) ≡ not ends →
       map state_of (seen_operations (os ++ new_operation client call doing ∷ [])) ≡ states_after t 1 (seen_operations os) (Some client)
-  new_states t client call ends os doing one fits =
-      let new : Operation T = new_operation client call doing in
-      ap (map state_of) (map-append seen_operation os (new ∷ []))
-      ∙ states_begun t 1 (length os + 1) ends (seen_operations os) (seen_operation new) (omega (arith, length-map os seen_operation)) one fits
+  new_states t client call ends os doing one fits = states_new seen_operation t ends os (new_operation client call doing) one fits
 
   -- the operations of a client end
   ended_state : (client : ℕ) (o : Operation T) → o.client ≡ client → state_of (seen_operation (ended_by client o)) ≡ (o.client, false)

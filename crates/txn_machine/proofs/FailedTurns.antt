@@ -87,13 +87,6 @@ failed_answer : {A : Type 0} (answer : Result A StoreError) → error_in answer 
 failed_answer (Ok x) e = absurd (cc)
 failed_answer (Err error) e = ap Err (same_Some error errors.Failed e)
 
-number_two : {A : Type 0} (number : ℕ) → ◌≡◌ {A = Turned (Result A ℕ)} (Done (Err number)) (Done (Err 2)) → number ≡ 2
-number_two number e = cc
-
--- a test of a refusal's number that is for another
-other_two : {A : Type 0} (P : A → Type 0) (x y : A) (number : ℕ) → number ≡ 2 → P y → P (if number == 5 then x else y)
-other_two P x y number e h = subst (λ (n : ℕ). P (if n == 5 then x else y)) (sym e) h
-
 -- the boundary
 
 module _ (cached : Option CachedBoundary) (reply : Reply) (failed : reply_error reply ≡ Some errors.Failed) where
@@ -109,9 +102,7 @@ module _ (cached : Option CachedBoundary) (reply : Reply) (failed : reply_error 
       by (reading.Holds known) r f i = absurd i
 
   bound_reads : (op : BoundaryCheck) (x : BoundaryRead × Turned (Result Known ℕ)) → Fails x.1 → Fails (check_steps.reads_turned op x).1
-  bound_reads op (read, Goes) e = absurd (cc)
-  bound_reads op (read, Done (Ok known)) e = absurd (cc)
-  bound_reads op (read, Done (Err number)) e = ap (λ (n : ℕ). Done (Err n)) (number_two number e)
+  bound_reads op x e = ap (λ (t : Turned (Result Known ℕ)). (check_steps.reads_turned op (x.0, t)).1) e
 
   bound_at : (step : BoundaryStep) (op : BoundaryCheck) → IsReplyAt step op.read (Some reply) → Fails (turned_at step op cached (Some reply)).1 × (cached_at step op.read cached ≡ cached)
   bound_at boundary_step.Looks op is = absurd is
@@ -121,9 +112,7 @@ module _ (cached : Option CachedBoundary) (reply : Reply) (failed : reply_error 
   bound_fails op is = bound_at op.step op is
 
   raise_read : (path : Segments) (target : ℕ) (again : Bool) (x : BoundaryRead × Turned (Result Known ℕ)) → Fails x.1 → Fails (advance_read path target again x).1
-  raise_read path target again (read, Goes) e = absurd (cc)
-  raise_read path target again (read, Done (Ok known)) e = absurd (cc)
-  raise_read path target again (read, Done (Err number)) e = ap (λ (n : ℕ). Done (Err n)) (number_two number e)
+  raise_read path target again x e = ap (λ (t : Turned (Result Known ℕ)). (advance_read path target again (x.0, t)).1) e
 
   raise_fails : (path : Segments) (op : BoundaryAdvance) → IsBoundaryAdvanceReply op (Some reply) → Fails (boundary_advance_turned path op cached (Some reply)).1 × (boundary_advance_cached op cached ≡ cached)
   raise_fails path (raising.Looks target) is = absurd is
@@ -143,11 +132,7 @@ same_caches caches versions bound e f = ap (λ (vs : List Cached). record { late
 
 module _ (caches : Caches) (reply : Reply) (failed : reply_error reply ≡ Some errors.Failed) where
   check_told : (id : ℕ) (x : BoundaryCheck × Turned (Result (Unit {0}) ℕ)) → Fails x.1 → Fails (checks_turned id x).1
-  check_told id (check, Goes) e = absurd (cc)
-  check_told id (check, Done (Ok accepted)) e = absurd (cc)
-  check_told id (check, Done (Err number)) e =
-      let two = number_two number e in
-      other_two {A = CheckOp × Turned (Result (Unit {0}) ℕ)} (λ x. Fails x.1) (checks.Drops id, Goes) (checks.Checks check, Done (Err number)) number two (ap (λ (n : ℕ). Done (Err n)) two)
+  check_told id x e = ap (λ (t : Turned (Result (Unit {0}) ℕ)). (checks_turned id (x.0, t)).1) e
 
   check_fails : (op : CheckOp) → IsCheckReply op (Some reply) → Fails (check_turned op caches (Some reply)).1 × (check_caches op caches ≡ caches)
   check_fails (checks.Checks check) is =
@@ -156,9 +141,7 @@ module _ (caches : Caches) (reply : Reply) (failed : reply_error reply ≡ Some 
   check_fails (checks.Drops id) is = absurd is
 
   raises_told : (target : ℕ) (x : BoundaryAdvance × Turned (Result (Unit {0}) ℕ)) → Fails x.1 → Fails (raises_turned target x).1
-  raises_told target (raise, Goes) e = absurd (cc)
-  raises_told target (raise, Done (Ok done)) e = absurd (cc)
-  raises_told target (raise, Done (Err number)) e = e
+  raises_told target x e = ap (λ (t : Turned (Result (Unit {0}) ℕ)). (raises_turned target (x.0, t)).1) e
 
   advance_fails : (path : Segments) (op : AdvanceOp) → IsAdvanceReply op (Some reply) → Fails (advance_turned path op caches (Some reply)).1 × (advance_caches op caches ≡ caches)
   advance_fails path (advances.Raises target raise) is =
@@ -180,14 +163,10 @@ module _ (caches : Caches) (reply : Reply) (failed : reply_error reply ≡ Some 
       by unchecked.Ended r f i = absurd i
 
   written_told : (op : WriteOp) (x : WriteUncheckedOp × Turned (Result ℕ ℕ)) → Fails x.1 → Fails (write_steps.written_turned op x).1
-  written_told op (write, Goes) e = absurd (cc)
-  written_told op (write, Done (Ok id)) e = absurd (cc)
-  written_told op (write, Done (Err number)) e = e
+  written_told op x e = ap (λ (t : Turned (Result ℕ ℕ)). (write_steps.written_turned op (x.0, t)).1) e
 
   checked_told : (op : WriteOp) (x : CheckOp × Turned (Result (Unit {0}) ℕ)) → Fails x.1 → Fails (write_steps.checked_turned op x).1
-  checked_told op (check, Goes) e = absurd (cc)
-  checked_told op (check, Done (Ok accepted)) e = absurd (cc)
-  checked_told op (check, Done (Err number)) e = ap (λ (n : ℕ). Done (Err n)) (number_two number e)
+  checked_told op x e = ap (λ (t : Turned (Result (Unit {0}) ℕ)). (write_steps.checked_turned op (x.0, t)).1) e
 
   write_at : (step : WriteStep) (op : WriteOp) → IsWriteReplyAt step op (Some reply) → Fails (write_turned_at step op caches (Some reply)).1 × (write_caches_at step op caches ≡ caches)
   write_at writes.Writes op is =
@@ -209,11 +188,7 @@ module _ (caches : Caches) (reply : Reply) (failed : reply_error reply ≡ Some 
       by removals.Drops r f i = absurd i
 
   delete_told : (op : DeleteOp) (x : CheckOp × Turned (Result (Unit {0}) ℕ)) → Fails x.1 → Fails (delete_steps.checks_turned op x).1
-  delete_told op (check, Goes) e = absurd (cc)
-  delete_told op (check, Done (Ok accepted)) e = absurd (cc)
-  delete_told op (check, Done (Err number)) e =
-      let two = number_two number e in
-      other_two {A = DeleteOp × Turned (Result (Unit {0}) ℕ)} (λ x. Fails x.1) (delete_steps.at_check op deletes.Removes check, Goes) (delete_steps.at_check op op.step check, Done (Err number)) number two (ap (λ (n : ℕ). Done (Err n)) two)
+  delete_told op x e = ap (λ (t : Turned (Result (Unit {0}) ℕ)). (delete_steps.checks_turned op (x.0, t)).1) e
 
   delete_at : (step : DeleteStep) (op : DeleteOp) → IsDeleteReplyAt step op (Some reply) → Fails (delete_turned_at step op caches (Some reply)).1 × (delete_caches_at step op caches ≡ caches)
   delete_at deletes.Checks op is = (let c = check_fails op.check is in (delete_told op (check_turned op.check caches (Some reply)) c.0, c.1))
@@ -257,11 +232,7 @@ module _ (caches : Caches) (reply : Reply) (failed : reply_error reply ≡ Some 
     reads_told boundary (op, Done (Err number)) e = e
 
     found_told : (path : Segments) (id : ℕ) (value : T) (x : CheckOp × Turned (Result (Unit {0}) ℕ)) → Fails x.1 → Fails (read_steps.checks_turned path id value x).1
-    found_told path id value (check, Goes) e = absurd (cc)
-    found_told path id value (check, Done (Ok accepted)) e = absurd (cc)
-    found_told path id value (check, Done (Err number)) e =
-        let two = number_two number e in
-        other_two {A = ReadOp T × Turned (ReadAnswer T)} (λ x. Fails x.1) (read_steps.read_started path, Goes) (reads.Checks id value check, Done (Err number)) number two (ap (λ (n : ℕ). Done (Err n)) two)
+    found_told path id value x e = ap (λ (t : Turned (Result (Unit {0}) ℕ)). (read_steps.checks_turned path id value (x.0, t)).1) e
 
     read_op_fails : (path : Segments) (op : ReadOp T) → IsReadReply op (Some reply) → Fails (read_turned names path page decode op caches (Some reply)).1 × ((told : Turned (ReadAnswer T)) → read_left op caches told ≡ caches)
     read_op_fails path (reads.Reads op boundary) is =
@@ -304,31 +275,21 @@ module _ (caches : Caches) (reply : Reply) (failed : reply_error reply ≡ Some 
 
   module _ {T : Type 0} where
     entry_told : (value : T) (x : WriteOp × Turned (Result ℕ ℕ)) → Fails x.1 → Fails (written_turned value x).1
-    entry_told value (write, Goes) e = absurd (cc)
-    entry_told value (write, Done (Ok id)) e = absurd (cc)
-    entry_told value (write, Done (Err number)) e = ap (λ (n : ℕ). Done (Err n)) (number_two number e)
+    entry_told value x e = ap (λ (t : Turned (Result ℕ ℕ)). (written_turned value (x.0, t)).1) e
 
     entry_fails : (op : EntryOp T) → IsEntryReply op (Some reply) → Fails (entry_turned op caches (Some reply)).1 × (entry_caches op caches ≡ caches)
     entry_fails (entries.Writes write value) is = (let w = write_fails write is in (entry_told value (write_turned write caches (Some reply)) w.0, w.1))
     entry_fails entries.Ended is = absurd is
 
     seen_told : {O : Type 0} (as_read : ReadOp T → O) (see : Option (ℕ × T) → Result (Outcome T) ℕ) (x : ReadOp T × Turned (ReadAnswer T)) → Fails x.1 → Fails (seen_as as_read see x).1
-    seen_told as_read see (read, Goes) e = absurd (cc)
-    seen_told as_read see (read, Done (Ok found)) e = absurd (cc)
-    seen_told as_read see (read, Done (Err number)) e = ap (λ (n : ℕ). Done (Err n)) (number_two number e)
+    seen_told as_read see x e = ap (λ (t : Turned (ReadAnswer T)). (seen_as as_read see (x.0, t)).1) e
 
   module _ {T : Type 0} (names : Names) (path : Segments) (page : ℕ) (encode : T → List ℕ) (decode : List ℕ → Option T) (epoch_of : T → ℕ) (with_epoch : T → ℕ → T) (asked : Option ℕ) where
     attempt_told : (value : T) (epoch : ℕ) (x : WriteOp × Turned (Result ℕ ℕ)) → Fails x.1 → Fails (attempt_turned path value epoch x).1
-    attempt_told value epoch (write, Goes) e = absurd (cc)
-    attempt_told value epoch (write, Done (Ok id)) e = absurd (cc)
-    attempt_told value epoch (write, Done (Err number)) e =
-        let two = number_two number e in
-        other_two {A = Claiming T × Turned (Result (Outcome T) ℕ)} (λ x. Fails x.1) (claims.Reads (read_steps.read_started path), Goes) (claims.Ended, Done (Err number)) number two (ap (λ (n : ℕ). Done (Err n)) two)
+    attempt_told value epoch x e = ap (λ (t : Turned (Result ℕ ℕ)). (attempt_turned path value epoch (x.0, t)).1) e
 
     refresh_told : (x : ReadOp T × Turned (ReadAnswer T)) → Fails x.1 → Fails (refreshed_turned names path encode epoch_of with_epoch asked x).1
-    refresh_told (read, Goes) e = absurd (cc)
-    refresh_told (read, Done (Ok found)) e = absurd (cc)
-    refresh_told (read, Done (Err number)) e = ap (λ (n : ℕ). Done (Err n)) (number_two number e)
+    refresh_told x e = ap (λ (t : Turned (ReadAnswer T)). (refreshed_turned names path encode epoch_of with_epoch asked (x.0, t)).1) e
 
     claiming_fails : (op : Claiming T) → IsClaimingReply op (Some reply) → Fails (claiming_turned names path page encode decode epoch_of with_epoch asked op caches (Some reply)).1 × ((told : Turned (Result (Outcome T) ℕ)) → claiming_left op caches told ≡ caches)
     claiming_fails (claims.Writes write value epoch) is = (let w = write_fails write is in (attempt_told value epoch (write_turned write caches (Some reply)) w.0, λ told. w.1))
@@ -339,54 +300,34 @@ module _ {T : Type 0} where
   -- an operation that says the refusal 2 ends with it
 
   plain_write : (x : WriteOp × Turned (Result ℕ ℕ)) → Fails x.1 → plain_next (plain.write_next x) ≡ refused {T = T} 2
-  plain_write (op, Goes) e = absurd (cc)
-  plain_write (op, Done (Ok id)) e = absurd (cc)
-  plain_write (op, Done (Err number)) e = ap (λ (n : ℕ). refused n) (number_two number e)
+  plain_write x e = ap (λ (t : Turned (Result ℕ ℕ)). plain_next (plain.write_next (x.0, t))) e
 
   plain_unchecked : (x : WriteUncheckedOp × Turned (Result ℕ ℕ)) → Fails x.1 → plain_next (plain.unchecked_next x) ≡ refused {T = T} 2
-  plain_unchecked (op, Goes) e = absurd (cc)
-  plain_unchecked (op, Done (Ok id)) e = absurd (cc)
-  plain_unchecked (op, Done (Err number)) e = ap (λ (n : ℕ). refused n) (number_two number e)
+  plain_unchecked x e = ap (λ (t : Turned (Result ℕ ℕ)). plain_next (plain.unchecked_next (x.0, t))) e
 
   plain_read : (x : ReadOp T × Turned (ReadAnswer T)) → Fails x.1 → plain_next (plain.read_next x) ≡ refused {T = T} 2
-  plain_read (op, Goes) e = absurd (cc)
-  plain_read (op, Done (Ok found)) e = absurd (cc)
-  plain_read (op, Done (Err number)) e = ap (λ (n : ℕ). refused n) (number_two number e)
+  plain_read x e = ap (λ (t : Turned (ReadAnswer T)). plain_next (plain.read_next (x.0, t))) e
 
   plain_value : (op : ReadUncheckedOp) (told : Turned (Result (Option T) ℕ)) → Fails told → plain_next (plain.value_next op told) ≡ refused {T = T} 2
-  plain_value op Goes e = absurd (cc)
-  plain_value op (Done (Ok found)) e = absurd (cc)
-  plain_value op (Done (Err number)) e = ap (λ (n : ℕ). refused n) (number_two number e)
+  plain_value op told e = ap (λ (t : Turned (Result (Option T) ℕ)). plain_next (plain.value_next op t)) e
 
   plain_seen : (x : ReadSeenOp T × Turned (Result (Option T) ℕ)) → Fails x.1 → plain_next (plain.seen_next x) ≡ refused {T = T} 2
-  plain_seen (op, Goes) e = absurd (cc)
-  plain_seen (op, Done (Ok found)) e = absurd (cc)
-  plain_seen (op, Done (Err number)) e = ap (λ (n : ℕ). refused n) (number_two number e)
+  plain_seen x e = ap (λ (t : Turned (Result (Option T) ℕ)). plain_next (plain.seen_next (x.0, t))) e
 
   plain_ids : (x : ListOp × Turned (Result (List Listed) ℕ)) → Fails x.1 → plain_next (plain.ids_next x) ≡ refused {T = T} 2
-  plain_ids (op, Goes) e = absurd (cc)
-  plain_ids (op, Done (Ok found)) e = absurd (cc)
-  plain_ids (op, Done (Err number)) e = ap (λ (n : ℕ). refused n) (number_two number e)
+  plain_ids x e = ap (λ (t : Turned (Result (List Listed) ℕ)). plain_next (plain.ids_next (x.0, t))) e
 
   plain_delete : (x : DeleteOp × Turned (Result (Unit {0}) ℕ)) → Fails x.1 → plain_next (plain.delete_next x) ≡ refused {T = T} 2
-  plain_delete (op, Goes) e = absurd (cc)
-  plain_delete (op, Done (Ok done)) e = absurd (cc)
-  plain_delete (op, Done (Err number)) e = ap (λ (n : ℕ). refused n) (number_two number e)
+  plain_delete x e = ap (λ (t : Turned (Result (Unit {0}) ℕ)). plain_next (plain.delete_next (x.0, t))) e
 
   plain_check : (x : CheckOp × Turned (Result (Unit {0}) ℕ)) → Fails x.1 → plain_next (plain.check_next x) ≡ refused {T = T} 2
-  plain_check (op, Goes) e = absurd (cc)
-  plain_check (op, Done (Ok done)) e = absurd (cc)
-  plain_check (op, Done (Err number)) e = ap (λ (n : ℕ). refused n) (number_two number e)
+  plain_check x e = ap (λ (t : Turned (Result (Unit {0}) ℕ)). plain_next (plain.check_next (x.0, t))) e
 
   plain_advance : (x : AdvanceOp × Turned (Result (Unit {0}) ℕ)) → Fails x.1 → plain_next (plain.advance_next x) ≡ refused {T = T} 2
-  plain_advance (op, Goes) e = absurd (cc)
-  plain_advance (op, Done (Ok done)) e = absurd (cc)
-  plain_advance (op, Done (Err number)) e = ap (λ (n : ℕ). refused n) (number_two number e)
+  plain_advance x e = ap (λ (t : Turned (Result (Unit {0}) ℕ)). plain_next (plain.advance_next (x.0, t))) e
 
   view_ends : (op : Doing T) (told : Turned (Result (Outcome T) ℕ)) → Fails told → next_of op told ≡ refused 2
-  view_ends op Goes e = absurd (cc)
-  view_ends op (Done (Ok outcome)) e = absurd (cc)
-  view_ends op (Done (Err number)) e = ap (λ (n : ℕ). refused n) (number_two number e)
+  view_ends op told e = ap (λ (t : Turned (Result (Outcome T) ℕ)). next_of op t) e
 
 module _ {T : Type 0} (page : ℕ) (encode : T → List ℕ) (decode : List ℕ → Option T) (get_epoch : T → ℕ) (set_epoch : T → ℕ → T) (caches : Caches) (reply : Reply) (failed : reply_error reply ≡ Some errors.Failed) where
   abbrev After : Doing T → Next T

@@ -41,14 +41,13 @@ use Rattle.txn_machine.specs.Doing.{refused, is_claim_call}
 use Rattle.txn_machine.specs.Machine.{State, acted, effected, failing, let_go, FailsFirst, FailsAfter, Fails}
 use Rattle.txn_machine.proofs.Joined.{Past, as_laid, as_fine, IsAtWork, Held, LooseAt, Core, Joined, Mid}
 use Rattle.txn_machine.proofs.Rows.{core_failed, does_fine, does_row}
-use Rattle.txn_machine.proofs.Alike.{matched_same}
 use Rattle.txn_machine.proofs.Ending.{end_joins_with, loose_row, gone_on}
 use Rattle.txn_machine.proofs.GivingUp.{left_told}
 use Rattle.txn_machine.proofs.Goings.{begun_of}
 use Rattle.txn_machine.proofs.Matched.{fine_call}
 use Rattle.txn_machine.proofs.Leaving.{left_one, leaves_one, numbered_past}
 use Rattle.txn_machine.proofs.Reaching.{laid_on, effect_over, core_after, reach_mid, reach_loose, reach_now}
-use Rattle.txn_machine.proofs.Serving.{held_of, client_of}
+use Rattle.txn_machine.proofs.Serving.{asking}
 
 module _ {T : Type 0} where
   abbrev ends_with : ℕ → Change T → Next T
@@ -186,34 +185,26 @@ module _ {T : Type 0} (encode : T → List ℕ) (decode : List ℕ → Option T)
 
   first_joins : (looses : Bool) → FailsFirst s op said looses new → Joined decode get_epoch set_epoch past new
   first_joins false v =
-      let a = v.acts in
       let operation = v.operation in
-      let held = held_of encode decode get_epoch set_epoch past s j op operation (Store v.request) a.found a.asks in
-      let client = client_of encode decode get_epoch set_epoch past s j operation.client v.caches a.kept in
+      let h = asking encode decode get_epoch set_epoch past s j op operation (Store v.request) v.caches v.acts in
       let n = j.now op in
-      let o = as_fine operation.client held.doing in
-      let same = matched_same get_epoch held.call (local_of (look_up j.l.views (view_used held.call))) held.inner operation.doing held.doing held.matched in
-      let kept = ap (λ (cs : List Caches). numbered cs operation.client) j.caches ∙ a.kept in
+      let o = as_fine operation.client h.held.doing in
       let fine = machine.acted (machine.failing j.fine n) n o machine.told_failure v.caches in
-      let stood = machine_events.fail_keeps decode get_epoch failures.Before j.fine n (told.Answered n (plain_answers.Refused 2)) fine (record { operation = o; request = v.request; caches = v.caches; acts = record { found = held.there; asks = sym same.asks ∙ a.asks; kept = kept }; tells = refl; state = refl }) j.stands in
-      let stands = stood_as encode decode get_epoch set_epoch past s j op operation a.found held client v.caches None s.store [] j.fine.store j.fine.loose j.fine.trace j.tie.store (sym (append-nil j.fine.loose)) (sym (append-nil j.fine.trace)) stood in
-      let joined = fails_joins encode decode get_epoch set_epoch past s j op operation a.found held client v.caches None s.store [] [] (λ i o request e. none_left i o request e) stands in
+      let stood = machine_events.fail_keeps decode get_epoch failures.Before j.fine n (told.Answered n (plain_answers.Refused 2)) fine (record { operation = o; request = v.request; caches = v.caches; acts = h.acts; tells = refl; state = refl }) j.stands in
+      let stands = stood_as encode decode get_epoch set_epoch past s j op operation v.acts.found h.held h.client v.caches None s.store [] j.fine.store j.fine.loose j.fine.trace j.tie.store (sym (append-nil j.fine.loose)) (sym (append-nil j.fine.trace)) stood in
+      let joined = fails_joins encode decode get_epoch set_epoch past s j op operation v.acts.found h.held h.client v.caches None s.store [] [] (λ i o request e. none_left i o request e) stands in
       subst (λ (x : State T). Joined decode get_epoch set_epoch past x) (sym v.state)
       (subst (λ (ls : List (ℕ × Request)). Joined decode get_epoch set_epoch past (record (acted (failing s op) op operation (refused 2) v.caches) { loose = ls })) (append-nil s.loose)
       (subst (λ (rs : List (Row T)). Joined decode get_epoch set_epoch past (record (acted (record (failing s op) { trace = rs }) op operation (refused 2) v.caches) { loose = s.loose ++ [] })) (append-nil s.trace) joined))
   first_joins true v =
-      let a = v.acts in
       let operation = v.operation in
-      let held = held_of encode decode get_epoch set_epoch past s j op operation (Store v.request) a.found a.asks in
-      let client = client_of encode decode get_epoch set_epoch past s j operation.client v.caches a.kept in
+      let h = asking encode decode get_epoch set_epoch past s j op operation (Store v.request) v.caches v.acts in
       let n = j.now op in
-      let o = as_fine operation.client held.doing in
-      let same = matched_same get_epoch held.call (local_of (look_up j.l.views (view_used held.call))) held.inner operation.doing held.doing held.matched in
-      let kept = ap (λ (cs : List Caches). numbered cs operation.client) j.caches ∙ a.kept in
+      let o = as_fine operation.client h.held.doing in
       let fine = machine.acted (machine.failing (machine.loosened j.fine n (Store v.request)) n) n o machine.told_failure v.caches in
-      let stood = machine_events.fail_keeps decode get_epoch failures.Loose j.fine n (told.Answered n (plain_answers.Refused 2)) fine (record { operation = o; request = v.request; caches = v.caches; acts = record { found = held.there; asks = sym same.asks ∙ a.asks; kept = kept }; tells = refl; state = refl }) j.stands in
-      let stands = stood_as encode decode get_epoch set_epoch past s j op operation a.found held client v.caches None s.store (left_loose n (Some (Store v.request))) j.fine.store (j.fine.loose ++ left_loose n (Some (Store v.request))) j.fine.trace j.tie.store refl (sym (append-nil j.fine.trace)) stood in
-      let joined = fails_joins encode decode get_epoch set_epoch past s j op operation a.found held client v.caches None s.store (left_loose n (Some (Store v.request))) (left_loose op (Some (Store v.request)))
+      let stood = machine_events.fail_keeps decode get_epoch failures.Loose j.fine n (told.Answered n (plain_answers.Refused 2)) fine (record { operation = o; request = v.request; caches = v.caches; acts = h.acts; tells = refl; state = refl }) j.stands in
+      let stands = stood_as encode decode get_epoch set_epoch past s j op operation v.acts.found h.held h.client v.caches None s.store (left_loose n (Some (Store v.request))) j.fine.store (j.fine.loose ++ left_loose n (Some (Store v.request))) j.fine.trace j.tie.store refl (sym (append-nil j.fine.trace)) stood in
+      let joined = fails_joins encode decode get_epoch set_epoch past s j op operation v.acts.found h.held h.client v.caches None s.store (left_loose n (Some (Store v.request))) (left_loose op (Some (Store v.request)))
       (λ i o request e. let is = left_one op (Some (Store v.request)) i o request e in (is.0, (0, leaves_one n (Some (Store v.request)) request is.1))) stands
       in
       subst (λ (x : State T). Joined decode get_epoch set_epoch past x) (sym v.state)
@@ -221,21 +212,17 @@ module _ {T : Type 0} (encode : T → List ℕ) (decode : List ℕ → Option T)
 
   after_joins : FailsAfter s op said new → Joined decode get_epoch set_epoch past new
   after_joins v =
-      let a = v.acts in
       let operation = v.operation in
-      let held = held_of encode decode get_epoch set_epoch past s j op operation (Store v.request) a.found a.asks in
-      let client = client_of encode decode get_epoch set_epoch past s j operation.client v.caches a.kept in
+      let h = asking encode decode get_epoch set_epoch past s j op operation (Store v.request) v.caches v.acts in
       let n = j.now op in
-      let o = as_fine operation.client held.doing in
-      let same = matched_same get_epoch held.call (local_of (look_up j.l.views (view_used held.call))) held.inner operation.doing held.doing held.matched in
-      let kept = ap (λ (cs : List Caches). numbered cs operation.client) j.caches ∙ a.kept in
+      let o = as_fine operation.client h.held.doing in
       let serves : Serves v.request j.fine.store v.reply v.store = subst (λ (st : StoreState). Serves v.request st v.reply v.store) (sym j.tie.store) v.reaches.serves in
       let effect = machine.effect_of s.store.files v.request v.reply in
       let fine = machine.acted (machine.failing (machine.effected j.fine n v.request v.reply v.store) n) n o machine.told_failure v.caches in
-      let stood = machine_events.fail_keeps decode get_epoch failures.After j.fine n (told.Answered n (plain_answers.Refused 2)) fine (record { operation = o; request = v.request; caches = v.caches; acts = record { found = held.there; asks = sym same.asks ∙ a.asks; kept = kept }; reply = v.reply; store = v.store; reaches = record { serves = serves; honest = v.reaches.honest }; tells = refl; state = refl }) j.stands in
+      let stood = machine_events.fail_keeps decode get_epoch failures.After j.fine n (told.Answered n (plain_answers.Refused 2)) fine (record { operation = o; request = v.request; caches = v.caches; acts = h.acts; reply = v.reply; store = v.store; reaches = record { serves = serves; honest = v.reaches.honest }; tells = refl; state = refl }) j.stands in
       let rows = ap (λ (st : StoreState). j.fine.trace ++ effect_rows n (machine.effect_of st.files v.request v.reply)) j.tie.store in
-      let stands = stood_as encode decode get_epoch set_epoch past s j op operation a.found held client v.caches effect v.store [] v.store j.fine.loose (j.fine.trace ++ effect_rows n (machine.effect_of j.fine.store.files v.request v.reply)) refl (sym (append-nil j.fine.loose)) rows stood in
-      let joined = fails_joins encode decode get_epoch set_epoch past s j op operation a.found held client v.caches effect v.store [] [] (λ i o request e. none_left i o request e) stands in
+      let stands = stood_as encode decode get_epoch set_epoch past s j op operation v.acts.found h.held h.client v.caches effect v.store [] v.store j.fine.loose (j.fine.trace ++ effect_rows n (machine.effect_of j.fine.store.files v.request v.reply)) refl (sym (append-nil j.fine.loose)) rows stood in
+      let joined = fails_joins encode decode get_epoch set_epoch past s j op operation v.acts.found h.held h.client v.caches effect v.store [] [] (λ i o request e. none_left i o request e) stands in
       subst (λ (x : State T). Joined decode get_epoch set_epoch past x) (sym v.state)
       (subst (λ (ls : List (ℕ × Request)). Joined decode get_epoch set_epoch past (record (acted (failing (effected s op v.request v.reply v.store) op) op operation (refused 2) v.caches) { loose = ls })) (append-nil s.loose) joined)
 

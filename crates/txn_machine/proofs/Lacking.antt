@@ -28,8 +28,7 @@ use Rattle.txn_machine.specs.Doing.{refused, is_claim_call}
 use Rattle.txn_machine.specs.Machine.{State, let_go, acted, Lacks}
 use Rattle.txn_machine.proofs.Matched.{Answered as IsAnswered}
 use Rattle.txn_machine.proofs.Joined.{Past, as_fine, Joined}
-use Rattle.txn_machine.proofs.Alike.{matched_same}
-use Rattle.txn_machine.proofs.Serving.{held_of, client_of, acts_joins}
+use Rattle.txn_machine.proofs.Serving.{asking, acts_joins}
 use Rattle.txn_machine.proofs.Failing.{refusing_is, refusing_epoch}
 
 module _ {T : Type 0} (decode : List ℕ → Option T) (get_epoch : T → ℕ) where
@@ -55,21 +54,17 @@ module _ {T : Type 0} (encode : T → List ℕ) (decode : List ℕ → Option T)
   pub lacks_joins : (op : ℕ) (said : Told T) (new : State T) → Lacks s op said new → Joined decode get_epoch set_epoch past new
   lacks_joins op said new v =
       let operation = v.operation in
-      let a = v.acts in
-      let held = held_of encode decode get_epoch set_epoch past s j op operation (Store v.request) a.found a.asks in
-      let local = local_of (look_up j.l.views (view_used held.call)) in
-      let same = matched_same get_epoch held.call local held.inner operation.doing held.doing held.matched in
-      let client = client_of encode decode get_epoch set_epoch past s j operation.client v.caches a.kept in
+      let h = asking encode decode get_epoch set_epoch past s j op operation (Store v.request) v.caches v.acts in
+      let held = h.held in
       let n = j.now op in
       let o = as_fine operation.client held.doing in
-      let kept : numbered j.fine.caches operation.client ≡ Some v.caches = ap (λ (cs : List Caches). numbered cs operation.client) j.caches ∙ a.kept in
       let fine = machine.acted j.fine n o (lacked decode get_epoch) v.caches in
-      let stands = fine_stands decode get_epoch j.fine n o (Store v.request) v.caches (record { found = held.there; asks = sym same.asks ∙ a.asks; kept = kept }) j.stands in
+      let stands = fine_stands decode get_epoch j.fine n o (Store v.request) v.caches h.acts j.stands in
       let stood =
       subst (λ (st : StoreState). machine_stands.Stands decode get_epoch (record fine { store = st; caches = slice_set s.caches (operation.client - 1) v.caches; trace = (j.fine.trace ++ []) ++ answer_rows n (Some (plain_answers.Refused 9)) })) j.tie.store
       (subst (λ (cs : List Caches). machine_stands.Stands decode get_epoch (record fine { caches = slice_set cs (operation.client - 1) v.caches; trace = (j.fine.trace ++ []) ++ answer_rows n (Some (plain_answers.Refused 9)) })) j.caches
       (subst (λ (tr : List (PlainRow T)). machine_stands.Stands decode get_epoch (record fine { trace = tr ++ answer_rows n (Some (plain_answers.Refused 9)) })) (sym (append-nil j.fine.trace)) stands))
       in
-      let joined = acts_joins encode decode get_epoch set_epoch past s j op operation a.found held client None (lacked decode get_epoch) s.store v.caches (refused 9) stood (is_answered s.page encode decode get_epoch set_epoch held.call local held.inner) in
+      let joined = acts_joins encode decode get_epoch set_epoch past s j op operation v.acts.found held h.client None (lacked decode get_epoch) s.store v.caches (refused 9) stood (is_answered s.page encode decode get_epoch set_epoch held.call (local_of (look_up j.l.views (view_used held.call))) held.inner) in
       subst (λ (x : State T). Joined decode get_epoch set_epoch past x) (sym v.state)
       (subst (λ (tr : List (Row T)). Joined decode get_epoch set_epoch past (acted (record s { trace = tr }) op operation (refused 9) v.caches)) (append-nil s.trace) joined)

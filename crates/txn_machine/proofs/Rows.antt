@@ -1,18 +1,16 @@
 -- What ties the rows of the machine to those of the layer, after one more row, and after one more owner.
 use Rattle.std.proofs.Common.{◌≡◌, ◌≢◌, ℕ, ◌≤◌, ◌⊎◌, List, [], ◌∷◌, ◌++◌, take, slice_get, Bool, true, false, nat_eq, Option, Some, None, inl, inr, refl, sym, ◌∙◌, ap, subst, arith}
 use Rattle.std.specs.List.{list_any}
-use Rattle.std.proofs.lemmas.List.{take-append-le}
 use Rattle.std.proofs.lemmas.Bool.{both_ways, eq-eqb, eqb-true}
-use Rattle.std.proofs.lemmas.Option.{slice_get_within}
 use Rattle.txn_store.specs.declared.request.Request.{Request}
 use Rattle.txn_history.specs.declared.trace.RowOf.TheVariants.{Effect, Begun, Answered}
 use Rattle.txn_machine_inner.specs.PlainTrace.{PlainRow}
-use Rattle.txn_history.specs.History.{boundary, has_id, versions_of}
+use Rattle.txn_history.specs.History.{boundary}
 use Rattle.txn_machine_inner.specs.PlainCalls as plain_calls
 use Rattle.txn_history.specs.Calls.{begins, was_begun, IsCall, tells}
 use Rattle.txn_history.specs.Facts.{Entered}
-use Rattle.txn_history.proofs.Lists.{get_more, any_true, any_last, any_more}
-use Rattle.txn_history.proofs.More.{call_kept}
+use Rattle.txn_history.proofs.Lists.{any_true, any_last, any_more}
+use Rattle.txn_history.proofs.More.{call_kept, entered_back}
 use Rattle.txn_history.proofs.Rows.{stored-more, boundary-same}
 use Rattle.txn_history.specs.declared.event.Call.{Call}
 use Rattle.txn_history.specs.Trace.{Row}
@@ -101,28 +99,6 @@ module _ {T : Type 0} where
         }
 
 module _ {T : Type 0} (decode : List ℕ → Option T) where
-  front_same : (fine : List (PlainRow T)) (row : PlainRow T) (k : ℕ) (y : PlainRow T) → slice_get fine k ≡ Some y → take k (fine ++ row ∷ []) ≡ take k fine
-  front_same fine row k y e = take-append-le k fine (row ∷ []) (omega (arith, slice_get_within fine k y e))
-
-  -- an entry with one more row is one of before, or of that row
-  entered_back : (fine : List (PlainRow T)) (row : PlainRow T) (m k : ℕ) (value : T) → Entered decode (fine ++ row ∷ []) m k value → Entered decode fine m k value ⊎ ((request : Request) × (row ≡ Effect m request))
-  entered_back fine row m k value e =
-      elim (get_more fine row e.place (Effect m e.request) e.effect) [
-        | inl old ↦
-            let same = front_same fine row e.place (Effect m e.request) old in
-            inl (record {
-              place = e.place;
-              request = e.request;
-              bytes = e.bytes;
-              effect = old;
-              creates = e.creates;
-              begun = subst (λ (f : List (PlainRow T)). was_begun f m ≡ true) same e.begun;
-              first = subst (λ (f : List (PlainRow T)). has_id (versions_of f) k ≡ false) same e.first;
-              reads = e.reads;
-            })
-        | inr last ↦ inr (e.request, last.1)
-      ]
-
   no_row : (row : PlainRow T) (m : ℕ) (request : Request) → is_effect row ≡ false → row ≡ Effect m request → ⊥
   no_row (Effect o other) m request h e = cc
   no_row (Begun o call) m request h e = cc
@@ -137,9 +113,9 @@ module _ {T : Type 0} (decode : List ℕ → Option T) where
 
   pub past_fine : (owner : ℕ → ℕ) (fine : List (PlainRow T)) (row : PlainRow T) (op n : ℕ) → is_effect row ≡ false → PastAt decode owner fine op n → PastAt decode owner (fine ++ row ∷ []) op n
   past_fine owner fine row op n none past m k value own ne e =
-      elim (entered_back fine row m k value e) [
+      elim (entered_back decode fine row m k value e) [
         | inl old ↦ (let le = past m k value own ne old in let same = quiet_boundary fine row none in omega (arith, le, same))
-        | inr last ↦ absurd (no_row row m last.0 none last.1)
+        | inr last ↦ absurd (no_row row m last.0 none last.2)
       ]
 
   abbrev row_is : ℕ → Request → PlainRow T
@@ -150,9 +126,9 @@ module _ {T : Type 0} (decode : List ℕ → Option T) where
 
   pub past_effect : (owner : ℕ → ℕ) (fine : List (PlainRow T)) (i : ℕ) (request : Request) (op n : ℕ) → boundary fine ≤ boundary (fine ++ Effect i request ∷ []) → (owner i ≡ op → i ≡ n) → PastAt decode owner fine op n → PastAt decode owner (fine ++ Effect i request ∷ []) op n
   past_effect owner fine i request op n up one past m k value own ne e =
-      elim (entered_back fine (Effect i request) m k value e) [
+      elim (entered_back decode fine (Effect i request) m k value e) [
         | inl old ↦ (let le = past m k value own ne old in omega (arith, le, up))
-        | inr last ↦ absurd (let same = maker_is i m request last.0 last.1 in ne (sym same ∙ one (ap owner same ∙ own)))
+        | inr last ↦ absurd (let same = maker_is i m request last.0 last.2 in ne (sym same ∙ one (ap owner same ∙ own)))
       ]
 
   pub past_named : (owner : ℕ → ℕ) (fine : List (PlainRow T)) (next to op n : ℕ) → Unused fine next → PastAt decode owner fine op n → PastAt decode (renamed owner next to) fine op n

@@ -22,7 +22,7 @@ use Rattle.txn_machine_views.specs.Layer.{Used, look_up, local_of}
 use Rattle.txn_machine_views.proofs.Stands as layer_stands
 use Rattle.txn_machine.specs.declared.doing.Operation.{Operation}
 use Rattle.txn_machine.specs.Doing.{Next, asked}
-use Rattle.txn_machine.specs.Machine.{State, acted, effected, Looks, Served}
+use Rattle.txn_machine.specs.Machine.{State, acted, effected, Looks, Served, Acts}
 use Rattle.txn_machine.proofs.Matched.{Answered as IsAnswered}
 use Rattle.txn_machine.proofs.Turning.{every_turn}
 use Rattle.txn_machine.proofs.Joined.{Past, as_fine, Held, At, Core, Tie, Joined}
@@ -49,6 +49,22 @@ module _ {T : Type 0} (encode : T → List ℕ) (decode : List ℕ → Option T)
       let w = within s.caches client caches kept in
       let wide : length s.caches ≡ j.fine.clients = sym (ap (λ (cs : List Caches). length cs) j.caches) ∙ j.stands.wide in
       (w.0, (let le = w.1 in omega (arith, le, wide)))
+
+  -- An operation that asks: what holds of it, its client, and its fine operation, which asks for the same.
+  pub record Asking (op : ℕ) (operation : Operation T) (ask : Ask) (caches : Caches) : Type 0 where
+    pub held : HeldBy op operation
+    pub client : (0 < operation.client) × (operation.client ≤ j.fine.clients)
+    pub acts : machine.Acts j.fine (j.now op) (as_fine operation.client held.doing) ask caches
+
+  pub asking : (op : ℕ) (operation : Operation T) (ask : Ask) (caches : Caches) → Acts s op operation ask caches → Asking op operation ask caches
+  asking op operation ask caches a =
+      let held = held_of op operation ask a.found a.asks in
+      let same = matched_same get_epoch held.call (local_of (look_up j.l.views (view_used held.call))) held.inner operation.doing held.doing held.matched in
+      record {
+        held = held;
+        client = client_of operation.client caches a.kept;
+        acts = record { found = held.there; asks = sym same.asks ∙ a.asks; kept = ap (λ (cs : List Caches). numbered cs operation.client) j.caches ∙ a.kept };
+      }
 
   module _ (op : ℕ) (operation : Operation T) (found : numbered s.operations op ≡ Some operation) (held : HeldBy op operation) (client : (0 < operation.client) × (operation.client ≤ j.fine.clients)) where
     abbrev local : Option ℕ
@@ -85,25 +101,21 @@ module _ {T : Type 0} (encode : T → List ℕ) (decode : List ℕ → Option T)
   pub look_joins : (op : ℕ) (said : Told T) (new : State T) → Looks encode decode get_epoch set_epoch s op said new → Joined decode get_epoch set_epoch past new
   look_joins op said new v =
       let operation = v.operation in
-      let a = v.acts in
-      let held = held_of op operation Look a.found a.asks in
-      let same = matched_same get_epoch held.call (local_of (look_up j.l.views (view_used held.call))) held.inner operation.doing held.doing held.matched in
-      let asks = sym same.asks ∙ a.asks in
-      let client = client_of operation.client v.caches a.kept in
+      let h = asking op operation Look v.caches v.acts in
+      let held = h.held in
       let n = j.now op in
       let o = as_fine operation.client held.doing in
-      let t = every_turn s.page encode decode get_epoch set_epoch held.call (local_of (look_up j.l.views (view_used held.call))) held.inner operation.doing held.doing v.caches None v.next held.matched (stood_looks decode get_epoch j.fine j.stands n o held.there asks) v.turns in
+      let t = every_turn s.page encode decode get_epoch set_epoch held.call (local_of (look_up j.l.views (view_used held.call))) held.inner operation.doing held.doing v.caches None v.next held.matched (stood_looks decode get_epoch j.fine j.stands n o held.there h.acts.asks) v.turns in
       let left = plain.caches_left held.doing v.caches t.after.1 in
       let fine = machine.acted j.fine n o t.after left in
-      let kept : numbered j.fine.caches operation.client ≡ Some v.caches = ap (λ (cs : List Caches). numbered cs operation.client) j.caches ∙ a.kept in
       let stands = look_keeps decode get_epoch j.fine n (told_of (told.Went n) n t.after.1) fine
-      (record { operation = o; caches = v.caches; acts = record { found = held.there; asks = asks; kept = kept }; refused = t.refused; next = t.after; turns = t.turns ∙ ap (λ (p : ℕ). plain.turned p decode t.refused held.doing v.caches None) (sym j.tie.page); tells = refl; state = refl }) j.stands in
+      (record { operation = o; caches = v.caches; acts = h.acts; refused = t.refused; next = t.after; turns = t.turns ∙ ap (λ (p : ℕ). plain.turned p decode t.refused held.doing v.caches None) (sym j.tie.page); tells = refl; state = refl }) j.stands in
       let stood =
       subst (λ (st : StoreState). machine_stands.Stands decode get_epoch (record fine { store = st; caches = slice_set s.caches (operation.client - 1) left; trace = (j.fine.trace ++ []) ++ answer_rows n t.after.1 })) j.tie.store
       (subst (λ (cs : List Caches). machine_stands.Stands decode get_epoch (record fine { caches = slice_set cs (operation.client - 1) left; trace = (j.fine.trace ++ []) ++ answer_rows n t.after.1 })) j.caches
       (subst (λ (tr : List (PlainRow T)). machine_stands.Stands decode get_epoch (record fine { trace = tr ++ answer_rows n t.after.1 })) (sym (append-nil j.fine.trace)) stands))
       in
-      let joined = acts_joins op operation a.found held client None t.after s.store left v.next stood t.answered in
+      let joined = acts_joins op operation v.acts.found held h.client None t.after s.store left v.next stood t.answered in
       subst (λ (x : State T). Joined decode get_epoch set_epoch past x) (sym v.state)
       (subst (λ (c : Caches). Joined decode get_epoch set_epoch past (acted s op operation v.next c)) (sym t.leaves)
       (subst (λ (tr : List (Row T)). Joined decode get_epoch set_epoch past (acted (record s { trace = tr }) op operation v.next left)) (append-nil s.trace) joined))
@@ -113,24 +125,20 @@ module _ {T : Type 0} (encode : T → List ℕ) (decode : List ℕ → Option T)
   pub serve_joins : (op : ℕ) (said : Told T) (new : State T) → Served encode decode get_epoch set_epoch s op said new → Joined decode get_epoch set_epoch past new
   serve_joins op said new v =
       let operation = v.operation in
-      let a = v.acts in
-      let held = held_of op operation (Store v.request) a.found a.asks in
-      let same = matched_same get_epoch held.call (local_of (look_up j.l.views (view_used held.call))) held.inner operation.doing held.doing held.matched in
-      let asks = sym same.asks ∙ a.asks in
-      let client = client_of operation.client v.caches a.kept in
+      let h = asking op operation (Store v.request) v.caches v.acts in
+      let held = h.held in
       let n = j.now op in
       let o = as_fine operation.client held.doing in
       let serves : Serves v.request j.fine.store v.reply v.store = subst (λ (st : StoreState). Serves v.request st v.reply v.store) (sym j.tie.store) v.reaches.serves in
-      let t = every_turn s.page encode decode get_epoch set_epoch held.call (local_of (look_up j.l.views (view_used held.call))) held.inner operation.doing held.doing v.caches (Some v.reply) v.next held.matched (stood_replies decode get_epoch j.fine j.stands n o held.there v.request v.reply v.store asks serves) v.turns in
+      let t = every_turn s.page encode decode get_epoch set_epoch held.call (local_of (look_up j.l.views (view_used held.call))) held.inner operation.doing held.doing v.caches (Some v.reply) v.next held.matched (stood_replies decode get_epoch j.fine j.stands n o held.there v.request v.reply v.store h.acts.asks serves) v.turns in
       let left = plain.caches_left held.doing v.caches t.after.1 in
       let fine = machine.acted (machine.effected j.fine n v.request v.reply v.store) n o t.after left in
-      let kept : numbered j.fine.caches operation.client ≡ Some v.caches = ap (λ (cs : List Caches). numbered cs operation.client) j.caches ∙ a.kept in
       let stands = serve_keeps decode get_epoch j.fine n (told_of (told.Went n) n t.after.1) fine
-      (record { operation = o; request = v.request; caches = v.caches; acts = record { found = held.there; asks = asks; kept = kept }; reply = v.reply; store = v.store; reaches = record { serves = serves; honest = v.reaches.honest }; refused = t.refused; next = t.after; turns = t.turns ∙ ap (λ (p : ℕ). plain.turned p decode t.refused held.doing v.caches (Some v.reply)) (sym j.tie.page); tells = refl; state = refl }) j.stands in
+      (record { operation = o; request = v.request; caches = v.caches; acts = h.acts; reply = v.reply; store = v.store; reaches = record { serves = serves; honest = v.reaches.honest }; refused = t.refused; next = t.after; turns = t.turns ∙ ap (λ (p : ℕ). plain.turned p decode t.refused held.doing v.caches (Some v.reply)) (sym j.tie.page); tells = refl; state = refl }) j.stands in
       let stood =
       subst (λ (st : StoreState). machine_stands.Stands decode get_epoch (record fine { caches = slice_set s.caches (operation.client - 1) left; trace = (j.fine.trace ++ effect_rows n (machine.effect_of st.files v.request v.reply)) ++ answer_rows n t.after.1 })) j.tie.store
       (subst (λ (cs : List Caches). machine_stands.Stands decode get_epoch (record fine { caches = slice_set cs (operation.client - 1) left })) j.caches stands)
       in
-      let joined = acts_joins op operation a.found held client (machine.effect_of s.store.files v.request v.reply) t.after v.store left v.next stood t.answered in
+      let joined = acts_joins op operation v.acts.found held h.client (machine.effect_of s.store.files v.request v.reply) t.after v.store left v.next stood t.answered in
       subst (λ (x : State T). Joined decode get_epoch set_epoch past x) (sym v.state)
       (subst (λ (c : Caches). Joined decode get_epoch set_epoch past (acted (effected s op v.request v.reply v.store) op operation v.next c)) (sym t.leaves) joined)

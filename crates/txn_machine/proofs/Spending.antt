@@ -49,7 +49,7 @@ use Rattle.txn_history.specs.Views.{View}
 use Rattle.txn_machine.specs.declared.doing.Doing.{Doing}
 use Rattle.txn_machine.specs.declared.doing.Doing.TheVariants as does
 use Rattle.txn_machine.specs.declared.doing.Operation.{Operation}
-use Rattle.txn_machine.specs.Doing.{Next, ended, plain_next, next_of, with_local, first_next, started, turned, IsReply}
+use Rattle.txn_machine.specs.Doing.{Next, ended, plain_next, next_of, with_local, first_next, started, turned, IsReply, Turns}
 use Rattle.txn_machine.specs.CallsLeft.{five_and_two, most_of, any_left, is_look_of, is_serve_of, taken_of}
 use Rattle.txn_machine.specs.Machine.{State, doing_next, with_doing, ended_by, next_op, new_operation, view_now, Fails, Takes, Runs, IsReached}
 use Rattle.txn_machine.proofs.Reached.{reached_replies, reached_looks}
@@ -258,39 +258,32 @@ module _ {T : Type 0} where
       by false e = stays (events.Crash client) op left new refl refl (h.0, there ∙ ap (λ (b : Bool). Some (if◌then◌else◌ {A = Operation T} b (doing_next h.0 ended) h.0)) e, h.2)
 
 module _ {T : Type 0} (encode : T → List ℕ) (decode : List ℕ → Option T) (get_epoch : T → ℕ) (set_epoch : T → ℕ → T) where
-  look_spends : (old : State T) (other : ℕ) (said : Told T) (new : State T) (op : ℕ) (left : Left) → IsReached encode decode get_epoch set_epoch old → Takes encode decode get_epoch set_epoch old (events.Look other) said new → Has old op left → Spends (events.Look other) op left new
-  look_spends old other said new op left r t h =
-      let v = t.step in
-      let operations : new.operations ≡ with_doing old.operations other v.operation v.next.0 = ap (λ (s : State T). s.operations) v.state in
+  -- An operation takes its look or its serve: it is this one, which goes on with less left, or another.
+  turn_is_spent : (event : Event T) (old new : State T) (op other : ℕ) (left : Left) (o : Operation T) (caches : Caches) (reply : Option Reply) (next : Next T) → numbered old.operations other ≡ Some o → new.operations ≡ with_doing old.operations other o next.0 →
+      Turns old.page encode decode get_epoch set_epoch o.doing caches reply next → IsReply o.doing reply → ((other == op) ≡ false → (is_look_of op event ≡ false) × (is_serve_of op event ≡ false)) →
+      ((other == op) ≡ true → (after : Left) → SpendsOne reply left after → (one_where (is_look_of op event) + after.looks ≤ left.looks) × (one_where (is_serve_of op event) + after.calls ≤ left.calls)) → Has old op left → Spends event op left new
+  turn_is_spent event old new op other left o caches reply next there operations turns given elsewhere counts h =
       elim (cases_Bool (other == op)) [
         | inl same ↦
             let is : other ≡ op = eqb-true other op same in
-            let found : numbered old.operations op ≡ Some v.operation = subst (λ (n : ℕ). numbered old.operations n ≡ Some v.operation) is v.acts.found in
-            let left_now : any_left v.operation.doing ≡ Some left = ap (λ (o : Operation T). any_left o.doing) (same_Some v.operation h.0 (sym found ∙ h.1)) ∙ h.2 in
-            let given = reached_looks encode decode get_epoch set_epoch old r other v.operation v.acts.found v.acts.asks in
-            let spent = turn_spends old.page encode decode get_epoch set_epoch v.turns.refused v.caches v.operation.doing None left left_now given in
-            own_spends (events.Look other) old new op left None v.operation v.next found (subst (λ (n : ℕ). new.operations ≡ with_doing old.operations n v.operation v.next.0) is operations)
-            (subst (Spent None left) (sym v.turns.turns) spent)
-            (λ after s. (rw same (let less = s.0 in omega (arith, less)), (let le = s.1 in omega (arith, le))))
-        | inr differ ↦ stays (events.Look other) op left new differ refl (other_has old new op other left v.operation (doing_next v.operation v.next.0) v.acts.found operations (λ same. eqb-false other op differ (sym same)) h)
+            let found : numbered old.operations op ≡ Some o = subst (λ (n : ℕ). numbered old.operations n ≡ Some o) is there in
+            let left_now : any_left o.doing ≡ Some left = ap (λ (x : Operation T). any_left x.doing) (same_Some o h.0 (sym found ∙ h.1)) ∙ h.2 in
+            let spent = turn_spends old.page encode decode get_epoch set_epoch turns.refused caches o.doing reply left left_now given in
+            own_spends event old new op left reply o next found (subst (λ (n : ℕ). new.operations ≡ with_doing old.operations n o next.0) is operations) (subst (Spent reply left) (sym turns.turns) spent) (counts same)
+        | inr differ ↦ stays event op left new (elsewhere differ).0 (elsewhere differ).1 (other_has old new op other left o (doing_next o next.0) there operations (λ same. eqb-false other op differ (sym same)) h)
       ]
+
+  look_spends : (old : State T) (other : ℕ) (said : Told T) (new : State T) (op : ℕ) (left : Left) → IsReached encode decode get_epoch set_epoch old → Takes encode decode get_epoch set_epoch old (events.Look other) said new → Has old op left → Spends (events.Look other) op left new
+  look_spends old other said new op left r t h =
+      let v = t.step in
+      turn_is_spent (events.Look other) old new op other left v.operation v.caches None v.next v.acts.found (ap (λ (s : State T). s.operations) v.state) v.turns (reached_looks encode decode get_epoch set_epoch old r other v.operation v.acts.found v.acts.asks) (λ differ. (differ, refl))
+      (λ same after s. (rw same (let less = s.0 in omega (arith, less)), (let le = s.1 in omega (arith, le)))) h
 
   serve_spends : (old : State T) (other : ℕ) (said : Told T) (new : State T) (op : ℕ) (left : Left) → IsReached encode decode get_epoch set_epoch old → Takes encode decode get_epoch set_epoch old (events.Serve other) said new → Has old op left → Spends (events.Serve other) op left new
   serve_spends old other said new op left r t h =
       let v = t.step in
-      let operations : new.operations ≡ with_doing old.operations other v.operation v.next.0 = ap (λ (s : State T). s.operations) v.state in
-      elim (cases_Bool (other == op)) [
-        | inl same ↦
-            let is : other ≡ op = eqb-true other op same in
-            let found : numbered old.operations op ≡ Some v.operation = subst (λ (n : ℕ). numbered old.operations n ≡ Some v.operation) is v.acts.found in
-            let left_now : any_left v.operation.doing ≡ Some left = ap (λ (o : Operation T). any_left o.doing) (same_Some v.operation h.0 (sym found ∙ h.1)) ∙ h.2 in
-            let given = reached_replies encode decode get_epoch set_epoch old r other v.operation v.acts.found v.request v.reply v.store v.acts.asks v.reaches.serves in
-            let spent = turn_spends old.page encode decode get_epoch set_epoch v.turns.refused v.caches v.operation.doing (Some v.reply) left left_now given in
-            own_spends (events.Serve other) old new op left (Some v.reply) v.operation v.next found (subst (λ (n : ℕ). new.operations ≡ with_doing old.operations n v.operation v.next.0) is operations)
-            (subst (Spent (Some v.reply) left) (sym v.turns.turns) spent)
-            (λ after s. ((let le = s.0 in omega (arith, le)), rw same (let less = s.1 in omega (arith, less))))
-        | inr differ ↦ stays (events.Serve other) op left new refl differ (other_has old new op other left v.operation (doing_next v.operation v.next.0) v.acts.found operations (λ same. eqb-false other op differ (sym same)) h)
-      ]
+      turn_is_spent (events.Serve other) old new op other left v.operation v.caches (Some v.reply) v.next v.acts.found (ap (λ (s : State T). s.operations) v.state) v.turns (reached_replies encode decode get_epoch set_epoch old r other v.operation v.acts.found v.request v.reply v.store v.acts.asks v.reaches.serves) (λ differ. (refl, differ))
+      (λ same after s. ((let le = s.0 in omega (arith, le)), rw same (let less = s.1 in omega (arith, less)))) h
 
   pub takes_spend : (old : State T) (event : Event T) (said : Told T) (new : State T) (op : ℕ) (left : Left) → IsReached encode decode get_epoch set_epoch old → Takes encode decode get_epoch set_epoch old event said new → Has old op left → Spends event op left new
   takes_spend old (events.Begin client call) said new op left r t h =

@@ -5,48 +5,24 @@ use Rattle.txn_machine.proofs.laws.shared_rows_go_on.Goals as goal
 
 pub returns-clause-added : goal.returns-clause-added
 returns-clause-added g c clients page taken old event said new room runs takes =
-    let encode = g.C.ObjectCodec.encoded c.args._codec.now in
-    let decode = g.C.ObjectCodec.decoded c.args._codec.now in
-    let get_epoch = g.E.EpochField.epoch_of c.args._epochs.now in
-    let set_epoch = g.E.EpochField.with_epoch c.args._epochs.now in
-    added_rows_or_lacking encode decode get_epoch set_epoch old event said new (run_reaches_or_lacking encode decode get_epoch set_epoch clients page taken old room runs) takes
+    added_rows_or_lacking _ _ _ _ old event said new (run_reaches_or_lacking _ _ _ _ clients page taken old room runs) takes
 
 pub returns-clause-beside : goal.returns-clause-beside
 returns-clause-beside g c clients page taken old event said new room runs takes =
-    let encode = g.C.ObjectCodec.encoded c.args._codec.now in
-    let decode = g.C.ObjectCodec.decoded c.args._codec.now in
-    let get_epoch = g.E.EpochField.epoch_of c.args._epochs.now in
-    let set_epoch = g.E.EpochField.with_epoch c.args._epochs.now in
-    reached_goes_on_or_lacking encode decode get_epoch set_epoch old event said new (run_reaches_or_lacking encode decode get_epoch set_epoch clients page taken old room runs) takes
+    reached_goes_on_or_lacking _ _ _ _ old event said new (run_reaches_or_lacking _ _ _ _ clients page taken old room runs) takes
 
 pub returns-clause-stored : goal.returns-clause-stored
 returns-clause-stored g c clients page taken state room runs =
-    let encode = g.C.ObjectCodec.encoded c.args._codec.now in
-    let decode = g.C.ObjectCodec.decoded c.args._codec.now in
-    let get_epoch = g.E.EpochField.epoch_of c.args._epochs.now in
-    let set_epoch = g.E.EpochField.with_epoch c.args._epochs.now in
-    reached_stored encode decode get_epoch set_epoch state (run_reaches_or_lacking encode decode get_epoch set_epoch clients page taken state room runs)
+    reached_stored _ _ _ _ state (run_reaches_or_lacking _ _ _ _ clients page taken state room runs)
 
 pub returns-clause-clients : goal.returns-clause-clients
 returns-clause-clients g c clients page taken state runs =
-    let encode = g.C.ObjectCodec.encoded c.args._codec.now in
-    let decode = g.C.ObjectCodec.decoded c.args._codec.now in
-    let get_epoch = g.E.EpochField.epoch_of c.args._epochs.now in
-    let set_epoch = g.E.EpochField.with_epoch c.args._epochs.now in
-    (run_same encode decode get_epoch set_epoch clients page taken state runs).0
+    (run_same _ _ _ _ clients page taken state runs).0
 
 pub returns-clause-page : goal.returns-clause-page
 returns-clause-page g c clients page taken state runs =
-    let encode = g.C.ObjectCodec.encoded c.args._codec.now in
-    let decode = g.C.ObjectCodec.decoded c.args._codec.now in
-    let get_epoch = g.E.EpochField.epoch_of c.args._epochs.now in
-    let set_epoch = g.E.EpochField.with_epoch c.args._epochs.now in
-    (run_same encode decode get_epoch set_epoch clients page taken state runs).1
+    (run_same _ _ _ _ clients page taken state runs).1
 
 pub returns-clause-owners : goal.returns-clause-owners
 returns-clause-owners g c clients page taken state runs number used there =
-    let encode = g.C.ObjectCodec.encoded c.args._codec.now in
-    let decode = g.C.ObjectCodec.decoded c.args._codec.now in
-    let get_epoch = g.E.EpochField.epoch_of c.args._epochs.now in
-    let set_epoch = g.E.EpochField.with_epoch c.args._epochs.now in
-    run_owned encode decode get_epoch set_epoch clients page taken state runs number used there
+    run_owned _ _ _ _ clients page taken state runs number used there

@@ -20,8 +20,4 @@ returns-clause-caches g c doing caches reply failed is =
 
 pub returns-clause-event : goal.returns-clause-event
 returns-clause-event g c old op failure said new fails =
-    let encode = g.C.ObjectCodec.encoded c.args._codec.now in
-    let decode = g.C.ObjectCodec.decoded c.args._codec.now in
-    let get_epoch = g.E.EpochField.epoch_of c.args._epochs.now in
-    let set_epoch = g.E.EpochField.with_epoch c.args._epochs.now in
-    failure_taken encode decode get_epoch set_epoch failure old op said new fails
+    failure_taken _ _ _ _ failure old op said new fails
