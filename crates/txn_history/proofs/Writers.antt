@@ -5,13 +5,14 @@ use Rattle.std.proofs.lemmas.Bool.{both_ways, eq-eqb, cases_lt}
 use Rattle.std.proofs.lemmas.Option.{slice_get_within, get_or_from_slice_get, same_Some}
 use Rattle.txn_store.specs.declared.request.Request.{Request}
 use Rattle.txn_history.specs.declared.trace.RowOf.{RowOf}
-use Rattle.txn_history.specs.declared.trace.RowOf.TheVariants.{Effect, Answered}
+use Rattle.txn_history.specs.declared.trace.RowOf.TheVariants.{Effect, Begun, Answered}
 use Rattle.txn_history.specs.History.{Version, created, has_id, with_version, versions_of}
-use Rattle.txn_history.specs.Calls.{ends, was_answered}
+use Rattle.txn_history.specs.Calls.{ends, was_answered, IsCall}
 use Rattle.txn_history.specs.Facts.{Entered}
 use Rattle.txn_history.proofs.Lists.{any_true, any_last}
 use Rattle.txn_history.proofs.Rows.{row_op, front_more, versions_of-more, versions_grow}
 use Rattle.txn_history.proofs.Fronts.{later_at, of_front, front_of}
+use Rattle.txn_history.proofs.Numbered.{AreNumbered, one_call}
 
 has_with : (versions : List Version) (id : ℕ) (bytes : List ℕ) (b : Bool) → has_id versions id ≡ b → has_id (cond b versions (versions ++ (id, bytes) ∷ [])) id ≡ true
 has_with versions id bytes true e = e
@@ -40,6 +41,13 @@ module _ {C A T : Type 0} (decode : List ℕ → Option T) where
         first = subst (λ (front : List (RowOf C A)). has_id (versions_of front) id ≡ false) (front_of rows j e.place (omega (arith, there.1))) e.first;
         fresh = fresh;
       }
+
+  -- an answer of a call that fits it, and is then its own version, wrote it
+  pub answer_wrote : (rows : List (RowOf C A)) → AreNumbered rows → (k op id : ℕ) (fits : C → Type 0) (call said : C) → IsCall (take k rows) op call → IsCall rows op said → was_answered (take k rows) op ≡ false → fits call → (fits said → (v : T) × Entered decode (take k rows) op id v) → Wrote rows k op id
+  answer_wrote rows numbered k op id fits call said called began once h own =
+      let same = one_call rows numbered op call said (called.0, (of_front rows k called.0 (Begun op call) called.1).0) began in
+      let e = own (subst fits same h) in
+      entered_wrote rows k op id e.0 once e.1
 
   has_more : (rows : List (RowOf C A)) (row : RowOf C A) (id : ℕ) → has_id (versions_of rows) id ≡ true → has_id (versions_of (rows ++ row ∷ [])) id ≡ true
   has_more rows row id h = let g = versions_grow rows row in rw (g.1, list_any-append (λ (v : Version). v.0 == id) (versions_of rows) g.0, h) refl

@@ -6,11 +6,9 @@ use Rattle.txn_history.specs.declared.event.PlainCall.TheVariants as calls
 use Rattle.txn_history.specs.declared.event.PlainAnswer.{PlainAnswer}
 use Rattle.txn_history.specs.declared.event.PlainAnswer.TheVariants as answers
 use Rattle.txn_history.specs.declared.trace.RowOf.TheVariants.{Begun, Answered}
-use Rattle.txn_history.specs.Calls.{IsCall}
 use Rattle.txn_history.specs.Facts.{Entered}
-use Rattle.txn_history.proofs.Numbered.{AreNumbered, one_call}
-use Rattle.txn_history.proofs.Fronts.{of_front}
-use Rattle.txn_history.proofs.Writers.{Wrote, entered_wrote, one_row}
+use Rattle.txn_history.proofs.Numbered.{AreNumbered}
+use Rattle.txn_history.proofs.Writers.{Wrote, answer_wrote, one_row}
 use Rattle.txn_machine_inner.specs.PlainTrace.{PlainRow}
 use Rattle.txn_machine_inner.specs.PlainHistory.{AnswerFits, IsOneHistory}
 use Rattle.txn_machine_inner.specs.PlainLaws.{id_entered, AnswersOwn, HasOneWriter}
@@ -26,11 +24,7 @@ module _ {T : Type 0} (decode : List ℕ → Option T) (get_epoch : T → ℕ) (
   own_wrote : (rows : List (PlainRow T)) → IsOneHistory decode get_epoch failed rows → (k op id : ℕ) → AnswersOwn rows k op id → Wrote decode rows k op id
   own_wrote rows good k op id w =
       let a = good k (Answered op w.answer) w.there in
-      let called : IsCall rows op a.call = (a.called.0, (of_front rows k a.called.0 (Begun op a.call) a.called.1).0) in
-      let same = one_call rows (are_numbered rows good) op a.call w.call called w.called in
-      let fits : AnswerFits decode get_epoch failed (take k rows) op w.call w.answer = subst (λ (c : PlainCall T). AnswerFits decode get_epoch failed (take k rows) op c w.answer) same a.fits in
-      let e = own_entered (take k rows) op id w.call w.answer w.own fits in
-      entered_wrote decode rows k op id e.0 a.once e.1
+      answer_wrote decode rows (are_numbered rows good) k op id (λ c. AnswerFits decode get_epoch failed (take k rows) op c w.answer) a.call w.call a.called w.called a.once a.fits (own_entered (take k rows) op id w.call w.answer w.own)
 
   pub one_writer : (rows : List (PlainRow T)) → IsOneHistory decode get_epoch failed rows → HasOneWriter rows
   one_writer rows good j k op other id a b = one_row decode rows j k op other id a.answer b.answer a.there b.there (own_wrote rows good j op id a) (own_wrote rows good k other id b)
