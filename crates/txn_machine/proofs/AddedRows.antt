@@ -1,5 +1,5 @@
 -- The rows that an event adds.
-use Rattle.std.proofs.Common.{◌≡◌, ℕ, ◌+◌, ◌-◌, List, [], ◌∷◌, ◌++◌, length, Bool, true, false, Option, Some, None, inl, inr, refl, sym, ◌∙◌, ap, subst, arith}
+use Rattle.std.proofs.Common.{◌≡◌, ℕ, ◌+◌, ◌-◌, List, [], ◌∷◌, ◌++◌, length, Option, Some, None, inl, inr, refl, sym, ◌∙◌, ap, subst, arith}
 use Rattle.std.specs.FinMap.{get-empty}
 use Rattle.std.proofs.lemmas.List.{length-append, length-map, length-set}
 use Rattle.txn_store.specs.Paths.{path_cmp}
@@ -14,7 +14,7 @@ use Rattle.txn_history.specs.declared.event.EventOf.TheVariants as events
 use Rattle.txn_history.specs.declared.event.ToldOf.TheVariants as told
 use Rattle.txn_history.specs.declared.trace.RowOf.TheVariants.{Effect, Begun, Answered}
 use Rattle.txn_history.specs.Calls.{begun_count, view_used}
-use Rattle.txn_history.specs.Added.{Tells, answer_row, answer_rows, effect_rows, IsEffectRow, AddsRows}
+use Rattle.txn_history.specs.Added.{Tells, answer_row, answer_rows, effect_rows, AddsRows}
 use Rattle.txn_history.specs.Seen.{Store}
 use Rattle.txn_machine_inner.specs.Machine.{effect_of}
 use Rattle.txn_machine_inner.proofs.Stands.{AllGiven}
@@ -25,7 +25,7 @@ use Rattle.txn_history.specs.declared.event.Answer.TheVariants as answers
 use Rattle.txn_history.specs.Trace.{Row, Event, Told}
 use Rattle.txn_machine.specs.declared.doing.Operation.{Operation}
 use Rattle.txn_machine.specs.Doing.{Next, ended, refused, caches_left}
-use Rattle.txn_machine.specs.Machine.{State, opening, seen_calls, answered, answer_next, doing_next, next_op, new_operation, acted, effected, loosened, failing, given_up, ended_by, crashed, begun_as, ReachesStore, FailsFirst, Fails, Lands, Looks, Served, Begins, Lacks, Takes, TakesOrLacks, IsReached}
+use Rattle.txn_machine.specs.Machine.{State, opening, seen_calls, answered, answer_next, doing_next, next_op, new_operation, acted, effected, loosened, failing, given_up, ended_by, crashed, begun_as, ReachesStore, Fails, Lands, Looks, Served, Begins, Lacks, Takes, TakesOrLacks, IsReached}
 use Rattle.txn_machine.proofs.Busy.{seen_asks}
 use Rattle.txn_machine.proofs.Runs.{runs_keep, or_lacking}
 use Rattle.txn_machine.proofs.TokensGiven.{served_given}

@@ -1,5 +1,5 @@
 -- What an operation makes of a store call that failed: it ends with the refusal 2, and leaves its client's caches.
-use Rattle.std.proofs.Common.{◌≡◌, ℕ, ◌==◌, List, Bool, false, if◌then◌else◌, Option, Some, None, Result, Ok, Err, refl, sym, ◌∙◌, ap, subst}
+use Rattle.std.proofs.Common.{◌≡◌, ℕ, List, Bool, false, Option, Some, None, Result, Ok, Err, refl, ◌∙◌, ap}
 use Rattle.std.proofs.lemmas.Option.{same_Some}
 use Rattle.txn_store.specs.Paths.{Segments}
 use Rattle.txn_store.specs.VersionName.{Names}

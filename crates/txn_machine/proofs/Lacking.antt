@@ -1,11 +1,10 @@
 -- Store calls that are refused for memory before anything has reached the store keep a world joined.
-use Rattle.std.proofs.Common.{◌≡◌, ℕ, ◌-◌, List, [], ◌++◌, slice_set, Option, Some, None, inr, refl, sym, ◌∙◌, ap, subst}
+use Rattle.std.proofs.Common.{ℕ, ◌-◌, List, [], ◌++◌, slice_set, Option, Some, None, inr, refl, sym, subst}
 use Rattle.std.proofs.lemmas.List.{append-nil}
 use Rattle.txn_store.specs.Store.{State as StoreState}
 use Rattle.txn_caches.specs.declared.caches.Caches.{Caches}
 use Rattle.txn_history.specs.declared.event.PlainAnswer.TheVariants as plain_answers
 use Rattle.txn_machine_inner.specs.PlainTrace.{PlainRow}
-use Rattle.txn_history.specs.Lists.{numbered}
 use Rattle.txn_history.specs.Seen.{Ask, Store}
 use Rattle.txn_history.specs.Added.{answer_rows}
 use Rattle.txn_machine_inner.specs.declared.doing.PlainDoing.TheVariants as doings

@@ -1,5 +1,5 @@
 -- What ties the rows of the machine to those of the layer, after one more row, and after one more owner.
-use Rattle.std.proofs.Common.{◌≡◌, ◌≢◌, ℕ, ◌≤◌, ◌⊎◌, List, [], ◌∷◌, ◌++◌, take, slice_get, Bool, true, false, nat_eq, Option, Some, None, inl, inr, refl, sym, ◌∙◌, ap, subst, arith}
+use Rattle.std.proofs.Common.{◌≡◌, ◌≢◌, ℕ, ◌≤◌, List, [], ◌∷◌, ◌++◌, slice_get, Bool, true, false, nat_eq, Option, Some, None, inl, inr, refl, sym, ◌∙◌, ap, subst, arith}
 use Rattle.std.specs.List.{list_any}
 use Rattle.std.proofs.lemmas.Bool.{both_ways, eq-eqb, eqb-true}
 use Rattle.txn_store.specs.declared.request.Request.{Request}
@@ -7,8 +7,7 @@ use Rattle.txn_history.specs.declared.trace.RowOf.TheVariants.{Effect, Begun, An
 use Rattle.txn_machine_inner.specs.PlainTrace.{PlainRow}
 use Rattle.txn_history.specs.History.{boundary}
 use Rattle.txn_machine_inner.specs.PlainCalls as plain_calls
-use Rattle.txn_history.specs.Calls.{begins, was_begun, IsCall, tells}
-use Rattle.txn_history.specs.Facts.{Entered}
+use Rattle.txn_history.specs.Calls.{begins, was_begun, tells}
 use Rattle.txn_history.proofs.Lists.{any_true, any_last, any_more}
 use Rattle.txn_history.proofs.More.{call_kept, entered_back}
 use Rattle.txn_history.proofs.Rows.{stored-more, boundary-same}

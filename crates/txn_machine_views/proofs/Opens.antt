@@ -2,13 +2,12 @@
 use Rattle.std.proofs.Common.{◌≡◌, ◌≢◌, ℕ, zero, suc, ◌≤◌, List, [], ◌∷◌, ◌++◌, length, take, Bool, true, false, ◌==◌, ◌||◌, Option, Some, None, inl, inr, refl, sym, ◌∙◌, ap, subst, arith}
 use Rattle.std.specs.List.{list_any}
 use Rattle.std.specs.Option.{option_map}
-use Rattle.std.proofs.lemmas.Bool.{cases_Bool, cases_lt, eqb-true, eqb-false, eq-eqb, both_ways}
-use Rattle.std.proofs.lemmas.Option.{same_Some, slice_get_within}
-use Rattle.txn_history.specs.declared.trace.RowOf.TheVariants.{Effect, Begun}
+use Rattle.std.proofs.lemmas.Bool.{cases_Bool, eqb-true, eqb-false, eq-eqb, both_ways}
+use Rattle.std.proofs.lemmas.Option.{same_Some}
+use Rattle.txn_history.specs.declared.trace.RowOf.TheVariants.{Begun}
 use Rattle.txn_history.specs.History.{newest}
 use Rattle.txn_history.specs.Calls.{begins, ends, was_begun, before_begin, view_used}
-use Rattle.txn_history.proofs.Lists.{get_last, get_more, any_false, any_last}
-use Rattle.txn_history.proofs.Rows.{newest_grows}
+use Rattle.txn_history.proofs.Lists.{get_last, any_false, any_last}
 use Rattle.txn_history.proofs.More.{entered_back, begun_count-begun}
 use Rattle.txn_history.specs.declared.event.Call.{Call}
 use Rattle.txn_history.specs.Trace.{Row}
@@ -16,7 +15,7 @@ use Rattle.txn_history.specs.Views.{view_count}
 use Rattle.txn_history.specs.OneHistory as history
 use Rattle.txn_machine_views.specs.Layer.{Used, Layer, look_up, with_busy, starting, set_used, opened}
 use Rattle.txn_machine_views.specs.Steps.{Allowed}
-use Rattle.txn_machine_views.proofs.History.{front_before, front_all, one_history-more, boundary_up}
+use Rattle.txn_machine_views.proofs.History.{one_history-more, boundary_up}
 use Rattle.txn_machine_views.proofs.Stands.{NeverBelow, Uses, OwnFenced, OpStands, ViewAt, Stands}
 use Rattle.txn_machine_views.proofs.Frames.{never_more, unseen_more, count_more, view_at_more, asked_more, fresh_more}
 use Rattle.txn_machine_views.proofs.Tables.{set_here, set_other, Leaves, set_leaves, known_of, op_leaves, op_row}
