@@ -27,7 +27,7 @@ use Rattle.txn_machine.specs.Doing.{refused, is_claim_call}
 use Rattle.txn_machine.specs.Machine.{State, let_go, acted, Lacks}
 use Rattle.txn_machine.proofs.Matched.{Answered as IsAnswered}
 use Rattle.txn_machine.proofs.Joined.{Past, as_fine, Joined}
-use Rattle.txn_machine.proofs.Serving.{asking, acts_joins}
+use Rattle.txn_machine.proofs.Serving.{asking, rests_joins}
 use Rattle.txn_machine.proofs.Failing.{refusing_is, refusing_epoch}
 
 module _ {T : Type 0} (decode : List ℕ → Option T) (get_epoch : T → ℕ) where
@@ -59,11 +59,5 @@ module _ {T : Type 0} (encode : T → List ℕ) (decode : List ℕ → Option T)
       let o = as_fine operation.client held.doing in
       let fine = machine.acted j.fine n o (lacked decode get_epoch) v.caches in
       let stands = fine_stands decode get_epoch j.fine n o (Store v.request) v.caches h.acts j.stands in
-      let stood =
-      subst (λ (st : StoreState). machine_stands.Stands decode get_epoch (record fine { store = st; caches = slice_set s.caches (operation.client - 1) v.caches; trace = (j.fine.trace ++ []) ++ answer_rows n (Some (plain_answers.Refused 9)) })) j.tie.store
-      (subst (λ (cs : List Caches). machine_stands.Stands decode get_epoch (record fine { caches = slice_set cs (operation.client - 1) v.caches; trace = (j.fine.trace ++ []) ++ answer_rows n (Some (plain_answers.Refused 9)) })) j.caches
-      (subst (λ (tr : List (PlainRow T)). machine_stands.Stands decode get_epoch (record fine { trace = tr ++ answer_rows n (Some (plain_answers.Refused 9)) })) (sym (append-nil j.fine.trace)) stands))
-      in
-      let joined = acts_joins encode decode get_epoch set_epoch past s j op operation v.acts.found held h.client None (lacked decode get_epoch) s.store v.caches (refused 9) stood (is_answered s.page encode decode get_epoch set_epoch held.call (local_of (look_up j.l.views (view_used held.call))) held.inner) in
       subst (λ (x : State T). Joined decode get_epoch set_epoch past x) (sym v.state)
-      (subst (λ (tr : List (Row T)). Joined decode get_epoch set_epoch past (acted (record s { trace = tr }) op operation (refused 9) v.caches)) (append-nil s.trace) joined)
+      (rests_joins encode decode get_epoch set_epoch past s j op operation v.acts.found held h.client (lacked decode get_epoch) v.caches (refused 9) stands (is_answered s.page encode decode get_epoch set_epoch held.call (local_of (look_up j.l.views (view_used held.call))) held.inner))

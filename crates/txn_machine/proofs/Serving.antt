@@ -96,6 +96,19 @@ module _ {T : Type 0} (encode : T → List ℕ) (decode : List ℕ → Option T)
         (subst (λ (p : ℕ). IsAnswered p encode decode get_epoch set_epoch held.call (local_of (look_up m.opened.l.views (view_used held.call))) held.inner after.0 after.1 next) (sym (page ∙ j.tie.page))
         (subst (λ (vs : ℕ → Option (Used T)). IsAnswered s.page encode decode get_epoch set_epoch held.call (local_of (look_up vs (view_used held.call))) held.inner after.0 after.1 next) (sym views) answered))
 
+    -- the same where nothing reached the store
+    pub rests_joins : (after : plain.Next T) (left : Caches) (next : Next T) → machine_stands.Stands decode get_epoch (machine.acted j.fine (j.now op) (as_fine operation.client held.doing) after left) → IsAnswered s.page encode decode get_epoch set_epoch held.call local held.inner after.0 after.1 next →
+        Joined decode get_epoch set_epoch past (acted s op operation next left)
+    rests_joins after left next stands answered =
+        let n = j.now op in
+        let fine = machine.acted j.fine n (as_fine operation.client held.doing) after left in
+        let stood =
+        subst (λ (st : StoreState). machine_stands.Stands decode get_epoch (record fine { store = st; caches = slice_set s.caches (operation.client - 1) left; trace = (j.fine.trace ++ []) ++ answer_rows n after.1 })) j.tie.store
+        (subst (λ (cs : List Caches). machine_stands.Stands decode get_epoch (record fine { caches = slice_set cs (operation.client - 1) left; trace = (j.fine.trace ++ []) ++ answer_rows n after.1 })) j.caches
+        (subst (λ (tr : List (PlainRow T)). machine_stands.Stands decode get_epoch (record fine { trace = tr ++ answer_rows n after.1 })) (sym (append-nil j.fine.trace)) stands))
+        in
+        subst (λ (tr : List (Row T)). Joined decode get_epoch set_epoch past (acted (record s { trace = tr }) op operation next left)) (append-nil s.trace) (acts_joins None after s.store left next stood answered)
+
   -- a look
 
   pub look_joins : (op : ℕ) (said : Told T) (new : State T) → Looks encode decode get_epoch set_epoch s op said new → Joined decode get_epoch set_epoch past new
@@ -110,15 +123,8 @@ module _ {T : Type 0} (encode : T → List ℕ) (decode : List ℕ → Option T)
       let fine = machine.acted j.fine n o t.after left in
       let stands = look_keeps decode get_epoch j.fine n (told_of (told.Went n) n t.after.1) fine
       (record { operation = o; caches = v.caches; acts = h.acts; refused = t.refused; next = t.after; turns = t.turns ∙ ap (λ (p : ℕ). plain.turned p decode t.refused held.doing v.caches None) (sym j.tie.page); tells = refl; state = refl }) j.stands in
-      let stood =
-      subst (λ (st : StoreState). machine_stands.Stands decode get_epoch (record fine { store = st; caches = slice_set s.caches (operation.client - 1) left; trace = (j.fine.trace ++ []) ++ answer_rows n t.after.1 })) j.tie.store
-      (subst (λ (cs : List Caches). machine_stands.Stands decode get_epoch (record fine { caches = slice_set cs (operation.client - 1) left; trace = (j.fine.trace ++ []) ++ answer_rows n t.after.1 })) j.caches
-      (subst (λ (tr : List (PlainRow T)). machine_stands.Stands decode get_epoch (record fine { trace = tr ++ answer_rows n t.after.1 })) (sym (append-nil j.fine.trace)) stands))
-      in
-      let joined = acts_joins op operation v.acts.found held h.client None t.after s.store left v.next stood t.answered in
       subst (λ (x : State T). Joined decode get_epoch set_epoch past x) (sym v.state)
-      (subst (λ (c : Caches). Joined decode get_epoch set_epoch past (acted s op operation v.next c)) (sym t.leaves)
-      (subst (λ (tr : List (Row T)). Joined decode get_epoch set_epoch past (acted (record s { trace = tr }) op operation v.next left)) (append-nil s.trace) joined))
+      (subst (λ (c : Caches). Joined decode get_epoch set_epoch past (acted s op operation v.next c)) (sym t.leaves) (rests_joins op operation v.acts.found held h.client t.after left v.next stands t.answered))
 
   -- a serve
 
