@@ -374,30 +374,23 @@ module _ {T : Type 0} (encode : T → List ℕ) (decode : List ℕ → Option T)
   plain_begins : (call : PlainCall T) (said : Told T) (new : State T) → fault_of decode get_epoch (seen_of s) s.trace (events.Begin client (any.Plain call)) ≡ None → Begins encode decode get_epoch set_epoch s client (any.Plain call) said new → Joined decode get_epoch set_epoch past new
   plain_begins call said new allowed v =
       let h = begun encode decode get_epoch set_epoch past s j busy client (any.Plain call) allowed in
-      let op = next_op s in
-      let x : Operation T = new_operation client (any.Plain call) ended in
       let c = kept encode decode get_epoch set_epoch past s j busy client (any.Plain call) allowed in
-      let s' = s' encode decode get_epoch set_epoch past s j busy client (any.Plain call) allowed in
-      let left = slice_set s.caches (client - 1) c.0 in
       let start = plain.started s.page encode call in
       let starts = ap (λ (p : ℕ). plain.started p encode call) (sym j.tie.page) in
-      let opened' = plain_opens decode get_epoch j.fine.trace j.l.rows j.core.told (same_epoch decode get_epoch j.owner j.fine.trace j.l.rows j.core.tied.top) op (machine.next_op j.fine) (ap (λ (n : ℕ). n + 1) j.stands.count) call (opens encode decode get_epoch set_epoch past s j busy client (any.Plain call) allowed) in
+      let opened' = plain_opens decode get_epoch j.fine.trace j.l.rows j.core.told (same_epoch decode get_epoch j.owner j.fine.trace j.l.rows j.core.tied.top) (next_op s) (machine.next_op j.fine) (ap (λ (n : ℕ). n + 1) j.stands.count) call (opens encode decode get_epoch set_epoch past s j busy client (any.Plain call) allowed) in
       let next = first_begins encode decode get_epoch set_epoch past s j busy client (any.Plain call) allowed (Goes (plain_inner get_epoch call)) (inl refl) (first_epoch get_epoch call) in
-      let fenced = (op_of decode get_epoch set_epoch h.l h.over op (as_laid client (any.Plain call) Starts) h.runs).inner in
-      let m = fine_begins encode decode get_epoch set_epoch past s' op x (any.Plain call) Starts (plain_inner get_epoch call) left h start starts opened' v.reads_back v.word refl next fenced in
-      let page = fine_begins_page encode decode get_epoch set_epoch past s' op x (any.Plain call) Starts (plain_inner get_epoch call) left h start starts opened' v.reads_back v.word refl next fenced in
+      let fenced = (op_of decode get_epoch set_epoch h.l h.over (next_op s) (as_laid client (any.Plain call) Starts) h.runs).inner in
+      let m = fine_begins encode decode get_epoch set_epoch past _ _ _ (any.Plain call) Starts (plain_inner get_epoch call) _ h start starts opened' v.reads_back v.word refl next fenced in
+      let page = fine_begins_page encode decode get_epoch set_epoch past _ _ _ (any.Plain call) Starts (plain_inner get_epoch call) _ h start starts opened' v.reads_back v.word refl next fenced in
       let answered' = plain_start s.page encode decode get_epoch set_epoch call (local_of (look_up m.opened.l.views None)) (view_now s (any.Plain call)) v.next v.starts in
       begun_joins encode decode get_epoch set_epoch past s j busy client (any.Plain call) allowed new v.next v.state
-      (turn_joins encode decode get_epoch set_epoch past s' op x c.0 (any.Plain call) (plain_inner get_epoch call) start.0 start.1 m v.next
+      (turn_joins encode decode get_epoch set_epoch past _ _ _ c.0 (any.Plain call) (plain_inner get_epoch call) start.0 start.1 m v.next
       (subst (λ (p : ℕ). IsAnswered p encode decode get_epoch set_epoch (any.Plain call) (local_of (look_up m.opened.l.views None)) (plain_inner get_epoch call) start.0 start.1 v.next) (sym (page ∙ j.tie.page)) answered'))
 
   view_begins : (call : ViewCall T) (said : Told T) (new : State T) → fault_of decode get_epoch (seen_of s) s.trace (events.Begin client (any.View call)) ≡ None → Begins encode decode get_epoch set_epoch s client (any.View call) said new → Joined decode get_epoch set_epoch past new
   view_begins call said new allowed v =
       let h = begun encode decode get_epoch set_epoch past s j busy client (any.View call) allowed in
-      let op = next_op s in
-      let x : Operation T = new_operation client (any.View call) ended in
       let c = kept encode decode get_epoch set_epoch past s j busy client (any.View call) allowed in
-      let s' = s' encode decode get_epoch set_epoch past s j busy client (any.View call) allowed in
       let view = view_used (any.View call) in
       let used = look_up j.l.views view in
       let may' = may encode decode get_epoch set_epoch past s j busy client (any.View call) allowed in
@@ -406,9 +399,9 @@ module _ {T : Type 0} (encode : T → List ℕ) (decode : List ℕ → Option T)
       let stands = first_begins encode decode get_epoch set_epoch past s j busy client (any.View call) allowed st.due (inl st.first) st.has in
       let only = subst (NextOnly (IsTold j.fine.trace)) (sym st.first) (started_only (IsTold j.fine.trace) get_epoch set_epoch call used (told_used j.fine.trace get_epoch set_epoch used (look_told j.fine.trace j.l.views j.core.seen view))) in
       begun_joins encode decode get_epoch set_epoch past s j busy client (any.View call) allowed new v.next v.state
-      (next_joins encode decode get_epoch set_epoch past s' op x c.0 call Starts h st.due v.next stands only
+      (next_joins encode decode get_epoch set_epoch past _ _ _ c.0 call Starts h st.due v.next stands only
       (subst (λ (p : ℕ). NextAs p encode decode get_epoch (any.View call) (local_of (look_up h.l.views view)) st.due v.next) (sym j.tie.page)
-      (subst (λ (local : Option ℕ). NextAs s.page encode decode get_epoch (any.View call) local st.due v.next) (sym (taken_local op j.l.views view)) st.starts)))
+      (subst (λ (local : Option ℕ). NextAs s.page encode decode get_epoch (any.View call) local st.due v.next) (sym (taken_local (next_op s) j.l.views view)) st.starts)))
 
   -- a begin
   pub begin_joins : (call : Call T) (said : Told T) (new : State T) → fault_of decode get_epoch (seen_of s) s.trace (events.Begin client call) ≡ None → Begins encode decode get_epoch set_epoch s client call said new → Joined decode get_epoch set_epoch past new
