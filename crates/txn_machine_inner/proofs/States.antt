@@ -38,18 +38,19 @@ abbrev pub framed_by : {T : Type 0} {rows : List (PlainRow T)} {store new : Stor
 framed_by more f = record { more = more; is = refl; up = f.up; given = f.given; same = f.same }
 
 module _ {T : Type 0} (decode : List ℕ → Option T) (get_epoch : T → ℕ) where
-  -- the same, but for another operation
-  but_for : (s : State T) (hole other : ℕ) → StandsBut decode get_epoch s hole → ((op : ℕ) (o : PlainOperation T) → op ≢ other → numbered s.operations op ≡ Some o → AtClient decode get_epoch s op o) → StandsBut decode get_epoch s other
-  but_for s hole other st each = record { paged = st.paged; know = st.know; wide = st.wide; caches = st.caches; count = st.count; zero = st.zero; fresh = st.fresh; loose = st.loose; each = each }
+  -- the same, but for another operation, and with other requests loose
+  but_for : (s : State T) (hole other : ℕ) (loose : List (ℕ × Request)) → StandsBut decode get_epoch s hole → ((k op : ℕ) (request : Request) → numbered loose k ≡ Some (op, request) → LooseStands decode get_epoch s.trace s.store s.operations op request) →
+      ((op : ℕ) (o : PlainOperation T) → op ≢ other → numbered s.operations op ≡ Some o → AtClient decode get_epoch s op o) → StandsBut decode get_epoch (record s { loose = loose }) other
+  but_for s hole other loose st asks each = record { paged = st.paged; know = st.know; wide = st.wide; caches = st.caches; count = st.count; zero = st.zero; fresh = st.fresh; loose = asks; each = each }
 
   -- opens one operation
   pub but : (s : State T) (op : ℕ) → Stands decode get_epoch s → StandsBut decode get_epoch s op
-  but s op st = but_for s 0 op st (λ n o _ e. st.each n o (λ z. omega (arith, z, (within s.operations n o e).0)) e)
+  but s op st = but_for s 0 op s.loose st st.loose (λ n o _ e. st.each n o (λ z. omega (arith, z, (within s.operations n o e).0)) e)
 
   -- closes it again
   pub close : (s : State T) (op : ℕ) → StandsBut decode get_epoch s op → ((o : PlainOperation T) → numbered s.operations op ≡ Some o → AtClient decode get_epoch s op o) → Stands decode get_epoch s
   close s op st at =
-      but_for s op 0 st
+      but_for s op 0 s.loose st st.loose
       (λ n o _ e. elim (cases_eq n op) [
         | inl h ↦ subst (λ (m : ℕ). AtClient decode get_epoch s m o) (sym h) (at o (subst (λ (m : ℕ). numbered s.operations m ≡ Some o) h e))
         | inr h ↦ st.each n o h e
@@ -189,19 +190,10 @@ module _ {T : Type 0} (decode : List ℕ → Option T) (get_epoch : T → ℕ) w
   pub loosen_keeps : (s : State T) (op : ℕ) (ask : Ask) → Stands decode get_epoch s → was_begun s.trace op ≡ true → ((o : PlainOperation T) → numbered s.operations op ≡ Some o → o.doing ≡ Ended) → ((request : Request) → may_be_loose ask ≡ Some request → Asks decode get_epoch s.trace s.store op request) →
       Stands decode get_epoch (loosened s op ask)
   loosen_keeps s op ask st begun ended asks =
-      record {
-        paged = st.paged;
-        know = st.know;
-        wide = st.wide;
-        caches = st.caches;
-        count = st.count;
-        zero = st.zero;
-        fresh = st.fresh;
-        loose = λ k n request e. elim (numbered_append s.loose (left_loose op (Some ask)) k (n, request) e) [
-          | inl old ↦ (let l = st.loose k n request old in record { asks = l.asks; begun = l.begun; ended = l.ended })
-          | inr new ↦
-              let is = loose_one s op (may_be_loose ask) new.0 n request new.1 in
-              subst (λ (m : ℕ). LooseStands decode get_epoch s.trace s.store s.operations m request) (sym is.0) (record { asks = asks request is.1; begun = begun; ended = ended })
-        ];
-        each = st.each;
-      }
+      but_for s 0 0 (s.loose ++ left_loose op (Some ask)) st
+      (λ k n request e. elim (numbered_append s.loose (left_loose op (Some ask)) k (n, request) e) [
+        | inl old ↦ st.loose k n request old
+        | inr new ↦
+            let is = loose_one s op (may_be_loose ask) new.0 n request new.1 in
+            subst (λ (m : ℕ). LooseStands decode get_epoch s.trace s.store s.operations m request) (sym is.0) (record { asks = asks request is.1; begun = begun; ended = ended })
+      ]) st.each
