@@ -119,7 +119,8 @@ module _ {T : Type 0} (decode : List ℕ → Option T) (get_epoch : T → ℕ) w
           let len : length (versions ++ version ∷ []) ≡ length versions + 1 = omega (arith, length-append versions (version ∷ [])) in
           elim (cases_lt n (length versions + 1)) [ inl lt ↦ inl (omega (arith, lt)) | inr ge ↦ inr (omega (arith, ge, top, len)) ]
 
-lacks_counted : (m : ℕ) (versions : List Version) (id : ℕ) → ((k : ℕ) (version : Version) → slice_get versions k ≡ Some version → version.0 ≡ m + k + 1) → m + length versions < id → has_id versions id ≡ false
+-- no id above the versions of ids that count up is one of theirs
+pub lacks_counted : (m : ℕ) (versions : List Version) (id : ℕ) → ((k : ℕ) (version : Version) → slice_get versions k ≡ Some version → version.0 ≡ m + k + 1) → m + length versions < id → has_id versions id ≡ false
 lacks_counted m [] id c above = refl
 lacks_counted m (v ∷ versions) id c above =
     let first = c 0 v refl in

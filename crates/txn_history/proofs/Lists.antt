@@ -20,6 +20,12 @@ pub get_last : {A : Type 0} (xs : List A) (x : A) → slice_get (xs ++ x ∷ [])
 get_last [] x = refl
 get_last (z ∷ zs) x = get_last zs x
 
+pub get_other : {A : Type 0} (xs : List A) (x : A) (k : ℕ) → k ≢ length xs → slice_get (xs ++ x ∷ []) k ≡ slice_get xs k
+get_other [] x zero ne = absurd (ne refl)
+get_other [] x (suc k) ne = refl
+get_other (z ∷ zs) x zero ne = refl
+get_other (z ∷ zs) x (suc k) ne = get_other zs x k (λ e. ne (ap suc e))
+
 pub get_set : {A : Type 0} (xs : List A) (k : ℕ) (x : A) (m : ℕ) (y : A) → slice_get (set xs k x) m ≡ Some y → ((m ≡ k) × (x ≡ y)) ⊎ ((m ≢ k) × (slice_get xs m ≡ Some y))
 get_set [] k x m y e = cc
 get_set (z ∷ zs) zero x zero y e = inl (refl, cc)

@@ -64,19 +64,26 @@ module _ {T : Type 0} where
   pub seen_asks : (operations : List (Operation T)) (op : ℕ) (o : Operation T) → numbered operations op ≡ Some o → asks_in (numbered (seen_operations operations) op) ≡ asked o.doing
   seen_asks operations op o e = ap asks_in (numbered_of_map seen_operation operations op o e)
 
-module _ {T : Type 0} (s : State T) (h : Busies s.operations s.views s.trace) (number : ℕ) (used : Used T) (there : numbered s.views number ≡ Some (Some used)) where
-  -- a begin on the view, of an operation that runs
-  row_is_busy : (k : ℕ) (row : Row T) → slice_get s.trace k ≡ Some row → keeps_busy (seen_of s) number row ≡ true → is_some used.busy ≡ true
-  row_is_busy k (Begun op call) e keeps =
+module _ {T : Type 0} (s : State T) (h : Busies s.operations s.views s.trace) (number : ℕ) where
+  -- a view on which an operation runs is there, and busy
+  begun_has_view : (k : ℕ) (row : Row T) → slice_get s.trace k ≡ Some row → keeps_busy (seen_of s) number row ≡ true → (used : Used T) × (numbered s.views number ≡ Some (Some used)) × (is_some used.busy ≡ true)
+  begun_has_view k (Begun op call) e keeps =
       let both = and_parts (is_id number (view_used call)) (is_some (asks_of (seen_of s).calls op)) keeps in
       let on : view_used call ≡ Some number = is_id_some number (view_used call) both.0 in
       let of = h.begun k op call e in
       let runs : IsRunning of.operation = ap is_some (sym (seen_asks s.operations op of.operation of.found)) ∙ both.1 in
       let held = h.holds op number of.operation of.found runs (of.uses ∙ on) in
-      let same : held.used ≡ used = same_Some held.used used (same_Some (Some held.used) (Some used) (sym held.there ∙ there)) in
-      ap is_some (ap (λ (u : Used T). u.busy) (sym same) ∙ held.busy)
-  row_is_busy k (Effect op request) e keeps = absurd (cc)
-  row_is_busy k (Answered op answer) e keeps = absurd (cc)
+      (held.used, held.there, ap is_some held.busy)
+  begun_has_view k (Effect op request) e keeps = absurd (cc)
+  begun_has_view k (Answered op answer) e keeps = absurd (cc)
+
+module _ {T : Type 0} (s : State T) (h : Busies s.operations s.views s.trace) (number : ℕ) (used : Used T) (there : numbered s.views number ≡ Some (Some used)) where
+  -- a begin on the view, of an operation that runs
+  row_is_busy : (k : ℕ) (row : Row T) → slice_get s.trace k ≡ Some row → keeps_busy (seen_of s) number row ≡ true → is_some used.busy ≡ true
+  row_is_busy k row e keeps =
+      let held = begun_has_view s h number k row e keeps in
+      let same : held.0 ≡ used = same_Some held.0 used (same_Some (Some held.0) (Some used) (sym held.1 ∙ there)) in
+      subst (λ (u : Used T). is_some u.busy ≡ true) same held.2
 
   busy_has_row : (op : ℕ) → used.busy ≡ Some op → list_any (keeps_busy (seen_of s) number) s.trace ≡ true
   busy_has_row op busy =
@@ -98,18 +105,6 @@ module _ {T : Type 0} (s : State T) (h : Busies s.operations s.views s.trace) (n
   busy_as_shown = busy_by used.busy (list_any (keeps_busy (seen_of s) number) s.trace) refl refl
 
 module _ {T : Type 0} (s : State T) (h : Busies s.operations s.views s.trace) (number : ℕ) where
-  -- a view on which an operation runs is there
-  begun_has_view : (k : ℕ) (row : Row T) → slice_get s.trace k ≡ Some row → keeps_busy (seen_of s) number row ≡ true → (used : Used T) × (numbered s.views number ≡ Some (Some used))
-  begun_has_view k (Begun op call) e keeps =
-      let both = and_parts (is_id number (view_used call)) (is_some (asks_of (seen_of s).calls op)) keeps in
-      let on : view_used call ≡ Some number = is_id_some number (view_used call) both.0 in
-      let of = h.begun k op call e in
-      let runs : IsRunning of.operation = ap is_some (sym (seen_asks s.operations op of.operation of.found)) ∙ both.1 in
-      let held = h.holds op number of.operation of.found runs (of.uses ∙ on) in
-      (held.used, held.there)
-  begun_has_view k (Effect op request) e keeps = absurd (cc)
-  begun_has_view k (Answered op answer) e keeps = absurd (cc)
-
   -- no operation runs on a view that is not there
   pub idle_where_none : used_by s.views (Some number) ≡ None → is_busy (seen_of s) s.trace (Some number) ≡ false
   idle_where_none none = by (list_any (keeps_busy (seen_of s) number) s.trace) refl
@@ -117,7 +112,7 @@ module _ {T : Type 0} (s : State T) (h : Busies s.operations s.views s.trace) (n
       by : (found : Bool) → list_any (keeps_busy (seen_of s) number) s.trace ≡ found → list_any (keeps_busy (seen_of s) number) s.trace ≡ false
       by true some =
           let row = place_of_any (keeps_busy (seen_of s) number) s.trace some in
-          let used = begun_has_view row.0 row.1 row.2 row.3 in
+          let used = begun_has_view s h number row.0 row.1 row.2 row.3 in
           let clash : None ≡ Some used.0 = sym none ∙ ap used_in used.1 in
           absurd (cc)
       by false idle = idle

@@ -18,7 +18,7 @@ use Rattle.txn_history.specs.Added.{effect_rows}
 use Rattle.txn_history.proofs.Lists.{numbered_kept}
 use Rattle.txn_machine_inner.specs.declared.doing.PlainDoing.TheVariants as doings
 use Rattle.txn_machine_inner.specs.Machine as machine
-use Rattle.txn_machine_inner.proofs.Lists.{numbered_append}
+use Rattle.txn_machine_inner.proofs.Lists.{numbered_append, none_got}
 use Rattle.txn_machine_inner.proofs.Stands as machine_stands
 use Rattle.txn_machine_inner.proofs.Events as machine_events
 use Rattle.txn_history.specs.declared.event.ViewCall.{ViewCall}
@@ -180,9 +180,6 @@ module _ {T : Type 0} (encode : T → List ℕ) (decode : List ℕ → Option T)
           })
 
 module _ {T : Type 0} (encode : T → List ℕ) (decode : List ℕ → Option T) (get_epoch : T → ℕ) (set_epoch : T → ℕ → T) (past : Past T) (s : State T) (j : Joined decode get_epoch set_epoch past s) (op : ℕ) (said : Told T) (new : State T) where
-  none_left : {P : Type 0} (i o : ℕ) (request : Request) → slice_get {X = ℕ × Request} [] i ≡ Some (o, request) → P
-  none_left i o request e = cc
-
   first_joins : (looses : Bool) → FailsFirst s op said looses new → Joined decode get_epoch set_epoch past new
   first_joins false v =
       let operation = v.operation in
@@ -192,7 +189,7 @@ module _ {T : Type 0} (encode : T → List ℕ) (decode : List ℕ → Option T)
       let fine = machine.acted (machine.failing j.fine n) n o machine.told_failure v.caches in
       let stood = machine_events.fail_keeps decode get_epoch failures.Before j.fine n (told.Answered n (plain_answers.Refused 2)) fine (record { operation = o; request = v.request; caches = v.caches; acts = h.acts; tells = refl; state = refl }) j.stands in
       let stands = stood_as encode decode get_epoch set_epoch past s j op operation v.acts.found h.held h.client v.caches None s.store [] j.fine.store j.fine.loose j.fine.trace j.tie.store (sym (append-nil j.fine.loose)) (sym (append-nil j.fine.trace)) stood in
-      let joined = fails_joins encode decode get_epoch set_epoch past s j op operation v.acts.found h.held h.client v.caches None s.store [] [] (λ i o request e. none_left i o request e) stands in
+      let joined = fails_joins encode decode get_epoch set_epoch past s j op operation v.acts.found h.held h.client v.caches None s.store [] [] (λ i o request e. none_got i (o, request) e) stands in
       subst (λ (x : State T). Joined decode get_epoch set_epoch past x) (sym v.state)
       (subst (λ (ls : List (ℕ × Request)). Joined decode get_epoch set_epoch past (record (acted (failing s op) op operation (refused 2) v.caches) { loose = ls })) (append-nil s.loose)
       (subst (λ (rs : List (Row T)). Joined decode get_epoch set_epoch past (record (acted (record (failing s op) { trace = rs }) op operation (refused 2) v.caches) { loose = s.loose ++ [] })) (append-nil s.trace) joined))
@@ -222,7 +219,7 @@ module _ {T : Type 0} (encode : T → List ℕ) (decode : List ℕ → Option T)
       let stood = machine_events.fail_keeps decode get_epoch failures.After j.fine n (told.Answered n (plain_answers.Refused 2)) fine (record { operation = o; request = v.request; caches = v.caches; acts = h.acts; reply = v.reply; store = v.store; reaches = record { serves = serves; honest = v.reaches.honest }; tells = refl; state = refl }) j.stands in
       let rows = ap (λ (st : StoreState). j.fine.trace ++ effect_rows n (machine.effect_of st.files v.request v.reply)) j.tie.store in
       let stands = stood_as encode decode get_epoch set_epoch past s j op operation v.acts.found h.held h.client v.caches effect v.store [] v.store j.fine.loose (j.fine.trace ++ effect_rows n (machine.effect_of j.fine.store.files v.request v.reply)) refl (sym (append-nil j.fine.loose)) rows stood in
-      let joined = fails_joins encode decode get_epoch set_epoch past s j op operation v.acts.found h.held h.client v.caches effect v.store [] [] (λ i o request e. none_left i o request e) stands in
+      let joined = fails_joins encode decode get_epoch set_epoch past s j op operation v.acts.found h.held h.client v.caches effect v.store [] [] (λ i o request e. none_got i (o, request) e) stands in
       subst (λ (x : State T). Joined decode get_epoch set_epoch past x) (sym v.state)
       (subst (λ (ls : List (ℕ × Request)). Joined decode get_epoch set_epoch past (record (acted (failing (effected s op v.request v.reply v.store) op) op operation (refused 2) v.caches) { loose = ls })) (append-nil s.loose) joined)
 

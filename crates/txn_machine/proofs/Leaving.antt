@@ -6,20 +6,14 @@ use Rattle.txn_store.specs.declared.request.Request.{Request}
 use Rattle.txn_history.specs.Lists.{numbered}
 use Rattle.txn_history.specs.Seen.{Ask, Store, Operation}
 use Rattle.txn_history.specs.GoesOn.{may_be_loose, as_loose, left_loose, all_left_loose}
-use Rattle.txn_machine_inner.proofs.Lists.{get_first}
+use Rattle.txn_machine_inner.proofs.Lists.{none_got, get_split}
+use Rattle.txn_machine_inner.proofs.States.{one_left}
 use Rattle.txn_machine_inner.proofs.Events.{loose_is}
 
 -- What an operation leaves loose: what it asks for, a put or a delete.
 pub record Leaves (asks : Option Ask) (request : Request) : Type 0 where
   pub asked : asks ≡ Some (Store request)
   pub may : may_be_loose (Store request) ≡ Some request
-
-one_left : (op : ℕ) (found : Option Request) (j n : ℕ) (request : Request) → slice_get (as_loose op found) j ≡ Some (n, request) → (n ≡ op) × (found ≡ Some request)
-one_left op None j n request e = cc
-one_left op (Some q) j n request e = elim (get_first [] (op, q) j (n, request) e) [
-  | inl is ↦ (sym (ap (λ (l : ℕ × Request). l.0) is), ap Some (ap (λ (l : ℕ × Request). l.1) is))
-  | inr none ↦ (let clash = none.1 in cc)
-]
 
 leaves_of : (ask : Ask) (request : Request) → may_be_loose ask ≡ Some request → Leaves (Some ask) request
 leaves_of ask request e =
@@ -44,11 +38,6 @@ module _ {A : Type 0} where
   pub numbered_past : (xs ys : List A) (k : ℕ) (y : A) → slice_get ys k ≡ Some y → numbered (xs ++ ys) (suc (length xs + k)) ≡ Some y
   numbered_past xs ys k y e = get_past xs ys k ∙ e
 
-  get_of_append : (xs ys : List A) (k : ℕ) (y : A) → slice_get (xs ++ ys) k ≡ Some y → ((j : ℕ) × (slice_get xs j ≡ Some y)) ⊎ ((j : ℕ) × (slice_get ys j ≡ Some y))
-  get_of_append [] ys k y e = inr (k, e)
-  get_of_append (x ∷ xs) ys zero y e = inl (0, e)
-  get_of_append (x ∷ xs) ys (suc k) y e = elim (get_of_append xs ys k y e) [ inl h ↦ inl (suc h.0, h.1) | inr h ↦ inr h ]
-
 -- an operation of a client that left this
 pub record LeftBy (seen : List Operation) (client from op : ℕ) (request : Request) : Type 0 where
   pub operation : Operation
@@ -58,15 +47,12 @@ pub record LeftBy (seen : List Operation) (client from op : ℕ) (request : Requ
   pub client_is : operation.client ≡ client
   pub leaves : Leaves operation.asks request
 
-none_got : {A P : Type 0} (j : ℕ) (y : A) → slice_get [] j ≡ Some y → P
-none_got j y e = cc
-
 -- what the operations of a client left was asked for by one of them
 pub left_from : (client from : ℕ) (seen : List Operation) (j op : ℕ) (request : Request) → slice_get (all_left_loose client from seen) j ≡ Some (op, request) → LeftBy seen client from op request
 left_from client from [] j op request e = none_got j (op, request) e
 left_from client from (o ∷ rest) j op request e =
-    elim (get_of_append (cond (o.client == client) (left_loose from o.asks) []) (all_left_loose client (from + 1) rest) j (op, request) e) [
-      | inl here ↦ by (o.client == client) refl here.0 here.1
+    elim (get_split (cond (o.client == client) (left_loose from o.asks) []) (all_left_loose client (from + 1) rest) j (op, request) e) [
+      | inl here ↦ by (o.client == client) refl j here
       | inr there ↦ (let l = left_from client (from + 1) rest there.0 op request there.1 in record { operation = l.operation; place = suc l.place; there = l.there; number = (let is = l.number in omega (arith, is)); client_is = l.client_is; leaves = l.leaves })
     ]
   where

@@ -5,7 +5,7 @@ use Rattle.std.proofs.lemmas.Bool.{cases_Bool, cases_eq, eq-eqb, ne_eqb}
 use Rattle.txn_caches.specs.declared.caches.Caches.{Caches}
 use Rattle.txn_history.specs.declared.trace.RowOf.TheVariants.{Answered}
 use Rattle.txn_history.specs.Lists.{numbered}
-use Rattle.txn_history.proofs.Lists.{numbered_last}
+use Rattle.txn_history.proofs.Lists.{numbered_last, get_other}
 use Rattle.txn_history.specs.declared.event.Call.{Call}
 use Rattle.txn_history.specs.declared.event.Answer.{Answer}
 use Rattle.txn_history.specs.declared.event.Answer.TheVariants as answers
@@ -27,16 +27,10 @@ use Rattle.txn_machine.proofs.Rows.{core_row, core_views}
 use Rattle.txn_machine.proofs.Ending.{answered_row, others_on, loose_row, each_at, gone_on}
 
 module _ {A : Type 0} where
-  at_more : (xs : List A) (x : A) (k : ℕ) → k ≢ length xs → slice_get (xs ++ x ∷ []) k ≡ slice_get xs k
-  at_more [] x zero ne = absurd (ne refl)
-  at_more [] x (suc k) ne = refl
-  at_more (y ∷ ys) x zero ne = refl
-  at_more (y ∷ ys) x (suc k) ne = at_more ys x k (λ e. ne (ap suc e))
-
   -- another number than that of one more
   pub numbered_else : (xs : List A) (x : A) (m : ℕ) → m ≢ length xs + 1 → numbered (xs ++ x ∷ []) m ≡ numbered xs m
   numbered_else xs x zero ne = refl
-  numbered_else xs x (suc k) ne = at_more xs x k (λ e. ne (omega (arith, e)))
+  numbered_else xs x (suc k) ne = get_other xs x k (λ e. ne (omega (arith, e)))
 
   pub numbered_new : (xs : List A) (x : A) (m : ℕ) → m ≡ length xs + 1 → numbered (xs ++ x ∷ []) m ≡ Some x
   numbered_new xs x m e = (let one : suc (length xs) ≡ m = omega (arith, e) in subst (λ (j : ℕ). numbered (xs ++ x ∷ []) j ≡ Some x) one (numbered_last xs x))

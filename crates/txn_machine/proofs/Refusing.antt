@@ -1,5 +1,5 @@
 -- A failure is the turn that its operation takes with the reply of a call that failed; and a claim is refused with 10 by its own base alone.
-use Rattle.std.proofs.Common.{◌≡◌, ◌≢◌, ℕ, ◌+◌, ◌==◌, List, Bool, true, false, nat_le, nat_lt, if◌then◌else◌, Option, Some, None, Result, Ok, Err, ◌⊎◌, inl, inr, refl, ap, arith, subst}
+use Rattle.std.proofs.Common.{◌≡◌, ◌≢◌, ℕ, ◌+◌, ◌==◌, List, Bool, true, false, nat_le, nat_lt, slice_set, ◌-◌, if◌then◌else◌, Option, Some, None, Result, Ok, Err, ◌⊎◌, inl, inr, refl, ap, arith, subst}
 use Rattle.std.proofs.lemmas.Bool.{eqb-true}
 use Rattle.std.proofs.lemmas.Option.{same_Some}
 use Rattle.txn_store.specs.Paths.{Segments}
@@ -48,6 +48,11 @@ use Rattle.txn_steps.specs.Reads as read_steps
 use Rattle.txn_steps.specs.Reads.{reads_turned, read_turned}
 use Rattle.txn_caches.specs.Windows.{held, greatest_held}
 use Rattle.txn_history.specs.declared.event.PlainAnswer.TheVariants as plain_answers
+use Rattle.txn_store.specs.declared.request.Request.{Request}
+use Rattle.txn_history.specs.declared.event.Answer.TheVariants as answers
+use Rattle.txn_history.specs.declared.event.ToldOf.TheVariants as told
+use Rattle.txn_history.specs.Seen.{Store}
+use Rattle.txn_machine.specs.declared.doing.Operation.{Operation}
 use Rattle.txn_history.specs.declared.event.Failure.{Failure}
 use Rattle.txn_history.specs.declared.event.Failure.TheVariants as failures
 use Rattle.txn_history.specs.Names.{world_names, world_boundary}
@@ -68,37 +73,29 @@ use Rattle.txn_machine.specs.declared.doing.Doing.{Doing}
 use Rattle.txn_machine.specs.declared.doing.Doing.TheVariants as does
 use Rattle.txn_machine.specs.declared.doing.Ending.{Ending}
 use Rattle.txn_machine.specs.declared.doing.Ending.TheVariants as endings
-use Rattle.txn_machine.specs.Doing.{Next, refused, first_next, next_of, started, turned}
-use Rattle.txn_machine.specs.Machine.{State, Fails}
+use Rattle.txn_machine.specs.Doing.{Next, ended, refused, first_next, next_of, started, turned}
+use Rattle.txn_machine.specs.Machine.{State, with_doing, views_after, Acts, Fails}
 use Rattle.txn_machine.specs.Refusals.{FailsAsReplied, Found}
 use Rattle.txn_machine.proofs.FailedTurns.{failed_turn}
 
 -- failures
 
 module _ {T : Type 0} (encode : T → List ℕ) (decode : List ℕ → Option T) (get_epoch : T → ℕ) (set_epoch : T → ℕ → T) where
+  as_failed : (old : State T) (op : ℕ) (said : Told T) (new : State T) (o : Operation T) (request : Request) (caches : Caches) → Acts old op o (Store request) caches → said ≡ told.Answered op (answers.Plain (plain_answers.Refused 2)) → new.operations ≡ with_doing old.operations op o ended → new.caches ≡ slice_set old.caches (o.client - 1) caches →
+      new.views ≡ views_after old.views o.client o.view o.claims (refused 2).1 → FailsAsReplied encode decode get_epoch set_epoch old op said new
+  as_failed old op said new o request caches acts tells operations kept views = record {
+    operation = o;
+    request = request;
+    caches = caches;
+    acts = acts;
+    as_replied = λ reply failed is. (let t = failed_turn old.page encode decode get_epoch set_epoch caches reply failed o.doing is in rw (t.0, t.1) (tells, operations, kept, views));
+  }
+
   -- what a failed reply makes of an operation is what its failure does
   pub failure_taken : (failure : Failure) (old : State T) (op : ℕ) (said : Told T) (new : State T) → Fails old op failure said new → FailsAsReplied encode decode get_epoch set_epoch old op said new
-  failure_taken failures.Before old op said new v = record {
-    operation = v.operation;
-    request = v.request;
-    caches = v.caches;
-    acts = v.acts;
-    as_replied = λ reply failed is. (let t = failed_turn old.page encode decode get_epoch set_epoch v.caches reply failed v.operation.doing is in rw (t.0, t.1) (v.tells, ap (λ (s : State T). s.operations) v.state, ap (λ (s : State T). s.caches) v.state, ap (λ (s : State T). s.views) v.state));
-  }
-  failure_taken failures.After old op said new v = record {
-    operation = v.operation;
-    request = v.request;
-    caches = v.caches;
-    acts = v.acts;
-    as_replied = λ reply failed is. (let t = failed_turn old.page encode decode get_epoch set_epoch v.caches reply failed v.operation.doing is in rw (t.0, t.1) (v.tells, ap (λ (s : State T). s.operations) v.state, ap (λ (s : State T). s.caches) v.state, ap (λ (s : State T). s.views) v.state));
-  }
-  failure_taken failures.Loose old op said new v = record {
-    operation = v.operation;
-    request = v.request;
-    caches = v.caches;
-    acts = v.acts;
-    as_replied = λ reply failed is. (let t = failed_turn old.page encode decode get_epoch set_epoch v.caches reply failed v.operation.doing is in rw (t.0, t.1) (v.tells, ap (λ (s : State T). s.operations) v.state, ap (λ (s : State T). s.caches) v.state, ap (λ (s : State T). s.views) v.state));
-  }
+  failure_taken failures.Before old op said new v = as_failed old op said new v.operation v.request v.caches v.acts v.tells (ap (λ (s : State T). s.operations) v.state) (ap (λ (s : State T). s.caches) v.state) (ap (λ (s : State T). s.views) v.state)
+  failure_taken failures.After old op said new v = as_failed old op said new v.operation v.request v.caches v.acts v.tells (ap (λ (s : State T). s.operations) v.state) (ap (λ (s : State T). s.caches) v.state) (ap (λ (s : State T). s.views) v.state)
+  failure_taken failures.Loose old op said new v = as_failed old op said new v.operation v.request v.caches v.acts v.tells (ap (λ (s : State T). s.operations) v.state) (ap (λ (s : State T). s.caches) v.state) (ap (λ (s : State T). s.views) v.state)
 
 -- neither a write nor a read is refused with 10
 

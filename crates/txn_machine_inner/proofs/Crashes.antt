@@ -18,9 +18,9 @@ use Rattle.txn_machine_inner.specs.declared.doing.PlainDoing.TheVariants.{Write,
 use Rattle.txn_machine_inner.specs.declared.doing.PlainOperation.{PlainOperation}
 use Rattle.txn_machine_inner.specs.Doing.{asked}
 use Rattle.txn_machine_inner.specs.Machine.{State, no_caches, seen_operations, ended_by, crashed, Crashes}
-use Rattle.txn_machine_inner.proofs.Lists.{numbered_here, numbered_other, numbered_map, numbered_append, get_first}
+use Rattle.txn_machine_inner.proofs.Lists.{numbered_here, numbered_other, numbered_map, numbered_append, none_got, get_split}
 use Rattle.txn_machine_inner.proofs.Stands.{CachesStand, OpStands, LooseStands, AtClient, Stands}
-use Rattle.txn_machine_inner.proofs.States.{at_place}
+use Rattle.txn_machine_inner.proofs.States.{one_left, at_place}
 use Rattle.txn_machine_inner.proofs.Events.{loose_is, run_of}
 use Rattle.txn_machine_inner.proofs.Operations.{asks_of}
 
@@ -32,24 +32,9 @@ pub record LeftBy {T : Type 0} (operations : List (PlainOperation T)) (client op
   pub of : operation.client ≡ client
   pub asks : asked operation.doing ≡ Some (Store request)
 
-one_left : (op : ℕ) (found : Option Request) (j n : ℕ) (request : Request) → slice_get (as_loose op found) j ≡ Some (n, request) → (n ≡ op) × (found ≡ Some request)
-one_left op None j n request e = cc
-one_left op (Some q) j n request e = elim (get_first [] (op, q) j (n, request) e) [
-  | inl is ↦ (sym (ap (λ (l : ℕ × Request). l.0) is), ap Some (ap (λ (l : ℕ × Request). l.1) is))
-  | inr none ↦ (let clash = none.1 in cc)
-]
-
 left_asks : (op : ℕ) (asks : Option Ask) (j n : ℕ) (request : Request) → slice_get (left_loose op asks) j ≡ Some (n, request) → (n ≡ op) × (asks ≡ Some (Store request))
 left_asks op None j n request e = cc
 left_asks op (Some ask) j n request e = let is = one_left op (may_be_loose ask) j n request e in (is.0, ap Some (loose_is ask request is.1))
-
-none_got : {A P : Type 0} (j : ℕ) (y : A) → slice_get [] j ≡ Some y → P
-none_got j y e = cc
-
-get_either : {A : Type 0} (xs ys : List A) (k : ℕ) (y : A) → slice_get (xs ++ ys) k ≡ Some y → ((j : ℕ) × (slice_get xs j ≡ Some y)) ⊎ ((j : ℕ) × (slice_get ys j ≡ Some y))
-get_either [] ys k y e = inr (k, e)
-get_either (x ∷ xs) ys zero y e = inl (0, e)
-get_either (x ∷ xs) ys (suc k) y e = elim (get_either xs ys k y e) [ inl h ↦ inl (suc h.0, h.1) | inr h ↦ inr h ]
 
 module _ {T : Type 0} where
   -- what one operation leaves loose, where it is the client's
@@ -64,8 +49,8 @@ module _ {T : Type 0} where
   pub all_left : (client op : ℕ) (operations : List (PlainOperation T)) (j n : ℕ) (request : Request) → slice_get (all_left_loose client op (seen_operations operations)) j ≡ Some (n, request) → (l : LeftBy operations client n request) × (n ≡ op + l.place)
   all_left client op [] j n request e = cc
   all_left client op (o ∷ rest) j n request e =
-      elim (get_either (cond (o.client == client) (left_loose op (asked o.doing)) []) (all_left_loose client (op + 1) (seen_operations rest)) j (n, request) e) [
-        | inl here ↦ (let is = one_of client op o here.0 n request here.1 in (record { operation = o; place = 0; there = refl; of = is.1; asks = is.2 }, omega (arith, is.0)))
+      elim (get_split (cond (o.client == client) (left_loose op (asked o.doing)) []) (all_left_loose client (op + 1) (seen_operations rest)) j (n, request) e) [
+        | inl here ↦ (let is = one_of client op o j n request here in (record { operation = o; place = 0; there = refl; of = is.1; asks = is.2 }, omega (arith, is.0)))
         | inr there ↦ (let l = all_left client (op + 1) rest there.0 n request there.1 in (record { operation = l.0.operation; place = suc l.0.place; there = l.0.there; of = l.0.of; asks = l.0.asks }, omega (arith, l.1)))
       ]
 

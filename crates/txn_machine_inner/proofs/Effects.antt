@@ -29,7 +29,8 @@ use Rattle.txn_history.specs.Names.{world_names, world_boundary}
 use Rattle.txn_history.specs.History.{Contents, Version, is_id, has_id, with_version, versions_of, newest, stored, boundary, boundary_said, erases, put_count, HasContents}
 use Rattle.txn_machine_inner.specs.PlainCalls.{tells}
 use Rattle.txn_machine_inner.specs.PlainHistory.{Opens, Appends, Recreates, Raises, Erases, VersionPut, BoundaryPut, VersionRemoved, Answers, Fits}
-use Rattle.txn_history.proofs.Lists.{get_more, get_last, any_true, any_more, any_last}
+use Rattle.txn_history.proofs.Lists.{get_more, get_last, any_true, any_more, any_last, get_other}
+use Rattle.txn_history.proofs.Entries as entries
 use Rattle.txn_history.proofs.Rows.{versions_of-more, stored-more, boundary-same, newest_grows}
 use Rattle.txn_history.proofs.Apart.{tied_path, apart, created_is, raise_creates, raised_is, removed_is}
 use Rattle.txn_machine_inner.proofs.Stands.{AllGiven, IsVersionPath, AllVersions, OneKnown, TellsKnown, Frame, HistoryStands, FilesStand, KnowStands, bytes_at, create, remove_version, file_at, is_there}
@@ -47,11 +48,7 @@ abbrev pub AreCounted : ℕ → List Version → Type 0
 AreCounted m versions = (k : ℕ) (version : Version) → slice_get versions k ≡ Some version → version.0 ≡ m + k + 1
 
 pub lacks_counted : (m : ℕ) (versions : List Version) (id : ℕ) → AreCounted m versions → m + length versions < id → has_id versions id ≡ false
-lacks_counted m [] id c above = refl
-lacks_counted m (v ∷ versions) id c above =
-    let first = c 0 v refl in
-    let other : (v.0 == id) ≡ false = ne_eqb v.0 id (λ e. omega (arith, e, first, above)) in
-    rw other (lacks_counted (m + 1) versions id (λ k w e. omega (arith, c (suc k) w e)) (omega (arith, above)))
+lacks_counted m versions id c above = entries.lacks_counted m versions id c above
 
 pub has_counted : (m : ℕ) (versions : List Version) (id : ℕ) → AreCounted m versions → m < id → id ≤ m + length versions → has_id versions id ≡ true
 has_counted m [] id c above within = absurd (omega (arith, above, within))
@@ -69,13 +66,7 @@ at_last versions version n e =
 
 pub at_other : (versions : List Version) (version : Version) (n : ℕ) → n ≢ length versions + 1 → bytes_at (versions ++ version ∷ []) n ≡ bytes_at versions n
 at_other versions version zero ne = refl
-at_other versions version (suc n) ne = ap (option_map (λ (v : Version). v.1)) (past_end versions version n (λ e. ne (omega (arith, e))))
-  where
-    past_end : (xs : List Version) (x : Version) (k : ℕ) → k ≢ length xs → slice_get (xs ++ x ∷ []) k ≡ slice_get xs k
-    past_end [] x zero h = absurd (h refl)
-    past_end [] x (suc k) h = refl
-    past_end (y ∷ ys) x zero h = refl
-    past_end (y ∷ ys) x (suc k) h = past_end ys x k (λ e. h (ap suc e))
+at_other versions version (suc n) ne = ap (option_map (λ (v : Version). v.1)) (get_other versions version n (λ e. ne (omega (arith, e))))
 
 -- a version with bytes has an id of the history
 pub within_bytes : (versions : List Version) (n : ℕ) → is_some (bytes_at versions n) ≡ true → (0 < n) × (n ≤ length versions)

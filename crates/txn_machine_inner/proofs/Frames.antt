@@ -49,14 +49,10 @@ use Rattle.txn_machine_inner.specs.declared.doing.PlainDoing.{PlainDoing}
 use Rattle.txn_machine_inner.specs.declared.doing.PlainDoing.TheVariants.{Write, WriteUnchecked, Read, ReadUnchecked, ReadSeen, ListIds, Delete, Check, Advance, Ended}
 use Rattle.txn_machine_inner.specs.Doing.{ids_of}
 use Rattle.txn_history.proofs.More.{begins_other, ends_other, call_kept, begun_kept, at_kept, version_kept_by, newest_grows_by, epoch_kept, created_kept, entered_kept}
+use Rattle.txn_machine_inner.proofs.Lists.{get_split}
 use Rattle.txn_machine_inner.proofs.Rows.{affects_other}
 use Rattle.txn_machine_inner.proofs.Rising.{op_on}
 use Rattle.txn_machine_inner.proofs.Stands.{affects, has_effect, AreOthers, IsKnown, Frame, Fit, KnownFits, Open, TokenStands, ReadingStands, StepStands, CheckStands, Room, KnownBelow, PutStands, RaiseStands, AdvanceStands, WasAbove, WasGone, WasEmpty, RemovalStands, DeleteStepStands, Only, KnowsFound, ListingStands, FoundStands, ChosenStands, CollectingStands, Carried, WindowFits, CachesStand, LatestStands, ReadStands, SeenStands, Creates, PuttingStands, CreatedStands, UncheckedStands, WrittenStands, WriteStands, DoingStands, Asks, Runs, RunStands, OpStands, Fresh, bytes_at}
-
-get_split : {A : Type 0} (xs ys : List A) (k : ℕ) (y : A) → slice_get (xs ++ ys) k ≡ Some y → (slice_get xs k ≡ Some y) ⊎ ((j : ℕ) × (slice_get ys j ≡ Some y))
-get_split [] ys k y e = inr (k, e)
-get_split (x ∷ xs) ys zero y e = inl e
-get_split (x ∷ xs) ys (suc k) y e = get_split xs ys k y e
 
 any_none : {A : Type 0} (p : A → Bool) (xs ys : List A) → list_any p xs ≡ false → list_any p ys ≡ false → list_any p (xs ++ ys) ≡ false
 any_none p xs ys e h = rw (list_any-append p xs ys, e, h) refl

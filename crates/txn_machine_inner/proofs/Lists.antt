@@ -8,6 +8,15 @@ pub within : {A : Type 0} (xs : List A) (n : ℕ) (x : A) → numbered xs n ≡ 
 within xs zero x e = cc
 within xs (suc n) x e = (omega arith, omega (arith, slice_get_within xs n x e))
 
+pub none_got : {A P : Type 0} (k : ℕ) (y : A) → slice_get [] k ≡ Some y → P
+none_got k y e = cc
+
+-- an element of one of two lists
+pub get_split : {A : Type 0} (xs ys : List A) (k : ℕ) (y : A) → slice_get (xs ++ ys) k ≡ Some y → (slice_get xs k ≡ Some y) ⊎ ((j : ℕ) × (slice_get ys j ≡ Some y))
+get_split [] ys k y e = inr (k, e)
+get_split (x ∷ xs) ys zero y e = inl e
+get_split (x ∷ xs) ys (suc k) y e = get_split xs ys k y e
+
 get_set_same : {A : Type 0} (xs : List A) (k : ℕ) (x y : A) → slice_get xs k ≡ Some y → slice_get (set xs k x) k ≡ Some x
 get_set_same [] k x y e = cc
 get_set_same (z ∷ zs) zero x y e = refl

@@ -33,6 +33,14 @@ use Rattle.txn_machine_inner.proofs.Effects.{answered_know, answered_frame}
 pub asks_runs : {T : Type 0} (doing : PlainDoing T) (ask : Ask) → asked doing ≡ Some ask → doing ≢ Ended
 asks_runs doing ask e is = let none : asked doing ≡ None = ap asked is in let clash : Some ask ≡ None = sym e ∙ none in cc
 
+-- what is left loose of one request is that request
+pub one_left : (op : ℕ) (found : Option Request) (j n : ℕ) (request : Request) → slice_get (as_loose op found) j ≡ Some (n, request) → (n ≡ op) × (found ≡ Some request)
+one_left op None j n request e = cc
+one_left op (Some q) j n request e = elim (get_first [] (op, q) j (n, request) e) [
+  | inl is ↦ (sym (ap (λ (l : ℕ × Request). l.0) is), ap Some (ap (λ (l : ℕ × Request). l.1) is))
+  | inr none ↦ (let clash = none.1 in cc)
+]
+
 -- the same frame, by the rows that it adds
 abbrev pub framed_by : {T : Type 0} {rows : List (PlainRow T)} {store new : StoreState} → (more : List (PlainRow T)) → Frame rows store (rows ++ more) new → Frame rows store (rows ++ more) new
 framed_by more f = record { more = more; is = refl; up = f.up; given = f.given; same = f.same }
@@ -180,13 +188,6 @@ module _ {T : Type 0} (decode : List ℕ → Option T) (get_epoch : T → ℕ) w
 
   -- a request becomes loose once its operation has ended
 
-  loose_one : (s : State T) (op : ℕ) (found : Option Request) (j n : ℕ) (request : Request) → slice_get (as_loose op found) j ≡ Some (n, request) → (n ≡ op) × (found ≡ Some request)
-  loose_one s op None j n request e = cc
-  loose_one s op (Some q) j n request e = elim (get_first [] (op, q) j (n, request) e) [
-    | inl is ↦ (sym (ap (λ (l : ℕ × Request). l.0) is), ap Some (ap (λ (l : ℕ × Request). l.1) is))
-    | inr none ↦ (let clash = none.1 in cc)
-  ]
-
   pub loosen_keeps : (s : State T) (op : ℕ) (ask : Ask) → Stands decode get_epoch s → was_begun s.trace op ≡ true → ((o : PlainOperation T) → numbered s.operations op ≡ Some o → o.doing ≡ Ended) → ((request : Request) → may_be_loose ask ≡ Some request → Asks decode get_epoch s.trace s.store op request) →
       Stands decode get_epoch (loosened s op ask)
   loosen_keeps s op ask st begun ended asks =
@@ -194,6 +195,6 @@ module _ {T : Type 0} (decode : List ℕ → Option T) (get_epoch : T → ℕ) w
       (λ k n request e. elim (numbered_append s.loose (left_loose op (Some ask)) k (n, request) e) [
         | inl old ↦ st.loose k n request old
         | inr new ↦
-            let is = loose_one s op (may_be_loose ask) new.0 n request new.1 in
+            let is = one_left op (may_be_loose ask) new.0 n request new.1 in
             subst (λ (m : ℕ). LooseStands decode get_epoch s.trace s.store s.operations m request) (sym is.0) (record { asks = asks request is.1; begun = begun; ended = ended })
       ]) st.each
