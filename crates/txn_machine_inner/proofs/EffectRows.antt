@@ -62,18 +62,7 @@ module _ (C A : Type 0) where
   served_row op old new (requests.Get path known) (replies.Get answer) all s honest = inl (refl, (get_kept path known old new answer s honest).files)
   served_row op old new (requests.List prefix after limit) (replies.List answer) all s honest = inl (refl, (listed_kept prefix after limit old new answer s honest).files)
   served_row op old new (requests.Delete path) (replies.Delete answer) all s honest = delete_row op path old new answer s honest
-  served_row op old new (requests.Put path bytes mode) (replies.Get answer) all s honest = absurd s
-  served_row op old new (requests.Put path bytes mode) (replies.List answer) all s honest = absurd s
-  served_row op old new (requests.Put path bytes mode) (replies.Delete answer) all s honest = absurd s
-  served_row op old new (requests.Get path known) (replies.Put answer) all s honest = absurd s
-  served_row op old new (requests.Get path known) (replies.List answer) all s honest = absurd s
-  served_row op old new (requests.Get path known) (replies.Delete answer) all s honest = absurd s
-  served_row op old new (requests.List prefix after limit) (replies.Put answer) all s honest = absurd s
-  served_row op old new (requests.List prefix after limit) (replies.Get answer) all s honest = absurd s
-  served_row op old new (requests.List prefix after limit) (replies.Delete answer) all s honest = absurd s
-  served_row op old new (requests.Delete path) (replies.Put answer) all s honest = absurd s
-  served_row op old new (requests.Delete path) (replies.Get answer) all s honest = absurd s
-  served_row op old new (requests.Delete path) (replies.List answer) all s honest = absurd s
+  served_row op old new _ _ all s honest = absurd s
 
   pub effect_empty : (op : ℕ) (effect : Option Request) → is_some effect ≡ not (is_empty (effect_rows {C = C} {A = A} op effect))
   effect_empty op None = refl

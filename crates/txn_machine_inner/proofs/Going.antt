@@ -128,31 +128,22 @@ module _ {T : Type 0} where
         failed = refl;
       })
 
+  -- the operations, where one does this next
+  turn_states : (old : State T) (op : ℕ) (o : PlainOperation T) (ask : Ask) (caches : Caches) (next : Next T) → Acts old op o ask caches → Fits next →
+      map state_of (seen_operations (with_doing old.operations op o next.0)) ≡ states_after (told_of (told.Went op) op next.1) 1 (seen_operations old.operations) None
+  turn_states old op o ask caches next a fits = acted_states (told_of (told.Went op) op next.1) op (is_some next.1) old.operations o ask next.0 a.found (told_ends (told.Went op) op next.1 (λ c m. refl)) a.asks fits
+
   look_goes : (decode : List ℕ → Option T) (old : State T) (op : ℕ) (said : PlainTold T) (new : State T) → Looks decode old op said new → OperationsGoOn {C = PlainCall T} (seen_of old) (events.Look op) said (seen_of new)
   look_goes decode old op said new v =
-      let a = v.acts in
-      let t = told_of (told.Went op) op v.next.1 in
-      let fits = subst Fits (sym v.turns) (turned_fits old.page decode v.refused v.operation.doing v.caches None Look a.asks) in
-      told_so old (events.Look op) said t new (acted old op v.operation v.next (caches_left v.operation.doing v.caches v.next.1)) v.tells v.state
-      (record {
-        clients = refl;
-        operations = acted_states t op (is_some v.next.1) old.operations v.operation Look v.next.0 a.found (told_ends (told.Went op) op v.next.1 (λ c m. refl)) a.asks fits;
-        loose = refl;
-        failed = refl;
-      })
+      let fits = subst Fits (sym v.turns) (turned_fits old.page decode v.refused v.operation.doing v.caches None Look v.acts.asks) in
+      told_so old (events.Look op) said (told_of (told.Went op) op v.next.1) new (acted old op v.operation v.next (caches_left v.operation.doing v.caches v.next.1)) v.tells v.state
+      (record { clients = refl; operations = turn_states old op v.operation Look v.caches v.next v.acts fits; loose = refl; failed = refl })
 
   serve_goes : (decode : List ℕ → Option T) (old : State T) (op : ℕ) (said : PlainTold T) (new : State T) → Served decode old op said new → OperationsGoOn {C = PlainCall T} (seen_of old) (events.Serve op) said (seen_of new)
   serve_goes decode old op said new v =
-      let a = v.acts in
-      let t = told_of (told.Went op) op v.next.1 in
-      let fits = subst Fits (sym v.turns) (turned_fits old.page decode v.refused v.operation.doing v.caches (Some v.reply) (Store v.request) a.asks) in
-      told_so old (events.Serve op) said t new (acted (effected old op v.request v.reply v.store) op v.operation v.next (caches_left v.operation.doing v.caches v.next.1)) v.tells v.state
-      (record {
-        clients = refl;
-        operations = acted_states t op (is_some v.next.1) old.operations v.operation (Store v.request) v.next.0 a.found (told_ends (told.Went op) op v.next.1 (λ c m. refl)) a.asks fits;
-        loose = refl;
-        failed = refl;
-      })
+      let fits = subst Fits (sym v.turns) (turned_fits old.page decode v.refused v.operation.doing v.caches (Some v.reply) (Store v.request) v.acts.asks) in
+      told_so old (events.Serve op) said (told_of (told.Went op) op v.next.1) new (acted (effected old op v.request v.reply v.store) op v.operation v.next (caches_left v.operation.doing v.caches v.next.1)) v.tells v.state
+      (record { clients = refl; operations = turn_states old op v.operation (Store v.request) v.caches v.next v.acts fits; loose = refl; failed = refl })
 
   -- what an operation leaves loose, by what it is seen to ask for
   leaves : (old : State T) (op : ℕ) (o : PlainOperation T) (ask : Ask) (caches : Caches) → Acts old op o ask caches → old.loose ++ left_loose op (Some ask) ≡ old.loose ++ left_loose op (asks_of (seen_of old) op)
