@@ -1,12 +1,8 @@
 -- Store calls that are refused for memory before anything has reached the store keep a world joined.
-use Rattle.std.proofs.Common.{ℕ, ◌-◌, List, [], ◌++◌, slice_set, Option, Some, None, inr, refl, sym, subst}
-use Rattle.std.proofs.lemmas.List.{append-nil}
-use Rattle.txn_store.specs.Store.{State as StoreState}
+use Rattle.std.proofs.Common.{ℕ, List, Option, Some, inr, refl, sym, subst}
 use Rattle.txn_caches.specs.declared.caches.Caches.{Caches}
 use Rattle.txn_history.specs.declared.event.PlainAnswer.TheVariants as plain_answers
-use Rattle.txn_machine_inner.specs.PlainTrace.{PlainRow}
 use Rattle.txn_history.specs.Seen.{Ask, Store}
-use Rattle.txn_history.specs.Added.{answer_rows}
 use Rattle.txn_machine_inner.specs.declared.doing.PlainDoing.TheVariants as doings
 use Rattle.txn_machine_inner.specs.declared.doing.PlainOperation.{PlainOperation}
 use Rattle.txn_machine_inner.specs.Doing as plain
@@ -17,14 +13,14 @@ use Rattle.txn_machine_inner.proofs.States.{but, turn_keeps}
 use Rattle.txn_machine_inner.proofs.Turns.{stays, lacking}
 use Rattle.txn_history.specs.declared.event.Call.{Call}
 use Rattle.txn_history.specs.declared.event.Call.TheVariants as any
-use Rattle.txn_history.specs.Trace.{Row, Told}
+use Rattle.txn_history.specs.Trace.{Told}
 use Rattle.txn_history.specs.Calls.{view_used}
 use Rattle.txn_machine_views.specs.Layer as layer
 use Rattle.txn_machine_views.specs.Layer.{Inner, Ends, look_up, local_of}
 use Rattle.txn_machine_views.specs.Parts.{HasEpoch}
 use Rattle.txn_machine.specs.declared.doing.Ending.TheVariants as endings
 use Rattle.txn_machine.specs.Doing.{refused, is_claim_call}
-use Rattle.txn_machine.specs.Machine.{State, let_go, acted, Lacks}
+use Rattle.txn_machine.specs.Machine.{State, let_go, Lacks}
 use Rattle.txn_machine.proofs.Matched.{Answered as IsAnswered}
 use Rattle.txn_machine.proofs.Joined.{Past, as_fine, Joined}
 use Rattle.txn_machine.proofs.Serving.{asking, rests_joins}

@@ -1,5 +1,5 @@
 -- A crash keeps what stands of a world's state.
-use Rattle.std.proofs.Common.{◌≡◌, ◌≢◌, ℕ, zero, suc, ◌+◌, ◌-◌, ◌<◌, List, [], ◌∷◌, ◌++◌, map, set, slice_get, true, ◌==◌, cond, Option, Some, None, ◌⊎◌, inl, inr, refl, sym, ◌∙◌, ap, subst, arith}
+use Rattle.std.proofs.Common.{◌≡◌, ◌≢◌, ℕ, suc, ◌+◌, ◌-◌, ◌<◌, List, [], ◌∷◌, map, set, slice_get, true, ◌==◌, cond, Option, Some, None, inl, inr, refl, sym, ◌∙◌, ap, subst, arith}
 use Rattle.std.proofs.lemmas.List.{length-set, length-map}
 use Rattle.std.proofs.lemmas.Bool.{cases_Bool, cases_eq, eqb-true, eq-eqb}
 use Rattle.std.proofs.lemmas.Option.{same_Some}
@@ -10,7 +10,7 @@ use Rattle.txn_caches.specs.declared.caches.Caches.{Caches}
 use Rattle.txn_machine_inner.specs.PlainTrace.{PlainRow, PlainTold}
 use Rattle.txn_history.specs.Lists.{numbered}
 use Rattle.txn_history.specs.Seen.{Ask, Store}
-use Rattle.txn_history.specs.GoesOn.{may_be_loose, as_loose, left_loose, all_left_loose}
+use Rattle.txn_history.specs.GoesOn.{may_be_loose, left_loose, all_left_loose}
 use Rattle.txn_history.specs.Calls.{was_begun}
 use Rattle.txn_history.proofs.Lists.{numbered_set}
 use Rattle.txn_machine_inner.specs.declared.doing.PlainDoing.{PlainDoing}
