@@ -10,7 +10,8 @@ use Rattle.txn_machine_views.specs.Layer.{Used}
 use Rattle.txn_machine.specs.declared.doing.Doing.{Doing}
 use Rattle.txn_machine.specs.declared.doing.Operation.{Operation}
 use Rattle.txn_machine.specs.declared.doing.Ending.TheVariants as endings
-use Rattle.txn_machine.specs.Doing.{refusal_in, started, is_claim_call, ReadsBack, FitsWord, IsMadeSo}
+use Rattle.txn_machine.specs.Doing.{refusal_in, started, ReadsBack, FitsWord, IsMadeSo}
+use Rattle.txn_machine_views.specs.Parts.{is_claim_call}
 use Rattle.txn_machine.specs.Machine.{seen_view, used_by, let_go, views_changed, views_after, views_taken, new_operation, answered}
 use Rattle.txn_journals.specs.Parts.{Part, begin_fault, epoch_written}
 use Rattle.txn_journals.specs.Journals.{Begins}

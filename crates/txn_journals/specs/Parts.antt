@@ -21,7 +21,8 @@ use Rattle.txn_history.specs.Seen.{AllSeen}
 use Rattle.txn_machine_views.specs.Layer.{Used}
 use Rattle.txn_machine_views.specs.Steps.{view_without}
 use Rattle.txn_machine.specs.declared.doing.Operation.{Operation}
-use Rattle.txn_machine.specs.Doing.{Next, ended, caches_left, is_claim_call}
+use Rattle.txn_machine.specs.Doing.{Next, ended, caches_left}
+use Rattle.txn_machine_views.specs.Parts.{is_claim_call}
 use Rattle.txn_machine.specs.Machine.{seen_operations, seen_views, used_by, let_go, views_changed, views_after, views_taken, with_doing, new_operation, answered, ended_by}
 
 -- What a client keeps. Its operations and its views stand in the order of its own numbers, from 1 on. An ended view is none.

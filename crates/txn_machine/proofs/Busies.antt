@@ -13,7 +13,8 @@ use Rattle.txn_history.proofs.Lists.{get_kept, get_last, get_more, numbered_kept
 use Rattle.txn_machine_inner.proofs.Lists.{numbered_here, numbered_other, numbered_map, within, get_append, numbered_new, numbered_of_map}
 use Rattle.txn_machine.specs.declared.doing.Doing.{Doing}
 use Rattle.txn_machine.specs.declared.doing.Operation.{Operation}
-use Rattle.txn_machine.specs.Doing.{asked, ended, is_claim_call}
+use Rattle.txn_machine.specs.Doing.{asked, ended}
+use Rattle.txn_machine_views.specs.Parts.{is_claim_call}
 use Rattle.txn_machine.specs.Machine.{doing_next, with_doing, ended_by, new_operation}
 
 -- it is this number, or is not

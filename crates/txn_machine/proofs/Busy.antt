@@ -39,7 +39,8 @@ use Rattle.txn_machine.specs.declared.doing.Doing.TheVariants as does
 use Rattle.txn_machine.specs.declared.doing.Operation.{Operation}
 use Rattle.txn_machine.specs.declared.doing.Ending.{Ending}
 use Rattle.txn_machine.specs.declared.doing.Ending.TheVariants as endings
-use Rattle.txn_machine.specs.Doing.{Next, asked, ended, refused, is_claim_call, caches_left}
+use Rattle.txn_machine.specs.Doing.{Next, asked, ended, refused, caches_left}
+use Rattle.txn_machine_views.specs.Parts.{is_claim_call}
 use Rattle.txn_machine.specs.Machine.{State, opening, refusal_of, seen_operation, seen_operations, seen_view, seen_views, seen_of, used_in, used_by, with_used, let_go, made_by, change_of, views_after, views_taken, answered, doing_next, with_doing, acted, effected, loosened, failing, given_up, next_op, new_operation, begun_as, Fails, Looks, Served, Lacks, TakesOrLacks, IsReached}
 use Rattle.txn_machine.proofs.Places.{set_new, any_at, place_of_any}
 use Rattle.txn_machine.proofs.Fits.{Fits, turned_fits, started_fits}

@@ -20,7 +20,8 @@ use Rattle.txn_history.specs.Trace.{Row, Event, Told}
 use Rattle.txn_history.specs.Calls.{view_used}
 use Rattle.txn_history.specs.GoesOn.{is_claim_on}
 use Rattle.txn_machine.specs.declared.doing.Operation.{Operation}
-use Rattle.txn_machine.specs.Doing.{ended, is_claim_call}
+use Rattle.txn_machine.specs.Doing.{ended}
+use Rattle.txn_machine_views.specs.Parts.{is_claim_call}
 use Rattle.txn_machine.specs.Machine.{State, opening, seen_view, used_by, doing_next, new_operation, ended_by, Fails, TakesOrLacks, IsReached}
 use Rattle.txn_machine.proofs.Places.{any_at, place_of_any}
 use Rattle.txn_machine.proofs.Busy.{Busied}

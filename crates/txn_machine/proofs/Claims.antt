@@ -42,7 +42,8 @@ use Rattle.txn_machine.specs.declared.doing.Doing.{Doing}
 use Rattle.txn_machine.specs.declared.doing.Doing.TheVariants as does
 use Rattle.txn_machine.specs.declared.doing.Ending.{Ending}
 use Rattle.txn_machine.specs.declared.doing.Ending.TheVariants as endings
-use Rattle.txn_machine.specs.Doing.{Next, asked, plain_next, next_of, first_next, with_local, is_claim_call, started, turned}
+use Rattle.txn_machine.specs.Doing.{Next, asked, plain_next, next_of, first_next, with_local, started, turned}
+use Rattle.txn_machine_views.specs.Parts.{is_claim_call}
 
 module _ {T : Type 0} where
   -- a claim is held, and another call is not

@@ -22,7 +22,8 @@ use Rattle.txn_machine_views.proofs.Turns as layer_turns
 use Rattle.txn_machine_views.proofs.Goes.{after_goes, turned_goes}
 use Rattle.txn_machine.specs.declared.doing.Operation.{Operation}
 use Rattle.txn_machine.specs.declared.doing.Ending.{Ending}
-use Rattle.txn_machine.specs.Doing.{ended, is_claim_call}
+use Rattle.txn_machine.specs.Doing.{ended}
+use Rattle.txn_machine_views.specs.Parts.{is_claim_call}
 use Rattle.txn_machine.specs.Machine.{State, used_in, used_by, views_after, change_of, made_by, answer_of, acted, doing_next}
 use Rattle.txn_machine.proofs.Joined.{Past, as_laid, ViewTold, At, LooseAt, Joined, Open}
 use Rattle.txn_machine.proofs.Rows.{core_row, core_views, does_row}

@@ -23,10 +23,10 @@ use Rattle.txn_history.specs.declared.event.Answer.TheVariants as answers
 use Rattle.txn_history.specs.Calls.{view_used}
 use Rattle.txn_machine_views.specs.Layer as layer
 use Rattle.txn_machine_views.specs.Layer.{Writes, Keeps, Puts, Closes, Ends}
-use Rattle.txn_machine_views.specs.Parts.{HasEpoch, entered, denied}
+use Rattle.txn_machine_views.specs.Parts.{HasEpoch, entered, denied, is_claim_call}
 use Rattle.txn_machine.specs.declared.doing.Doing.TheVariants as does
 use Rattle.txn_machine.specs.declared.doing.Ending.TheVariants as endings
-use Rattle.txn_machine.specs.Doing.{Next, ended, refused, view_next, is_claim_call}
+use Rattle.txn_machine.specs.Doing.{Next, ended, refused, view_next}
 use Rattle.txn_machine.specs.Doing as whole
 use Rattle.txn_machine.specs.Machine.{let_go}
 use Rattle.txn_machine.proofs.Matched.{enters, IsEntryWrite, EndsAs, NextAs, Answered, TurnsAs}

@@ -30,14 +30,14 @@ use Rattle.txn_history.specs.Calls.{view_used}
 use Rattle.txn_machine_views.specs.Layer as layer
 use Rattle.txn_machine_views.specs.Layer.{Inner, Starts, Writes, Reads, Acts, Change, Keeps, Next, Goes, Ends, look_up, local_of, set_at, turned}
 use Rattle.txn_machine_views.specs.Parts as parts
-use Rattle.txn_machine_views.specs.Parts.{Inside, is_claim, refusing, HasEpoch}
+use Rattle.txn_machine_views.specs.Parts.{Inside, is_claim_call, refusing, HasEpoch}
 use Rattle.txn_machine_views.proofs.Stands as layer_stands
 use Rattle.txn_machine_views.proofs.Takes.{take_stands}
 use Rattle.txn_machine_views.proofs.Runs.{tell_stands, step_keeps}
 use Rattle.txn_machine_views.proofs.Tables.{set_here}
 use Rattle.txn_machine.specs.declared.doing.Operation.{Operation}
 use Rattle.txn_machine.specs.declared.doing.Ending.TheVariants as endings
-use Rattle.txn_machine.specs.Doing.{refused, is_claim_call}
+use Rattle.txn_machine.specs.Doing.{refused}
 use Rattle.txn_machine.specs.Machine.{State, acted, effected, failing, let_go, FailsFirst, FailsAfter, Fails}
 use Rattle.txn_machine.proofs.Joined.{Past, as_laid, as_fine, IsAtWork, Held, LooseAt, Core, Joined, Mid}
 use Rattle.txn_machine.proofs.Rows.{core_failed, does_fine, does_row}
@@ -75,7 +75,7 @@ module _ {T : Type 0} where
 
   -- what a failed store call makes of it
   failure_is : (get_epoch : T → ℕ) (set_epoch : T → ℕ → T) (call : ViewCall T) (local : Option ℕ) (inner : Inner T) → IsAtWork inner → refusing (any.View call) 2 ≡ parts.taken get_epoch set_epoch (any.View call) local inner (failed_inside)
-  failure_is get_epoch set_epoch call local (Writes base value epoch) work = sym (by (is_claim (any.View call)))
+  failure_is get_epoch set_epoch call local (Writes base value epoch) work = sym (by (is_claim_call (any.View call)))
     where
       by : (claims : Bool) → (if claims && (2 == 5) then reads_next else refusing (any.View call) 2) ≡ refusing (any.View call) 2
       by true = refl

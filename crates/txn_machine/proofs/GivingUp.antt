@@ -21,20 +21,18 @@ use Rattle.txn_machine_inner.proofs.Stands as machine_stands
 use Rattle.txn_machine_inner.proofs.States.{at_place}
 use Rattle.txn_machine_inner.proofs.Events.{give_up_keeps, land_keeps}
 use Rattle.txn_history.specs.declared.event.Call.{Call}
-use Rattle.txn_history.specs.declared.event.Call.TheVariants as any
-use Rattle.txn_history.specs.declared.event.ViewCall.TheVariants as view_calls
 use Rattle.txn_history.specs.Trace.{Row, Told}
 use Rattle.txn_history.specs.Calls.{view_used}
 use Rattle.txn_machine_views.specs.Layer as layer
 use Rattle.txn_machine_views.specs.Layer.{Used, Inner, Starts, Writes, Reads, Acts, Change, Keeps as Frees, Closes, changed, look_up, local_of, set_at, set_used, views_changed}
-use Rattle.txn_machine_views.specs.Parts.{is_claim}
+use Rattle.txn_machine_views.specs.Parts.{is_claim_call}
 use Rattle.txn_machine_views.specs.Steps.{Steps}
 use Rattle.txn_machine_views.proofs.Stands.{Uses}
 use Rattle.txn_machine_views.proofs.Runs.{step_keeps}
 use Rattle.txn_machine_views.proofs.Goes.{after_goes, step_goes}
 use Rattle.txn_machine_views.proofs.Tables.{Leaves, set_here, set_other, used_leaves, alone, op_of}
 use Rattle.txn_machine.specs.declared.doing.Operation.{Operation}
-use Rattle.txn_machine.specs.Doing.{ended, is_claim_call}
+use Rattle.txn_machine.specs.Doing.{ended}
 use Rattle.txn_machine.specs.Machine as world
 use Rattle.txn_machine.specs.Machine.{State, used_by, let_go, doing_next, GivesUp, Lands}
 use Rattle.txn_machine.proofs.Matched.{fine_call}
@@ -51,17 +49,6 @@ use Rattle.txn_machine.proofs.Reaching.{laid_on, over_effect, core_effects, past
 use Rattle.txn_machine.proofs.Serving.{held_of}
 
 module _ {T : Type 0} where
-  pub claim_same : (call : Call T) → is_claim_call call ≡ is_claim call
-  claim_same (any.Plain call) = refl
-  claim_same (any.View (view_calls.Init value)) = refl
-  claim_same (any.View view_calls.Load) = refl
-  claim_same (any.View (view_calls.Refresh view)) = refl
-  claim_same (any.View (view_calls.Update view value)) = refl
-  claim_same (any.View (view_calls.Claim view)) = refl
-  claim_same (any.View (view_calls.ClaimAt view epoch)) = refl
-  claim_same (any.View (view_calls.HolderRefresh view)) = refl
-  claim_same (any.View (view_calls.HolderUpdate view value)) = refl
-
   -- what a give-up makes of a view
   abbrev pub let_go_of : Bool → Change T
   let_go_of claims = if claims then Closes else Frees
@@ -109,12 +96,12 @@ module _ {T : Type 0} (encode : T → List ℕ) (decode : List ℕ → Option T)
       subst (λ (cs : List Caches). machine_stands.Stands decode get_epoch (record fine' { caches = cs })) (set_id j.fine.caches operation.client at.0 at.1)
       (subst (λ (tr : List (PlainRow T)). machine_stands.Stands decode get_epoch (record fine { trace = tr })) (append-nil j.fine.trace) stood)
       in
-      let change : Change T = if is_claim call then Closes else Frees in
+      let change : Change T = if is_claim_call call then Closes else Frees in
       let views = views_changed j.l call change in
       let own = op_of decode get_epoch set_epoch j.l j.over op laid held.runs in
       let step : Steps decode get_epoch set_epoch j.l (record j.l { views = views; ops = set_at j.l.ops op None }) = (inr (inr (inr (inr (inr (inr (inl (record { op = op; o = laid; runs = held.runs; new = refl })))))))) in
       let over = step_keeps decode get_epoch set_epoch j.l (record j.l { views = views; ops = set_at j.l.ops op None }) j.over step in
-      let goes : let_go operation.claims ≡ change = ap let_go (held.claims ∙ claim_same call) in
+      let goes : let_go operation.claims ≡ change = ap let_go held.claims in
       let some_n = (within j.fine.operations n o held.there).0 in
       let some_op = (within s.operations op operation v.found).0 in
       let leaves : (i : ℕ) → i ≢ op → Leaves j.l.views views i = λ i ne. used_leaves j.l.views i (view_used call) (changed (look_up j.l.views (view_used call)) change) (alone j.l.rows j.l.views op i laid ne (view_used call) own.uses) in
@@ -140,7 +127,7 @@ module _ {T : Type 0} (encode : T → List ℕ) (decode : List ℕ → Option T)
         goes = λ number le. after_goes (past.views number) (j.l.views number) (views number) (j.goes number le) (step_goes decode get_epoch set_epoch j.l (record j.l { views = views; ops = set_at j.l.ops op None }) j.over step number (let more = j.grown in omega (arith, le, more)));
         grown = j.grown;
         caches = j.caches;
-        core = core_views j.fine.trace j.fine.failed j.l.rows j.l.views j.l.failed j.owner j.core views (left_told j.fine.trace j.l.views (view_used call) (is_claim call) j.core.seen);
+        core = core_views j.fine.trace j.fine.failed j.l.rows j.l.views j.l.failed j.owner j.core views (left_told j.fine.trace j.l.views (view_used call) (is_claim_call call) j.core.seen);
         each = λ i. elim (cases_eq i op) [
           | inl q ↦ subst (λ (k : ℕ). At decode get_epoch operations j.fine.trace j.l.rows j.owner j.now (set_at j.l.ops op None) views j.l.asked k (numbered (set s.operations (op - 1) (doing_next operation ended)) k)) (sym q)
               (subst (λ (x : Option (Operation T)). At decode get_epoch operations j.fine.trace j.l.rows j.owner j.now (set_at j.l.ops op None) views j.l.asked op x) (sym (numbered_here s.operations op (doing_next operation ended) operation v.found)) (inl (refl, set_here j.l.ops op None)))

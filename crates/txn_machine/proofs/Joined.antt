@@ -25,13 +25,13 @@ use Rattle.txn_history.specs.declared.event.Answer.TheVariants as any_answers
 use Rattle.txn_history.specs.Trace.{Row}
 use Rattle.txn_machine_views.specs.Layer as layer
 use Rattle.txn_machine_views.specs.Layer.{Used, Inner, Starts, Writes, Reads, Acts, Asked, Layer, look_up, local_of}
-use Rattle.txn_machine_views.specs.Parts.{plain_inner, InsideFits}
+use Rattle.txn_machine_views.specs.Parts.{plain_inner, InsideFits, is_claim_call}
 use Rattle.txn_machine_views.specs.Steps.{IsAsked, GoesOn}
 use Rattle.txn_machine_views.proofs.Inside.{inside}
 use Rattle.txn_machine_views.proofs.Stands as layer_stands
 use Rattle.txn_machine_views.proofs.Tied.{Tied}
 use Rattle.txn_machine.specs.declared.doing.Operation.{Operation}
-use Rattle.txn_machine.specs.Doing.{ended, is_claim_call}
+use Rattle.txn_machine.specs.Doing.{ended}
 use Rattle.txn_machine.specs.Machine.{State, used_by}
 use Rattle.txn_machine.proofs.Matched.{fine_call, Matched}
 

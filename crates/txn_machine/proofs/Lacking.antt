@@ -17,9 +17,9 @@ use Rattle.txn_history.specs.Trace.{Told}
 use Rattle.txn_history.specs.Calls.{view_used}
 use Rattle.txn_machine_views.specs.Layer as layer
 use Rattle.txn_machine_views.specs.Layer.{Inner, Ends, look_up, local_of}
-use Rattle.txn_machine_views.specs.Parts.{HasEpoch}
+use Rattle.txn_machine_views.specs.Parts.{HasEpoch, is_claim_call}
 use Rattle.txn_machine.specs.declared.doing.Ending.TheVariants as endings
-use Rattle.txn_machine.specs.Doing.{refused, is_claim_call}
+use Rattle.txn_machine.specs.Doing.{refused}
 use Rattle.txn_machine.specs.Machine.{State, let_go, Lacks}
 use Rattle.txn_machine.proofs.Matched.{Answered as IsAnswered}
 use Rattle.txn_machine.proofs.Joined.{Past, as_fine, Joined}

@@ -29,14 +29,14 @@ use Rattle.txn_history.specs.declared.event.Call.TheVariants as any
 use Rattle.txn_history.specs.Calls.{view_used, is_holders}
 use Rattle.txn_machine_views.specs.Layer as layer
 use Rattle.txn_machine_views.specs.Layer.{Used, Inner, Starts, Writes, Reads, Acts, Goes, Ends, Opens}
-use Rattle.txn_machine_views.specs.Parts.{plain_inner, HasEpoch, OrLacking}
+use Rattle.txn_machine_views.specs.Parts.{plain_inner, HasEpoch, OrLacking, is_claim_call}
 use Rattle.txn_machine_views.specs.Parts as parts
 use Rattle.txn_machine_views.proofs.Inside.{inside}
 use Rattle.txn_machine.specs.declared.doing.Doing.{Doing}
 use Rattle.txn_machine.specs.declared.doing.Doing.TheVariants as does
 use Rattle.txn_machine.specs.declared.doing.Ending.{Ending}
 use Rattle.txn_machine.specs.declared.doing.Ending.TheVariants as endings
-use Rattle.txn_machine.specs.Doing.{Next, ended, caches_left, is_claim_call, ReadsBack, FitsWord, IsMadeSo, Turns}
+use Rattle.txn_machine.specs.Doing.{Next, ended, caches_left, ReadsBack, FitsWord, IsMadeSo, Turns}
 use Rattle.txn_machine.specs.Doing as whole
 use Rattle.txn_machine.specs.Machine.{answer_of, change_of, made_by, seen_view}
 

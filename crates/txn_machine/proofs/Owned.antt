@@ -25,7 +25,8 @@ use Rattle.txn_machine_views.specs.Steps.{view_without}
 use Rattle.txn_machine.specs.declared.doing.Operation.{Operation}
 use Rattle.txn_machine.specs.declared.doing.Ending.{Ending}
 use Rattle.txn_machine.specs.declared.doing.Ending.TheVariants as endings
-use Rattle.txn_machine.specs.Doing.{Next, ended, refused, caches_left, is_claim_call}
+use Rattle.txn_machine.specs.Doing.{Next, ended, refused, caches_left}
+use Rattle.txn_machine_views.specs.Parts.{is_claim_call}
 use Rattle.txn_machine.specs.Machine.{State, opening, refusal_of, seen_of, seen_views, used_in, used_by, views_changed, let_go, change_of, made_by, views_after, views_taken, doing_next, acted, effected, loosened, failing, given_up, ended_by, crashed, next_op, new_operation, begun_as, Fails, TakesOrLacks, RunsOrLacks, IsReached}
 use Rattle.txn_machine.proofs.Busy.{view_there}
 use Rattle.txn_machine.proofs.Runs.{takes_same_or_lacking, runs_keep}

@@ -14,7 +14,7 @@ use Rattle.txn_history.specs.declared.event.Call.TheVariants as any
 use Rattle.txn_history.specs.declared.event.Answer.{Answer}
 use Rattle.txn_history.specs.declared.event.Answer.TheVariants as answers
 use Rattle.txn_machine_views.specs.Layer.{Used, Inner, Starts, Writes, Reads, Acts, Change, Keeps, Puts, Makes, Closes, Next, Goes, Ends, Opens}
-use Rattle.txn_machine_views.specs.Parts.{Inside, Wrote, Found, Nothing, Refused, is_claim, refusing, entered, denied, missed, written, viewed, tested, with_local, claimed, attempted, found, taken, started_on, started, OrLacking}
+use Rattle.txn_machine_views.specs.Parts.{Inside, Wrote, Found, Nothing, Refused, is_claim_call, refusing, entered, denied, missed, written, viewed, tested, with_local, claimed, attempted, found, taken, started_on, started, OrLacking}
 
 module _ {T : Type 0} (P : ℕ → Type 0) where
   abbrev pub AnswerOnly : Answer T → Type 0
@@ -58,7 +58,7 @@ module _ {T : Type 0} (P : ℕ → Type 0) where
   entered_only (view_calls.HolderUpdate view v) id value epoch h = (h, h)
 
   denied_only : (call : Call T) (number : ℕ) → NextOnly (denied call number)
-  denied_only call number = elim (cases_Bool (is_claim call && (number == 5))) [ inl e ↦ rw e tt | inr e ↦ rw e (refusing_only call number) ]
+  denied_only call number = elim (cases_Bool (is_claim_call call && (number == 5))) [ inl e ↦ rw e tt | inr e ↦ rw e (refusing_only call number) ]
 
   missed_only : (call : ViewCall T) → NextOnly (missed (any.View call))
   missed_only (view_calls.Init value) = refusing_only (any.View (view_calls.Init value)) 7

@@ -31,7 +31,8 @@ use Rattle.txn_machine_views.specs.Steps.{view_without}
 use Rattle.txn_machine.specs.declared.doing.Operation.{Operation}
 use Rattle.txn_machine.specs.declared.doing.Ending.{Ending}
 use Rattle.txn_machine.specs.declared.doing.Ending.TheVariants as endings
-use Rattle.txn_machine.specs.Doing.{Next, ended, refused, is_claim_call, caches_left}
+use Rattle.txn_machine.specs.Doing.{Next, ended, refused, caches_left}
+use Rattle.txn_machine_views.specs.Parts.{is_claim_call}
 use Rattle.txn_machine.specs.Machine.{State, seen_operation, seen_view, seen_views, seen_of, used_in, used_by, with_used, let_go, answer_of, change_of, made_by, views_after, views_taken, answered, doing_next, answer_next, acted, effected, loosened, failing, given_up, crashed, next_op, new_operation, begun_as, Fails, TakesOrLacks, IsReached}
 use Rattle.txn_machine.proofs.Busies.{IsRunning, uses_or_not}
 use Rattle.txn_machine.proofs.Busy.{Busied, IsFree, takes_free, effected_busied, view_there, takes_busied, reached_busied, free_begin}

@@ -1,6 +1,6 @@
 -- What an operation of any call does: how the call starts, what it asks for, what it makes of a look or a reply, what it
 -- leaves of its client's caches, and how it ends.
-use Rattle.std.specs.Prelude.{◌≡◌, ℕ, List, Bool, true, false, Option, Some, None, Result, Ok, Err}
+use Rattle.std.specs.Prelude.{◌≡◌, ℕ, List, Bool, Option, Some, None, Result, Ok, Err}
 use Rattle.txn_store.specs.declared.request.Reply.{Reply}
 use Rattle.txn_caches.specs.declared.caches.Caches.{Caches}
 use Rattle.txn_caches.specs.declared.turned.Turned.{Turned}
@@ -108,18 +108,6 @@ module _ {T : Type 0} where
   abbrev pub refusal_in : Option ℕ → Option (Ending T)
   refusal_in None = None
   refusal_in (Some number) = Some (endings.Answers (plain_answers.Refused number))
-
-  -- the call is a claim
-  abbrev pub is_claim_call : Call T → Bool
-  is_claim_call (any.Plain call) = false
-  is_claim_call (any.View (view_calls.Init value)) = false
-  is_claim_call (any.View view_calls.Load) = false
-  is_claim_call (any.View (view_calls.Refresh view)) = false
-  is_claim_call (any.View (view_calls.Update view value)) = false
-  is_claim_call (any.View (view_calls.Claim view)) = true
-  is_claim_call (any.View (view_calls.ClaimAt view epoch)) = true
-  is_claim_call (any.View (view_calls.HolderRefresh view)) = false
-  is_claim_call (any.View (view_calls.HolderUpdate view value)) = false
 
 module _ {T : Type 0} (encode : T → List ℕ) (decode : List ℕ → Option T) where
   -- the codec reads back what the call writes

@@ -34,7 +34,8 @@ use Rattle.txn_machine.specs.declared.doing.Doing.{Doing}
 use Rattle.txn_machine.specs.declared.doing.Ending.{Ending}
 use Rattle.txn_machine.specs.declared.doing.Ending.TheVariants as endings
 use Rattle.txn_machine.specs.declared.doing.Operation.{Operation}
-use Rattle.txn_machine.specs.Doing.{Next, ended, refused, asked, started, caches_left, is_claim_call, ReadsBack, FitsWord, IsMadeSo, Turns}
+use Rattle.txn_machine.specs.Doing.{Next, ended, refused, asked, started, caches_left, ReadsBack, FitsWord, IsMadeSo, Turns}
+use Rattle.txn_machine_views.specs.Parts.{is_claim_call}
 
 -- All of a world but its codec and its allocator. Each list is in the order of the numbers, from 1 on. An ended view is none.
 pub record State (T : Type 0) : Type 0 where

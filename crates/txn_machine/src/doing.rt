@@ -7,7 +7,8 @@ ghost use Rattle.txn_view_steps.specs.Lacking.{lacks};
 ghost use Rattle.txn_history.specs.Calls.{view_used, is_holders};
 ghost use Rattle.std.specs.Option.{option_copied, option_map};
 ghost use Rattle.txn_machine_inner.specs.Doing.{first_of};
-ghost use Rattle.txn_machine.specs.Doing.{started, first_next, refusal_in, is_claim_call, IsMadeSo, ReadsBack, FitsWord};
+ghost use Rattle.txn_machine.specs.Doing.{started, first_next, refusal_in, IsMadeSo, ReadsBack, FitsWord};
+ghost use Rattle.txn_machine_views.specs.Parts.{is_claim_call};
 
 use std::alloc::{AllocError, Global};
 use std::marker::Model;

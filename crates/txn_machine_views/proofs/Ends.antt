@@ -4,7 +4,7 @@ use Rattle.std.proofs.lemmas.Bool.{cases_Bool, eqb-true, eqb-false}
 use Rattle.txn_history.specs.Trace.{Row}
 use Rattle.txn_history.specs.Calls.{view_used}
 use Rattle.txn_machine_views.specs.Layer.{Used, Operation, Layer, Keeps, Closes, look_up, changed, set_used}
-use Rattle.txn_machine_views.specs.Parts.{is_claim}
+use Rattle.txn_machine_views.specs.Parts.{is_claim_call}
 use Rattle.txn_machine_views.specs.Steps.{view_without, op_without, GivesUp, Crashes}
 use Rattle.txn_machine_views.proofs.Stands.{Uses, OpStands, OpAt, ViewAt, Stands}
 use Rattle.txn_machine_views.proofs.Tables.{set_other, used_leaves, alone, op_of, numbered, op_leaves}
@@ -42,12 +42,12 @@ module _ {T : Type 0} (decode : List ℕ → Option T) (get_epoch : T → ℕ) (
   give_up_keeps s after st g =
       let op = g.op in
       let own = op_of decode get_epoch set_epoch s st op g.o g.runs in
-      let new = changed (look_up s.views (view_used g.o.call)) (if is_claim g.o.call then Closes else Keeps) in
+      let new = changed (look_up s.views (view_used g.o.call)) (if is_claim_call g.o.call then Closes else Keeps) in
       subst (Stands decode get_epoch set_epoch) (sym g.new)
       (record {
         good = st.good;
         count = st.count;
-        views = closed_views s.rows s.views s.count (is_claim g.o.call) st.views (view_used g.o.call);
+        views = closed_views s.rows s.views s.count (is_claim_call g.o.call) st.views (view_used g.o.call);
         ops = λ n. elim (cases_Bool (n == op)) [
           | inl q ↦ rw q tt
           | inr q ↦ rw q (op_leaves decode get_epoch set_epoch s.rows s.views (set_used s.views (view_used g.o.call) new) n (used_leaves s.views n (view_used g.o.call) new (alone s.rows s.views op n g.o (eqb-false n op q) (view_used g.o.call) own.uses)) (s.ops n) (st.ops n))

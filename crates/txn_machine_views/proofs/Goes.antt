@@ -6,7 +6,7 @@ use Rattle.txn_history.specs.declared.event.Call.TheVariants as any
 use Rattle.txn_history.specs.declared.event.Answer.TheVariants as answers
 use Rattle.txn_history.specs.Calls.{view_used}
 use Rattle.txn_machine_views.specs.Layer.{Used, Operation, Layer, Change, Keeps, Puts, Makes, Closes, Next, Goes, Ends, Opens, look_up, with_busy, changed, new_view, starting, set_used, turned, opened}
-use Rattle.txn_machine_views.specs.Parts.{is_claim}
+use Rattle.txn_machine_views.specs.Parts.{is_claim_call}
 use Rattle.txn_machine_views.specs.Steps.{view_without, Steps, GoesOn}
 use Rattle.txn_machine_views.proofs.Stands.{IsUp, Stands, NextStands}
 use Rattle.txn_machine_views.proofs.Tables.{set_other}
@@ -95,9 +95,9 @@ module _ {T : Type 0} (decode : List ℕ → Option T) (get_epoch : T → ℕ) (
   step_goes s after st (inr (inr (inr (inr (inl a))))) number le = same_views s after s.views number (ap (λ (l : Layer T). l.views) a.new) (same_goes (s.views number))
   step_goes s after st (inr (inr (inr (inr (inr (inl r)))))) number le = same_views s after s.views number (ap (λ (l : Layer T). l.views) r.new) (same_goes (s.views number))
   step_goes s after st (inr (inr (inr (inr (inr (inr (inl g))))))) number le =
-      let change : Change T = if is_claim g.o.call then Closes else Keeps in
+      let change : Change T = if is_claim_call g.o.call then Closes else Keeps in
       same_views s after (set_used s.views (view_used g.o.call) (changed (look_up s.views (view_used g.o.call)) change)) number (ap (λ (l : Layer T). l.views) g.new)
-      (used_goes s.views (view_used g.o.call) change (λ n was e there. given_up (is_claim g.o.call) was) number)
+      (used_goes s.views (view_used g.o.call) change (λ n was e there. given_up (is_claim_call g.o.call) was) number)
   step_goes s after st (inr (inr (inr (inr (inr (inr (inr (inl c)))))))) number le =
       same_views s after (λ n. view_without c.client (s.views n)) number (ap (λ (l : Layer T). l.views) c.new) (crashed_goes c.client (s.views number))
   step_goes s after st (inr (inr (inr (inr (inr (inr (inr (inr f)))))))) number le = same_views s after s.views number (ap (λ (l : Layer T). l.views) f.new) (same_goes (s.views number))

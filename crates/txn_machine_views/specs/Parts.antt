@@ -35,10 +35,11 @@ module _ {T : Type 0} (decode : List ℕ → Option T) (get_epoch : T → ℕ) (
   InsideFits rows op inner answer = ⊥
 
 module _ {T : Type 0} where
-  abbrev pub is_claim : Call T → Bool
-  is_claim (any.View (view_calls.Claim view)) = true
-  is_claim (any.View (view_calls.ClaimAt view epoch)) = true
-  is_claim call = false
+  -- the call is a claim
+  abbrev pub is_claim_call : Call T → Bool
+  is_claim_call (any.View (view_calls.Claim view)) = true
+  is_claim_call (any.View (view_calls.ClaimAt view epoch)) = true
+  is_claim_call call = false
 
   -- a refusal frees the view, and ends that of a claim
   abbrev pub refusing : Call T → ℕ → Next T
@@ -57,7 +58,7 @@ module _ {T : Type 0} where
 
   -- its write was refused: after a conflict a claim reads
   abbrev pub denied : Call T → ℕ → Next T
-  denied call number = if is_claim call && (number == 5) then Goes Reads else refusing call number
+  denied call number = if is_claim_call call && (number == 5) then Goes Reads else refusing call number
 
   -- its read found nothing
   abbrev pub missed : Call T → Next T

@@ -16,7 +16,7 @@ use Rattle.txn_history.specs.Views.{ViewGoesOn}
 use Rattle.txn_history.specs.OneHistory as history
 use Rattle.txn_history.specs.OneHistory.{Raises, Erases, AnswerFits}
 use Rattle.txn_machine_views.specs.Layer.{Used, Inner, Writes, Operation, Asked, Layer, Keeps, Closes, Next, Ends, look_up, local_of, starting, views_changed, set_at, turned, opened, with_row}
-use Rattle.txn_machine_views.specs.Parts.{Inside, InsideFits, is_claim, taken, started, HasEpoch, OrLacking}
+use Rattle.txn_machine_views.specs.Parts.{Inside, InsideFits, is_claim_call, taken, started, HasEpoch, OrLacking}
 
 module _ {T : Type 0} where
   -- The view that a call uses is there, is the client's, is free, and is a holder exactly where the call is a holder's.
@@ -119,7 +119,7 @@ module _ {T : Type 0} where
     pub op : ℕ
     pub o : Operation T
     pub runs : s.ops op ≡ Some o
-    pub new : after ≡ record s { views = views_changed s o.call (if is_claim o.call then Closes else Keeps); ops = set_at s.ops op None }
+    pub new : after ≡ record s { views = views_changed s o.call (if is_claim_call o.call then Closes else Keeps); ops = set_at s.ops op None }
 
   abbrev pub view_without : ℕ → Option (Used T) → Option (Used T)
   view_without client None = None

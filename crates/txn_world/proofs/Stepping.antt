@@ -50,7 +50,8 @@ use Rattle.txn_machine.specs.declared.doing.Doing.TheVariants as does
 use Rattle.txn_machine.specs.declared.doing.Operation.{Operation}
 use Rattle.txn_machine.specs.declared.doing.Ending.{Ending}
 use Rattle.txn_machine.specs.declared.doing.Ending.TheVariants as endings
-use Rattle.txn_machine.specs.Doing.{Next, asked, ended, refused, plain_next, view_next, turned, started, caches_left, answer_in, is_claim_call, IsClaimReading, IsMadeSo, ReadsBack, FitsWord, MayLack}
+use Rattle.txn_machine.specs.Doing.{Next, asked, ended, refused, plain_next, view_next, turned, started, caches_left, answer_in, IsClaimReading, IsMadeSo, ReadsBack, FitsWord, MayLack}
+use Rattle.txn_machine_views.specs.Parts.{is_claim_call}
 use Rattle.txn_machine.specs.Machine.{State, seen_operation, seen_operations, seen_of, with_doing, answer_of, answered, acted, effected, loosened, failing, given_up, let_go, views_changed, views_after, views_taken, next_op, begun_as, view_now, FailsFirst, FailsAfter, GivesUp, Lands, Looks, Served, Begins}
 use Rattle.txn_clients.specs.declared.operations.Usage.{Usage}
 use Rattle.txn_clients.specs.Operations.{request_of, loose_of, asked_of, asked_by, usage_of, TakesReply}
