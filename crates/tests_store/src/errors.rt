@@ -55,13 +55,6 @@ fn all_store_words(alloc: Global) -> Result<String, AllocError> {
     Ok(text)
 }
 
-#[test]
-fn errors_of_stores_and_paths_have_texts(rt: HostRuntime) -> Result<(), Fail> {
-    let text = all_store_words(rt.alloc())?;
-    assert_eq!(rt; text.as_str(), STORE_WORDS);
-    Ok(())
-}
-
 /// The error of this number.
 fn error_of(number: u8) -> TransactionalObjectError {
     match number {
@@ -113,7 +106,7 @@ fn all_words(alloc: Global) -> Result<String, AllocError> {
 
 #[test]
 fn errors_have_their_numbers_and_texts(rt: HostRuntime) -> Result<(), Fail> {
-    let text = all_words(rt.alloc())?;
-    assert_eq!(rt; text.as_str(), WORDS);
+    assert_eq!(rt; all_store_words(rt.alloc())?.as_str(), STORE_WORDS);
+    assert_eq!(rt; all_words(rt.alloc())?.as_str(), WORDS);
     Ok(())
 }

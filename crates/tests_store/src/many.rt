@@ -7,6 +7,7 @@ use txn_store::path::{Path, PathFault};
 use txn_store::store::{ObjectStore, PutMode};
 use txn_store::version_names::VersionNames;
 
+/// How many versions there are.
 const MANY: u64 = 100_000;
 
 const PAGE: u64 = 1000;
@@ -15,14 +16,9 @@ fn names(alloc: Global) -> Result<VersionNames, PathFault> {
     VersionNames::new(alloc, Path::from_text(alloc, "root/test")?, "val")
 }
 
-/// Puts so many versions.
-fn put_all(
-    alloc: Global,
-    names: &VersionNames,
-    store: &mut InMemory,
-    count: u64,
-) -> Result<(), Fail> {
-    for number in 0..count {
+/// Puts all versions.
+fn put_all(alloc: Global, names: &VersionNames, store: &mut InMemory) -> Result<(), Fail> {
+    for number in 0..MANY {
         let path = names.path_for(alloc, number)?;
         let _ = store.put(&path, &Bytes::from_static(b"a value"), &PutMode::Create)?;
     }
@@ -46,14 +42,9 @@ fn listed(alloc: Global, names: &VersionNames, store: &mut InMemory) -> Result<(
     Err("a listing goes on")?
 }
 
-/// Gets and removes so many versions, the oldest first.
-fn remove_all(
-    alloc: Global,
-    names: &VersionNames,
-    store: &mut InMemory,
-    count: u64,
-) -> Result<(), Fail> {
-    for number in 0..count {
+/// Gets and removes all versions, the oldest first.
+fn remove_all(alloc: Global, names: &VersionNames, store: &mut InMemory) -> Result<(), Fail> {
+    for number in 0..MANY {
         let path = names.path_for(alloc, number)?;
         let _ = store.get(&path, None)?;
         store.delete(&path)?;
@@ -65,9 +56,9 @@ fn remove_all(
 fn a_hundred_thousand_versions(rt: HostRuntime) -> Result<(), Fail> {
     let names = names(rt.alloc())?;
     let mut store = InMemory::new(rt.alloc());
-    put_all(rt.alloc(), &names, &mut store, MANY)?;
+    put_all(rt.alloc(), &names, &mut store)?;
     assert_eq!(rt; listed(rt.alloc(), &names, &mut store)?, (100, 100_000));
-    remove_all(rt.alloc(), &names, &mut store, MANY)?;
+    remove_all(rt.alloc(), &names, &mut store)?;
     assert_eq!(rt; listed(rt.alloc(), &names, &mut store)?, (1, 0));
     Ok(())
 }

@@ -51,14 +51,6 @@ fn equal_ids_count_once_in_a_set(rt: HostRuntime) -> Result<(), Fail> {
 }
 
 #[test]
-fn an_id_shows_its_number(rt: HostRuntime) -> Result<(), Fail> {
-    let first = MonotonicId::initial();
-    let shown = format!(in rt.alloc(); "{first:?}")?;
-    assert_eq!(rt; shown.as_str(), "MonotonicId { id: 1 }");
-    Ok(())
-}
-
-#[test]
 fn a_candidate_has_its_id_and_value(rt: HostRuntime) -> Result<(), Fail> {
     let mut dirty = new_dirty_object(7, 40);
     assert!(rt; dirty.id.is(7) && dirty.value == 40);
