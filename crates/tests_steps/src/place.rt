@@ -46,7 +46,7 @@ pub(crate) struct Client {
 }
 
 /// Which client makes a call.
-#[derive(Clone, Copy, Debug, PartialEq, Eq)]
+#[derive(Clone, Copy, PartialEq)]
 pub(crate) enum Seat {
     A,
     B,
@@ -164,22 +164,6 @@ pub(crate) trait Play<C> {
         requires { 1 ≤ layout.now.page };
 }
 
-/// What a call says that is driven for so many steps at most.
-fn answered<C, K: Play<C>>(
-    alloc: Global,
-    layout: &Layout<C>,
-    place: &mut Place,
-    call: K,
-    steps: u64,
-) -> Told
-    requires { 1 ≤ layout.now.page }
-{
-    match call.play(alloc, layout, place, steps) {
-        Ok(told) => told,
-        Err(error) => Fails(error.number()),
-    }
-}
-
 /// What a call says, how many calls of the store it made, and whether it was done with fewer steps than it was given.
 type Played = (Told, u64, bool);
 
@@ -196,7 +180,10 @@ fn played<C, K: Play<C>>(
 {
     place.seat(seat);
     place.begin();
-    let told = answered(alloc, layout, place, call, steps);
+    let told = match call.play(alloc, layout, place, steps) {
+        Ok(told) => told,
+        Err(error) => Fails(error.number()),
+    };
     let calls = calls_of(&place.store).saturating_sub(place.before);
     (told, calls, place.early)
 }

@@ -6,14 +6,9 @@ use crate::operations::Call::{
     ReadUnchecked, Write, WriteUnchecked,
 };
 use crate::place::Seat::{A, B};
-use crate::place::{Row, Scenario, other, other_of};
+use crate::place::{Row, Scenario};
 use crate::told::Told::{Did, Fails, GoesOn, Is, Newest, Value, Wrote};
-use std::alloc::Global;
 use std::ops::Bound::{Excluded, Included, Unbounded};
-use std::test::Fail;
-use txn_store::path::PathFault;
-use txn_types::layout::PAGE;
-use txn_types::test_utils::NumberCodec;
 
 const BOUNDARY: &str = "root/gc/test.boundary";
 
@@ -27,7 +22,7 @@ const REFUSED: &[u8] = b"7 bytes";
 /// Eight bytes, which it reads.
 const NOTES: &[u8] = b"8 bytes!";
 
-const SCENARIOS: &[Scenario<Call>] = &[
+pub(crate) const SCENARIOS: &[Scenario<Call>] = &[
     (
         "one client alone knows what it wrote, as far as it holds that",
         &[
@@ -331,14 +326,8 @@ const SCENARIOS: &[Scenario<Call>] = &[
     ),
 ];
 
-#[test]
-fn each_call_takes_its_steps(rt: HostRuntime) -> Result<(), Fail> {
-    assert_eq!(rt; other_of(rt.alloc(), NumberCodec, SCENARIOS)?, None);
-    Ok(())
-}
-
-/// Five versions that one client wrote.
-const FIVE: &[Row<Call>] = &[
+/// Five versions that one client wrote, listed in pages of two files. Each page is asked for once.
+pub(crate) const FIVE: &[Row<Call>] = &[
     (A, Lists(Unbounded, Unbounded, &[]), Is(true), 1, 0),
     (A, WriteUnchecked(0, 10), Wrote(1), 1, 1),
     (A, WriteUnchecked(1, 20), Wrote(2), 1, 1),
@@ -380,14 +369,8 @@ const FIVE: &[Row<Call>] = &[
     (A, Lists(Included(5), Included(5), &[5]), Is(true), 4, 0),
 ];
 
-#[test]
-fn a_listing_asks_for_each_page_once(rt: HostRuntime) -> Result<(), Fail> {
-    assert_eq!(rt; other(rt.alloc(), 2, NumberCodec, 0, FIVE)?, None);
-    Ok(())
-}
-
 /// Calls of the store that fail, counted from 1, and what is said then.
-const FAILING: &[(u64, &[Row<Call>])] = &[
+pub(crate) const FAILING: &[(u64, &[Row<Call>])] = &[
     (
         1,
         &[
@@ -450,19 +433,3 @@ const FAILING: &[(u64, &[Row<Call>])] = &[
         &[(A, Advance(3), Did, 2, 4), (A, Delete(3), Fails(2), 1, 2)],
     ),
 ];
-
-/// The first of these that goes otherwise, counted from 0, and the row that does, where there is one.
-fn other_failing(alloc: Global) -> Result<Option<(usize, usize)>, PathFault> {
-    for (at, (nth, rows)) in FAILING.iter().enumerate() {
-        if let Some((row, _)) = other(alloc, PAGE, NumberCodec, *nth, rows)? {
-            return Ok(Some((at, row)));
-        }
-    }
-    Ok(None)
-}
-
-#[test]
-fn a_failing_store_ends_a_call(rt: HostRuntime) -> Result<(), Fail> {
-    assert_eq!(rt; other_failing(rt.alloc())?, None);
-    Ok(())
-}

@@ -1,5 +1,6 @@
 //! Calls on views that run alone, as values.
 ghost use Rattle.std.specs.Prelude.{◌≤◌, IfOk};
+ghost use Rattle.txn_view_drivers.specs.CallRuns.{CanEnter};
 ghost use Rattle.txn_view_drivers.specs.ClaimSteps.{CanClaim};
 
 use crate::place::{Place, Play, View, driven};
@@ -65,9 +66,8 @@ fn overtake(alloc: Global, layout: &Layout<RecordCodec>, place: &mut Place, besi
     if let Some((id, epoch, payload)) = beside {
         place.turn();
         let value = Record { epoch, payload };
-        if let Ok(op) = EntryOp::start(alloc, layout, Some(MonotonicId::new(id)), &value) {
-            let _ = said(driven(alloc, layout, place, ViewCall { op }, 5));
-        }
+        let op = EntryOp::start(alloc, layout, Some(MonotonicId::new(id)), &value);
+        let _ = written(alloc, layout, place, op, 5);
         place.turn();
         place.begin();
     }
@@ -88,16 +88,17 @@ fn view_read(
     Ok(said(driven(alloc, layout, place, WithEpochs { op, epochs }, steps)))
 }
 
-/// A step that writes a record on the version of this id, or the first one.
+/// A step that writes a record, once the write is started.
 fn written(
     alloc: Global,
     layout: &Layout<RecordCodec>,
     place: &mut Place,
-    on: Option<MonotonicId>,
-    value: Record,
+    op: Result<EntryOp<Record>, Error>,
     steps: u64,
-) -> Result<Told, Error> {
-    let op = EntryOp::start(alloc, layout, on, &value)?;
+) -> Result<Told, Error>
+    requires { IfOk op (λ op. CanEnter op) }
+{
+    let op = op?;
     Ok(said(driven(alloc, layout, place, ViewCall { op }, steps)))
 }
 
@@ -119,20 +120,6 @@ fn claimed(
     Ok(said(driven(alloc, layout, place, WithEpochs { op, epochs }, steps)))
 }
 
-/// A step that writes a record on a holder's view.
-fn written_by_holder(
-    alloc: Global,
-    layout: &Layout<RecordCodec>,
-    place: &mut Place,
-    view: View,
-    next: Record,
-    steps: u64,
-) -> Result<Told, Error> {
-    let View { id, value, held } = view;
-    let op = EntryOp::start_for_holder(alloc, layout, &RecordEpoch, held, id, &value, &next)?;
-    Ok(said(driven(alloc, layout, place, ViewCall { op }, steps)))
-}
-
 /// A step that uses a view.
 fn on_view(
     alloc: Global,
@@ -146,14 +133,9 @@ fn on_view(
 {
     match step {
         Step::Update(epoch, payload) => {
-            written(
-                alloc,
-                layout,
-                place,
-                Some(view.id),
-                Record { epoch, payload },
-                steps,
-            )
+            let next = Record { epoch, payload };
+            let op = EntryOp::start(alloc, layout, Some(view.id), &next);
+            written(alloc, layout, place, op, steps)
         }
         Step::Claim(beside) => {
             let op = ClaimOp::start(alloc, layout, &RecordEpoch, None, view.id, &view.value);
@@ -180,7 +162,18 @@ fn on_view(
             )
         }
         Step::HolderUpdate(epoch, payload) => {
-            written_by_holder(alloc, layout, place, view, Record { epoch, payload }, steps)
+            let View { id, value, held } = view;
+            let next = Record { epoch, payload };
+            let op = EntryOp::start_for_holder(
+                alloc,
+                layout,
+                &RecordEpoch,
+                held,
+                id,
+                &value,
+                &next,
+            );
+            written(alloc, layout, place, op, steps)
         }
         _ => Ok(GoesOn),
     }
@@ -200,7 +193,8 @@ fn stepped(
         Step::Has(id, epoch, payload) => Ok(Viewed(id, epoch, payload)),
         Step::Boundary(bytes) => Ok(Is(place.put(&layout.boundary, bytes))),
         Step::Init(epoch, payload) => {
-            written(alloc, layout, place, None, Record { epoch, payload }, steps)
+            let op = EntryOp::start(alloc, layout, None, &Record { epoch, payload });
+            written(alloc, layout, place, op, steps)
         }
         Step::Load => view_read(alloc, layout, place, Purpose::Load, steps),
         Step::Refresh => view_read(alloc, layout, place, Purpose::Refresh, steps),

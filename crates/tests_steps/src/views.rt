@@ -7,24 +7,16 @@ use crate::view_calls::Step::{Boundary, Has, Init, Load, Refresh, Update};
 
 pub(crate) const SCENARIOS: &[Scenario<Step>] = &[
     (
-        "a view follows what another client writes",
-        &[
-            (A, Init(0, 1), Viewed(1, 0, 1), 2, 3),
-            (B, Load, Viewed(1, 0, 1), 3, 5),
-            (B, Update(0, 2), Viewed(2, 0, 2), 2, 3),
-            (A, Refresh, Viewed(2, 0, 2), 3, 4),
-            (A, Update(0, 3), Viewed(3, 0, 3), 2, 3),
-        ],
-    ),
-    (
-        "an overtaken update leaves its view",
+        "an overtaken update leaves its view, which a refresh moves to what another client wrote",
         &[
             (A, Init(0, 1), Viewed(1, 0, 1), 2, 3),
             (B, Load, Viewed(1, 0, 1), 3, 5),
             (B, Update(0, 2), Viewed(2, 0, 2), 2, 3),
             (A, Update(0, 3), Fails(5), 1, 0),
             (A, Update(0, 4), Fails(5), 1, 0),
-            (B, Update(0, 5), Viewed(3, 0, 5), 2, 3),
+            (A, Refresh, Viewed(2, 0, 2), 3, 4),
+            (A, Update(0, 5), Viewed(3, 0, 5), 2, 3),
+            (B, Update(0, 6), Fails(5), 1, 0),
         ],
     ),
     (
