@@ -1,5 +1,5 @@
-//! The checked calls, over types that do as they are told.
-use crate::scripted::ScriptedReadLatestStore;
+//! The checked calls, over a type that does as it is told.
+use crate::scripted::TestBoundary;
 use slatedb_txn_obj::protocol::TransactionalStorageProtocol;
 use std::alloc::Global;
 use std::test::Fail;
@@ -13,7 +13,7 @@ const READS: &[(u64, u64)] = &[(1, 1), (3, 3)];
 /// makes, and how many turns it leaves.
 fn read_with(alloc: Global, turns: u64) -> (Result<Option<(u64, u64)>, u8>, usize, u64, u64) {
     let mut store = InMemory::new(alloc);
-    let mut protocol = ScriptedReadLatestStore::new(alloc, READS, 2);
+    let mut protocol = TestBoundary::new(alloc, 2, READS);
     let mut turns = Turns::new(turns);
     let found = match protocol.try_read_latest(&mut store, &mut turns) {
         Ok(Some((id, value))) => Ok(Some((id.id(), value))),
@@ -26,11 +26,7 @@ fn read_with(alloc: Global, turns: u64) -> (Result<Option<(u64, u64)>, u8>, usiz
 #[test]
 fn test_sequenced_storage_retries_read_latest_behind_boundary(rt: HostRuntime) -> Result<(), Fail> {
     assert_eq!(rt; read_with(rt.alloc(), 20), (Ok(Some((3, 3))), 2, 2, 18));
-    Ok(())
-}
-
-#[test]
-fn one_turn_is_one_pass(rt: HostRuntime) -> Result<(), Fail> {
+    // One turn is one pass.
     assert_eq!(rt; read_with(rt.alloc(), 1), (Err(11), 1, 1, 0));
     Ok(())
 }

@@ -1,9 +1,6 @@
 //! How often an update tests its invariants.
+use crate::uses::a_protocol;
 use anyhow::anyhow;
-use slatedb_txn_obj::object_store::{
-    ObjectStoreBoundaryObject, ObjectStoreSequencedStorageProtocol,
-};
-use slatedb_txn_obj::test_utils::NumberCodec;
 use slatedb_txn_obj::{
     CallbackFault, Invariant, MonotonicId, SimpleTransactionalObject, TransactionalObject,
     TransactionalObjectError, TransactionalStorageProtocol,
@@ -12,7 +9,6 @@ use std::alloc::{AllocError, Global};
 use std::cell::Cell;
 use std::test::Fail;
 use txn_store::in_memory::InMemory;
-use txn_store::path::Path;
 use txn_store::store::ObjectStore;
 
 /// A ceiling of numbers that counts how often it is tested.
@@ -71,22 +67,12 @@ fn updated_under<
     view.update(protocol, store, dirty)
 }
 
-fn a_protocol(
-    alloc: Global,
-) -> Result<
-    ObjectStoreSequencedStorageProtocol<u64, NumberCodec, ObjectStoreBoundaryObject>,
-    Fail,
-> {
-    let root = Path::from_text(alloc, "root")?;
-    Ok(ObjectStoreSequencedStorageProtocol::new(alloc, &root, "test", "val", NumberCodec)?)
-}
-
 /// The number of the error of an update under these ceilings, two at most, or 0, and how often the first and the second were
 /// tested.
 fn tested(alloc: Global, ceilings: &[u64], number: u64) -> Result<(u8, u64, u64), Fail> {
     let (first, second) = (Cell::new(0), Cell::new(0));
     let counted = counted(alloc, ceilings, [&first, &second])?;
-    let mut protocol = a_protocol(alloc)?;
+    let mut protocol = a_protocol(alloc, "test")?;
     let mut store = InMemory::new(alloc);
     let updated = updated_under(alloc, &mut protocol, &mut store, counted, number);
     let error = match &updated {
@@ -96,16 +82,27 @@ fn tested(alloc: Global, ceilings: &[u64], number: u64) -> Result<(u8, u64, u64)
     Ok((error, first.get(), second.get()))
 }
 
-#[test]
-fn test_update_runs_invariants_and_allows_passing_write(rt: HostRuntime) -> Result<(), Fail> {
-    assert_eq!(rt; tested(rt.alloc(), &[100], 42)?, (0, 1, 0));
-    Ok(())
-}
+/// Updates, by what they show: their ceilings and number, and what they tell.
+const UPDATES: &[(&str, &[u64], u64, (u8, u64, u64))] = &[
+    (
+        "test_update_runs_invariants_and_allows_passing_write",
+        &[100],
+        42,
+        (0, 1, 0),
+    ),
+    (
+        "test_update_invariant_failure_aborts_write_and_short_circuits",
+        &[5, 1000],
+        10,
+        (8, 1, 0),
+    ),
+];
 
 #[test]
-fn test_update_invariant_failure_aborts_write_and_short_circuits(
-    rt: HostRuntime,
-) -> Result<(), Fail> {
-    assert_eq!(rt; tested(rt.alloc(), &[5, 1000], 10)?, (8, 1, 0));
+fn updates_test_their_invariants(rt: HostRuntime) -> Result<(), Fail> {
+    for (name, ceilings, number, told) in UPDATES {
+        let tested = tested(rt.alloc(), ceilings, *number)?;
+        assert_eq!(rt; (*name, tested), (*name, *told));
+    }
     Ok(())
 }

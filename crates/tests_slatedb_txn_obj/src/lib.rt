@@ -22,6 +22,8 @@ mod stores;
 #[cfg(test)]
 mod swept;
 #[cfg(test)]
+mod told;
+#[cfg(test)]
 mod uses;
 #[cfg(test)]
 mod workloads;

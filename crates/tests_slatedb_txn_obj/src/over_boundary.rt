@@ -1,5 +1,7 @@
 //! The protocol over a boundary in memory that counts its checks.
 use crate::scripted::TestBoundary;
+use crate::told::{Told, did};
+use crate::uses::wrote;
 use slatedb_txn_obj::boundary::BoundaryObject;
 use slatedb_txn_obj::object_store::protocol::ObjectStoreSequencedStorageProtocol;
 use slatedb_txn_obj::protocol::TransactionalStorageProtocol;
@@ -25,15 +27,6 @@ enum Call {
     Delete(u64),
 }
 
-/// What a call tells, an error by its number.
-#[derive(Clone, Copy, Debug, PartialEq, Eq)]
-enum Told {
-    Wrote(u64),
-    Value(Option<u64>),
-    Did,
-    Fails(u8),
-}
-
 /// A call, what it tells, and how many checks of the boundary it makes.
 type Row = (Call, Told, u64);
 
@@ -46,22 +39,8 @@ fn a_protocol(alloc: Global, boundary: u64) -> Result<Protocol, Fail> {
         "test",
         "val",
         NumberCodec,
-        TestBoundary::new(boundary),
+        TestBoundary::new(alloc, boundary, &[]),
     )?)
-}
-
-fn did(answer: Result<(), TransactionalObjectError>) -> Told {
-    match answer {
-        Ok(()) => Told::Did,
-        Err(error) => Told::Fails(error.number()),
-    }
-}
-
-fn wrote(answer: Result<MonotonicId, TransactionalObjectError>) -> Told {
-    match answer {
-        Ok(id) => Told::Wrote(id.id()),
-        Err(error) => Told::Fails(error.number()),
-    }
 }
 
 fn found(answer: Result<Option<u64>, TransactionalObjectError>) -> Told {
@@ -73,12 +52,12 @@ fn found(answer: Result<Option<u64>, TransactionalObjectError>) -> Told {
 
 fn play(protocol: &mut Protocol, store: &mut InMemory, call: Call) -> Told {
     match call {
-        Call::Write(value) => wrote(protocol.write(store, None, &value)),
+        Call::Write(value) => wrote(&protocol.write(store, None, &value)),
         Call::Read(id) => found(protocol.try_read_unchecked(store, MonotonicId::new(id))),
         Call::Advance(id) => {
-            did(protocol.advance(store, MonotonicId::new(id), &mut Turns::new(1)))
+            did(&protocol.advance(store, MonotonicId::new(id), &mut Turns::new(1)))
         }
-        Call::Delete(id) => did(protocol.delete(store, MonotonicId::new(id))),
+        Call::Delete(id) => did(&protocol.delete(store, MonotonicId::new(id))),
     }
 }
 
@@ -105,60 +84,58 @@ fn other(alloc: Global, boundary: u64, rows: &[Row]) -> Result<Option<(usize, To
     Ok(first_other(&mut protocol, &mut InMemory::new(alloc), rows))
 }
 
-#[test]
-fn test_sequenced_storage_checks_boundary_after_successful_write(
-    rt: HostRuntime,
-) -> Result<(), Fail> {
-    let rows = &[
-        (Call::Write(1), Told::Wrote(1), 1),
-        (Call::Read(1), Told::Value(Some(1)), 0),
-    ];
-    assert_eq!(rt; other(rt.alloc(), 0, rows)?, None);
-    Ok(())
-}
+/// Rows over an empty store, by what they show, with its boundary.
+const SCENARIOS: &[(&str, u64, &[Row])] = &[
+    (
+        "test_sequenced_storage_checks_boundary_after_successful_write",
+        0,
+        &[
+            (Call::Write(1), Told::Wrote(1), 1),
+            (Call::Read(1), Told::Value(Some(1)), 0),
+        ],
+    ),
+    (
+        "test_sequenced_storage_rejects_write_behind_boundary",
+        1,
+        &[
+            (Call::Write(1), Told::Fails(5), 1),
+            (Call::Read(1), Told::Value(Some(1)), 0),
+        ],
+    ),
+    (
+        "test_sequenced_storage_allows_delete_at_or_below_boundary",
+        0,
+        &[
+            (Call::Write(1), Told::Wrote(1), 1),
+            (Call::Advance(1), Told::Did, 0),
+            (Call::Delete(1), Told::Did, 1),
+            (Call::Read(1), Told::Value(None), 0),
+        ],
+    ),
+    (
+        "test_sequenced_storage_rejects_delete_above_boundary",
+        0,
+        &[
+            (Call::Write(1), Told::Wrote(1), 1),
+            (Call::Delete(1), Told::Fails(7), 1),
+            (Call::Read(1), Told::Value(Some(1)), 0),
+        ],
+    ),
+    (
+        "test_sequenced_storage_does_not_check_boundary_on_write_conflict",
+        0,
+        &[
+            (Call::Write(1), Told::Wrote(1), 1),
+            (Call::Advance(1), Told::Did, 0),
+            (Call::Write(2), Told::Fails(5), 0),
+        ],
+    ),
+];
 
 #[test]
-fn test_sequenced_storage_rejects_write_behind_boundary(rt: HostRuntime) -> Result<(), Fail> {
-    let rows = &[
-        (Call::Write(1), Told::Fails(5), 1),
-        (Call::Read(1), Told::Value(Some(1)), 0),
-    ];
-    assert_eq!(rt; other(rt.alloc(), 1, rows)?, None);
-    Ok(())
-}
-
-#[test]
-fn test_sequenced_storage_allows_delete_at_or_below_boundary(rt: HostRuntime) -> Result<(), Fail> {
-    let rows = &[
-        (Call::Write(1), Told::Wrote(1), 1),
-        (Call::Advance(1), Told::Did, 0),
-        (Call::Delete(1), Told::Did, 1),
-        (Call::Read(1), Told::Value(None), 0),
-    ];
-    assert_eq!(rt; other(rt.alloc(), 0, rows)?, None);
-    Ok(())
-}
-
-#[test]
-fn test_sequenced_storage_rejects_delete_above_boundary(rt: HostRuntime) -> Result<(), Fail> {
-    let rows = &[
-        (Call::Write(1), Told::Wrote(1), 1),
-        (Call::Delete(1), Told::Fails(7), 1),
-        (Call::Read(1), Told::Value(Some(1)), 0),
-    ];
-    assert_eq!(rt; other(rt.alloc(), 0, rows)?, None);
-    Ok(())
-}
-
-#[test]
-fn test_sequenced_storage_does_not_check_boundary_on_write_conflict(
-    rt: HostRuntime,
-) -> Result<(), Fail> {
-    let rows = &[
-        (Call::Write(1), Told::Wrote(1), 1),
-        (Call::Advance(1), Told::Did, 0),
-        (Call::Write(2), Told::Fails(5), 0),
-    ];
-    assert_eq!(rt; other(rt.alloc(), 0, rows)?, None);
+fn calls_check_the_boundary(rt: HostRuntime) -> Result<(), Fail> {
+    for (name, boundary, rows) in SCENARIOS {
+        assert_eq!(rt; (*name, other(rt.alloc(), *boundary, rows)?), (*name, None));
+    }
     Ok(())
 }

@@ -1,4 +1,5 @@
 //! A view over a register, with ids of its own and no invariant.
+use crate::told::{Told, did};
 use slatedb_txn_obj::{
     NoInvariant, SimpleTransactionalObject, TransactionalObject, TransactionalObjectError,
     TransactionalStorageProtocol, Turns,
@@ -31,14 +32,6 @@ enum Step {
     Shows,
 }
 
-/// What a step tells, an error as its number.
-#[derive(Clone, Copy, Debug, PartialEq, Eq)]
-enum Told {
-    Did,
-    At(u64, u64),
-    Fails(u8),
-}
-
 /// A desk whose view wrote this value. It has no turn.
 fn a_desk(alloc: Global, value: u64) -> Result<Desk, TransactionalObjectError> {
     let mut store = InMemory::new(alloc);
@@ -52,15 +45,8 @@ fn a_desk(alloc: Global, value: u64) -> Result<Desk, TransactionalObjectError> {
     })
 }
 
-fn did(answer: Result<(), TransactionalObjectError>) -> Told {
-    match answer {
-        Ok(()) => Told::Did,
-        Err(error) => Told::Fails(error.number()),
-    }
-}
-
 fn shows(view: &View) -> Told {
-    Told::At(view.id().0, *view.object())
+    Told::Found(view.id().0, *view.object())
 }
 
 fn update(desk: &mut Desk, revision: u64) -> Told {
@@ -73,7 +59,7 @@ fn update(desk: &mut Desk, revision: u64) -> Told {
     match view.prepare_dirty() {
         Ok(mut dirty) => {
             dirty.id = Revision(revision);
-            did(view.update(register, store, dirty))
+            did(&view.update(register, store, dirty))
         }
         Err(error) => Told::Fails(error.number()),
     }
@@ -86,7 +72,7 @@ fn write(desk: &mut Desk, base: u64, value: u64) -> Told {
         ..
     } = desk;
     match register.write(store, Some(Revision(base)), &value) {
-        Ok(revision) => Told::At(revision.0, value),
+        Ok(revision) => Told::Found(revision.0, value),
         Err(error) => Told::Fails(error.number()),
     }
 }
@@ -101,7 +87,7 @@ fn refresh(desk: &mut Desk) -> Told {
     match view.refresh(register, store, turns) {
         Ok(value) => {
             let value = *value;
-            Told::At(view.id().0, value)
+            Told::Found(view.id().0, value)
         }
         Err(error) => Told::Fails(error.number()),
     }
@@ -130,12 +116,12 @@ fn other(desk: &mut Desk, steps: &[(Step, Told)]) -> Option<(usize, Told)> {
 #[test]
 fn a_view_of_a_register_has_its_ids(rt: HostRuntime) -> Result<(), Fail> {
     const STEPS: &[(Step, Told)] = &[
-        (Step::Shows, Told::At(1, 10)),
+        (Step::Shows, Told::Found(1, 10)),
         (Step::UpdateOf(1), Told::Did),
-        (Step::Shows, Told::At(2, 10)),
+        (Step::Shows, Told::Found(2, 10)),
         (Step::UpdateOf(1), Told::Fails(5)),
-        (Step::Write(2, 30), Told::At(3, 30)),
-        (Step::Refresh, Told::At(3, 30)),
+        (Step::Write(2, 30), Told::Found(3, 30)),
+        (Step::Refresh, Told::Found(3, 30)),
     ];
     let mut desk = a_desk(rt.alloc(), 10)?;
     assert_eq!(rt; other(&mut desk, STEPS), None);

@@ -1,6 +1,5 @@
-//! Types that do as they are told, and count their calls. They keep the traits, and stand for nothing.
-ghost use Rattle.std.specs.Prelude.{◌≡◌, IfErr};
-ghost use Rattle.txn_types.specs.declared.error.TransactionalObjectError.TheVariants.{ObjectVersionExists};
+//! A type that does as it is told, and counts its calls. It keeps the traits, and stands for nothing.
+ghost use Rattle.std.specs.Prelude.{◌≡◌};
 
 use slatedb_txn_obj::boundary::BoundaryObject;
 use slatedb_txn_obj::sequenced::SequencedStorageProtocol;
@@ -12,22 +11,32 @@ use txn_types::error::TransactionalObjectError;
 use txn_types::id::MonotonicId;
 use txn_types::identified::IdentifiedObjectMetadata;
 
-/// A boundary in memory, which counts its checks.
+/// A boundary in memory, which counts its checks, and reads of the newest version that are told beforehand, none for a mere
+/// boundary. Once they are through it reads nothing. A write is a conflict, but on the greatest id, and every other call
+/// finds nothing.
 #[derive(Drop)]
 pub struct TestBoundary {
+    alloc: Global,
     boundary: u64,
     checks: u64,
+    reads: &'static [(u64, u64)],
+    calls: usize,
 }
 
 impl TestBoundary {
-    /// This boundary, and no check yet.
-    pub fn new(boundary: u64) -> TestBoundary
+    /// This boundary, and these reads, each an id and a value.
+    pub fn new(alloc: Global, boundary: u64, reads: &'static [(u64, u64)]) -> TestBoundary
         ensures kept { result.boundary ≡ boundary }
         ensures unused { result.checks ≡ 0 }
+        ensures script { result.reads ≡ reads.entry }
+        ensures first { result.calls ≡ 0 }
     {
         TestBoundary {
+            alloc,
             boundary,
             checks: 0,
+            reads,
+            calls: 0,
         }
     }
 
@@ -38,18 +47,11 @@ impl TestBoundary {
         self.checks
     }
 
-    fn decide(&mut self, id: MonotonicId) -> Result<(), TransactionalObjectError>
-        ensures { IfErr result (λ error. error ≡ ObjectVersionExists) }
+    /// How often the newest version was read.
+    pub fn calls(&self) -> usize
+        ensures { result ≡ self.now.calls }
     {
-        self.checks = self.checks.saturating_add(1);
-        if id.id() <= self.boundary {
-            return Err(TransactionalObjectError::ObjectVersionExists);
-        }
-        Ok(())
-    }
-
-    fn raise(&mut self, id: MonotonicId) {
-        self.boundary = self.boundary.max(id.id());
+        self.calls
     }
 }
 
@@ -88,101 +90,12 @@ impl<S: ObjectStore> BoundaryObject<S> for TestBoundary {
     ghost bounds_frame = { λ _ _ _ _ _ h. h };
 
     fn check(&mut self, _store: &mut S, id: MonotonicId) -> Result<(), TransactionalObjectError> {
-        self.decide(id)
-    }
-
-    fn advance(
-        &mut self,
-        _store: &mut S,
-        id: MonotonicId,
-        _turns: &mut Turns,
-    ) -> Result<(), TransactionalObjectError> {
-        self.raise(id);
-        Ok(())
-    }
-}
-
-/// Reads of the newest version that are told beforehand, over a boundary in memory. Once they are through it reads
-/// nothing. A write is a conflict, but on the greatest id, and every other call finds nothing.
-#[derive(Drop)]
-pub struct ScriptedReadLatestStore {
-    alloc: Global,
-    reads: &'static [(u64, u64)],
-    calls: usize,
-    boundary: TestBoundary,
-}
-
-impl ScriptedReadLatestStore {
-    /// These reads, each an id and a value, and this boundary.
-    pub fn new(
-        alloc: Global,
-        reads: &'static [(u64, u64)],
-        boundary: u64,
-    ) -> ScriptedReadLatestStore
-        ensures script { result.reads ≡ reads.entry }
-        ensures first { result.calls ≡ 0 }
-        ensures kept { result.boundary.boundary ≡ boundary }
-        ensures unused { result.boundary.checks ≡ 0 }
-    {
-        ScriptedReadLatestStore {
-            alloc,
-            reads,
-            calls: 0,
-            boundary: TestBoundary::new(boundary),
+        let checks = &mut self.checks;
+        *checks = checks.saturating_add(1);
+        if id.id() <= self.boundary {
+            return Err(TransactionalObjectError::ObjectVersionExists);
         }
-    }
-
-    /// How often the newest version was read.
-    pub fn calls(&self) -> usize
-        ensures { result ≡ self.now.calls }
-    {
-        self.calls
-    }
-
-    /// How many checks its boundary made.
-    pub fn checks(&self) -> u64
-        ensures { result ≡ self.now.boundary.checks }
-    {
-        self.boundary.checks()
-    }
-}
-
-impl<S: ObjectStore> BoundaryObject<S> for ScriptedReadLatestStore {
-    ghost use Rattle.std.specs.Prelude.{refl, [], ◌≡◌, Contains};
-    ghost use Rattle.std.proofs.Common.{ap, subst, sym};
-    ghost use Rattle.std.proofs.Math.Nat.{le-add_right};
-    ghost use Rattle.std.specs.FinMap.{get};
-
-    ghost bounds = { λ _ _ _. ⊥ };
-
-    ghost file = { λ _. [] };
-
-    ghost checks_to = { λ p s _ _ q t. S.state t ≡ S.state s };
-
-    ghost check_calls = { 0 };
-
-    ghost check_calls_few = { le-add_right 0 1 };
-
-    ghost advances_to = { λ p s _ _ q t. S.state t ≡ S.state s };
-
-    ghost check_file = { λ _ _ _ _ _ _ _. refl };
-
-    ghost check_frame = { λ _ _ _ _ _ _ same. ap (λ s. s.files) same };
-
-    ghost check_given = { λ _ _ s t _ token _ same given. subst (λ state. Contains state.given token) (sym same) given };
-
-    ghost check_keeps = { λ _ _ _ _ _ _ _ _ h. h };
-
-    ghost advance_file = { λ _ _ _ _ _ _ _. refl };
-
-    ghost advance_frame = { λ _ _ _ _ _ _ same other _. ap (λ s. get s.files other) same };
-
-    ghost advance_given = { λ _ _ s t _ token _ same given. subst (λ state. Contains state.given token) (sym same) given };
-
-    ghost bounds_frame = { λ _ _ _ _ _ h. h };
-
-    fn check(&mut self, _store: &mut S, id: MonotonicId) -> Result<(), TransactionalObjectError> {
-        self.boundary.decide(id)
+        Ok(())
     }
 
     fn advance(
@@ -191,12 +104,12 @@ impl<S: ObjectStore> BoundaryObject<S> for ScriptedReadLatestStore {
         id: MonotonicId,
         _turns: &mut Turns,
     ) -> Result<(), TransactionalObjectError> {
-        self.boundary.raise(id);
+        self.boundary = self.boundary.max(id.id());
         Ok(())
     }
 }
 
-impl<S: ObjectStore> SequencedStorageProtocol<u64, S> for ScriptedReadLatestStore {
+impl<S: ObjectStore> SequencedStorageProtocol<u64, S> for TestBoundary {
     ghost use Rattle.std.proofs.Common.{refl, [], ◌≡◌};
     ghost use Rattle.std.proofs.Math.Nat.{le_refl, le-add_right};
 

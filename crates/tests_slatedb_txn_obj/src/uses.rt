@@ -1,4 +1,5 @@
 //! Uses of the protocols from outside.
+use crate::told::{Told, did};
 use slatedb_txn_obj::object_store::boundary::ObjectStoreBoundaryObject;
 use slatedb_txn_obj::object_store::protocol::ObjectStoreSequencedStorageProtocol;
 use slatedb_txn_obj::protocol::TransactionalStorageProtocol;
@@ -20,10 +21,14 @@ use txn_types::error::TransactionalObjectError;
 use txn_types::id::MonotonicId;
 
 /// A protocol over a store of files, of values that are numbers.
-type Protocol = ObjectStoreSequencedStorageProtocol<u64, NumberCodec, ObjectStoreBoundaryObject>;
+pub(crate) type Protocol = ObjectStoreSequencedStorageProtocol<
+    u64,
+    NumberCodec,
+    ObjectStoreBoundaryObject,
+>;
 
 /// The protocol of a folder, with one file a page.
-fn a_protocol(alloc: Global, subdir: &str) -> Result<Protocol, Fail> {
+pub(crate) fn a_protocol(alloc: Global, subdir: &str) -> Result<Protocol, Fail> {
     let root = Path::from_text(alloc, "root")?;
     let protocol = ObjectStoreSequencedStorageProtocol::new(
         alloc,
@@ -130,24 +135,8 @@ fn two_folders_of_a_store_leave_each_other_alone(rt: HostRuntime) -> Result<(), 
     Ok(())
 }
 
-/// What a reply says, an error as its number.
-#[derive(Clone, Copy, Debug, PartialEq, Eq)]
-enum Told {
-    Did,
-    Wrote(u64),
-    Found(u64, u64),
-    Nothing,
-    Fails(u8),
-}
-
-fn did(answer: &Result<(), TransactionalObjectError>) -> Told {
-    match answer {
-        Ok(()) => Told::Did,
-        Err(error) => Told::Fails(error.number()),
-    }
-}
-
-fn wrote(answer: &Result<MonotonicId, TransactionalObjectError>) -> Told {
+/// What a write tells.
+pub(crate) fn wrote(answer: &Result<MonotonicId, TransactionalObjectError>) -> Told {
     match answer {
         Ok(id) => Told::Wrote(id.id()),
         Err(error) => Told::Fails(error.number()),
@@ -162,6 +151,7 @@ fn found(answer: &Result<Option<(MonotonicId, u64)>, TransactionalObjectError>) 
     }
 }
 
+/// What a reply tells.
 fn told_by(reply: &Reply<u64>) -> Told {
     match reply {
         Reply::Wrote(answer) => wrote(answer),
