@@ -1,7 +1,8 @@
 //! Growths that are refused: whatever a client, or the store's log, could not make room for, an audit agrees.
 ghost use Rattle.std.specs.Prelude.{◌≤◌};
 
-use crate::verdicts::{ONE, Records, client, verdict};
+use crate::verdicts::{Records, client, verdict};
+use crate::workers::ONE;
 use std::alloc::{AllocError, AllocGlobal, Global};
 use std::sync::{Mutex, Wait};
 use std::test::Fail;

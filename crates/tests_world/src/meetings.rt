@@ -154,14 +154,6 @@ fn told_in_turn(rt: &(impl Wait + AllocGlobal)) -> Result<[Option<End>; 2], Allo
     ends_in_turn(rt, &Mutex::new(kept), shares)
 }
 
-#[test]
-fn workers_are_at_work_at_the_same_time(rt: HostRuntime) -> Result<(), Fail> {
-    assert_eq!(rt; told_on_threads(&rt)?, (2, 2, true));
-    // In turn they do not meet.
-    assert_eq!(rt; told_in_turn(&rt)?, [Some(End::GateSpent), Some(End::Done)]);
-    Ok(())
-}
-
 type Diaries = Vec<Diary<Record, RecordCodec, RecordEpoch>>;
 
 type Client<'a> = DiaryWorker<Record, RecordCodec, RecordEpoch, Meeting<'a>>;
@@ -240,12 +232,12 @@ fn clients_in_turn(rt: &(impl Wait + AllocGlobal)) -> Result<[Option<End>; 2], A
 }
 
 #[test]
-fn clients_are_at_work_at_the_same_time(rt: HostRuntime) -> Result<(), Fail> {
+fn workers_and_clients_are_at_work_at_the_same_time(rt: HostRuntime) -> Result<(), Fail> {
+    assert_eq!(rt; told_on_threads(&rt)?, (2, 2, true));
     assert_eq!(rt; clients_on_threads(&rt)?, (2, 2, true));
     // In turn they do not meet.
-    assert_eq!(rt;
-        clients_in_turn(&rt)?,
-        [Some(End::GateSpent), Some(End::Done)]
-    );
+    let ends = [Some(End::GateSpent), Some(End::Done)];
+    assert_eq!(rt; told_in_turn(&rt)?, ends);
+    assert_eq!(rt; clients_in_turn(&rt)?, ends);
     Ok(())
 }

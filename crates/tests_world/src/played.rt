@@ -236,6 +236,7 @@ fn answer(
 ) -> Result<(), AllocError> {
     match asked {
         "? end" => add_end(alloc, kept, text),
+        "? views" => add_views(alloc, kept, text),
         "? rows" => add_rows(alloc, kept, true, text),
         "? effects" => add_rows(alloc, kept, false, text),
         "? journal" => add_journal(alloc, kept, text),

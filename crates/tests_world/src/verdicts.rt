@@ -1,6 +1,7 @@
 //! What an audit finds of clients that wrote and read, and of others beside them or in their places.
 ghost use Rattle.std.specs.Prelude.{◌≡◌, ◌≤◌, IfOk, length, vec_len};
 
+use crate::workers::ONE;
 use std::alloc::{AllocError, AllocGlobal, Global};
 use std::sync::{Mutex, Wait};
 use std::test::Fail;
@@ -16,11 +17,6 @@ use txn_threads::jobs::Job;
 use txn_types::layout::PAGE;
 
 pub(crate) type Records = Diary<Record, RecordCodec, RecordEpoch>;
-
-pub(crate) const ONE: Record = Record {
-    epoch: 0,
-    payload: 1,
-};
 
 /// The number of the fault that an audit finds, 0 where it agrees.
 pub(crate) fn verdict(store: &LoggedStore, diaries: &[Records]) -> u8 {

@@ -87,15 +87,7 @@ fn worked(
 /// Puts a share among others, and says how its worker ended.
 fn end_of(shares: &mut Vec<Share>, worked: Option<Worked>) -> Option<End> {
     let Worked { share, end } = worked?;
-    put(shares, Some(share)).is_ok().then_some(end)
-}
-
-/// Puts a share among others.
-fn put(shares: &mut Vec<Share>, share: Option<Share>) -> Result<(), AllocError> {
-    match share {
-        Some(share) => Ok(shares.push(share)?),
-        None => Ok(()),
-    }
+    shares.push(share).is_ok().then_some(end)
 }
 
 /// How many rows a kept world has, and its entries.

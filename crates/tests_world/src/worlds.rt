@@ -13,7 +13,7 @@ use txn_machine::laws::{one_history, rows_go_on, views_go_on};
 use txn_machine::refusals::{claims_are_refused_by_their_base, failures_are_taken};
 use txn_world::world::World;
 
-/// Transcripts of events. The end lines of a script stand below `? end`.
+/// Transcripts of events. The end lines of a script stand below `? end`, those of views alone below `? views`.
 pub(crate) const TRANSCRIPTS: &[&str] = &[
     "\
 # a read finds what was written
@@ -224,24 +224,10 @@ crash 2 => Crashed(2)
 # An ended view keeps its number.
 ? busy
   3 clients, 2 views, busy [false, false, false, false]
-? end
-  entry 1 7:0
-  entry 2 8:0
-  entry 3 9:0
-  entry 4 12:0
-  entry 5 12:0
-  boundary 0
-  erased none
+? views
   holder 1 at 5 12:0 epoch 9
 crash 1 => Crashed(1)
-? end
-  entry 1 7:0
-  entry 2 8:0
-  entry 3 9:0
-  entry 4 12:0
-  entry 5 12:0
-  boundary 0
-  erased none
+? views
 ",
     "\
 # what is refused adds nothing
@@ -254,7 +240,7 @@ serve 2 => UnknownNumber
 ",
 ];
 
-/// The laws of worlds, which their types keep.
+/// The laws of worlds and rows, which their types keep.
 fn laws() {
     one_history::<Record, RecordCodec, RecordEpoch>(&RecordCodec, &RecordEpoch);
     views_go_on::<Record, RecordCodec, RecordEpoch>(&RecordCodec, &RecordEpoch);
@@ -267,10 +253,6 @@ fn laws() {
         &RecordCodec,
         &RecordEpoch,
     );
-}
-
-/// The laws of rows.
-fn laws_of_rows() {
     boundary_never_falls(&7u64);
     above_boundary_is_not_removed(&7u64);
     one_writer_per_id(&7u64);
@@ -291,6 +273,5 @@ fn run_of_two(alloc: Global) -> Result<u64, AllocError> {
 fn a_run_passes_over_what_is_refused(rt: HostRuntime) -> Result<(), Fail> {
     assert_eq!(rt; run_of_two(rt.alloc())?, 1);
     laws();
-    laws_of_rows();
     Ok(())
 }
