@@ -106,10 +106,6 @@ fn calls_of_the_system_are_counted(rt: HostRuntime) -> Result<(), Fail> {
     play_scene(&rt, &[("synced", MADE)])?;
     play_scene(&rt, &[("synced", GONE)])?;
     play_scene(&rt, &[("synced", TOLD_BOUNDARY)])?;
-    play_scene(&rt, &[("synced", TOLD_VERSIONS)])
-}
-
-#[test]
-fn readers_need_no_right_to_write(rt: HostRuntime) -> Result<(), Fail> {
+    play_scene(&rt, &[("synced", TOLD_VERSIONS)])?;
     play_scene(&rt, READERS)
 }

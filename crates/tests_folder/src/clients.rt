@@ -132,13 +132,6 @@ fn recorded(alloc: Global, table: &str) -> Result<String, AllocError> {
     recorded_by(alloc, &mut client, table)
 }
 
-#[test]
-fn calls_are_answered_and_recorded(rt: HostRuntime) -> Result<(), Fail> {
-    let expected = format!(in rt.alloc(); "{CALLS}{LETTERS} true")?;
-    assert_eq!(rt; recorded(rt.alloc(), CALLS)?.as_str(), expected.as_str());
-    Ok(())
-}
-
 const ONE: Record = Record {
     epoch: 0,
     payload: 1,
@@ -177,7 +170,10 @@ fn overtaken(alloc: Global) -> Result<String, AllocError> {
 }
 
 #[test]
-fn an_update_is_made_again_after_a_conflict(rt: HostRuntime) -> Result<(), Fail> {
+fn calls_are_answered_and_recorded(rt: HostRuntime) -> Result<(), Fail> {
+    let expected = format!(in rt.alloc(); "{CALLS}{LETTERS} true")?;
+    assert_eq!(rt; recorded(rt.alloc(), CALLS)?.as_str(), expected.as_str());
+    // An update is made again after a conflict.
     let expected = format!(in rt.alloc(); "{OVERTAKEN}written: view 1 at 3 0:8")?;
     assert_eq!(rt; overtaken(rt.alloc())?.as_str(), expected.as_str());
     Ok(())

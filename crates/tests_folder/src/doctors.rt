@@ -128,7 +128,8 @@ fn try_alone(
     Ok(tried?)
 }
 
-/// Examines a folder that serves, one in which linking fails, and one that is missing.
+/// Examines a folder that serves, one in which linking fails, one that is missing, and one that is not synced, where the file
+/// system says that it has no such syncs, and where it does not.
 fn try_folders(rt: &HostRuntime, wrong: &mut String) -> io::Result<()> {
     let kind = ErrorKind::Other;
     try_alone(rt, NONE, kind, SERVES, wrong)?;
@@ -136,26 +137,14 @@ fn try_folders(rt: &HostRuntime, wrong: &mut String) -> io::Result<()> {
     try_alone(rt, LINKS, kind, links, wrong)?;
     let keeps = "first fails: keeps a file and its time to the nanosecond, and 0 names are left";
     try_folder(rt, "no such folder", NONE, kind, keeps, wrong)?;
-    Ok(())
-}
-
-/// Examines a folder that is not synced, where the file system says that it has no such syncs, and where it does not.
-fn try_unsynced(rt: &HostRuntime, wrong: &mut String) -> io::Result<()> {
     try_alone(rt, OPENS_FOLDER, ErrorKind::Unsupported, UNSYNCED, wrong)?;
     let syncs = "first fails: syncs files and folders, and 0 names are left";
-    try_alone(rt, OPENS_FOLDER, ErrorKind::Other, syncs, wrong)
+    try_alone(rt, OPENS_FOLDER, kind, syncs, wrong)
 }
 
 #[test]
 fn folders_are_examined(rt: HostRuntime) -> Result<(), Fail> {
     let mut wrong = String::new(rt.alloc());
     let done = try_folders(&rt, &mut wrong);
-    verdict(done, wrong.as_str())
-}
-
-#[test]
-fn folders_that_are_not_synced_are_told(rt: HostRuntime) -> Result<(), Fail> {
-    let mut wrong = String::new(rt.alloc());
-    let done = try_unsynced(&rt, &mut wrong);
     verdict(done, wrong.as_str())
 }

@@ -79,15 +79,7 @@ const CLEANED: &[Block] = &[
 #[test]
 fn calls_are_answered(rt: HostRuntime) -> Result<(), Fail> {
     play_scene(&rt, &[("fast", CALLS)])?;
-    play_scene(&rt, &[("synced", CALLS)])
-}
-
-#[test]
-fn leftovers_alone_are_cleaned(rt: HostRuntime) -> Result<(), Fail> {
-    play_scene(&rt, CLEANED)
-}
-
-#[test]
-fn what_is_no_file_is_a_fault(rt: HostRuntime) -> Result<(), Fail> {
+    play_scene(&rt, &[("synced", CALLS)])?;
+    play_scene(&rt, CLEANED)?;
     play_scene(&rt, &[("odd", ""), ("fast", ODD)])
 }
