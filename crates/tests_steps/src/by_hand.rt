@@ -1,5 +1,5 @@
 //! Reads to which a hand makes the replies, as of a store whose listing lies, which none does that keeps its contract.
-use crate::fits::fits_read;
+use crate::fits::{fits_latest, fits_read};
 use crate::operations::holds;
 use crate::place::a_layout;
 use crate::told::Told::{GoesOn, Newest};
@@ -9,6 +9,7 @@ use std::alloc::Global;
 use std::test::Fail;
 use txn_caches::ask::Ask;
 use txn_caches::caches::Caches;
+use txn_steps::latest::LatestOp;
 use txn_steps::read::ReadOp;
 use txn_store::page::{Listing, Page};
 use txn_store::path::Path;
@@ -57,9 +58,20 @@ fn reply_of(alloc: Global, made: Made) -> Result<Reply, Fail> {
     })
 }
 
+/// A read of the newest version, which a hand drives.
+#[derive(Drop)]
+enum Read {
+    Unchecked(LatestOp<u64>),
+    Checked(ReadOp<u64>),
+}
+
 /// Whether a read asks for a call of the store, and not for a look.
-fn calls(op: &ReadOp<u64>) -> bool {
-    match op.ask() {
+fn calls(read: &Read) -> bool {
+    let ask = match read {
+        Read::Unchecked(op) => op.ask(),
+        Read::Checked(op) => op.ask(),
+    };
+    match ask {
         Ask::Store(_) => true,
         Ask::Look => false,
     }
@@ -70,13 +82,24 @@ fn turn(
     alloc: Global,
     layout: &Layout<NumberCodec>,
     caches: &mut Caches,
-    op: &mut ReadOp<u64>,
+    read: &mut Read,
     reply: Option<Reply>,
 ) -> Result<Told, Fail> {
-    if fits_read(op, &reply) {
-        Ok(said(op.take(alloc, layout, caches, reply)))
-    } else {
-        of_another_kind(reply)
+    match read {
+        Read::Unchecked(op) => {
+            if fits_latest(op, &reply) {
+                Ok(said(op.take(alloc, layout, &mut caches.latest, reply)))
+            } else {
+                of_another_kind(reply)
+            }
+        }
+        Read::Checked(op) => {
+            if fits_read(op, &reply) {
+                Ok(said(op.take(alloc, layout, caches, reply)))
+            } else {
+                of_another_kind(reply)
+            }
+        }
     }
 }
 
@@ -105,18 +128,18 @@ fn drive(
     alloc: Global,
     layout: &Layout<NumberCodec>,
     caches: &mut Caches,
-    op: &mut ReadOp<u64>,
+    read: &mut Read,
     made: &[Made],
 ) -> Result<Played, Fail> {
     let (mut served, mut looks) = (0usize, 0u64);
     for _ in 1..STEPS {
-        let reply = replied(alloc, calls(op), made.get(served).copied())?;
+        let reply = replied(alloc, calls(read), made.get(served).copied())?;
         if reply.is_some() {
             served = served.saturating_add(1);
         } else {
             looks = looks.saturating_add(1);
         }
-        let told = turn(alloc, layout, caches, op, reply)?;
+        let told = turn(alloc, layout, caches, read, reply)?;
         if told != GoesOn {
             return Ok((told, served, looks));
         }
@@ -131,35 +154,42 @@ const SECOND: &str = "root/test/00000000000000000002.val";
 /// The bytes of 10.
 const TEN: &[u8] = &[0, 0, 0, 0, 0, 0, 0, 10];
 
-/// A read of the newest version with these replies, and whether these ids are cached then.
-fn newest(
+/// What a read says with these replies, and whether these ids are cached then.
+fn replayed(
     alloc: Global,
     caches: &mut Caches,
+    read: Read,
     made: &[Made],
     ids: &[u64],
 ) -> Result<(Played, bool), Fail> {
     let layout = a_layout(alloc, PAGE, NumberCodec)?;
-    let mut op = ReadOp::<u64>::start(&layout)?;
-    let played = drive(alloc, &layout, caches, &mut op, made)?;
+    let mut read = read;
+    let played = drive(alloc, &layout, caches, &mut read, made)?;
     Ok((played, holds(&caches.latest, ids)))
+}
+
+/// An unchecked read.
+fn unchecked() -> Read {
+    Read::Unchecked(LatestOp::start())
 }
 
 #[test]
 fn test_latest_read_invalidates_cache_when_list_is_empty(rt: HostRuntime) -> Result<(), Fail> {
     let mut caches = Caches::new();
-    // There is no boundary.
-    let made = [Lists(Some(FIRST)), Finds(TEN), Misses];
-    let found = newest(rt.alloc(), &mut caches, &made, &[1])?;
-    assert_eq!(rt; found, ((Newest(Some((1, 10))), 3, 5), true));
+    let made = [Lists(Some(FIRST)), Finds(TEN)];
+    let found = replayed(rt.alloc(), &mut caches, unchecked(), &made, &[1])?;
+    assert_eq!(rt; found, ((Newest(Some((1, 10))), 2, 3), true));
     // It finds four successors, and nothing is listed.
     let made = [Finds(TEN), Finds(TEN), Finds(TEN), Finds(TEN), Lists(None)];
-    let found = newest(rt.alloc(), &mut caches, &made, &[])?;
+    let found = replayed(rt.alloc(), &mut caches, unchecked(), &made, &[])?;
     assert_eq!(rt; found, ((Newest(None), 5, 7), true));
     Ok(())
 }
 
 #[test]
 fn test_try_read_latest_retries_missing_listed_file(rt: HostRuntime) -> Result<(), Fail> {
+    let layout = a_layout(rt.alloc(), PAGE, NumberCodec)?;
+    let read = Read::Checked(ReadOp::start(&layout)?);
     let made = [
         Lists(Some(FIRST)),
         Misses,
@@ -168,7 +198,7 @@ fn test_try_read_latest_retries_missing_listed_file(rt: HostRuntime) -> Result<(
         // There is no boundary.
         Misses,
     ];
-    let found = newest(rt.alloc(), &mut Caches::new(), &made, &[2])?;
+    let found = replayed(rt.alloc(), &mut Caches::new(), read, &made, &[2])?;
     assert_eq!(rt; found, ((Newest(Some((2, 10))), 5, 6), true));
     Ok(())
 }
