@@ -28,10 +28,10 @@ SCRIPTS = (
 # The tests that hold whichever growth is refused, by the crate whose tests they are.
 TESTS = {
     "tests_slatedb_txn_obj": (
-        "refused::a_refused_growth_leaves_what_was",
-        "stores::what_is_pinned_stays_whichever_growth_is_refused",
+        "tests::refused::a_refused_growth_leaves_what_was",
+        "tests::stores::what_is_pinned_stays_whichever_growth_is_refused",
     ),
-    "tests_world": ("refused::a_refused_event_is_taken_again", "growths::audits_agree_whichever_growth_is_refused"),
+    "tests_world": ("tests::refused::a_refused_event_is_taken_again", "tests::growths::audits_agree_whichever_growth_is_refused"),
 }
 # How the name of a build of tests ends, after its crate's.
 TESTS_ENDING = "_tests"

@@ -149,7 +149,7 @@ class Sweeps(unittest.TestCase):
             self.assertEqual(silently(sweep_all, self.player, self.room, [f"{self.room}/none"])[0], (0, 1))
         program = self.shell("tests_world_tests", 'printf "\\ntest result: ok\\n"')
         found, said = silently(sweep_all, self.player, self.room, [program])
-        tests = "refused::a_refused_event_is_taken_again", "growths::audits_agree_whichever_growth_is_refused"
+        tests = "tests::refused::a_refused_event_is_taken_again", "tests::growths::audits_agree_whichever_growth_is_refused"
         told = "".join(f"tests_world_tests {it}: 0 refused, 1 odd\n" for it in tests)
         self.assertEqual((found, said), ((0, 2), told))
 
@@ -173,8 +173,8 @@ class Sweeps(unittest.TestCase):
             self.assertTrue(os.path.isfile(f"{top}/cases/{it}.txt"), it)
         for crate, tests in refuse_growths.TESTS.items():
             for it in tests:
-                module, _, name = it.partition("::")
-                with open(f"{top}/crates/{crate}/src/{module}.rt", encoding="utf-8") as file:
+                *modules, name = it.split("::")
+                with open(f"{top}/crates/{crate}/src/{'/'.join(modules)}.rt", encoding="utf-8") as file:
                     self.assertIn(f"#[test]\nfn {name}(", file.read())
 
 

@@ -4,18 +4,4 @@
 #![tactic(auto)]
 
 #[cfg(test)]
-mod calls;
-#[cfg(test)]
-mod clients;
-#[cfg(test)]
-mod doctors;
-#[cfg(test)]
-mod failing;
-#[cfg(test)]
-mod failures;
-#[cfg(test)]
-mod folders;
-#[cfg(test)]
-mod scenes;
-#[cfg(test)]
-mod steps;
+mod tests;

@@ -3,27 +3,7 @@
 //! ids of its own. And a use of manifests, and tests of a manifest store.
 #![tactic(auto)]
 
-#[cfg(test)]
-mod checked;
-#[cfg(test)]
-mod counted;
-#[cfg(test)]
-mod failing;
 pub mod kept;
-#[cfg(test)]
-mod over_boundary;
-#[cfg(test)]
-mod refused;
-#[cfg(test)]
-mod register;
 pub mod scripted;
 #[cfg(test)]
-mod stores;
-#[cfg(test)]
-mod swept;
-#[cfg(test)]
-mod told;
-#[cfg(test)]
-mod uses;
-#[cfg(test)]
-mod workloads;
+mod tests;

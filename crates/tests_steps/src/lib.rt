@@ -4,26 +4,4 @@
 #![tactic(auto)]
 
 #[cfg(test)]
-mod by_hand;
-#[cfg(test)]
-mod claims;
-#[cfg(test)]
-mod fits;
-#[cfg(test)]
-mod game;
-#[cfg(test)]
-mod holders;
-#[cfg(test)]
-mod operations;
-#[cfg(test)]
-mod parts;
-#[cfg(test)]
-mod place;
-#[cfg(test)]
-mod scenarios;
-#[cfg(test)]
-mod told;
-#[cfg(test)]
-mod view_calls;
-#[cfg(test)]
-mod views;
+mod tests;

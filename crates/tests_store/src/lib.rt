@@ -3,8 +3,4 @@
 #![tactic(auto)]
 
 #[cfg(test)]
-mod errors;
-#[cfg(test)]
-mod many;
-#[cfg(test)]
-mod values;
+mod tests;

@@ -4,18 +4,4 @@
 #![tactic(auto)]
 
 #[cfg(test)]
-mod growths;
-#[cfg(test)]
-mod meetings;
-#[cfg(test)]
-mod played;
-#[cfg(test)]
-mod refused;
-#[cfg(test)]
-mod schedules;
-#[cfg(test)]
-mod verdicts;
-#[cfg(test)]
-mod workers;
-#[cfg(test)]
-mod worlds;
+mod tests;

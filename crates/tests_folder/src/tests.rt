@@ -1,0 +1,10 @@
+//! The tests by what they are of, and what they share.
+
+mod calls;
+mod clients;
+mod doctors;
+mod failing;
+mod failures;
+mod folders;
+mod scenes;
+mod steps;

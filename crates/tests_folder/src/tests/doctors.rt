@@ -1,0 +1,150 @@
+//! Examinations of folders.
+
+use crate::tests::failing::{Failing, never_failing};
+use crate::tests::scenes::verdict;
+use crate::tests::steps::folder_of;
+use std::alloc::AllocError;
+use std::cell::Cell;
+use std::io::ErrorKind;
+use std::test::Fail;
+use std::{fs, io};
+use txn_files::doctor::{Report, examine};
+
+const SERVES: &str = "keeps a file and its time to the nanosecond: yes
+links a file to a second name: yes
+refuses a link to a taken name: yes
+renames a file over another: yes
+locks a file against a second open: yes
+syncs files and folders: yes
+removes files: yes
+it serves, and 0 names are left";
+
+const UNSYNCED: &str = "keeps a file and its time to the nanosecond: yes
+links a file to a second name: yes
+refuses a link to a taken name: yes
+renames a file over another: yes
+locks a file against a second open: yes
+syncs files and folders: this file system has no sync of folders: names last as it lets them
+removes files: yes
+it serves, and 0 names are left";
+
+/// The call of the system that links a file.
+const LINKS: u64 = 2;
+
+/// The call of the system that opens the folder, to sync it.
+const OPENS_FOLDER: u64 = 14;
+
+/// No call of the system.
+const NONE: u64 = u64::MAX;
+
+/// How many names a folder has, none where it is missing.
+fn count(rt: &HostRuntime, folder: &str) -> usize {
+    match fs::read_dir(rt, folder) {
+        Ok(names) => names.count(),
+        Err(_) => 0,
+    }
+}
+
+/// Writes which check fails first.
+fn write_verdict(rt: &HostRuntime, report: &Report, text: &mut String) -> Result<(), AllocError> {
+    let Some(check) = report.first_failed() else {
+        return text.push_str("it serves");
+    };
+    let words = format!(in rt.alloc(); "first fails: {check}")?;
+    text.push_str(words.as_str())
+}
+
+/// Writes a report, and which check fails first.
+fn write_report(rt: &HostRuntime, report: &Report, text: &mut String) -> Result<(), AllocError> {
+    let lines = format!(in rt.alloc(); "{report}")?;
+    text.push_str(lines.as_str())?;
+    write_verdict(rt, report, text)
+}
+
+/// Writes what is reported of a folder where this call of the system fails so, and which check fails first.
+fn examined(
+    rt: &HostRuntime,
+    folder: &str,
+    nth: u64,
+    kind: ErrorKind,
+    text: &mut String,
+) -> Result<(), AllocError> {
+    let left = Cell::new(nth);
+    let failing = Failing {
+        kind,
+        ..never_failing(rt, &left)
+    };
+    let report = examine(&failing, rt.alloc(), folder)?;
+    write_report(rt, &report, text)
+}
+
+/// Writes how many names are left in a folder.
+fn write_left(rt: &HostRuntime, folder: &str, text: &mut String) -> Result<(), AllocError> {
+    let names = count(rt, folder);
+    let words = format!(in rt.alloc(); ", and {names} names are left")?;
+    text.push_str(words.as_str())
+}
+
+/// The last line of a text.
+fn last_line(text: &str) -> &str {
+    match text.rsplit_once('\n') {
+        Some((_, last)) => last,
+        None => text,
+    }
+}
+
+/// Writes what is reported of a folder where this call of the system fails so, unless that is what is wanted, whole or its last
+/// line.
+fn try_folder(
+    rt: &HostRuntime,
+    folder: &str,
+    nth: u64,
+    kind: ErrorKind,
+    wanted: &str,
+    wrong: &mut String,
+) -> Result<(), AllocError> {
+    let mut text = String::new(rt.alloc());
+    examined(rt, folder, nth, kind, &mut text)?;
+    write_left(rt, folder, &mut text)?;
+    let text = text.as_str();
+    if text != wanted && last_line(text) != wanted {
+        wrong.push_str(text)?;
+    }
+    Ok(())
+}
+
+/// The same of a folder of its own.
+fn try_alone(
+    rt: &HostRuntime,
+    nth: u64,
+    kind: ErrorKind,
+    wanted: &str,
+    wrong: &mut String,
+) -> io::Result<()> {
+    let root = folder_of(rt, "doctor")?;
+    fs::create_dir(rt, root.as_str())?;
+    let tried = try_folder(rt, root.as_str(), nth, kind, wanted, wrong);
+    fs::remove_dir_all(rt, root.as_str())?;
+    Ok(tried?)
+}
+
+/// Examines a folder that serves, one in which linking fails, one that is missing, and one that is not synced, where the file
+/// system says that it has no such syncs, and where it does not.
+fn try_folders(rt: &HostRuntime, wrong: &mut String) -> io::Result<()> {
+    let kind = ErrorKind::Other;
+    try_alone(rt, NONE, kind, SERVES, wrong)?;
+    let links = "first fails: links a file to a second name, and 0 names are left";
+    try_alone(rt, LINKS, kind, links, wrong)?;
+    let keeps = "first fails: keeps a file and its time to the nanosecond, and 0 names are left";
+    try_folder(rt, "no such folder", NONE, kind, keeps, wrong)?;
+    try_alone(rt, OPENS_FOLDER, ErrorKind::Unsupported, UNSYNCED, wrong)?;
+    let syncs = "first fails: syncs files and folders, and 0 names are left";
+    try_alone(rt, OPENS_FOLDER, kind, syncs, wrong)
+}
+
+#[test]
+fn folders_are_examined(rt: HostRuntime) -> Result<(), Fail> {
+    let mut wrong = String::new(rt.alloc());
+    let done = try_folders(&rt, &mut wrong);
+    verdict(done, wrong.as_str())
+}

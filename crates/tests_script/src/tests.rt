@@ -1,0 +1,4 @@
+//! The tests by what they are of, and what they share.
+
+mod commands;
+mod streams;

@@ -1,0 +1,5 @@
+//! The tests by what they are of, and what they share.
+
+mod errors;
+mod many;
+mod values;
