@@ -1,5 +1,5 @@
 -- Calls of an update that is made again, one after another.
-use Rattle.std.proofs.Common.{◌≡◌, ℕ, ◌+◌, nat_eq, Bool, true, false, true≢false, if◌then◌else◌, Option, Some, Result, Ok, refl, sym, subst, ap, ◌∙◌, add-one}
+use Rattle.std.proofs.Common.{◌≡◌, ℕ, ◌+◌, ◌<◌, nat_eq, Bool, true, false, true≢false, if◌then◌else◌, Option, Some, Result, Ok, refl, sym, subst, ap, ◌∙◌, add-one}
 use Rattle.std.proofs.lemmas.Bool.Decides.{Decides-eqb}
 use Rattle.txn_store.specs.declared.request.Request.{Request}
 use Rattle.txn_store.specs.declared.request.Reply.{Reply}
@@ -12,7 +12,7 @@ use Rattle.txn_client.specs.declared.retry.Tried.TheVariants as trials
 use Rattle.txn_client.specs.declared.retry.Viewed.{Viewed}
 use Rattle.txn_client.specs.Noted.{Noted}
 use Rattle.txn_client.specs.Calling.{ClientState, MakesCall}
-use Rattle.txn_client.specs.Retrying.{conflict, gives, GivesNoView, update_of, refresh_of, tried_plain, trial_of, Updates, Refreshes, Rounds}
+use Rattle.txn_client.specs.Retrying.{conflict, gives, GivesNoView, update_of, refresh_of, tried_plain, trial_of, Updates, Refreshes, Rounds, AfterRounds}
 
 module _ {T : Type 0} where
   refused_viewed : (is : Bool) (number : ℕ) (viewed : Viewed T) → (if is then trials.Conflict else trials.Answered (answers.Plain (plain.Refused number))) ≡ trials.Viewed viewed → ⊥
@@ -95,3 +95,7 @@ module _ {T C E R S F : Type 0} (hands : R → Noted T → R → Type 0) (serves
   -- one round more
   pub rounds_more : (count : ℕ) (viewed last next : Viewed T) (old between new : ClientState T C E R S) → Rounds hands serves limit asks count viewed old last between → Refreshes hands serves limit asks last between (gives next) new → Rounds hands serves limit asks (count + 1) viewed old next new
   rounds_more count viewed last next old between new rounds round = subst (λ n. Rounds hands serves limit asks n viewed old next new) (sym (add-one count)) (last, between, rounds, round)
+
+-- what holds after so many rounds
+pub after_rounds : {T C E R S F : Type 0} {hands : R → Noted T → R → Type 0} {serves : S → Request → Reply → S → Type 0} {limit : ℕ} {asks : T → Result (Option T) F → Type 0} {attempts : ℕ} {viewed : Viewed T} {old : ClientState T C E R S} {holds : Viewed T → ClientState T C E R S → Type 0} (count : ℕ) (last : Viewed T) (between : ClientState T C E R S) → count < attempts → Rounds hands serves limit asks count viewed old last between → holds last between → AfterRounds hands serves limit asks attempts viewed old holds
+after_rounds count last between fewer rounds so = record { count = count; fewer = fewer; last = last; between = between; rounds = rounds; so = so }
