@@ -31,6 +31,11 @@ enum Made {
 
 use Made::{Finds, Lists, Misses};
 
+/// The token of whatever is made up.
+fn a_token() -> Token {
+    Token::new(9)
+}
+
 /// A page of one file at most.
 fn a_page(alloc: Global, told: Option<&str>) -> Result<Page, Fail> {
     let mut metas = Vec::new(alloc);
@@ -38,7 +43,7 @@ fn a_page(alloc: Global, told: Option<&str>) -> Result<Page, Fail> {
         metas.push(ObjectMeta {
             location: Path::from_text(alloc, path)?,
             size: 8,
-            token: Token::new(9),
+            token: a_token(),
         })?;
     }
     Ok(Page {
@@ -51,54 +56,72 @@ fn reply_of(alloc: Global, made: Made) -> Result<Reply, Fail> {
     Ok(match made {
         Made::Finds(bytes) => Reply::Get(Ok(Got {
             bytes: Bytes::from_static(bytes),
-            token: Token::new(9),
+            token: a_token(),
         })),
         Made::Misses => Reply::Get(Err(StoreError::NotFound)),
         Made::Lists(told) => Reply::List(Ok(a_page(alloc, told)?)),
     })
 }
 
-/// A read of the newest version, which a hand drives.
-#[derive(Drop)]
-enum Read {
-    Unchecked(LatestOp<u64>),
-    Checked(ReadOp<u64>),
-}
-
-/// Whether a read asks for a call of the store, and not for a look.
-fn calls(read: &Read) -> bool {
-    let ask = match read {
-        Read::Unchecked(op) => op.ask(),
-        Read::Checked(op) => op.ask(),
-    };
+/// Whether it is a call of the store, and not a look.
+fn is_call(ask: Ask<'_>) -> bool {
     match ask {
         Ask::Store(_) => true,
         Ask::Look => false,
     }
 }
 
-/// Gives a read a reply, or none for a look, and says its answer, or that it goes on. What it didn't ask for is a failure.
-fn turn(
-    alloc: Global,
-    layout: &Layout<NumberCodec>,
-    caches: &mut Caches,
-    read: &mut Read,
-    reply: Option<Reply>,
-) -> Result<Told, Fail> {
-    match read {
-        Read::Unchecked(op) => {
-            if fits_latest(op, &reply) {
-                Ok(said(op.take(alloc, layout, &mut caches.latest, reply)))
-            } else {
-                of_another_kind(reply)
-            }
+/// What a hand drives.
+trait Driven {
+    /// Whether it asks for a call of the store, and not for a look.
+    fn calls(&self) -> bool;
+
+    /// Takes a reply, or none for a look, and says its answer, or that it goes on. What it didn't ask for is a failure.
+    fn turn(
+        &mut self,
+        alloc: Global,
+        layout: &Layout<NumberCodec>,
+        caches: &mut Caches,
+        reply: Option<Reply>,
+    ) -> Result<Told, Fail>;
+}
+
+impl Driven for LatestOp<u64> {
+    fn calls(&self) -> bool {
+        is_call(self.ask())
+    }
+
+    fn turn(
+        &mut self,
+        alloc: Global,
+        layout: &Layout<NumberCodec>,
+        caches: &mut Caches,
+        reply: Option<Reply>,
+    ) -> Result<Told, Fail> {
+        if fits_latest(self, &reply) {
+            Ok(said(self.take(alloc, layout, &mut caches.latest, reply)))
+        } else {
+            of_another_kind(reply)
         }
-        Read::Checked(op) => {
-            if fits_read(op, &reply) {
-                Ok(said(op.take(alloc, layout, caches, reply)))
-            } else {
-                of_another_kind(reply)
-            }
+    }
+}
+
+impl Driven for ReadOp<u64> {
+    fn calls(&self) -> bool {
+        is_call(self.ask())
+    }
+
+    fn turn(
+        &mut self,
+        alloc: Global,
+        layout: &Layout<NumberCodec>,
+        caches: &mut Caches,
+        reply: Option<Reply>,
+    ) -> Result<Told, Fail> {
+        if fits_read(self, &reply) {
+            Ok(said(self.take(alloc, layout, caches, reply)))
+        } else {
+            of_another_kind(reply)
         }
     }
 }
@@ -123,25 +146,37 @@ type Played = (Told, usize, u64);
 /// How many steps a read has at most.
 const STEPS: u64 = 40;
 
-/// Drives a read to its answer.
-fn drive(
+/// Drives a read to its answer, and drops it.
+fn drive<O: Driven + Drop>(
     alloc: Global,
     layout: &Layout<NumberCodec>,
     caches: &mut Caches,
-    read: &mut Read,
+    op: O,
     made: &[Made],
 ) -> Result<Played, Fail> {
-    let (mut served, mut looks) = (0usize, 0u64);
+    let mut op = op;
+    drive_on(alloc, layout, caches, &mut op, made)
+}
+
+/// The same, of a read that its caller drops.
+fn drive_on<O: Driven>(
+    alloc: Global,
+    layout: &Layout<NumberCodec>,
+    caches: &mut Caches,
+    op: &mut O,
+    made: &[Made],
+) -> Result<Played, Fail> {
+    let (mut calls, mut looks) = (0usize, 0u64);
     for _ in 1..STEPS {
-        let reply = replied(alloc, calls(read), made.get(served).copied())?;
+        let reply = replied(alloc, op.calls(), made.get(calls).copied())?;
         if reply.is_some() {
-            served = served.saturating_add(1);
+            calls = calls.saturating_add(1);
         } else {
             looks = looks.saturating_add(1);
         }
-        let told = turn(alloc, layout, caches, read, reply)?;
+        let told = op.turn(alloc, layout, caches, reply)?;
         if told != GoesOn {
-            return Ok((told, served, looks));
+            return Ok((told, calls, looks));
         }
     }
     Err("it goes on")?
@@ -154,42 +189,42 @@ const SECOND: &str = "root/test/00000000000000000002.val";
 /// The bytes of 10.
 const TEN: &[u8] = &[0, 0, 0, 0, 0, 0, 0, 10];
 
-/// What a read says with these replies, and whether these ids are cached then.
-fn replayed(
+/// An unchecked read of the newest version with these replies, and whether these ids are cached then.
+fn latest(
     alloc: Global,
     caches: &mut Caches,
-    read: Read,
     made: &[Made],
     ids: &[u64],
 ) -> Result<(Played, bool), Fail> {
     let layout = a_layout(alloc, PAGE, NumberCodec)?;
-    let mut read = read;
-    let played = drive(alloc, &layout, caches, &mut read, made)?;
+    let played = drive(alloc, &layout, caches, LatestOp::<u64>::start(), made)?;
     Ok((played, holds(&caches.latest, ids)))
-}
-
-/// An unchecked read.
-fn unchecked() -> Read {
-    Read::Unchecked(LatestOp::start())
 }
 
 #[test]
 fn test_latest_read_invalidates_cache_when_list_is_empty(rt: HostRuntime) -> Result<(), Fail> {
     let mut caches = Caches::new();
     let made = [Lists(Some(FIRST)), Finds(TEN)];
-    let found = replayed(rt.alloc(), &mut caches, unchecked(), &made, &[1])?;
+    let found = latest(rt.alloc(), &mut caches, &made, &[1])?;
     assert_eq!(rt; found, ((Newest(Some((1, 10))), 2, 3), true));
     // It finds four successors, and nothing is listed.
     let made = [Finds(TEN), Finds(TEN), Finds(TEN), Finds(TEN), Lists(None)];
-    let found = replayed(rt.alloc(), &mut caches, unchecked(), &made, &[])?;
+    let found = latest(rt.alloc(), &mut caches, &made, &[])?;
     assert_eq!(rt; found, ((Newest(None), 5, 7), true));
     Ok(())
 }
 
+/// A read of the newest version with these replies, and whether these ids are cached then.
+fn newest(alloc: Global, made: &[Made], ids: &[u64]) -> Result<(Played, bool), Fail> {
+    let layout = a_layout(alloc, PAGE, NumberCodec)?;
+    let mut caches = Caches::new();
+    let op = ReadOp::<u64>::start(&layout)?;
+    let played = drive(alloc, &layout, &mut caches, op, made)?;
+    Ok((played, holds(&caches.latest, ids)))
+}
+
 #[test]
 fn test_try_read_latest_retries_missing_listed_file(rt: HostRuntime) -> Result<(), Fail> {
-    let layout = a_layout(rt.alloc(), PAGE, NumberCodec)?;
-    let read = Read::Checked(ReadOp::start(&layout)?);
     let made = [
         Lists(Some(FIRST)),
         Misses,
@@ -198,7 +233,7 @@ fn test_try_read_latest_retries_missing_listed_file(rt: HostRuntime) -> Result<(
         // There is no boundary.
         Misses,
     ];
-    let found = replayed(rt.alloc(), &mut Caches::new(), read, &made, &[2])?;
+    let found = newest(rt.alloc(), &made, &[2])?;
     assert_eq!(rt; found, ((Newest(Some((2, 10))), 5, 6), true));
     Ok(())
 }
