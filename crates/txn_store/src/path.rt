@@ -1,5 +1,5 @@
 //! Paths of plain segments.
-ghost use Rattle.std.specs.Prelude.{◌≡◌, ◌↔◌, ◌-◌, ◌+◌, ◌≤◌, ◌∷◌, ◌++◌, [], refl, Some, true, false, nat_eq, length, slice_get, string_bytes, IfOk, OnOk, IsErrOf, IsTrue};
+ghost use Rattle.std.specs.Prelude.{◌≡◌, ◌↔◌, ◌-◌, ◌+◌, ◌≤◌, ◌&&◌, ◌∷◌, ◌++◌, [], refl, Some, true, false, nat_eq, length, slice_get, string_bytes, IfOk, OnOk, IsErrOf, IsTrue};
 ghost use Rattle.std.specs.List.{list_all};
 ghost use Rattle.std.specs.Option.{option_copied};
 ghost use Rattle.std.specs.Ordering.{nat_cmp};
@@ -151,6 +151,22 @@ impl Path {
         let more = segment.len().saturating_add(1);
         let mut text = with_room(*self.text.allocator(), self.text.as_str(), more)?;
         push_line(&mut text, segment)?;
+        Ok(Path { text })
+    }
+
+    /// This path with two more segments, by one allocation: where both are plain, as `join` of the second to `join` of the first.
+    pub fn join_two(&self, first: &str, second: &str) -> Result<Path, PathFault>
+        ensures ok { IfOk result (λ path. path ≡ self.now ++ first.now ∷ second.now ∷ []) }
+        ensures plain { OnOk result (IsTrue (is_plain first.now) × IsTrue (is_plain second.now)) }
+        ensures bad_segment { IsErrOf result PathFault.BadSegment ↔ ((is_plain first.now && is_plain second.now) ≡ false) }
+    {
+        if !is_plain(first) || !is_plain(second) {
+            return Err(PathFault::BadSegment);
+        }
+        let more = first.len().saturating_add(second.len()).saturating_add(2);
+        let mut text = with_room(*self.text.allocator(), self.text.as_str(), more)?;
+        push_line(&mut text, first)?;
+        push_line(&mut text, second)?;
         Ok(Path { text })
     }
 

@@ -14,8 +14,11 @@ fn boundary_path(alloc: Global, root: &Path, subdir: &str) -> Result<Path, PathF
     ensures ok { IfOk result (λ path. path ≡ boundary_path root.now subdir.now) }
     ensures bad_segment { IsErrOf result PathFault.BadSegment → is_plain subdir.now ≡ false }
 {
-    let name = format!(in alloc; "{subdir}.boundary")?;
-    root.join("gc")?.join(&name)
+    const SUFFIX: &str = ".boundary";
+    let mut name = String::with_capacity(alloc, subdir.len().saturating_add(SUFFIX.len()))?;
+    name.push_str(subdir)?;
+    name.push_str(SUFFIX)?;
+    root.join_two("gc", &name)
 }
 
 /// How many files a page of a listing has at most, where nothing else is said.
