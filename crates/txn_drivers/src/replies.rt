@@ -8,6 +8,7 @@ use txn_store::request::{Reply, serve};
 use txn_store::store::ObjectStore;
 
 /// The store's reply to a request, and none to a look.
+#[inline(always)]
 pub fn reply_to<S: ObjectStore>(alloc: Global, store: &mut S, ask: Ask<'_>) -> Option<Reply>
     requires { CanServe (asks ask) }
     ensures { Replies (asks ask.entry) (S.state store.old) result (S.state store.new) }

@@ -112,6 +112,7 @@ fn get<T>(alloc: Global, names: &VersionNames, id: MonotonicId) -> Result<Latest
 }
 
 /// It asks for the successor of the version in hand.
+#[inline(always)]
 fn probe<T>(
     alloc: Global,
     names: &VersionNames,
@@ -287,6 +288,7 @@ fn after_list<T, C>(
 }
 
 /// It decoded a version that it has, and keeps it.
+#[inline(always)]
 fn decode<T: Drop, C: ObjectCodec<T>>(
     alloc: Global,
     layout: &Layout<C>,
