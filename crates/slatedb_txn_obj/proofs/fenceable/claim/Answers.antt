@@ -98,14 +98,13 @@ returns-in_err-refresh-in-Err g c =
     let p = err_from_is_err_and c.from_residual-in_err-refresh-in-Err.result c.from_residual-in_err-refresh-in-Err.ensures.1 in
     let stood = g.P.TransactionalStorageProtocol.stands c.args.protocol.now c.args.store.now in
     let number = g.P.TransactionalStorageProtocol.number c.args.view.id in
+    let unheld : Type 0 = (h : List g.row.T.Denot) (b : ℕ) → stood h b → IsVersion h number c.args.view.object → ⊥ in
     let epoch_of = g.X.EpochField.epoch_of c.args.epochs in
     let with_epoch = g.X.EpochField.with_epoch c.args.epochs in
     let met : ℕ → g.row.T.Denot → Type 0 = λ n v. ((n ≡ number) × (v ≡ c.args.view.object)) ⊎ ((h : List g.row.T.Denot) (b : ℕ) → stood h b → IsVersion h number c.args.view.object → IsLatest h n v) in
-    let late = ReadsLate c.args.timeout (g.K.SystemClock.readings c.args.clock.now) (g.K.SystemClock.readings c.check.new.clock) in
     let fails : TransactionalObjectError → Type 0 = λ error. (n : ℕ) × (v : g.row.T.Denot) × met n v × ((e : ℕ) × NextEpoch c.args.asked (epoch_of v) e × IsTestFailure (λ i. g.I.Invariant.holds i (with_epoch v e) v) (λ i. g.I.Invariant.fails i (with_epoch v e) v) c.args.view.invariants.items error) in
     let blocked : TransactionalObjectError → Type 0 = λ error. (n : ℕ) × (v : g.row.T.Denot) × met n v × HasNoEpoch c.args.asked (epoch_of v) error in
     let full : Type 0 = (n : ℕ) × (v : g.row.T.Denot) × met n v × (n + 1 ≡ 2 ^ 64) in
-    let unheld : Type 0 = (h : List g.row.T.Denot) (b : ℕ) → stood h b → IsVersion h number c.args.view.object → ⊥ in
     let told = rw c.in_err-refresh-in-Err.was at c.refresh.follows.holds-at-none in
     let told_cause : HasCauseOfRefresh (g.P.TransactionalStorageProtocol.stands c.attempt.new.protocol c.attempt.new.store) c.refresh.new.turns (g.S.ObjectStore.state c.attempt.new.store) (g.S.ObjectStore.state c.refresh.new.store) c.in_err-refresh-in-Err.field-0.0 = elim told [ inl same ↦ same.1 | inr shuts ↦ absurd shuts.1 ] in
     let failures : (g.S.ObjectStore.state c.args.store.now).failures ≤ (g.S.ObjectStore.state c.attempt.new.store).failures = omega (arith, inv.spends.failures_rise, conflict.spends.failures_rise) in
@@ -124,7 +123,7 @@ returns-in_err-refresh-in-Err g c =
           let most = spent h b stands version in
           one-within_two _ _ _ _ _ most.0 most.1;
       enough = λ h b stands version most is. conflict-left _ _ _ (spent h b stands version).0 (refresh-exhausted (g.P.TransactionalStorageProtocol.stands c.attempt.new.protocol c.attempt.new.store) c.refresh.new.turns (g.S.ObjectStore.state c.attempt.new.store) (g.S.ObjectStore.state c.refresh.new.store) _ told_cause (ap Err (sym p.2) ∙ sym p.1 ∙ is)) most;
-      cause = rw p.1 (rw p.2 (claim-refresh c.args.timeout late fails blocked full unheld c.refresh.new.turns (g.S.ObjectStore.state c.args.store.now) (g.S.ObjectStore.state c.attempt.new.store) (g.S.ObjectStore.state c.refresh.new.store) (g.P.TransactionalStorageProtocol.stands c.attempt.new.protocol c.attempt.new.store) failures
+      cause = rw p.1 (rw p.2 (claim-refresh _ _ fails blocked full unheld c.refresh.new.turns (g.S.ObjectStore.state c.args.store.now) (g.S.ObjectStore.state c.attempt.new.store) (g.S.ObjectStore.state c.refresh.new.store) (g.P.TransactionalStorageProtocol.stands c.attempt.new.protocol c.attempt.new.store) failures
           (λ empty h b stands version.
           let here = inv.unmoved h b stands version in
           none-empty h (empty h b (overtaken.stands h b here.0 here.1.within)) version)
