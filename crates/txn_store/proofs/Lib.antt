@@ -9,6 +9,7 @@ pub mod MemoryLemmas
 pub mod FileLemmas
 pub mod VersionOfLemmas
 pub mod BelowLemmas
+pub mod EntryLemmas
 pub mod SortedLemmas
 pub mod PlaceLemmas
 pub mod PageLemmas

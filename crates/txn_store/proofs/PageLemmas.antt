@@ -13,8 +13,9 @@ use Rattle.txn_store.specs.declared.store.Got.{Got}
 use Rattle.txn_store.specs.declared.store.ObjectMeta.{ObjectMeta}
 use Rattle.txn_store.specs.declared.sorted.Mark.TheVariants.{Path, End}
 use Rattle.txn_store.proofs.BelowLemmas.{below_above}
+use Rattle.txn_store.proofs.EntryLemmas.{Entries, is_less}
 use Rattle.txn_store.proofs.FileLemmas.{path_cmp_total}
-use Rattle.txn_store.proofs.SortedLemmas.{Entries, reversed}
+use Rattle.txn_store.proofs.SortedLemmas.{reversed}
 
 and_none : (a b : Bool) → b ≡ false → (a && b) ≡ false
 and_none true b h = h
@@ -36,11 +37,6 @@ before_start_by : (prefix a x : Segments) (t : Bool) → is_lt (path_cmp prefix 
 before_start_by prefix a x true e o is up = and_none (is_below prefix x) (is_lt (path_cmp a x)) (not_above x a o is up)
 before_start_by prefix a x false e o is up = rw (not_below prefix x (not_above x prefix o is up) (is_below prefix x) refl) refl
 
-lt_less : (o : Ordering) → is_lt o ≡ true → o ≡ Less
-lt_less Less h = refl
-lt_less Equal h = cc
-lt_less Greater h = cc
-
 before_start : (prefix : Segments) (after : Option Segments) (x : Segments) → IsUpTo (side Path (further prefix after) x) → (is_below prefix x && is_above after x) ≡ false
 before_start prefix None x up = rw (not_below prefix x (not_above x prefix (path_cmp x prefix) refl up) (is_below prefix x) refl) refl
 before_start prefix (Some a) x up = before_start_by prefix a x (is_lt (path_cmp prefix a)) refl (path_cmp x (further prefix (Some a))) refl up
@@ -56,7 +52,7 @@ reaches prefix a x Equal is far less = sym (path_cmp_total.congr prefix a x is) 
 reaches prefix a x Greater is far less = path_cmp_total.trans a prefix x (lt_of prefix a is) less
 
 behind_both : (prefix a x : Segments) (t : Bool) → is_lt (path_cmp prefix a) ≡ t → path_cmp x (cond t a prefix) ≡ Greater → (path_cmp prefix x ≡ Less) × (path_cmp a x ≡ Less)
-behind_both prefix a x true e is = let up = lt_of x a is in (path_cmp_total.trans prefix a x (lt_less (path_cmp prefix a) e) up, up)
+behind_both prefix a x true e is = let up = lt_of x a is in (path_cmp_total.trans prefix a x (is_less (path_cmp prefix a) e) up, up)
 behind_both prefix a x false e is = let up = lt_of x prefix is in (up, reaches prefix a x (path_cmp prefix a) refl e up)
 
 behind_start : (prefix : Segments) (after : Option Segments) (x : Segments) → side Path (further prefix after) x ≡ Greater → (path_cmp prefix x ≡ Less) × (is_above after x ≡ true)

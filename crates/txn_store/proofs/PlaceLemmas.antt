@@ -16,8 +16,9 @@ use Rattle.txn_store.specs.declared.sorted.Mark.{Mark}
 use Rattle.txn_store.specs.declared.sorted.Mark.TheVariants.{Path}
 use Rattle.txn_store.specs.declared.store.Got.{Got}
 use Rattle.txn_store.specs.declared.store.ObjectMeta.{ObjectMeta}
+use Rattle.txn_store.proofs.EntryLemmas.{Entries}
 use Rattle.txn_store.proofs.FileLemmas.{path_cmp_total, path_cmp-IsAntisymmetric}
-use Rattle.txn_store.proofs.SortedLemmas.{Entries, reversed}
+use Rattle.txn_store.proofs.SortedLemmas.{reversed}
 
 pub when_some : {A : Type 0} {P : Type 0} (o : Option A) → OnSome o P → IsSome o → P
 when_some None h some = absurd (cc)

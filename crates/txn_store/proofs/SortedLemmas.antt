@@ -1,5 +1,5 @@
 -- A search over sorted files, and what stands before and behind its place.
-use Rattle.std.proofs.Common.{◌≡◌, ◌≢◌, ℕ, zero, suc, ◌+◌, ◌-◌, ◌*◌, ◌^◌, ◌/◌, ◌≤◌, ◌<◌, Bool, true, false, cond, not, ◌&&◌, T, List, [], ◌∷◌, length, take, drop, slice_get, slice_index_or, Some, ◌⊎◌, inl, inr, refl, sym, ap, subst, ◌∙◌, arith}
+use Rattle.std.proofs.Common.{◌≡◌, ◌≢◌, ℕ, zero, suc, ◌+◌, ◌-◌, ◌*◌, ◌^◌, ◌/◌, ◌≤◌, ◌<◌, Bool, true, false, cond, not, ◌&&◌, T, [], ◌∷◌, length, take, drop, slice_get, slice_index_or, Some, ◌⊎◌, inl, inr, refl, sym, ap, subst, ◌∙◌, arith}
 use Rattle.std.specs.FinMap.{FinMap, from_sorted, is_sorted, entries, entries-from_sorted}
 use Rattle.std.specs.FinMap.Entries.{below_all}
 use Rattle.std.specs.Ordering.{is_lt, ordering_reverse}
@@ -14,28 +14,13 @@ use Rattle.txn_store.specs.declared.sorted.Mark.{Mark}
 use Rattle.txn_store.specs.declared.sorted.Mark.TheVariants.{Path, End}
 use Rattle.txn_store.specs.declared.store.Got.{Got}
 use Rattle.txn_store.proofs.BelowLemmas.{none_beyond}
+use Rattle.txn_store.proofs.EntryLemmas.{Entries, is_less, first_behind, rest_behind, first_sorted, rest_sorted}
 use Rattle.txn_store.proofs.FileLemmas.{path_cmp_total}
-
-abbrev pub Entries : Type 0
-Entries = List (Segments × Got)
 
 less_or : (o : Ordering) → (o ≡ Less) ⊎ (o ≢ Less)
 less_or Less = inl refl
 less_or Equal = inr (λ e. cc)
 less_or Greater = inr (λ e. cc)
-
-and_first : (a b : Bool) → T (a && b) → T a
-and_first true b h = tt
-and_first false b h = h
-
-and_second : (a b : Bool) → T (a && b) → T b
-and_second true b h = h
-and_second false b h = absurd h
-
-is_less : (o : Ordering) → T (is_lt o) → o ≡ Less
-is_less Less h = refl
-is_less Equal h = absurd h
-is_less Greater h = absurd h
 
 -- once a file does not stand before the mark, each later one stands behind it
 module _ (mark : Mark) (asked : Segments) where
@@ -88,30 +73,25 @@ reversed x y o is = path_cmp_total.antisymm y x ∙ ap ordering_reverse is
 
 all_above : (x p : Segments) (es : Entries) → T (below_all path_cmp x es) → path_cmp x p ≢ Less → AllAt Path p Greater es
 all_above x p [] h far = tt
-all_above x p (e ∷ es) h far = (reversed p e.0 Less (above x e.0 p (is_less _ (and_first _ _ h)) far (path_cmp x p) refl), all_above x p es (and_second _ _ h) far)
+all_above x p (e ∷ es) h far = (reversed p e.0 Less (above x e.0 p (first_behind x e es h) far (path_cmp x p) refl), all_above x p es (rest_behind x e es h) far)
 
 past : (a b : Bool) → cond (a && not b) Greater Less ≢ Less → (a ≡ true) × (b ≡ false)
 past true true h = absurd (h refl)
 past true false h = (refl, refl)
 past false b h = absurd (h refl)
 
-lt_less : (o : Ordering) → is_lt o ≡ true → o ≡ Less
-lt_less Less h = refl
-lt_less Equal h = cc
-lt_less Greater h = cc
-
 all_past : (x p : Segments) (es : Entries) → T (below_all path_cmp x es) → path_cmp p x ≡ Less → is_below p x ≡ false → AllAt End p Greater es
 all_past x p [] h up out = tt
 all_past x p (e ∷ es) h up out =
-    let less : path_cmp x e.0 ≡ Less = is_less _ (and_first _ _ h) in
+    let less : path_cmp x e.0 ≡ Less = first_behind x e es h in
     let far : path_cmp p e.0 ≡ Less = path_cmp_total.trans p x e.0 up less in
-    (rw (far, none_beyond p x e.0 up out less) refl, all_past x p es (and_second _ _ h) up out)
+    (rw (far, none_beyond p x e.0 up out less) refl, all_past x p es (rest_behind x e es h) up out)
 
 pub rises : (mark : Mark) (asked : Segments) (es : Entries) → T (is_sorted path_cmp es) → Rises mark asked es
 rises mark asked [] h = tt
-rises Path asked (e ∷ es) h = (all_above e.0 asked es (and_first _ _ h), rises Path asked es (and_second _ _ h))
+rises Path asked (e ∷ es) h = (all_above e.0 asked es (first_sorted e es h), rises Path asked es (rest_sorted e es h))
 rises End asked (e ∷ es) h =
-    ((λ far. (let p = past (is_lt (path_cmp asked e.0)) (is_below asked e.0) far in all_past e.0 asked es (and_first _ _ h) (lt_less _ p.0) p.1)), rises End asked es (and_second _ _ h))
+    ((λ far. (let p = past (is_lt (path_cmp asked e.0)) (is_below asked e.0) far in all_past e.0 asked es (first_sorted e es h) (is_less _ p.0) p.1)), rises End asked es (rest_sorted e es h))
 
 -- how many binary digits a number has
 

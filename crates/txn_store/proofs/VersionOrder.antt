@@ -1,11 +1,11 @@
--- The paths of versions ascend with their ids.
-use Rattle.std.proofs.Common.{◌≡◌, ℕ, ◌+◌, ◌*◌, ◌<◌, ◌^◌, List, [], ◌∷◌, ◌++◌, length, inl, inr, refl, sym, subst, arith}
+-- The paths of versions ascend with their ids, and their ids with their paths.
+use Rattle.std.proofs.Common.{◌≡◌, ℕ, ◌+◌, ◌*◌, ◌<◌, ◌^◌, List, [], ◌∷◌, ◌++◌, length, inl, inr, refl, sym, ap, subst, ◌∙◌, arith}
 use Rattle.std.specs.Char.{digit_value}
 use Rattle.std.specs.Cmp.{nat_cmp_is, tied_itself}
 use Rattle.std.specs.Cmp.Lexicographic.{slice_cmp}
 use Rattle.std.specs.Ordering.{nat_cmp}
 use Rattle.std.specs.Str.Parse.{AllDigits, digits_value_after}
-use Rattle.std.specs.declared.cmp.Ordering.TheVariants.{Less, Equal}
+use Rattle.std.specs.declared.cmp.Ordering.TheVariants.{Less, Equal, Greater}
 use Rattle.std.proofs.lemmas.Bool.{cases_eq, cases_lt}
 use Rattle.std.proofs.lemmas.Cmp.{nat_list_cmp_total}
 use Rattle.std.proofs.lemmas.Str.{digit_value_digit}
@@ -14,6 +14,8 @@ use Rattle.txn_store.specs.Paths.{Segments, path_cmp}
 use Rattle.txn_store.specs.Digits.{padded}
 use Rattle.txn_store.specs.VersionName.{Names, version_name, version_path}
 use Rattle.txn_store.proofs.DigitLemmas.{own, padded_writes}
+use Rattle.txn_store.proofs.FileLemmas.{path_cmp_total}
+use Rattle.txn_store.proofs.SortedLemmas.{reversed}
 
 digit_is : (c : ℕ) → digit_value c < 10 → digit_value c + 48 ≡ c
 digit_is c fits = digit_value_digit c (digit_from_value c fits)
@@ -59,3 +61,20 @@ folder_order (segment ∷ dir) low high less = rw (tied_itself nat_list_cmp_tota
 
 pub version_order : (names : Names) (n m : ℕ) → n < m → m < 2 ^ 64 → path_cmp (version_path names n) (version_path names m) ≡ Less
 version_order names n m lt fits = folder_order names.dir (version_name names.suffix n) (version_name names.suffix m) (padded_order n m (46 ∷ names.suffix) lt fits)
+
+-- a version whose path stands behind another's has a greater id
+pub path_up : (names : Names) (n m : ℕ) → n < 2 ^ 64 → path_cmp (version_path names n) (version_path names m) ≡ Less → n < m
+path_up names n m fits up =
+    elim (cases_lt n m) [
+      | inl lt ↦ lt
+      | inr ge ↦ elim (cases_eq m n) [
+        | inl same ↦
+            let level : path_cmp (version_path names n) (version_path names m) ≡ Equal = ap (λ k. path_cmp (version_path names n) (version_path names k)) same ∙ tied_itself path_cmp_total (version_path names n) in
+            let clash : Less ≡ Equal = sym up ∙ level in
+            absurd (cc)
+        | inr apart ↦
+            let back = reversed (version_path names m) (version_path names n) Less (version_order names m n (omega (arith, ge, apart)) fits) in
+            let clash : Less ≡ Greater = sym up ∙ back in
+            absurd (cc)
+      ]
+    ]

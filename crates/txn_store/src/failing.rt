@@ -5,9 +5,8 @@ ghost use Rattle.txn_store.specs.declared.failing.Counts.{Counts};
 ghost use Rattle.txn_store.specs.CallCounts.{no_calls, one_put, one_get, one_list, one_delete};
 
 use crate::count::Count;
-use crate::page::Page;
 use crate::path::Path;
-use crate::store::{Got, ObjectStore, PutMode, StoreError, Token};
+use crate::store::{Got, ObjectStore, Paged, PutMode, StoreError, Token};
 use bytes::Bytes;
 use std::alloc::Global;
 
@@ -142,13 +141,7 @@ impl<S: ObjectStore> ObjectStore for FailingStore<S> {
         }
     }
 
-    fn list(
-        &mut self,
-        alloc: Global,
-        prefix: &Path,
-        after: Option<&Path>,
-        limit: u64,
-    ) -> Result<Page, StoreError>
+    fn list(&mut self, alloc: Global, prefix: &Path, after: Option<&Path>, limit: u64) -> Paged
         requires { 1 ≤ limit }
         ensures meaning { Lists prefix.now (option_copied after.entry) limit (failing_state (S.state self.old.inner) self.old.failed self.old.withheld) result
             (failing_state (S.state self.new.inner) self.new.failed self.new.withheld) }

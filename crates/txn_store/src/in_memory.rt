@@ -6,11 +6,12 @@ ghost use Rattle.txn_store.specs.MemoryServes.{lacks_memory};
 ghost use Rattle.txn_store.specs.Store.{put_fault, listing, page_of};
 
 use crate::count::Count;
-use crate::page::Page;
 use crate::path::Path;
 use crate::request::{Reply, Request};
 use crate::sorted::SortedFiles;
-use crate::store::{Got, ObjectStore, PutMode, StoreError, Token, fault_of_get, fault_of_put};
+use crate::store::{
+    Got, ObjectStore, Paged, PutMode, StoreError, Token, fault_of_get, fault_of_put,
+};
 use bytes::Bytes;
 use std::alloc::{AllocError, Global};
 use std::marker::Model;
@@ -201,13 +202,7 @@ impl ObjectStore for InMemory {
         Ok(got.try_clone()?)
     }
 
-    fn list(
-        &mut self,
-        alloc: Global,
-        prefix: &Path,
-        after: Option<&Path>,
-        limit: u64,
-    ) -> Result<Page, StoreError>
+    fn list(&mut self, alloc: Global, prefix: &Path, after: Option<&Path>, limit: u64) -> Paged
         ensures meaning { Lists prefix.now (option_copied after.entry) limit (searched_state self.old) result (searched_state self.new) }
         ensures exact { IsExact (Ok (page_of limit (listing prefix.now (option_copied after.entry) (finmap.entries self.old.memory.files)))) result }
         ensures same { self.new.memory ≡ called self.old.memory }

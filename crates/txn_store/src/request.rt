@@ -3,9 +3,8 @@ ghost use Rattle.std.specs.Prelude.{◌≡◌, IfOk};
 ghost use Rattle.std.specs.Option.{option_copied};
 ghost use Rattle.txn_store.specs.Requests.{Serves, HasLimit};
 
-use crate::page::Page;
 use crate::path::Path;
-use crate::store::{Got, ObjectStore, PutMode, StoreError, Token};
+use crate::store::{Got, ObjectStore, Paged, PutMode, StoreError, Token};
 use bytes::Bytes;
 use std::alloc::{AllocError, Global};
 
@@ -92,7 +91,7 @@ impl Request {
 pub enum Reply {
     Put(Result<Token, StoreError>),
     Get(Result<Got, StoreError>),
-    List(Result<Page, StoreError>),
+    List(Paged),
     Delete(Result<(), StoreError>),
 }
 

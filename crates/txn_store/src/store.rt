@@ -154,6 +154,9 @@ pub fn fault_of_get(known: Option<Token>, got: &Got) -> Option<StoreError>
     }
 }
 
+/// What a listing answers.
+pub type Paged = Result<Page, StoreError>;
+
 /// Files under paths. Its meaning is a finite map from paths to files, the tokens given so far and how many are
 /// left, and counts of calls and failures that contracts alone read.
 ///
@@ -175,13 +178,7 @@ pub trait ObjectStore {
 
     /// A page of the files strictly below a prefix, by whole segments, and above the path `after` where one is given:
     /// the first `limit` of them in the order of their paths, and whether another follows. The limit is at least 1.
-    fn list(
-        &mut self,
-        alloc: Global,
-        prefix: &Path,
-        after: Option<&Path>,
-        limit: u64,
-    ) -> Result<Page, StoreError>
+    fn list(&mut self, alloc: Global, prefix: &Path, after: Option<&Path>, limit: u64) -> Paged
         requires { 1 ≤ limit }
         ensures { Lists prefix.now (option_copied after.entry) limit (state self.old) result (state self.new) };
 

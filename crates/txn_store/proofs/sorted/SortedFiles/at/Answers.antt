@@ -5,7 +5,8 @@ use Rattle.txn_store.specs.Sorted.{IsPlace, StandsAt}
 use Rattle.txn_store.specs.Paths.{Segments}
 use Rattle.txn_store.specs.declared.store.Got.{Got}
 use Rattle.txn_store.specs.declared.sorted.Mark.TheVariants.{Path}
-use Rattle.txn_store.proofs.SortedLemmas.{Entries, entries_are}
+use Rattle.txn_store.proofs.EntryLemmas.{Entries}
+use Rattle.txn_store.proofs.SortedLemmas.{entries_are}
 use Rattle.txn_store.proofs.PlaceLemmas.{there_within, there_is, got_at, none_between}
 use Rattle.txn_store.proofs.sorted.SortedFiles.at.Goals as goal
 use Rattle.txn_store.proofs.sorted.SortedFiles.at.Goals.{In-Ok}

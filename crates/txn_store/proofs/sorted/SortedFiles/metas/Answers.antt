@@ -4,7 +4,8 @@ use Rattle.std.specs.FinMap.{entries}
 use Rattle.std.specs.VecDeque.Iter.{deque_iter_rest}
 use Rattle.txn_store.specs.Store.{meta_of}
 use Rattle.txn_store.specs.declared.store.ObjectMeta.{ObjectMeta}
-use Rattle.txn_store.proofs.SortedLemmas.{Entries, entries_are}
+use Rattle.txn_store.proofs.EntryLemmas.{Entries}
+use Rattle.txn_store.proofs.SortedLemmas.{entries_are}
 use Rattle.txn_store.proofs.PlaceLemmas.{one_told, all_told}
 use Rattle.txn_store.proofs.sorted.SortedFiles.metas.Goals as goal
 

@@ -1,7 +1,8 @@
 -- Each comparison leaves at most half of what a search may still have to look at.
 use Rattle.std.proofs.Common.{◌∙◌, sym, subst, arith}
 use Rattle.txn_store.specs.Sorted.{StandsAt, StandsBetween}
-use Rattle.txn_store.proofs.SortedLemmas.{Entries, entries_are, narrows_all, narrows_up, narrows_down, stands_at, stands_between, few_at_first, few_more, few_at_last}
+use Rattle.txn_store.proofs.EntryLemmas.{Entries}
+use Rattle.txn_store.proofs.SortedLemmas.{entries_are, narrows_all, narrows_up, narrows_down, stands_at, stands_between, few_at_first, few_more, few_at_last}
 use Rattle.txn_store.proofs.sorted.SortedFiles.search.Goals as goal
 
 pub loop-low-init : goal.loop-low-init
