@@ -1,74 +1,27 @@
 -- The ids of the versions within bounds, of all files below the directory.
-use Rattle.std.proofs.Common.{◌≡◌, ◌⊎◌, ℕ, ◌<◌, ◌^◌, ◌==◌, Bool, true, false, T, List, [], ◌∷◌, map, Option, Some, None, refl, sym, ap, subst, ◌∙◌, inl, inr, arith}
+use Rattle.std.proofs.Common.{◌≡◌, ◌⊎◌, ℕ, ◌<◌, ◌^◌, ◌==◌, Bool, true, false, T, List, [], ◌∷◌, Option, Some, None, refl, sym, ap, subst, ◌∙◌, inl, inr, arith}
 use Rattle.std.specs.List.{list_any, AllByRecursion}
 use Rattle.std.specs.List.Sorted.{IsStrictlySortedBy}
 use Rattle.std.specs.FinMap.{entries, is_sorted, entries_sorted, contains_key-keys}
 use Rattle.std.specs.FinMap.Entries.{below_all}
-use Rattle.std.specs.Ordering.{eq_by_cmp, is_eq, is_lt, nat_cmp}
-use Rattle.std.specs.Cmp.{tied_itself, nat_cmp_is}
-use Rattle.std.specs.declared.cmp.Ordering.{Ordering}
-use Rattle.std.specs.declared.cmp.Ordering.TheVariants.{Less, Equal, Greater}
+use Rattle.std.specs.Ordering.{nat_cmp}
+use Rattle.std.specs.Cmp.{nat_cmp_is}
+use Rattle.std.specs.declared.cmp.Ordering.TheVariants.{Less}
 use Rattle.std.specs.declared.ops.Bound.{Bound}
-use Rattle.std.proofs.lemmas.Bool.{cases_Bool, cases_eq, cases_lt, or_cases, or_left, or_right, eqb-true, eq-eqb}
+use Rattle.std.proofs.lemmas.Bool.{cases_Bool, or_cases, or_left, or_right, eqb-true, eq-eqb}
 use Rattle.txn_store.specs.Paths.{Segments, path_cmp, is_below}
 use Rattle.txn_store.specs.VersionName.{Names, version_path}
 use Rattle.txn_store.specs.VersionOf.{version_of}
 use Rattle.txn_store.specs.Store.{Files, listing}
 use Rattle.txn_store.specs.declared.store.Got.{Got}
-use Rattle.txn_store.proofs.FileLemmas.{path_cmp_total, path_cmp-IsAntisymmetric}
-use Rattle.txn_store.proofs.SortedLemmas.{reversed}
+use Rattle.txn_store.proofs.EntryLemmas.{is_at, at_first, at_rest, at_cases, later, first_sorted, rest_sorted}
 use Rattle.txn_store.proofs.VersionOfLemmas.{version_of_path, path_of_version, version_below, one_path}
-use Rattle.txn_store.proofs.VersionOrder.{version_order}
+use Rattle.txn_store.proofs.VersionOrder.{path_up}
 use Rattle.txn_types.specs.Numbers.{is_within}
 use Rattle.txn_steps.specs.Listed.{Listed}
 use Rattle.txn_steps.specs.Picked.{picked}
 use Rattle.txn_drivers.specs.PageCount.{files_below}
-use Rattle.txn_drivers.proofs.NextPages.{first_part, rest_part, is_less}
 use Rattle.txn_drivers.specs.ListRuns.{ids_of, is_listed, AreStored}
-
-tied : (o : Ordering) → is_eq o ≡ true → o ≡ Equal
-tied Less h = cc
-tied Equal h = refl
-tied Greater h = cc
-
--- a path is among the entries
-abbrev is_at : Segments → List (Segments × Got) → Bool
-is_at path es = list_any (eq_by_cmp path_cmp path) (map (λ e. e.0) es)
-
-at_first : (e : Segments × Got) (es : List (Segments × Got)) (path : Segments) → path ≡ e.0 → is_at path (e ∷ es) ≡ true
-at_first e es path is = or_left (eq_by_cmp path_cmp path e.0) (is_at path es) (ap (λ p. eq_by_cmp path_cmp p e.0) is ∙ ap is_eq (tied_itself path_cmp_total e.0))
-
-at_rest : (e : Segments × Got) (es : List (Segments × Got)) (path : Segments) → is_at path es ≡ true → is_at path (e ∷ es) ≡ true
-at_rest e es path h = or_right (eq_by_cmp path_cmp path e.0) (is_at path es) h
-
-at_cases : (e : Segments × Got) (es : List (Segments × Got)) (path : Segments) → is_at path (e ∷ es) ≡ true → (path ≡ e.0) ⊎ (is_at path es ≡ true)
-at_cases e es path h = elim (or_cases (eq_by_cmp path_cmp path e.0) (is_at path es) h) [ inl here ↦ inl (path_cmp-IsAntisymmetric path e.0 (tied (path_cmp path e.0) here)) | inr rest ↦ inr rest ]
-
--- what comes after an entry stands behind its path
-later : (path : Segments) (es : List (Segments × Got)) → T (below_all path_cmp path es) → (q : Segments) → is_at q es ≡ true → path_cmp path q ≡ Less
-later path [] h q at = cc
-later path (e ∷ es) h q at =
-    elim (at_cases e es q at) [
-      | inl here ↦ ap (path_cmp path) here ∙ is_less (path_cmp path e.0) (first_part (is_lt (path_cmp path e.0)) (below_all path_cmp path es) h)
-      | inr rest ↦ later path es (rest_part (is_lt (path_cmp path e.0)) (below_all path_cmp path es) h) q rest
-    ]
-
--- a version whose path stands behind another's has a greater id
-path_up : (names : Names) (n m : ℕ) → n < 2 ^ 64 → path_cmp (version_path names n) (version_path names m) ≡ Less → n < m
-path_up names n m fits up =
-    elim (cases_lt n m) [
-      | inl lt ↦ lt
-      | inr ge ↦ elim (cases_eq m n) [
-        | inl same ↦
-            let level : path_cmp (version_path names n) (version_path names m) ≡ Equal = ap (λ k. path_cmp (version_path names n) (version_path names k)) same ∙ tied_itself path_cmp_total (version_path names n) in
-            let clash : Less ≡ Equal = sym up ∙ level in
-            absurd (cc)
-        | inr apart ↦
-            let back = reversed (version_path names m) (version_path names n) Less (version_order names m n (omega (arith, ge, apart)) fits) in
-            let clash : Less ≡ Greater = sym up ∙ back in
-            absurd (cc)
-      ]
-    ]
 
 -- an id among others
 
@@ -165,8 +118,8 @@ module _ (names : Names) (from to : Bound ℕ) where
   unfolding IsStrictlySortedBy
   ascending [] sorted = tt
   ascending (e ∷ es) sorted =
-      let rest = ascending es (rest_part (below_all path_cmp e.0 es) (is_sorted path_cmp es) sorted) in
-      let first : T (below_all path_cmp e.0 es) = subst T (sym (first_part (below_all path_cmp e.0 es) (is_sorted path_cmp es) sorted)) tt in
+      let rest = ascending es (rest_sorted e es sorted) in
+      let first : T (below_all path_cmp e.0 es) = first_sorted e es sorted in
       elim (one_more e es) [
         | inl one ↦ subst (IsStrictlySortedBy nat_cmp) (sym one.ids)
             (all_in one.id (ids_of (chosen es)) (λ n h. path_up names one.id n one.fits (ap (λ p. path_cmp p (version_path names n)) (sym one.path) ∙ later e.0 es first (version_path names n) (each_stored es n h).2)), rest)

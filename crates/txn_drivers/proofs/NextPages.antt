@@ -18,27 +18,12 @@ use Rattle.txn_store.specs.Store.{Files, is_above, listing, meta_of}
 use Rattle.txn_store.specs.VersionName.{Names}
 use Rattle.txn_store.specs.declared.store.Got.{Got}
 use Rattle.txn_store.specs.declared.store.ObjectMeta.{ObjectMeta}
+use Rattle.txn_store.proofs.EntryLemmas.{is_less, first_behind, rest_behind, first_sorted, rest_sorted}
 use Rattle.txn_store.proofs.FileLemmas.{path_cmp_total}
 use Rattle.txn_store.proofs.SortedLemmas.{reversed}
 use Rattle.txn_steps.specs.Requests.{last_location}
 use Rattle.txn_drivers.specs.LatestReads.{HasPages}
 use Rattle.txn_drivers.specs.PageCount.{page_count, pages_below}
-
-Entries : Type 0
-Entries = List (Segments × Got)
-
-pub first_part : (a b : Bool) → T (a && b) → a ≡ true
-first_part true b h = refl
-first_part false b h = absurd h
-
-pub rest_part : (a b : Bool) → T (a && b) → T b
-rest_part true b h = h
-rest_part false b h = absurd h
-
-pub is_less : (o : Ordering) → is_lt o ≡ true → o ≡ Less
-is_less Less h = refl
-is_less Equal h = cc
-is_less Greater h = cc
 
 get_there : {A : Type 0} (xs : List A) (k : ℕ) → k < length xs → (x : A) × (slice_get xs k ≡ Some x)
 get_there [] k lt = absurd (omega (arith, lt))
@@ -66,8 +51,8 @@ module _ (prefix : Segments) where
   kept_behind : (path : Segments) (after : Option Segments) (es : List (Segments × Got)) → IsFirst path es → (k : ℕ) (e : Segments × Got) → slice_get (kept_of after es) k ≡ Some e → path_cmp path e.0 ≡ Less
   kept_behind path after [] first k e is = cc
   kept_behind path after (x ∷ es) first k e is =
-      let less = is_less (path_cmp path x.0) (first_part (is_lt (path_cmp path x.0)) (below_all path_cmp path es) first) in
-      let later : IsFirst path es = rest_part (is_lt (path_cmp path x.0)) (below_all path_cmp path es) first in
+      let less = first_behind path x es first in
+      let later : IsFirst path es = rest_behind path x es first in
       elim (cases_Bool (is_kept after x)) [
         | inr out ↦ kept_behind path after es later k e (rw out at is)
         | inl kept ↦ at_place k less (λ j at. kept_behind path after es later j e at) (rw kept at is)
@@ -85,8 +70,8 @@ module _ (prefix : Segments) where
   same_behind : (after : Option Segments) (x : Segments) (es : List (Segments × Got)) → is_above after x ≡ true → IsFirst x es → kept_of (Some x) es ≡ kept_of after es
   same_behind after x [] up first = refl
   same_behind after x (y ∷ es) up first =
-      let less = is_less (path_cmp x y.0) (first_part (is_lt (path_cmp x y.0)) (below_all path_cmp x es) first) in
-      let rest = same_behind after x es up (rest_part (is_lt (path_cmp x y.0)) (below_all path_cmp x es) first) in
+      let less = first_behind x y es first in
+      let rest = same_behind after x es up (rest_behind x y es first) in
       let here : is_kept (Some x) y ≡ is_kept after y = ap (λ (t : Bool). is_below prefix y.0 && t) (ap is_lt less ∙ sym (up_behind after x y.0 up less)) in
       elim (cases_Bool (is_kept after y)) [
         | inl kept ↦ rw (here ∙ kept, kept) (ap (λ (r : List (Segments × Got)). y ∷ r) rest)
@@ -106,17 +91,13 @@ module _ (prefix : Segments) where
   pub next_kept : (es : List (Segments × Got)) → T (is_sorted path_cmp es) → (after : Option Segments) (k : ℕ) (e : Segments × Got) → slice_get (kept_of after es) k ≡ Some e → kept_of (Some e.0) es ≡ drop (suc k) (kept_of after es)
   next_kept [] sorted after k e is = cc
   next_kept (x ∷ es) sorted after k e is =
-      let first : IsFirst x.0 es = whole_part (below_all path_cmp x.0 es) (is_sorted path_cmp es) sorted in
-      let later : T (is_sorted path_cmp es) = rest_part (below_all path_cmp x.0 es) (is_sorted path_cmp es) sorted in
+      let first : IsFirst x.0 es = first_sorted x es sorted in
+      let later : T (is_sorted path_cmp es) = rest_sorted x es sorted in
       elim (cases_Bool (is_kept after x)) [
         | inr out ↦ (let is' : slice_get (kept_of after es) k ≡ Some e = rw out at is in rw out (dropped (Some e.0) x es (not_up x.0 e.0 (path_cmp x.0 e.0) refl (ap is_lt (kept_behind x.0 after es first k e is'))) ∙ next_kept es later after k e is'))
         | inl kept ↦ rw kept (at_place k first (λ j at. next_kept es later after j e at) (and_parts (is_below prefix x.0) (is_above after x.0) kept).1 (rw kept at is))
       ]
     where
-      whole_part : (a b : Bool) → T (a && b) → T a
-      whole_part true b h = tt
-      whole_part false b h = absurd h
-
       at_place : (k : ℕ) → IsFirst x.0 es → ((j : ℕ) → slice_get (kept_of after es) j ≡ Some e → kept_of (Some e.0) es ≡ drop (suc j) (kept_of after es)) → is_above after x.0 ≡ true → slice_get (x ∷ kept_of after es) k ≡ Some e → kept_of (Some e.0) (x ∷ es) ≡ drop k (kept_of after es)
       at_place zero first rest up is =
           let same : e ≡ x = cc in

@@ -1,11 +1,10 @@
 -- A listing goes on, page by page, where the page before it ended.
-use Rattle.std.proofs.Common.{◌≡◌, ℕ, zero, suc, ◌+◌, ◌-◌, ◌<◌, ◌≤◌, ◌&&◌, Bool, true, false, cond, T, nat_lt, List, [], ◌∷◌, ◌++◌, length, take, drop, slice_get, Option, Some, None, refl, sym, ap, subst, ◌∙◌, inl, inr, arith}
+use Rattle.std.proofs.Common.{◌≡◌, ℕ, zero, suc, ◌+◌, ◌-◌, ◌<◌, ◌≤◌, Bool, true, false, cond, T, nat_lt, List, [], ◌∷◌, ◌++◌, length, take, drop, slice_get, Option, Some, None, refl, sym, ap, subst, ◌∙◌, inl, inr, arith}
 use Rattle.std.specs.Option.{option_map}
 use Rattle.std.specs.FinMap.{entries, entries_sorted, is_sorted}
 use Rattle.std.specs.FinMap.Entries.{below_all}
 use Rattle.std.specs.Ordering.{is_lt}
 use Rattle.std.specs.Cmp.{tied_itself}
-use Rattle.std.specs.declared.cmp.Ordering.{Ordering}
 use Rattle.std.specs.declared.cmp.Ordering.TheVariants.{Less, Equal, Greater}
 use Rattle.std.proofs.lemmas.Bool.{cases_Bool, ltb-true, ltb-false}
 use Rattle.std.proofs.lemmas.List.{take-append-drop, length-take-le, take_all, length-append}
@@ -13,22 +12,10 @@ use Rattle.txn_store.specs.Paths.{Segments, path_cmp, is_below}
 use Rattle.txn_store.specs.Store.{Files, meta_of, is_above, listing, page_of}
 use Rattle.txn_store.specs.declared.store.Got.{Got}
 use Rattle.txn_store.specs.declared.store.ObjectMeta.{ObjectMeta}
+use Rattle.txn_store.proofs.EntryLemmas.{first_behind, rest_behind, first_sorted, rest_sorted}
 use Rattle.txn_store.proofs.FileLemmas.{path_cmp_total}
 use Rattle.txn_store.proofs.SortedLemmas.{reversed}
 use Rattle.txn_steps.specs.Requests.{last_location, next_after}
-
-first_part : (a b : Bool) → T (a && b) → T a
-first_part true b h = tt
-first_part false b h = h
-
-rest_part : (a b : Bool) → T (a && b) → T b
-rest_part true b h = h
-rest_part false b h = absurd h
-
-is_less : (o : Ordering) → T (is_lt o) → o ≡ Less
-is_less Less h = refl
-is_less Equal h = absurd h
-is_less Greater h = absurd h
 
 -- an entry and those after it: the paths of the others stand behind its own
 module _ (prefix : Segments) where
@@ -36,8 +23,8 @@ module _ (prefix : Segments) where
   all_behind : (path : Segments) (es : List (Segments × Got)) → T (below_all path_cmp path es) → listing prefix (Some path) es ≡ listing prefix None es
   all_behind path [] below = refl
   all_behind path (e ∷ es) below =
-      let less : path_cmp path e.0 ≡ Less = is_less (path_cmp path e.0) (first_part (is_lt (path_cmp path e.0)) (below_all path_cmp path es) below) in
-      let rest = all_behind path es (rest_part (is_lt (path_cmp path e.0)) (below_all path_cmp path es) below) in
+      let less : path_cmp path e.0 ≡ Less = first_behind path e es below in
+      let rest = all_behind path es (rest_behind path e es below) in
       let up : is_above (Some path) e.0 ≡ true = ap is_lt less in
       elim (cases_Bool (is_below prefix e.0)) [
         | inl in_it ↦ rw (in_it, up) (ap (λ metas. meta_of e ∷ metas) rest)
@@ -53,8 +40,8 @@ module _ (prefix : Segments) where
   behind path [] [] m ys below e = absurd (cc)
   behind path [] (x ∷ xs) m ys below e = absurd (cc)
   behind path (entry ∷ es) xs m ys below e =
-      let less : path_cmp path entry.0 ≡ Less = is_less (path_cmp path entry.0) (first_part (is_lt (path_cmp path entry.0)) (below_all path_cmp path es) below) in
-      let more : T (below_all path_cmp path es) = rest_part (is_lt (path_cmp path entry.0)) (below_all path_cmp path es) below in
+      let less : path_cmp path entry.0 ≡ Less = first_behind path entry es below in
+      let more : T (below_all path_cmp path es) = rest_behind path entry es below in
       elim (cases_Bool (is_below prefix entry.0)) [
         | inl is ↦ behind_front path entry (listing prefix None es) xs m ys less (λ front tail. behind path es front m ys more tail) (rw is at e)
         | inr is ↦ behind path es xs m ys more (rw is at e)
@@ -83,8 +70,8 @@ module _ (prefix : Segments) where
   listing_after [] [] m ys sorted e = absurd (cc)
   listing_after [] (x ∷ xs) m ys sorted e = absurd (cc)
   listing_after (entry ∷ es) xs m ys sorted e =
-      let below : T (below_all path_cmp entry.0 es) = first_part (below_all path_cmp entry.0 es) (is_sorted path_cmp es) sorted in
-      let more : T (is_sorted path_cmp es) = rest_part (below_all path_cmp entry.0 es) (is_sorted path_cmp es) sorted in
+      let below : T (below_all path_cmp entry.0 es) = first_sorted entry es sorted in
+      let more : T (is_sorted path_cmp es) = rest_sorted entry es sorted in
       elim (cases_Bool (is_below prefix entry.0)) [
         | inl is ↦ after_front entry es xs m ys below is (λ front tail. listing_after es front m ys more tail) (rw is at e)
         | inr is ↦ rw is (listing_after es xs m ys more (rw is at e))
