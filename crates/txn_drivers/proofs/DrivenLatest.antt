@@ -34,20 +34,7 @@ module _ {T : Type 0} (names : Names) (page : ℕ) (room : 1 ≤ page) (decode :
 
   -- as many turns are left as one likes
   with_turns : (old new : State) (turns turns' : ℕ) (first latest : List Cached) (listed : Bool) (op : LatestOp T) (r : Running names page decode old new turns turns' first latest listed op) (left : ℕ) → Running names page decode old new (left + r.spent) left first latest listed op
-  with_turns old new turns turns' first latest listed op r left = record {
-    ascending = r.ascending;
-    small = r.small;
-    kept = r.kept;
-    spent = r.spent;
-    spent_is = refl;
-    has_spent = r.has_spent;
-    calls = r.calls;
-    calls_are = r.calls_are;
-    calls_most = r.calls_most;
-    failures_rise = r.failures_rise;
-    grown = r.grown;
-    holds = r.holds;
-  }
+  with_turns old new turns turns' first latest listed op r left = record { ascending = r.ascending; small = r.small; kept = r.kept; spent = r.spent; spent_is = refl; has_spent = r.has_spent; calls = r.calls; calls_are = r.calls_are; calls_most = r.calls_most; failures_rise = r.failures_rise; grown = r.grown; holds = r.holds }
 
   -- after a page it needs no more steps than a page that is asked for after another
   paged_few : (after : Option Segments) (found : Option ℕ) → steps_left true (paged_turned {T = T} names page after found).0 ≤ 5

@@ -217,16 +217,7 @@ module _ {T : Type 0} (names : Names) (path : Segments) (page : ℕ) (room : 1 �
 
       checks_by : (x : CheckOp × Turned (Result (Unit {0}) ℕ)) (told : Turned (Result (Option (ℕ × T)) TransactionalObjectError)) → x ≡ check_turned check b.caches reply → (c.op, turned_by_number told) ≡ unless_lacking (lacks_memory (turned_by_number told)) (Checks id value check) (checks_turned path id value x) → TellsErrorOf (reply_told reply) told → After n c told
       checks_by (k, Goes) Goes turned takes tells =
-          subst (At (n + 1) c) (sym (ap (λ p. p.0) takes)) (record {
-            before = at.before;
-            s = at.s;
-            began = at.began;
-            m = at.m;
-            found = at.found;
-            k = at.k;
-            few = at.few;
-            since = since_goes CheckSteps (check_begun at.m id) (checking b check) (checking c k) (at.before + at.k + 1) n at.since (one k Goes turned tt);
-          })
+          subst (At (n + 1) c) (sym (ap (λ p. p.0) takes)) (record { before = at.before; s = at.s; began = at.began; m = at.m; found = at.found; k = at.k; few = at.few; since = since_goes CheckSteps (check_begun at.m id) (checking b check) (checking c k) (at.before + at.k + 1) n at.since (one k Goes turned tt) })
       checks_by (k, Goes) (Done (Ok answer)) turned takes tells = let e = ap (λ p. p.1) takes in absurd (cc)
       checks_by (k, Done (Ok accepted)) Goes turned takes tells = let e = ap (λ p. p.1) takes in absurd (cc)
       checks_by (k, Done (Ok accepted)) (Done (Ok answer)) turned takes tells =
