@@ -11,8 +11,12 @@ ghost use Rattle.txn_steps.specs.Listed.{Listed};
 ghost use Rattle.txn_steps.specs.Listings.{listing_started};
 ghost use Rattle.txn_steps.specs.Writes.{unchecked_started};
 ghost use Rattle.txn_drivers.specs.DriveEnds.{WriteDriven, DeleteDriven, ListDriven};
+ghost use Rattle.txn_drivers.specs.DriveLaws.{write_unchecked_asks, delete_unchecked_asks, list_asks};
 ghost use Rattle.txn_drivers.specs.DriveRuns.{Scene, Drives};
 ghost use Rattle.txn_drivers.specs.DriveSteps.{WriteUncheckedSteps, DeleteUncheckedSteps, ListSteps};
+ghost use Rattle.txn_drivers.specs.ListRuns.{CanList};
+ghost use Rattle.txn_drivers.specs.RemovalRuns.{CanRemove};
+ghost use Rattle.txn_drivers.specs.WriteRuns.{CanWrite};
 
 use crate::listing::list_step;
 use crate::removal::removal_step;
@@ -27,8 +31,15 @@ use txn_store::store::ObjectStore;
 use txn_types::codec::ObjectCodec;
 use txn_types::layout::Layout;
 
+/// Where an operation runs: what it grows with, and the layout of its object.
+#[derive(Drop)]
+pub struct At<'a, C> {
+    pub alloc: Global,
+    pub layout: &'a Layout<C>,
+}
+
 /// An operation that can run alone, over the caches of its client and a store that it is lent.
-pub trait Drive<C> {
+pub trait Drive<C, S: ObjectStore> {
     ghost use Rattle.std.specs.Prelude.{◌≡◌, ℕ, None};
     ghost use Rattle.txn_types.specs.declared.layout.Layout.{Layout};
     ghost use Rattle.txn_caches.specs.declared.turned.Turned.{Turned};
@@ -45,35 +56,28 @@ pub trait Drive<C> {
     ghost leads: { Layout C → Scene Self → Turned Self.Answer → Scene Self → Type 0 };
 
     /// One look or one store call.
-    fn step<S: ObjectStore>(
-        &mut self,
-        alloc: Global,
-        store: &mut S,
-        layout: &Layout<C>,
-        caches: &mut Caches,
-    ) -> Turned<Self::Answer>
-        requires { asks layout.now self.old }
-        ensures { leads layout.now (record { op = self.old; caches = caches.old; store = S.state store.old }) result (record { op = self.new; caches = caches.new; store = S.state store.new }) };
+    fn step(&mut self, at: &At<C>, store: &mut S, caches: &mut Caches) -> Turned<Self::Answer>
+        requires { asks at.now.layout.now self.old }
+        ensures { leads at.now.layout.now (record { op = self.old; caches = caches.old; store = S.state store.old }) result (record { op = self.new; caches = caches.new; store = S.state store.new }) };
 
     /// Where it goes on, it asks again.
     ghost asks_again: { (layout : Layout C) (a b : Scene Self) → asks layout a.op → leads layout a Goes b → asks layout b.op };
 
     /// Runs it alone, one look or one store call a step, until it answers. None comes where the steps are spent first; it
     /// can then go on from where it is.
-    final fn drive<S: ObjectStore>(
+    final fn drive(
         &mut self,
-        alloc: Global,
+        at: &At<C>,
         store: &mut S,
-        layout: &Layout<C>,
         caches: &mut Caches,
         steps: u64,
     ) -> Option<Self::Answer>
-        requires { asks layout.now self.old }
-        ensures runs { Drives (leads layout.now) steps (record { op = self.old; caches = caches.old; store = S.state store.old }) result (record { op = self.new; caches = caches.new; store = S.state store.new }) }
-        ensures spent { result ≡ None → asks layout.now self.new }
+        requires { asks at.now.layout.now self.old }
+        ensures runs { Drives (leads at.now.layout.now) steps (record { op = self.old; caches = caches.old; store = S.state store.old }) result (record { op = self.new; caches = caches.new; store = S.state store.new }) }
+        ensures spent { result ≡ None → asks at.now.layout.now self.new }
     {
         'steps: for _step in 0..steps {
-            match self.step(alloc, store, layout, caches) {
+            match self.step(at, store, caches) {
                 Turned::Goes => {}
                 Turned::Done(answer) => return Some(answer),
             }
@@ -83,11 +87,7 @@ pub trait Drive<C> {
 }
 
 /// An unchecked write asks for its create, and then looks to hold what it created.
-impl<C> Drive<C> for WriteUncheckedOp {
-    ghost use Rattle.txn_drivers.specs.WriteRuns.{CanWrite};
-    ghost use Rattle.txn_drivers.specs.DriveSteps.{WriteUncheckedSteps};
-    ghost use Rattle.txn_drivers.specs.DriveLaws.{write_unchecked_asks};
-
+impl<C, S: ObjectStore> Drive<C, S> for WriteUncheckedOp {
     type Answer = WriteAnswer;
 
     ghost asks = { λ layout op. CanWrite op };
@@ -96,23 +96,13 @@ impl<C> Drive<C> for WriteUncheckedOp {
 
     ghost asks_again = { λ layout a b can step. write_unchecked_asks a b can step };
 
-    fn step<S: ObjectStore>(
-        &mut self,
-        alloc: Global,
-        store: &mut S,
-        _layout: &Layout<C>,
-        caches: &mut Caches,
-    ) -> Turned<WriteAnswer> {
-        write_step(alloc, &mut caches.latest, store, self)
+    fn step(&mut self, at: &At<C>, store: &mut S, caches: &mut Caches) -> Turned<WriteAnswer> {
+        write_step(at.alloc, &mut caches.latest, store, self)
     }
 }
 
 /// An unchecked delete asks for its removal, and then looks to drop what was held.
-impl<C> Drive<C> for DeleteUncheckedOp {
-    ghost use Rattle.txn_drivers.specs.RemovalRuns.{CanRemove};
-    ghost use Rattle.txn_drivers.specs.DriveSteps.{DeleteUncheckedSteps};
-    ghost use Rattle.txn_drivers.specs.DriveLaws.{delete_unchecked_asks};
-
+impl<C, S: ObjectStore> Drive<C, S> for DeleteUncheckedOp {
     type Answer = DeleteAnswer;
 
     ghost asks = { λ layout op. CanRemove op.step op.request };
@@ -121,24 +111,13 @@ impl<C> Drive<C> for DeleteUncheckedOp {
 
     ghost asks_again = { λ layout a b can step. delete_unchecked_asks a b can step };
 
-    fn step<S: ObjectStore>(
-        &mut self,
-        alloc: Global,
-        store: &mut S,
-        _layout: &Layout<C>,
-        caches: &mut Caches,
-    ) -> Turned<DeleteAnswer> {
-        removal_step(alloc, &mut caches.latest, store, self)
+    fn step(&mut self, at: &At<C>, store: &mut S, caches: &mut Caches) -> Turned<DeleteAnswer> {
+        removal_step(at.alloc, &mut caches.latest, store, self)
     }
 }
 
 /// A listing asks for page after page.
-impl<C> Drive<C> for ListOp {
-    ghost use Rattle.std.specs.Prelude.{◌≤◌};
-    ghost use Rattle.txn_drivers.specs.ListRuns.{CanList};
-    ghost use Rattle.txn_drivers.specs.DriveSteps.{ListSteps};
-    ghost use Rattle.txn_drivers.specs.DriveLaws.{list_asks};
-
+impl<C, S: ObjectStore> Drive<C, S> for ListOp {
     type Answer = ListAnswer;
 
     ghost asks = { λ layout op. CanList op.request × (1 ≤ layout.page) };
@@ -147,14 +126,8 @@ impl<C> Drive<C> for ListOp {
 
     ghost asks_again = { λ layout a b can step. (list_asks layout.names layout.page can.1 a b can.0 step, can.1) };
 
-    fn step<S: ObjectStore>(
-        &mut self,
-        alloc: Global,
-        store: &mut S,
-        layout: &Layout<C>,
-        _caches: &mut Caches,
-    ) -> Turned<ListAnswer> {
-        list_step(alloc, layout, store, self)
+    fn step(&mut self, at: &At<C>, store: &mut S, _caches: &mut Caches) -> Turned<ListAnswer> {
+        list_step(at.alloc, at.layout, store, self)
     }
 }
 

@@ -9,13 +9,13 @@ ghost use Rattle.txn_steps.specs.declared.delete.DeleteOp.{DeleteOp};
 ghost use Rattle.txn_steps.specs.declared.write.WriteOp.{WriteOp};
 ghost use Rattle.txn_steps.specs.Deletes.{delete_started};
 ghost use Rattle.txn_steps.specs.Writes.{write_started};
+ghost use Rattle.txn_drivers.specs.DriveChecked.{check_asks, advance_asks, write_asks, delete_asks};
 ghost use Rattle.txn_drivers.specs.DriveEnds.{AnswersWithin};
 ghost use Rattle.txn_drivers.specs.DriveRuns.{Scene, Drives};
-ghost use Rattle.txn_drivers.specs.DriveSteps.{CheckSteps, WriteSteps, DeleteSteps};
+ghost use Rattle.txn_drivers.specs.DriveSteps.{CanCheck, CheckSteps, CanAdvance, AdvanceSteps, CanWriteChecked, WriteSteps, CanDelete, DeleteSteps};
 
-use crate::drive::Drive;
+use crate::drive::{At, Drive};
 use crate::replies::reply_to;
-use std::alloc::Global;
 use txn_caches::advance::AdvanceOp;
 use txn_caches::caches::Caches;
 use txn_caches::check::CheckOp;
@@ -24,7 +24,6 @@ use txn_steps::delete::{DeleteAnswer, DeleteOp};
 use txn_steps::write::{WriteAnswer, WriteOp};
 use txn_store::store::ObjectStore;
 use txn_types::error::TransactionalObjectError;
-use txn_types::layout::Layout;
 
 /// What a check answers: that the id is above the boundary.
 pub type CheckAnswer = Result<(), TransactionalObjectError>;
@@ -33,10 +32,7 @@ pub type CheckAnswer = Result<(), TransactionalObjectError>;
 pub type AdvanceAnswer = Result<(), TransactionalObjectError>;
 
 /// A check looks at the cached boundary, reads the boundary's file between two looks, and drops what a refused id leaves.
-impl<C> Drive<C> for CheckOp {
-    ghost use Rattle.txn_drivers.specs.DriveSteps.{CanCheck, CheckSteps};
-    ghost use Rattle.txn_drivers.specs.DriveChecked.{check_asks};
-
+impl<C, S: ObjectStore> Drive<C, S> for CheckOp {
     type Answer = CheckAnswer;
 
     ghost asks = { λ layout op. CanCheck op };
@@ -45,23 +41,14 @@ impl<C> Drive<C> for CheckOp {
 
     ghost asks_again = { λ layout a b can step. check_asks a b can step };
 
-    fn step<S: ObjectStore>(
-        &mut self,
-        alloc: Global,
-        store: &mut S,
-        _layout: &Layout<C>,
-        caches: &mut Caches,
-    ) -> Turned<CheckAnswer> {
-        let reply = reply_to(alloc, store, self.ask());
+    fn step(&mut self, at: &At<C>, store: &mut S, caches: &mut Caches) -> Turned<CheckAnswer> {
+        let reply = reply_to(at.alloc, store, self.ask());
         self.take(caches, reply)
     }
 }
 
 /// An advance raises the boundary, and then looks to drop the versions that it fences.
-impl<C> Drive<C> for AdvanceOp {
-    ghost use Rattle.txn_drivers.specs.DriveSteps.{CanAdvance, AdvanceSteps};
-    ghost use Rattle.txn_drivers.specs.DriveChecked.{advance_asks};
-
+impl<C, S: ObjectStore> Drive<C, S> for AdvanceOp {
     type Answer = AdvanceAnswer;
 
     ghost asks = { λ layout op. CanAdvance op };
@@ -70,23 +57,14 @@ impl<C> Drive<C> for AdvanceOp {
 
     ghost asks_again = { λ layout a b can step. advance_asks layout.boundary a b can step };
 
-    fn step<S: ObjectStore>(
-        &mut self,
-        alloc: Global,
-        store: &mut S,
-        layout: &Layout<C>,
-        caches: &mut Caches,
-    ) -> Turned<AdvanceAnswer> {
-        let reply = reply_to(alloc, store, self.ask());
-        self.take(alloc, layout, caches, reply)
+    fn step(&mut self, at: &At<C>, store: &mut S, caches: &mut Caches) -> Turned<AdvanceAnswer> {
+        let reply = reply_to(at.alloc, store, self.ask());
+        self.take(at.alloc, at.layout, caches, reply)
     }
 }
 
 /// A write creates and holds its version, and then checks the id.
-impl<C> Drive<C> for WriteOp {
-    ghost use Rattle.txn_drivers.specs.DriveSteps.{CanWriteChecked, WriteSteps};
-    ghost use Rattle.txn_drivers.specs.DriveChecked.{write_asks};
-
+impl<C, S: ObjectStore> Drive<C, S> for WriteOp {
     type Answer = WriteAnswer;
 
     ghost asks = { λ layout op. CanWriteChecked op };
@@ -95,23 +73,14 @@ impl<C> Drive<C> for WriteOp {
 
     ghost asks_again = { λ layout a b can step. write_asks a b can step };
 
-    fn step<S: ObjectStore>(
-        &mut self,
-        alloc: Global,
-        store: &mut S,
-        _layout: &Layout<C>,
-        caches: &mut Caches,
-    ) -> Turned<WriteAnswer> {
-        let reply = reply_to(alloc, store, self.ask());
+    fn step(&mut self, at: &At<C>, store: &mut S, caches: &mut Caches) -> Turned<WriteAnswer> {
+        let reply = reply_to(at.alloc, store, self.ask());
         self.take(caches, reply)
     }
 }
 
 /// A delete checks its id, and where that is refused removes the version.
-impl<C> Drive<C> for DeleteOp {
-    ghost use Rattle.txn_drivers.specs.DriveSteps.{CanDelete, DeleteSteps};
-    ghost use Rattle.txn_drivers.specs.DriveChecked.{delete_asks};
-
+impl<C, S: ObjectStore> Drive<C, S> for DeleteOp {
     type Answer = DeleteAnswer;
 
     ghost asks = { λ layout op. CanDelete op };
@@ -120,14 +89,8 @@ impl<C> Drive<C> for DeleteOp {
 
     ghost asks_again = { λ layout a b can step. delete_asks a b can step };
 
-    fn step<S: ObjectStore>(
-        &mut self,
-        alloc: Global,
-        store: &mut S,
-        _layout: &Layout<C>,
-        caches: &mut Caches,
-    ) -> Turned<DeleteAnswer> {
-        let reply = reply_to(alloc, store, self.ask());
+    fn step(&mut self, at: &At<C>, store: &mut S, caches: &mut Caches) -> Turned<DeleteAnswer> {
+        let reply = reply_to(at.alloc, store, self.ask());
         self.take(caches, reply)
     }
 }

@@ -1,15 +1,15 @@
 //! Reads that run alone.
-ghost use Rattle.std.specs.Prelude.{◌≡◌, ℕ, Option, Result};
+ghost use Rattle.std.specs.Prelude.{◌≡◌, ℕ, ◌≤◌, Option, Result};
 ghost use Rattle.txn_types.specs.declared.error.TransactionalObjectError.{TransactionalObjectError};
 ghost use Rattle.txn_steps.specs.declared.seen.ReadSeenOp.{ReadSeenOp};
 ghost use Rattle.txn_steps.specs.declared.seen.ReadSeenOp.TheVariants as seen;
 ghost use Rattle.txn_drivers.specs.DriveEnds.{AnswersWithin};
+ghost use Rattle.txn_drivers.specs.DriveReads.{seen_asks, latest_asks, read_asks};
 ghost use Rattle.txn_drivers.specs.DriveRuns.{Scene, Drives};
-ghost use Rattle.txn_drivers.specs.DriveSteps.{SeenSteps};
+ghost use Rattle.txn_drivers.specs.DriveSteps.{CanReadSeen, SeenSteps, CanReadLatest, LatestSteps, CanRead, ReadSteps};
 
-use crate::drive::Drive;
+use crate::drive::{At, Drive};
 use crate::replies::reply_to;
-use std::alloc::Global;
 use txn_caches::caches::Caches;
 use txn_caches::turned::Turned;
 use txn_steps::latest::{LatestOp, ReadAnswer};
@@ -20,10 +20,7 @@ use txn_types::codec::ObjectCodec;
 use txn_types::layout::Layout;
 
 /// A read of one id looks at what is held, and else gets the version and looks to hold it.
-impl<T: Drop, C: ObjectCodec<T>> Drive<C> for ReadSeenOp<T> {
-    ghost use Rattle.txn_drivers.specs.DriveSteps.{CanReadSeen, SeenSteps};
-    ghost use Rattle.txn_drivers.specs.DriveReads.{seen_asks};
-
+impl<T: Drop, C: ObjectCodec<T>, S: ObjectStore> Drive<C, S> for ReadSeenOp<T> {
     type Answer = ValueAnswer<T>;
 
     ghost asks = { λ layout op. CanReadSeen op };
@@ -32,24 +29,14 @@ impl<T: Drop, C: ObjectCodec<T>> Drive<C> for ReadSeenOp<T> {
 
     ghost asks_again = { λ layout a b can step. seen_asks layout.names (C.decoded layout.codec) a b can step };
 
-    fn step<S: ObjectStore>(
-        &mut self,
-        alloc: Global,
-        store: &mut S,
-        layout: &Layout<C>,
-        caches: &mut Caches,
-    ) -> Turned<ValueAnswer<T>> {
-        let reply = reply_to(alloc, store, self.ask());
-        self.take(alloc, layout, &mut caches.latest, reply)
+    fn step(&mut self, at: &At<C>, store: &mut S, caches: &mut Caches) -> Turned<Self::Answer> {
+        let reply = reply_to(at.alloc, store, self.ask());
+        self.take(at.alloc, at.layout, &mut caches.latest, reply)
     }
 }
 
 /// An unchecked read probes from the greatest held version on, or lists and gets, a page or a version a call.
-impl<T: Drop, C: ObjectCodec<T>> Drive<C> for LatestOp<T> {
-    ghost use Rattle.std.specs.Prelude.{◌≤◌};
-    ghost use Rattle.txn_drivers.specs.DriveSteps.{CanReadLatest, LatestSteps};
-    ghost use Rattle.txn_drivers.specs.DriveReads.{latest_asks};
-
+impl<T: Drop, C: ObjectCodec<T>, S: ObjectStore> Drive<C, S> for LatestOp<T> {
     type Answer = ReadAnswer<T>;
 
     ghost asks = { λ layout op. CanReadLatest op × (1 ≤ layout.page) };
@@ -58,25 +45,15 @@ impl<T: Drop, C: ObjectCodec<T>> Drive<C> for LatestOp<T> {
 
     ghost asks_again = { λ layout a b can step. (latest_asks layout.names layout.page can.1 (C.decoded layout.codec) a b can.0 step, can.1) };
 
-    fn step<S: ObjectStore>(
-        &mut self,
-        alloc: Global,
-        store: &mut S,
-        layout: &Layout<C>,
-        caches: &mut Caches,
-    ) -> Turned<ReadAnswer<T>> {
-        let reply = reply_to(alloc, store, self.ask());
+    fn step(&mut self, at: &At<C>, store: &mut S, caches: &mut Caches) -> Turned<Self::Answer> {
+        let reply = reply_to(at.alloc, store, self.ask());
         let latest = &mut caches.latest;
-        self.take(alloc, layout, latest, reply)
+        self.take(at.alloc, at.layout, latest, reply)
     }
 }
 
 /// A read reads unchecked, and then checks the id that it found; where that is refused it starts again.
-impl<T: Drop, C: ObjectCodec<T>> Drive<C> for ReadOp<T> {
-    ghost use Rattle.std.specs.Prelude.{◌≤◌};
-    ghost use Rattle.txn_drivers.specs.DriveSteps.{CanRead, ReadSteps};
-    ghost use Rattle.txn_drivers.specs.DriveReads.{read_asks};
-
+impl<T: Drop, C: ObjectCodec<T>, S: ObjectStore> Drive<C, S> for ReadOp<T> {
     type Answer = ReadAnswer<T>;
 
     ghost asks = { λ layout op. CanRead op × (1 ≤ layout.page) };
@@ -85,15 +62,9 @@ impl<T: Drop, C: ObjectCodec<T>> Drive<C> for ReadOp<T> {
 
     ghost asks_again = { λ layout a b can step. (read_asks layout.names layout.page can.1 (C.decoded layout.codec) layout.boundary a b can.0 step, can.1) };
 
-    fn step<S: ObjectStore>(
-        &mut self,
-        alloc: Global,
-        store: &mut S,
-        layout: &Layout<C>,
-        caches: &mut Caches,
-    ) -> Turned<ReadAnswer<T>> {
-        let reply = reply_to(alloc, store, self.ask());
-        self.take(alloc, layout, caches, reply)
+    fn step(&mut self, at: &At<C>, store: &mut S, caches: &mut Caches) -> Turned<Self::Answer> {
+        let reply = reply_to(at.alloc, store, self.ask());
+        self.take(at.alloc, at.layout, caches, reply)
     }
 }
 

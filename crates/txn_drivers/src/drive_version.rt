@@ -1,8 +1,10 @@
 //! An unchecked read of one version that runs alone.
 ghost use Rattle.std.specs.Prelude.{◌≡◌, IfOk};
 ghost use Rattle.txn_steps.specs.Requests.{version_got};
+ghost use Rattle.txn_drivers.specs.DriveReads.{version_asks};
+ghost use Rattle.txn_drivers.specs.DriveSteps.{CanGet, ReadVersionSteps};
 
-use crate::drive::Drive;
+use crate::drive::{At, Drive};
 use crate::replies::reply_to;
 use std::alloc::{AllocError, Global};
 use std::marker::PhantomData;
@@ -40,10 +42,7 @@ impl<T> ReadVersion<T> {
 }
 
 /// It gets the version, and answers.
-impl<T, C: ObjectCodec<T>> Drive<C> for ReadVersion<T> {
-    ghost use Rattle.txn_drivers.specs.DriveSteps.{CanGet, ReadVersionSteps};
-    ghost use Rattle.txn_drivers.specs.DriveReads.{version_asks};
-
+impl<T, C: ObjectCodec<T>, S: ObjectStore> Drive<C, S> for ReadVersion<T> {
     type Answer = ValueAnswer<T>;
 
     ghost asks = { λ layout read. CanGet read.op.request };
@@ -52,14 +51,8 @@ impl<T, C: ObjectCodec<T>> Drive<C> for ReadVersion<T> {
 
     ghost asks_again = { λ layout a b can step. version_asks (C.decoded layout.codec) a b can step };
 
-    fn step<S: ObjectStore>(
-        &mut self,
-        alloc: Global,
-        store: &mut S,
-        layout: &Layout<C>,
-        _caches: &mut Caches,
-    ) -> Turned<ValueAnswer<T>> {
-        let reply = reply_to(alloc, store, self.op.ask());
-        self.op.take(alloc, layout, reply)
+    fn step(&mut self, at: &At<C>, store: &mut S, _caches: &mut Caches) -> Turned<Self::Answer> {
+        let reply = reply_to(at.alloc, store, self.op.ask());
+        self.op.take(at.alloc, at.layout, reply)
     }
 }

@@ -1,21 +1,20 @@
 //! The call that makes a view a holder, run alone.
 
 use crate::with_epochs::WithEpochs;
-use std::alloc::Global;
 use txn_caches::caches::Caches;
 use txn_caches::turned::Turned;
-use txn_drivers::drive::Drive;
+use txn_drivers::drive::{At, Drive};
 use txn_drivers::replies::reply_to;
 use txn_store::store::ObjectStore;
 use txn_types::codec::ObjectCodec;
 use txn_types::epoch::EpochField;
-use txn_types::layout::Layout;
 use txn_view_steps::claim::ClaimOp;
 use txn_view_steps::outcome::ViewAnswer;
 
 /// A claim writes its view's value with the next epoch, or with the one that is asked for, and where that is overtaken reads
 /// the newest version and tries again. It asks that a clone is the same value.
-impl<T: Clone, X: EpochField<T>, C: ObjectCodec<T>> Drive<C> for WithEpochs<ClaimOp<T>, X> {
+impl<T: Clone, X: EpochField<T>, C: ObjectCodec<T>, S: ObjectStore> Drive<C, S>
+    for WithEpochs<ClaimOp<T>, X> {
     ghost use Rattle.std.specs.Prelude.{◌≤◌};
     ghost use Rattle.txn_types.specs.Clones.{IsExactClone};
     ghost use Rattle.txn_view_drivers.specs.ClaimLaws.{claim_asks};
@@ -29,14 +28,9 @@ impl<T: Clone, X: EpochField<T>, C: ObjectCodec<T>> Drive<C> for WithEpochs<Clai
 
     ghost asks_again = { λ layout a b can step. (claim_asks layout.names layout.boundary layout.page can.1 (C.encoded layout.codec) (C.decoded layout.codec) X.epoch_of X.with_epoch a b can.0 step, can.1, can.2) };
 
-    fn step<S: ObjectStore>(
-        &mut self,
-        alloc: Global,
-        store: &mut S,
-        layout: &Layout<C>,
-        caches: &mut Caches,
-    ) -> Turned<ViewAnswer<T>> {
-        let reply = reply_to(alloc, store, self.op.ask());
-        self.op.take(alloc, layout, &self.epochs, caches, reply)
+    fn step(&mut self, at: &At<C>, store: &mut S, caches: &mut Caches) -> Turned<Self::Answer> {
+        let WithEpochs { op, epochs } = self;
+        let reply = reply_to(at.alloc, store, op.ask());
+        op.take(at.alloc, at.layout, epochs, caches, reply)
     }
 }

@@ -1,19 +1,17 @@
 //! A call that writes a value that a view then shows, run alone.
 
 use crate::call::ViewCall;
-use std::alloc::Global;
 use txn_caches::caches::Caches;
 use txn_caches::turned::Turned;
-use txn_drivers::drive::Drive;
+use txn_drivers::drive::{At, Drive};
 use txn_drivers::replies::reply_to;
 use txn_store::store::ObjectStore;
-use txn_types::layout::Layout;
 use txn_view_steps::entry::EntryOp;
 use txn_view_steps::outcome::ViewAnswer;
 
 /// It writes the first version, and makes a view of it; or it writes on a view's version, also on a holder's, and moves the
 /// view to it.
-impl<T: Drop, C> Drive<C> for ViewCall<EntryOp<T>> {
+impl<T: Drop, C, S: ObjectStore> Drive<C, S> for ViewCall<EntryOp<T>> {
     ghost use Rattle.txn_view_drivers.specs.CallLaws.{entry_asks};
     ghost use Rattle.txn_view_drivers.specs.CallRuns.{CanEnter, EntrySteps};
 
@@ -25,14 +23,8 @@ impl<T: Drop, C> Drive<C> for ViewCall<EntryOp<T>> {
 
     ghost asks_again = { λ layout a b can step. entry_asks a b can step };
 
-    fn step<S: ObjectStore>(
-        &mut self,
-        alloc: Global,
-        store: &mut S,
-        _layout: &Layout<C>,
-        caches: &mut Caches,
-    ) -> Turned<ViewAnswer<T>> {
-        let reply = reply_to(alloc, store, self.op.ask());
+    fn step(&mut self, at: &At<C>, store: &mut S, caches: &mut Caches) -> Turned<Self::Answer> {
+        let reply = reply_to(at.alloc, store, self.op.ask());
         self.op.take(caches, reply)
     }
 }

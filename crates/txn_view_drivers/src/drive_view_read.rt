@@ -1,21 +1,20 @@
 //! A call that reads the newest version for a view, run alone.
 
 use crate::with_epochs::WithEpochs;
-use std::alloc::Global;
 use txn_caches::caches::Caches;
 use txn_caches::turned::Turned;
-use txn_drivers::drive::Drive;
+use txn_drivers::drive::{At, Drive};
 use txn_drivers::replies::reply_to;
 use txn_store::store::ObjectStore;
 use txn_types::codec::ObjectCodec;
 use txn_types::epoch::EpochField;
-use txn_types::layout::Layout;
 use txn_view_steps::outcome::ViewAnswer;
 use txn_view_steps::view_read::ViewReadOp;
 
 /// It reads the newest version, and makes a view of it or moves its view to it; for a holder it tests the epoch. It asks that a
 /// clone is the same value.
-impl<T: Clone, X: EpochField<T>, C: ObjectCodec<T>> Drive<C> for WithEpochs<ViewReadOp<T>, X> {
+impl<T: Clone, X: EpochField<T>, C: ObjectCodec<T>, S: ObjectStore> Drive<C, S>
+    for WithEpochs<ViewReadOp<T>, X> {
     ghost use Rattle.std.specs.Prelude.{◌≤◌};
     ghost use Rattle.txn_types.specs.Clones.{IsExactClone};
     ghost use Rattle.txn_drivers.specs.DriveSteps.{CanRead};
@@ -30,14 +29,9 @@ impl<T: Clone, X: EpochField<T>, C: ObjectCodec<T>> Drive<C> for WithEpochs<View
 
     ghost asks_again = { λ layout a b can step. (view_read_asks layout.names layout.boundary layout.page can.1 (C.decoded layout.codec) X.epoch_of a b can.0 step, can.1, can.2) };
 
-    fn step<S: ObjectStore>(
-        &mut self,
-        alloc: Global,
-        store: &mut S,
-        layout: &Layout<C>,
-        caches: &mut Caches,
-    ) -> Turned<ViewAnswer<T>> {
-        let reply = reply_to(alloc, store, self.op.ask());
-        self.op.take(alloc, layout, &self.epochs, caches, reply)
+    fn step(&mut self, at: &At<C>, store: &mut S, caches: &mut Caches) -> Turned<Self::Answer> {
+        let WithEpochs { op, epochs } = self;
+        let reply = reply_to(at.alloc, store, op.ask());
+        op.take(at.alloc, at.layout, epochs, caches, reply)
     }
 }

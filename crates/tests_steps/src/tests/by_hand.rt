@@ -71,10 +71,22 @@ fn is_call(ask: Ask<'_>) -> bool {
     }
 }
 
-/// What a hand drives.
-trait Driven {
+/// A read that a hand drives.
+#[derive(Drop)]
+enum Read {
+    /// One that no boundary checks.
+    Unchecked(LatestOp<u64>),
+    Checked(ReadOp<u64>),
+}
+
+impl Read {
     /// Whether it asks for a call of the store, and not for a look.
-    fn calls(&self) -> bool;
+    fn calls(&self) -> bool {
+        match self {
+            Read::Unchecked(op) => is_call(op.ask()),
+            Read::Checked(op) => is_call(op.ask()),
+        }
+    }
 
     /// Takes a reply, or none for a look, and says its answer, or that it goes on. What it didn't ask for is a failure.
     fn turn(
@@ -83,45 +95,15 @@ trait Driven {
         layout: &Layout<NumberCodec>,
         caches: &mut Caches,
         reply: Option<Reply>,
-    ) -> Result<Told, Fail>;
-}
-
-impl Driven for LatestOp<u64> {
-    fn calls(&self) -> bool {
-        is_call(self.ask())
-    }
-
-    fn turn(
-        &mut self,
-        alloc: Global,
-        layout: &Layout<NumberCodec>,
-        caches: &mut Caches,
-        reply: Option<Reply>,
     ) -> Result<Told, Fail> {
-        if fits_latest(self, &reply) {
-            Ok(said(self.take(alloc, layout, &mut caches.latest, reply)))
-        } else {
-            of_another_kind(reply)
-        }
-    }
-}
-
-impl Driven for ReadOp<u64> {
-    fn calls(&self) -> bool {
-        is_call(self.ask())
-    }
-
-    fn turn(
-        &mut self,
-        alloc: Global,
-        layout: &Layout<NumberCodec>,
-        caches: &mut Caches,
-        reply: Option<Reply>,
-    ) -> Result<Told, Fail> {
-        if fits_read(self, &reply) {
-            Ok(said(self.take(alloc, layout, caches, reply)))
-        } else {
-            of_another_kind(reply)
+        match self {
+            Read::Unchecked(op) if fits_latest(op, &reply) => {
+                Ok(said(op.take(alloc, layout, &mut caches.latest, reply)))
+            }
+            Read::Checked(op) if fits_read(op, &reply) => {
+                Ok(said(op.take(alloc, layout, caches, reply)))
+            }
+            _ => of_another_kind(reply),
         }
     }
 }
@@ -147,11 +129,11 @@ type Played = (Told, usize, u64);
 const STEPS: u64 = 40;
 
 /// Drives a read to its answer, and drops it.
-fn drive<O: Driven + Drop>(
+fn drive(
     alloc: Global,
     layout: &Layout<NumberCodec>,
     caches: &mut Caches,
-    op: O,
+    op: Read,
     made: &[Made],
 ) -> Result<Played, Fail> {
     let mut op = op;
@@ -159,11 +141,11 @@ fn drive<O: Driven + Drop>(
 }
 
 /// The same, of a read that its caller drops.
-fn drive_on<O: Driven>(
+fn drive_on(
     alloc: Global,
     layout: &Layout<NumberCodec>,
     caches: &mut Caches,
-    op: &mut O,
+    op: &mut Read,
     made: &[Made],
 ) -> Result<Played, Fail> {
     let (mut calls, mut looks) = (0usize, 0u64);
@@ -197,7 +179,8 @@ fn latest(
     ids: &[u64],
 ) -> Result<(Played, bool), Fail> {
     let layout = a_layout(alloc, PAGE, NumberCodec)?;
-    let played = drive(alloc, &layout, caches, LatestOp::<u64>::start(), made)?;
+    let op = Read::Unchecked(LatestOp::start());
+    let played = drive(alloc, &layout, caches, op, made)?;
     Ok((played, holds(&caches.latest, ids)))
 }
 
@@ -218,7 +201,7 @@ fn test_latest_read_invalidates_cache_when_list_is_empty(rt: HostRuntime) -> Res
 fn newest(alloc: Global, made: &[Made], ids: &[u64]) -> Result<(Played, bool), Fail> {
     let layout = a_layout(alloc, PAGE, NumberCodec)?;
     let mut caches = Caches::new();
-    let op = ReadOp::<u64>::start(&layout)?;
+    let op = Read::Checked(ReadOp::start(&layout)?);
     let played = drive(alloc, &layout, &mut caches, op, made)?;
     Ok((played, holds(&caches.latest, ids)))
 }

@@ -9,6 +9,7 @@ use txn_caches::caches::Caches;
 use txn_caches::check::CheckOp;
 use txn_caches::turned::Turned;
 use txn_caches::window::Window;
+use txn_drivers::drive::At;
 use txn_drivers::drive_version::ReadVersion;
 use txn_steps::delete::{DeleteOp, DeleteUncheckedOp};
 use txn_steps::latest::LatestOp;
@@ -19,7 +20,6 @@ use txn_steps::versions::Listed;
 use txn_steps::write::{WriteOp, WriteUncheckedOp};
 use txn_store::path::Path;
 use txn_types::id::MonotonicId;
-use txn_types::layout::Layout;
 use txn_types::test_utils::NumberCodec;
 
 /// An operation, or something done beside it.
@@ -115,59 +115,53 @@ fn beside(alloc: Global, place: &mut Place, call: Call) -> Told {
 }
 
 impl Play<NumberCodec> for Call {
-    fn play(
-        self,
-        alloc: Global,
-        layout: &Layout<NumberCodec>,
-        place: &mut Place,
-        steps: u64,
-    ) -> Result<Told, Error> {
+    fn play(self, at: &At<NumberCodec>, place: &mut Place, steps: u64) -> Result<Told, Error> {
         Ok(match self {
             Call::Check(id) => {
-                let op = CheckOp::start(layout, MonotonicId::new(id))?;
-                said(driven(alloc, layout, place, op, steps))
+                let op = CheckOp::start(at.layout, MonotonicId::new(id))?;
+                said(driven(at, place, op, steps))
             }
             Call::Advance(target) => {
                 let op = AdvanceOp::start(MonotonicId::new(target));
-                said(driven(alloc, layout, place, op, steps))
+                said(driven(at, place, op, steps))
             }
             Call::Write(on, value) => {
-                let op = WriteOp::start(alloc, layout, base(on), &value)?;
-                said(driven(alloc, layout, place, op, steps))
+                let op = WriteOp::start(at.alloc, at.layout, base(on), &value)?;
+                said(driven(at, place, op, steps))
             }
             Call::WriteUnchecked(on, value) => {
-                let op = WriteUncheckedOp::start(alloc, layout, base(on), &value)?;
-                said(driven(alloc, layout, place, op, steps))
+                let op = WriteUncheckedOp::start(at.alloc, at.layout, base(on), &value)?;
+                said(driven(at, place, op, steps))
             }
             Call::Delete(id) => {
-                let op = DeleteOp::start(alloc, layout, MonotonicId::new(id))?;
-                said(driven(alloc, layout, place, op, steps))
+                let op = DeleteOp::start(at.alloc, at.layout, MonotonicId::new(id))?;
+                said(driven(at, place, op, steps))
             }
             Call::DeleteUnchecked(id) => {
-                let op = DeleteUncheckedOp::start(alloc, layout, MonotonicId::new(id))?;
-                said(driven(alloc, layout, place, op, steps))
+                let op = DeleteUncheckedOp::start(at.alloc, at.layout, MonotonicId::new(id))?;
+                said(driven(at, place, op, steps))
             }
             Call::Read => {
-                let op = ReadOp::<u64>::start(layout)?;
-                said(driven(alloc, layout, place, op, steps))
+                let op = ReadOp::<u64>::start(at.layout)?;
+                said(driven(at, place, op, steps))
             }
             Call::Latest => {
                 let op = LatestOp::<u64>::start();
-                said(driven(alloc, layout, place, op, steps))
+                said(driven(at, place, op, steps))
             }
             Call::ReadUnchecked(id) => {
-                let op = ReadVersion::<u64>::start(alloc, layout, MonotonicId::new(id))?;
-                said(driven(alloc, layout, place, op, steps))
+                let op = ReadVersion::<u64>::start(at.alloc, at.layout, MonotonicId::new(id))?;
+                said(driven(at, place, op, steps))
             }
             Call::ReadSeen(id) => {
                 let op = ReadSeenOp::<u64>::start(MonotonicId::new(id));
-                said(driven(alloc, layout, place, op, steps))
+                said(driven(at, place, op, steps))
             }
             Call::Lists(from, to, ids) => {
-                let op = ListOp::start(alloc, layout, from, to)?;
-                listed(driven(alloc, layout, place, op, steps), ids)
+                let op = ListOp::start(at.alloc, at.layout, from, to)?;
+                listed(driven(at, place, op, steps), ids)
             }
-            _ => beside(alloc, place, self),
+            _ => beside(at.alloc, place, self),
         })
     }
 }

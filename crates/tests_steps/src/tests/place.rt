@@ -8,7 +8,7 @@ use std::alloc::Global;
 use std::mem;
 use txn_caches::caches::Caches;
 use txn_caches::turned::Turned;
-use txn_drivers::drive::Drive;
+use txn_drivers::drive::{At, Drive};
 use txn_lines::record::Record;
 use txn_store::failing::{FailingStore, When};
 use txn_store::in_memory::InMemory;
@@ -123,14 +123,13 @@ impl Place {
 }
 
 /// Drives an operation for so many steps and drops it. That is proved once here, for any of them.
-pub(crate) fn driven<C, A: Drop, O: Drive<C, Answer = A> + Drop>(
-    alloc: Global,
-    layout: &Layout<C>,
+pub(crate) fn driven<C, A: Drop, O: Drive<C, Store, Answer = A> + Drop>(
+    at: &At<C>,
     place: &mut Place,
     op: O,
     steps: u64,
 ) -> Turned<A>
-    requires { O.asks layout.now op }
+    requires { O.asks at.now.layout.now op }
 {
     let mut op = op;
     let Place {
@@ -140,12 +139,12 @@ pub(crate) fn driven<C, A: Drop, O: Drive<C, Answer = A> + Drop>(
         ..
     } = place;
     let caches = &mut client.caches;
-    match op.drive(alloc, store, layout, caches, steps.saturating_sub(1)) {
+    match op.drive(at, store, caches, steps.saturating_sub(1)) {
         Some(answer) => {
             *early = true;
             Turned::Done(answer)
         }
-        None => op.step(alloc, store, layout, caches),
+        None => op.step(at, store, caches),
     }
 }
 
@@ -154,33 +153,20 @@ pub(crate) trait Play<C> {
     ghost use Rattle.std.specs.Prelude.{◌≤◌};
 
     /// Plays it, driven for so many steps at most, or says why it cannot be started.
-    fn play(
-        self,
-        alloc: Global,
-        layout: &Layout<C>,
-        place: &mut Place,
-        steps: u64,
-    ) -> Result<Told, Error>
-        requires { 1 ≤ layout.now.page };
+    fn play(self, at: &At<C>, place: &mut Place, steps: u64) -> Result<Told, Error>
+        requires { 1 ≤ at.now.layout.now.page };
 }
 
 /// What a call says, how many calls of the store it made, and whether it was done with fewer steps than it was given.
 type Played = (Told, u64, bool);
 
 /// Makes a client's call, driven for so many steps.
-fn played<C, K: Play<C>>(
-    alloc: Global,
-    layout: &Layout<C>,
-    place: &mut Place,
-    seat: Seat,
-    call: K,
-    steps: u64,
-) -> Played
-    requires { 1 ≤ layout.now.page }
+fn played<C, K: Play<C>>(at: &At<C>, place: &mut Place, seat: Seat, call: K, steps: u64) -> Played
+    requires { 1 ≤ at.now.layout.now.page }
 {
     place.seat(seat);
     place.begin();
-    let told = match call.play(alloc, layout, place, steps) {
+    let told = match call.play(at, place, steps) {
         Ok(told) => told,
         Err(error) => Fails(error.number()),
     };
@@ -196,18 +182,17 @@ pub(crate) type Scenario<K> = (&'static str, &'static [Row<K>]);
 
 /// The first row that goes otherwise, counted from 0, with what it says and takes, where there is one.
 fn other_in<C, K: Play<C> + Copy>(
-    alloc: Global,
-    layout: &Layout<C>,
+    at: &At<C>,
     place: &mut Place,
     rows: &[Row<K>],
 ) -> Option<(usize, Played)>
-    requires { 1 ≤ layout.now.page }
+    requires { 1 ≤ at.now.layout.now.page }
 {
-    for (at, (seat, call, said, calls, looks)) in rows.iter().enumerate() {
+    for (index, (seat, call, said, calls, looks)) in rows.iter().enumerate() {
         let steps = calls.saturating_add(*looks);
-        let played = played(alloc, layout, place, *seat, *call, steps);
+        let played = played(at, place, *seat, *call, steps);
         if played != (*said, *calls, false) {
-            return Some((at, played));
+            return Some((index, played));
         }
     }
     None
@@ -224,7 +209,11 @@ pub(crate) fn other<C: Drop, K: Play<C> + Copy>(
     requires { 1 ≤ page }
 {
     let layout = a_layout(alloc, page, codec)?;
-    Ok(other_in(alloc, &layout, &mut a_place(alloc, nth), rows))
+    let at = At {
+        alloc,
+        layout: &layout,
+    };
+    Ok(other_in(&at, &mut a_place(alloc, nth), rows))
 }
 
 /// The first of these scenarios that goes otherwise, counted from 0, with the row that does, where there is one.

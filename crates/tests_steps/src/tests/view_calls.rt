@@ -6,10 +6,9 @@ ghost use Rattle.txn_view_drivers.specs.ClaimSteps.{CanClaim};
 use crate::tests::place::{Place, Play, View, driven};
 use crate::tests::told::Told::{Fails, GoesOn, Held, Is, Shut, Viewed};
 use crate::tests::told::{Error, Told, said};
-use std::alloc::Global;
+use txn_drivers::drive::At;
 use txn_lines::record::{Record, RecordCodec, RecordEpoch};
 use txn_types::id::MonotonicId;
-use txn_types::layout::Layout;
 use txn_view_drivers::call::ViewCall;
 use txn_view_drivers::with_epochs::WithEpochs;
 use txn_view_steps::claim::ClaimOp;
@@ -62,12 +61,12 @@ fn left(view: Option<View>, step: Step, told: Told) -> Option<View> {
 }
 
 /// The other client's update, where there is one. What it calls is not counted as the call's own.
-fn overtake(alloc: Global, layout: &Layout<RecordCodec>, place: &mut Place, beside: Beside) {
+fn overtake(at: &At<RecordCodec>, place: &mut Place, beside: Beside) {
     if let Some((id, epoch, payload)) = beside {
         place.turn();
         let value = Record { epoch, payload };
-        let op = EntryOp::start(alloc, layout, Some(MonotonicId::new(id)), &value);
-        let _ = written(alloc, layout, place, op, 5);
+        let op = EntryOp::start(at.alloc, at.layout, Some(MonotonicId::new(id)), &value);
+        let _ = written(at, place, op, 5);
         place.turn();
         place.begin();
     }
@@ -75,23 +74,21 @@ fn overtake(alloc: Global, layout: &Layout<RecordCodec>, place: &mut Place, besi
 
 /// A step that reads the newest version for a view.
 fn view_read(
-    alloc: Global,
-    layout: &Layout<RecordCodec>,
+    at: &At<RecordCodec>,
     place: &mut Place,
     purpose: Purpose,
     steps: u64,
 ) -> Result<Told, Error>
-    requires { 1 ≤ layout.now.page }
+    requires { 1 ≤ at.now.layout.now.page }
 {
-    let op = ViewReadOp::<Record>::start(layout, purpose)?;
+    let op = ViewReadOp::<Record>::start(at.layout, purpose)?;
     let epochs = RecordEpoch;
-    Ok(said(driven(alloc, layout, place, WithEpochs { op, epochs }, steps)))
+    Ok(said(driven(at, place, WithEpochs { op, epochs }, steps)))
 }
 
 /// A step that writes a record, once the write is started.
 fn written(
-    alloc: Global,
-    layout: &Layout<RecordCodec>,
+    at: &At<RecordCodec>,
     place: &mut Place,
     op: Result<EntryOp<Record>, Error>,
     steps: u64,
@@ -99,107 +96,98 @@ fn written(
     requires { IfOk op (λ op. CanEnter op) }
 {
     let op = op?;
-    Ok(said(driven(alloc, layout, place, ViewCall { op }, steps)))
+    Ok(said(driven(at, place, ViewCall { op }, steps)))
 }
 
 /// A step that claims a view, once the claim is started.
 fn claimed(
-    alloc: Global,
-    layout: &Layout<RecordCodec>,
+    at: &At<RecordCodec>,
     place: &mut Place,
     op: Result<ClaimOp<Record>, Error>,
     beside: Beside,
     steps: u64,
 ) -> Result<Told, Error>
-    requires page { 1 ≤ layout.now.page }
+    requires page { 1 ≤ at.now.layout.now.page }
     requires asks { IfOk op (λ op. CanClaim op.claiming) }
 {
     let op = op?;
     let epochs = RecordEpoch;
-    overtake(alloc, layout, place, beside);
-    Ok(said(driven(alloc, layout, place, WithEpochs { op, epochs }, steps)))
+    overtake(at, place, beside);
+    Ok(said(driven(at, place, WithEpochs { op, epochs }, steps)))
 }
 
 /// A step that uses a view.
 fn on_view(
-    alloc: Global,
-    layout: &Layout<RecordCodec>,
+    at: &At<RecordCodec>,
     place: &mut Place,
     view: View,
     step: Step,
     steps: u64,
 ) -> Result<Told, Error>
-    requires { 1 ≤ layout.now.page }
+    requires { 1 ≤ at.now.layout.now.page }
 {
     match step {
         Step::Update(epoch, payload) => {
             let next = Record { epoch, payload };
-            let op = EntryOp::start(alloc, layout, Some(view.id), &next);
-            written(alloc, layout, place, op, steps)
+            let op = EntryOp::start(at.alloc, at.layout, Some(view.id), &next);
+            written(at, place, op, steps)
         }
         Step::Claim(beside) => {
-            let op = ClaimOp::start(alloc, layout, &RecordEpoch, None, view.id, &view.value);
-            claimed(alloc, layout, place, op, beside, steps)
+            let op = ClaimOp::start(
+                at.alloc,
+                at.layout,
+                &RecordEpoch,
+                None,
+                view.id,
+                &view.value,
+            );
+            claimed(at, place, op, beside, steps)
         }
         Step::ClaimAt(epoch, beside) => {
             let op = ClaimOp::start(
-                alloc,
-                layout,
+                at.alloc,
+                at.layout,
                 &RecordEpoch,
                 Some(epoch),
                 view.id,
                 &view.value,
             );
-            claimed(alloc, layout, place, op, beside, steps)
+            claimed(at, place, op, beside, steps)
         }
-        Step::HolderRefresh => {
-            view_read(
-                alloc,
-                layout,
-                place,
-                Purpose::HolderRefresh(view.held),
-                steps,
-            )
-        }
+        Step::HolderRefresh => view_read(at, place, Purpose::HolderRefresh(view.held), steps),
         Step::HolderUpdate(epoch, payload) => {
             let View { id, value, held } = view;
             let next = Record { epoch, payload };
             let op = EntryOp::start_for_holder(
-                alloc,
-                layout,
+                at.alloc,
+                at.layout,
                 &RecordEpoch,
                 held,
                 id,
                 &value,
                 &next,
             );
-            written(alloc, layout, place, op, steps)
+            written(at, place, op, steps)
         }
         _ => Ok(GoesOn),
     }
 }
 
 /// What a step says, or why it is not started. One that lacks its view goes on, as no row says.
-fn stepped(
-    alloc: Global,
-    layout: &Layout<RecordCodec>,
-    place: &mut Place,
-    step: Step,
-    steps: u64,
-) -> Result<Told, Error>
-    requires { 1 ≤ layout.now.page }
+fn stepped(at: &At<RecordCodec>, place: &mut Place, step: Step, steps: u64) -> Result<Told, Error>
+    requires { 1 ≤ at.now.layout.now.page }
 {
     match step {
         Step::Has(id, epoch, payload) => Ok(Viewed(id, epoch, payload)),
-        Step::Boundary(bytes) => Ok(Is(place.put(&layout.boundary, bytes))),
+        Step::Boundary(bytes) => Ok(Is(place.put(&at.layout.boundary, bytes))),
         Step::Init(epoch, payload) => {
-            let op = EntryOp::start(alloc, layout, None, &Record { epoch, payload });
-            written(alloc, layout, place, op, steps)
+            let op = EntryOp::start(at.alloc, at.layout, None, &Record { epoch, payload });
+            written(at, place, op, steps)
         }
-        Step::Load => view_read(alloc, layout, place, Purpose::Load, steps),
-        Step::Refresh => view_read(alloc, layout, place, Purpose::Refresh, steps),
+        Step::Load => view_read(at, place, Purpose::Load, steps),
+        Step::Refresh => view_read(at, place, Purpose::Refresh, steps),
         _ => match place.client.view {
-            Some(view) => on_view(alloc, layout, place, view, step, steps),
+            Some(view) => on_view(at, place, view, step, steps),
             None => Ok(GoesOn),
         },
     }
@@ -207,14 +195,8 @@ fn stepped(
 
 /// The client's view follows what its step says.
 impl Play<RecordCodec> for Step {
-    fn play(
-        self,
-        alloc: Global,
-        layout: &Layout<RecordCodec>,
-        place: &mut Place,
-        steps: u64,
-    ) -> Result<Told, Error> {
-        let told = match stepped(alloc, layout, place, self, steps) {
+    fn play(self, at: &At<RecordCodec>, place: &mut Place, steps: u64) -> Result<Told, Error> {
+        let told = match stepped(at, place, self, steps) {
             Ok(told) => told,
             Err(error) => Fails(error.number()),
         };
