@@ -1,16 +1,12 @@
 -- What a page of a listing of the store tells: of the newest version, and of the ids within bounds.
 use Rattle.std.proofs.Common.{◌≡◌, nat_eq, ℕ, suc, ◌-◌, ◌<◌, ◌≤◌, ◌^◌, ◌&&◌, Bool, true, false, cond, T, List, [], ◌∷◌, ◌++◌, length, map, take, filter, slice_get, is_some, Option, Some, None, ◌⊎◌, inl, inr, refl, sym, ◌∙◌, ap, subst, arith}
-use Rattle.std.specs.List.{list_any}
 use Rattle.std.specs.List.Sorted.{IsStrictlySortedBy}
 use Rattle.std.specs.Option.{option_map}
 use Rattle.std.specs.FinMap.{get, entries, is_sorted, entries_sorted, contains_key-keys}
 use Rattle.std.specs.FinMap.Entries.{below_all}
-use Rattle.std.specs.Ordering.{eq_by_cmp, is_eq, is_lt, nat_cmp}
-use Rattle.std.specs.Cmp.{tied_itself}
-use Rattle.std.specs.declared.cmp.Ordering.{Ordering}
-use Rattle.std.specs.declared.cmp.Ordering.TheVariants.{Less, Equal, Greater}
+use Rattle.std.specs.Ordering.{is_lt, nat_cmp}
 use Rattle.std.specs.declared.ops.Bound.{Bound}
-use Rattle.std.proofs.lemmas.Bool.{cases_Bool, cases_lt, cases_eq, both_ways, and_parts, or_cases, or_left, or_right, ltb-true, ltb-false}
+use Rattle.std.proofs.lemmas.Bool.{cases_Bool, cases_lt, both_ways, and_parts, or_cases, or_left, or_right, ltb-true, ltb-false}
 use Rattle.std.proofs.lemmas.List.{length-map, length-take-le, take-map, take_all, map-append}
 use Rattle.std.proofs.lemmas.List.Folds.{list_any-append}
 use Rattle.std.proofs.lemmas.Option.{same_Some}
@@ -22,10 +18,9 @@ use Rattle.txn_store.specs.declared.page.Page.{Page}
 use Rattle.txn_store.specs.declared.store.Got.{Got}
 use Rattle.txn_store.specs.declared.store.ObjectMeta.{ObjectMeta}
 use Rattle.txn_store.specs.declared.request.Request.{Request}
-use Rattle.txn_store.proofs.FileLemmas.{path_cmp_total}
-use Rattle.txn_store.proofs.SortedLemmas.{reversed}
+use Rattle.txn_store.proofs.EntryLemmas.{is_less, first_sorted, rest_sorted, is_at, at_first, at_rest, at_cases, later}
 use Rattle.txn_store.proofs.VersionOfLemmas.{version_of_path, path_of_version, version_below, one_path}
-use Rattle.txn_store.proofs.VersionOrder.{version_order}
+use Rattle.txn_store.proofs.VersionOrder.{version_order, path_up}
 use Rattle.txn_types.specs.Numbers.{is_within}
 use Rattle.txn_steps.specs.Latest.{greater_of, greatest_from}
 use Rattle.txn_steps.specs.Listed.{Listed}
@@ -35,70 +30,10 @@ use Rattle.txn_machine_inner.specs.PlainTrace.{PlainRow}
 use Rattle.txn_history.specs.Names.{world_names}
 use Rattle.txn_history.specs.History.{newest, boundary}
 use Rattle.txn_history.specs.Facts.{Lists}
-use Rattle.txn_history.proofs.Apart.{tied_path}
 use Rattle.txn_machine_inner.specs.Doing.{ids_of}
 use Rattle.txn_machine_inner.proofs.ListedIds.{is_in, AscendsFrom, last_or, greatest_of, in_first, in_rest, in_cases, last_in, last_least, ascends_within, take_ascends, take_in, take_has, filter_ascends, filter_in, filter_has, sorted_append, greatest_one, greatest_most}
 use Rattle.txn_machine_inner.proofs.Stands.{IsVersionPath, AllVersions, BeginsAfter, Found, IsKnown, KnowsFound, ListingStands, CollectingStands, KnowStands, is_there}
 use Rattle.txn_machine_inner.proofs.Stored.{there_above}
-
--- the paths of versions
-
-itself : (path : Segments) → eq_by_cmp path_cmp path path ≡ true
-itself path = ap is_eq (tied_itself path_cmp_total path)
-
--- a version whose path stands after another's has a greater id
-path_up : (n m : ℕ) → n < 2 ^ 64 → path_cmp (version_path world_names n) (version_path world_names m) ≡ Less → n < m
-path_up n m fits up =
-    elim (cases_lt n m) [
-      | inl lt ↦ lt
-      | inr ge ↦ elim (cases_eq m n) [
-        | inl same ↦
-            let tied : path_cmp (version_path world_names n) (version_path world_names m) ≡ Equal = ap (λ k. path_cmp (version_path world_names n) (version_path world_names k)) same ∙ tied_itself path_cmp_total (version_path world_names n) in
-            let clash : Less ≡ Equal = sym up ∙ tied in
-            absurd (cc)
-        | inr apart ↦
-            let back = reversed (version_path world_names m) (version_path world_names n) Less (version_order world_names m n (omega (arith, ge, apart)) fits) in
-            let clash : Less ≡ Greater = sym up ∙ back in
-            absurd (cc)
-      ]
-    ]
-
-is_less : (o : Ordering) → is_lt o ≡ true → o ≡ Less
-is_less Less h = refl
-is_less Equal h = cc
-is_less Greater h = cc
-
--- the entries of the store
-
--- a path is among the entries
-abbrev is_at : Segments → List (Segments × Got) → Bool
-is_at path es = list_any (eq_by_cmp path_cmp path) (map (λ e. e.0) es)
-
-at_first : (e : Segments × Got) (es : List (Segments × Got)) (path : Segments) → path ≡ e.0 → is_at path (e ∷ es) ≡ true
-at_first e es path is = or_left (eq_by_cmp path_cmp path e.0) (is_at path es) (ap (λ p. eq_by_cmp path_cmp p e.0) is ∙ itself e.0)
-
-at_rest : (e : Segments × Got) (es : List (Segments × Got)) (path : Segments) → is_at path es ≡ true → is_at path (e ∷ es) ≡ true
-at_rest e es path h = or_right (eq_by_cmp path_cmp path e.0) (is_at path es) h
-
-at_cases : (e : Segments × Got) (es : List (Segments × Got)) (path : Segments) → is_at path (e ∷ es) ≡ true → (path ≡ e.0) ⊎ (is_at path es ≡ true)
-at_cases e es path h = elim (or_cases (eq_by_cmp path_cmp path e.0) (is_at path es) h) [ inl here ↦ inl (tied_path path e.0 here) | inr rest ↦ inr rest ]
-
-first_part : (a b : Bool) → T (a && b) → a ≡ true
-first_part true b h = refl
-first_part false b h = absurd h
-
-rest_part : (a b : Bool) → T (a && b) → T b
-rest_part true b h = h
-rest_part false b h = absurd h
-
--- what comes after an entry stands after its path
-later : (path : Segments) (es : List (Segments × Got)) → T (below_all path_cmp path es) → (q : Segments) → is_at q es ≡ true → path_cmp path q ≡ Less
-later path [] h q at = cc
-later path (e ∷ es) h q at =
-    elim (at_cases e es q at) [
-      | inl here ↦ ap (path_cmp path) here ∙ is_less (path_cmp path e.0) (first_part (is_lt (path_cmp path e.0)) (below_all path_cmp path es) h)
-      | inr rest ↦ later path es (rest_part (is_lt (path_cmp path e.0)) (below_all path_cmp path es) h) q rest
-    ]
 
 -- what a listing keeps
 abbrev is_kept : Option Segments → Segments × Got → Bool
@@ -163,12 +98,12 @@ listed after low e es v up rest =
 
 -- the entries after a version's are above it
 above_first : (after : Option Segments) (e : Segments × Got) (es : List (Segments × Got)) (v : IsVersionPath e.0) → T (below_all path_cmp e.0 es) → AllAbove v.0 after es
-above_first after e es v below n fits above at = path_up v.0 n v.1 (ap (λ p. path_cmp p (version_path world_names n)) (sym v.2) ∙ later e.0 es below (version_path world_names n) at)
+above_first after e es v below n fits above at = path_up world_names v.0 n v.1 (ap (λ p. path_cmp p (version_path world_names n)) (sym v.2) ∙ later e.0 es below (version_path world_names n) at)
 
 whole : (after : Option Segments) (low : ℕ) (es : List (Segments × Got)) → T (is_sorted path_cmp es) → AllNamed es → AllAbove low after es → Whole after low es (listing world_names.dir after es)
 whole after low [] sorted named above = record { ids = []; are = refl; ascends = tt; stored = λ n h. cc; all = λ n fits up at. cc }
 whole after low (e ∷ es) sorted named above =
-    let others : T (is_sorted path_cmp es) = rest_part (below_all path_cmp e.0 es) (is_sorted path_cmp es) sorted in
+    let others : T (is_sorted path_cmp es) = rest_sorted e es sorted in
     let names : AllNamed es = λ path at. named path (at_rest e es path at) in
     elim (cases_Bool (is_kept after e)) [
       | inr out ↦ rw out (dropped after low e es out (whole after low es others names (λ n fits up at. above n fits up (at_rest e es (version_path world_names n) at))))
@@ -176,11 +111,8 @@ whole after low (e ∷ es) sorted named above =
           let parts = and_parts (is_below world_names.dir e.0) (is_after after e.0) kept in
           let v = named e.0 (at_first e es e.0 refl) parts.0 in
           let up = above v.0 v.1 (ap (is_after after) (sym v.2) ∙ parts.1) (at_first e es (version_path world_names v.0) (sym v.2)) in
-          rw kept (listed after low e es v up (whole after v.0 es others names (above_first after e es v (below_first e.0 es sorted))))
+          rw kept (listed after low e es v up (whole after v.0 es others names (above_first after e es v (first_sorted e es sorted))))
     ]
-  where
-    below_first : (path : Segments) (es : List (Segments × Got)) → T (below_all path_cmp path es && is_sorted path_cmp es) → T (below_all path_cmp path es)
-    below_first path es h = subst T (sym (first_part (below_all path_cmp path es) (is_sorted path_cmp es) h)) tt
 
 -- what the versions of a page are to a read, and to a listing of ids
 
@@ -298,7 +230,7 @@ module _ {T : Type 0} (decode : List ℕ → Option T) (get_epoch : T → ℕ) (
   begins_above after reached (inr path) le n fits up at =
       let small = k.history.small in
       let far : is_lt (path_cmp (version_path world_names reached) (version_path world_names n)) ≡ true = sym (ap (λ (a : Option Segments). is_after a (version_path world_names n)) path) ∙ up in
-      path_up reached n (omega (arith, le, small)) (is_less (path_cmp (version_path world_names reached) (version_path world_names n)) far)
+      path_up world_names reached n (omega (arith, le, small)) (is_less (path_cmp (version_path world_names reached) (version_path world_names n)) far)
 
   page_tells : (after : Option Segments) (reached limit : ℕ) → BeginsAfter after reached → reached ≤ newest rows → PageTells store.files reached (page after limit).metas (page after limit).more
   page_tells after reached limit begins le =
