@@ -2,7 +2,7 @@
 ghost use Rattle.std.specs.Prelude.{◌≡◌, ◌≤◌, IsOk, OnOk, OnErr};
 ghost use Rattle.std.specs.Option.{option_copied};
 ghost use Rattle.std.specs.FinMap as finmap;
-ghost use Rattle.txn_store.specs.Store.{put_fault, known_fault, listing, page_of};
+ghost use Rattle.txn_store.specs.Store.{put_fault, listing, page_of};
 
 use crate::listed::Listed;
 use bytes::Bytes;
@@ -11,7 +11,9 @@ use std::marker::Model;
 use txn_store::in_memory::InMemory;
 use txn_store::page::{Listing, Page};
 use txn_store::path::Path;
-use txn_store::store::{Got, ObjectStore, PutMode, StoreError, Token};
+use txn_store::store::{
+    Got, ObjectStore, Paged, PutMode, StoreError, Token, fault_of_get, fault_of_put,
+};
 
 /// Files in a list, in the order in which their paths were first written. Its tokens are 1, 2, 3 and so on, and the greatest
 /// u64 is the last. It never fails. A clause sees the files as a finite map, the first token, the token to come and the count
@@ -60,28 +62,6 @@ impl ListStore {
     }
 }
 
-/// Why a put is refused by the file that stands under its path.
-fn fault_of_put(mode: &PutMode, now: Option<&Got>) -> Option<StoreError>
-    ensures { result ≡ put_fault mode.now (option_copied now.entry) }
-{
-    match (mode, now) {
-        (PutMode::Create, Some(_)) => Some(StoreError::AlreadyExists),
-        (PutMode::Update(token), Some(got)) if got.token == *token => None,
-        (PutMode::Update(_), _) => Some(StoreError::Precondition),
-        _ => None,
-    }
-}
-
-/// Why a get is refused by the file that stands under its path.
-fn fault_of_get(known: Option<Token>, got: &Got) -> Option<StoreError>
-    ensures { result ≡ known_fault known got.now }
-{
-    match known {
-        Some(token) if got.token == token => Some(StoreError::NotModified),
-        _ => None,
-    }
-}
-
 impl ObjectStore for ListStore {
     ghost use Rattle.txn_store.specs.Store.{Puts, Gets, Lists, Deletes};
     ghost use Rattle.txn_store.specs.Memory.{state_of, called, with_file, without_file, put_answer, get_answer, IsExact};
@@ -123,13 +103,7 @@ impl ObjectStore for ListStore {
         Ok(got.try_clone()?)
     }
 
-    fn list(
-        &mut self,
-        alloc: Global,
-        prefix: &Path,
-        after: Option<&Path>,
-        limit: u64,
-    ) -> Result<Page, StoreError>
+    fn list(&mut self, alloc: Global, prefix: &Path, after: Option<&Path>, limit: u64) -> Paged
         ensures meaning { Lists prefix.now (option_copied after.entry) limit (state_of self.old) result (state_of self.new) }
         ensures exact { IsExact (Ok (page_of limit (listing prefix.now (option_copied after.entry) (finmap.entries self.old.files)))) result }
         ensures same { self.new ≡ called self.old }
