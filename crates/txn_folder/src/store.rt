@@ -14,10 +14,9 @@ use std::rt::{Clock, Files};
 use std::time::SystemTime;
 use txn_files::fault::{Doing, Fault, Halt};
 use txn_files::lock::LockFile;
-use txn_store::page::Page;
 use txn_store::path::Path;
 use txn_store::request::{Reply, Request};
-use txn_store::store::{Got, PutMode, StoreError, Token};
+use txn_store::store::{Got, Paged, PutMode, StoreError, Token};
 use txn_store::version_names::VersionNames;
 
 /// The files of one object in a folder, under the names that requests have for them.
@@ -245,13 +244,7 @@ where
         }
     }
 
-    fn list(
-        &mut self,
-        alloc: Global,
-        prefix: &Path,
-        after: Option<&Path>,
-        limit: u64,
-    ) -> Result<Page, StoreError>
+    fn list(&mut self, alloc: Global, prefix: &Path, after: Option<&Path>, limit: u64) -> Paged
         requires { is_some self.old.fault ≡ false }
         ensures error { IfErr result IsHalt }
         ensures fault { is_some self.new.fault ≡ has_failed result }
