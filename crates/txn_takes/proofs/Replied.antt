@@ -78,42 +78,26 @@ look (Some reply) fits = absurd fits
 got : (request : Request) (reply : Option Reply) → CanGet request → FitsAsk (Some request) reply → IsGot reply
 got request None can fits = absurd fits
 got (requests.Get path known) (Some (replies.Get answer)) can fits = tt
-got (requests.Get path known) (Some (replies.Put answer)) can fits = absurd fits
-got (requests.Get path known) (Some (replies.List answer)) can fits = absurd fits
-got (requests.Get path known) (Some (replies.Delete answer)) can fits = absurd fits
-got (requests.Put path bytes mode) (Some reply) can fits = absurd can
-got (requests.List prefix after limit) (Some reply) can fits = absurd can
-got (requests.Delete path) (Some reply) can fits = absurd can
+got (requests.Get path known) (Some reply) can fits = absurd fits
+got request (Some reply) can fits = absurd can
 
 put : (request : Request) (reply : Option Reply) → CanPut request → FitsAsk (Some request) reply → IsPut reply
 put request None can fits = absurd fits
 put (requests.Put path bytes mode) (Some (replies.Put answer)) can fits = tt
-put (requests.Put path bytes mode) (Some (replies.Get answer)) can fits = absurd fits
-put (requests.Put path bytes mode) (Some (replies.List answer)) can fits = absurd fits
-put (requests.Put path bytes mode) (Some (replies.Delete answer)) can fits = absurd fits
-put (requests.Get path known) (Some reply) can fits = absurd can
-put (requests.List prefix after limit) (Some reply) can fits = absurd can
-put (requests.Delete path) (Some reply) can fits = absurd can
+put (requests.Put path bytes mode) (Some reply) can fits = absurd fits
+put request (Some reply) can fits = absurd can
 
 listed : (request : Request) (reply : Option Reply) → CanList request → FitsAsk (Some request) reply → IsListed reply
 listed request None can fits = absurd fits
 listed (requests.List prefix after limit) (Some (replies.List answer)) can fits = tt
-listed (requests.List prefix after limit) (Some (replies.Put answer)) can fits = absurd fits
-listed (requests.List prefix after limit) (Some (replies.Get answer)) can fits = absurd fits
-listed (requests.List prefix after limit) (Some (replies.Delete answer)) can fits = absurd fits
-listed (requests.Put path bytes mode) (Some reply) can fits = absurd can
-listed (requests.Get path known) (Some reply) can fits = absurd can
-listed (requests.Delete path) (Some reply) can fits = absurd can
+listed (requests.List prefix after limit) (Some reply) can fits = absurd fits
+listed request (Some reply) can fits = absurd can
 
 deleted : (request : Request) (reply : Option Reply) → CanRemove removals.Removes request → FitsAsk (Some request) reply → IsDeleted reply
 deleted request None can fits = absurd fits
 deleted (requests.Delete path) (Some (replies.Delete answer)) can fits = tt
-deleted (requests.Delete path) (Some (replies.Put answer)) can fits = absurd fits
-deleted (requests.Delete path) (Some (replies.Get answer)) can fits = absurd fits
-deleted (requests.Delete path) (Some (replies.List answer)) can fits = absurd fits
-deleted (requests.Put path bytes mode) (Some reply) can fits = absurd can
-deleted (requests.Get path known) (Some reply) can fits = absurd can
-deleted (requests.List prefix after limit) (Some reply) can fits = absurd can
+deleted (requests.Delete path) (Some reply) can fits = absurd fits
+deleted request (Some reply) can fits = absurd can
 
 serve_get : (request : Request) → CanGet request → CanServe (Some request)
 serve_get (requests.Get path known) can = tt
