@@ -1,4 +1,5 @@
 pub mod NumeralLemmas
+pub mod ExactReaders
 pub mod RecordLemmas
 pub mod Cuts
 pub mod Lengths

@@ -5,6 +5,7 @@ use Rattle.std.specs.List.{All, slice_split, join_with_byte}
 use Rattle.std.proofs.lemmas.List.Splits.{slice_split_at, slice_split_none, join_with_byte-slice_split}
 use Rattle.txn_lines.specs.Numerals.{decimal_read}
 use Rattle.txn_lines.proofs.NumeralLemmas.{decimal_reads, decimal_read_is}
+use Rattle.txn_lines.proofs.ExactReaders.{reads_alike}
 use Rattle.std.specs.Str.{IsUtf8, IsAscii}
 use Rattle.std.specs.Str.Parse.{AllDigits, digits_value}
 use Rattle.std.specs.Fmt.{decimal}
@@ -101,9 +102,4 @@ pub record_reads : (v : Record) → IsNumbers v → record_read (record_text v) 
 record_reads v fits = rw (parts_of_text v fits, decimal_reads v.epoch fits.epoch, decimal_reads v.payload fits.payload) refl
 
 pub read_by : (bs : List ℕ) (r : Option Record) → IfSome r IsNumbers → ((v : Record) → IsNumbers v → (r ≡ Some v) ↔ (bs ≡ record_text v)) → r ≡ record_read bs
-read_by bs (Some v) fits exact = sym (ap record_read ((exact v fits).0 refl) ∙ record_reads v fits)
-read_by bs None fits exact = by (record_read bs) refl
-  where
-    by : (o : Option Record) → record_read bs ≡ o → None ≡ o
-    by None is = refl
-    by (Some v) is = let read = record_read_is bs v is in (exact v read.0).1 read.1
+read_by = reads_alike record_text IsNumbers record_read record_reads record_read_is

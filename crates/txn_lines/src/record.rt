@@ -2,6 +2,7 @@
 ghost use Rattle.std.specs.Prelude.{◌≡◌, ◌≤◌, ◌↔◌, Some, Ok, IfSome, IfOk, IfErr, length};
 ghost use Rattle.txn_lines.specs.declared.record.Record.{Record};
 ghost use Rattle.txn_lines.specs.Record.{record_text, record_read, IsNumbers};
+ghost use Rattle.txn_lines.specs.RecordLaws.{record_utf8};
 ghost use Rattle.txn_types.specs.Refusal.{OnRefused};
 ghost use Rattle.txn_lines.specs.Refusal.{IsBadRecord};
 
@@ -54,9 +55,6 @@ pub fn read_record(bytes: &[u8]) -> Option<Record>
 const MOST_BYTES: usize = 41;
 
 impl TextForm for Record {
-    ghost use Rattle.txn_lines.specs.Record.{record_text, IsNumbers};
-    ghost use Rattle.txn_lines.specs.RecordLaws.{record_utf8};
-
     ghost text = { record_text };
 
     ghost fits = { IsNumbers };

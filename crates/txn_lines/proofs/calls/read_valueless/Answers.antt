@@ -1,6 +1,5 @@
 use Rattle.std.specs.Prelude.{codes}
 use Rattle.txn_lines.specs.Grammar.{list_text}
-use Rattle.txn_lines.specs.Numerals.{pair_text}
 use Rattle.txn_lines.proofs.Cuts.{word_number, word_rest}
 use Rattle.txn_lines.proofs.calls.read_valueless.Goals as goal
 
