@@ -18,48 +18,6 @@ use txn_store::version_names::VersionNames;
 /// How often a listing begins again.
 const LISTINGS: u64 = 16;
 
-/// The ids above one, ascending, of the versions that the folder shows as it is gone through once.
-fn scan<R: Files + Alloc<A = Global> + Clone + Drop>(
-    rt: &R,
-    folder: &Folder,
-    after: Option<u64>,
-) -> Result<Vec<u64>, Halt>
-    ensures { IfOk result (λ ids. AscendAbove after ids.items) }
-{
-    let mut ids = shown(rt, folder, after)?;
-    ids.sort_unstable();
-    ids.dedup();
-    Ok(ids)
-}
-
-/// The ids above one of the versions that the folder shows.
-fn shown<R: Files + Alloc<A = Global> + Clone + Drop>(
-    rt: &R,
-    folder: &Folder,
-    after: Option<u64>,
-) -> Result<Vec<u64>, Halt>
-    ensures { IfOk result (λ ids. All (IsAbove after) ids.items) }
-{
-    let mut ids = Vec::new(rt.alloc());
-    let entries = match fs::read_dir(rt, folder.versions()) {
-        Ok(entries) => entries,
-        Err(error) if error.kind() == ErrorKind::NotFound => return Ok(ids),
-        Err(error) => return Err(at_error(Doing::Listing, error)),
-    };
-    for entry in entries {
-        let id = match entry {
-            Ok(entry) => folder.id_of(entry.file_name()),
-            // A name that is no text is none of the object's.
-            Err(error) if error.kind() == ErrorKind::InvalidFilename => None,
-            Err(error) => return Err(at_error(Doing::Listing, error)),
-        };
-        if let Some(id) = id {
-            keep(&mut ids, id, after)?;
-        }
-    }
-    Ok(ids)
-}
-
 /// Whether an id is above one, where that is given.
 fn is_above(id: u64, after: Option<u64>) -> bool
     ensures { Decides result (IsAbove after id) }
@@ -81,36 +39,76 @@ fn keep(ids: &mut Vec<u64>, id: u64, after: Option<u64>) -> Result<(), AllocErro
     Ok(())
 }
 
-/// The ids above one, ascending, as they stood at one moment, where nothing is removed meanwhile. No scan of a folder is that
-/// by itself: it can tell of a version and miss an older one. What two scans in a row tell stood between them. Where there
-/// are new versions in the second, which are made in the order of their ids, a third one tells that nothing else came
-/// meanwhile: then there was a moment with what the first told and with the new ones that follow it in the second.
-fn settled<R: Files + Alloc<A = Global> + Clone + Drop>(
-    rt: &R,
-    folder: &Folder,
+/// The search for the versions in a folder above one, where that is given.
+#[derive(Drop)]
+struct Search<'r, R> {
+    rt: &'r R,
+    folder: &'r Folder,
     after: Option<u64>,
-) -> Result<Vec<u64>, Halt>
-    ensures { IfOk result (λ ids. AscendAbove after ids.items) }
-{
-    let mut first = scan(rt, folder, after)?;
-    for _ in 0..LISTINGS {
-        let second = scan(rt, folder, after)?;
-        if second == first {
-            return Ok(second);
+}
+
+impl<R: Files + Alloc<A = Global> + Clone + Drop> Search<'_, R> {
+    /// The ids of the versions that the folder shows.
+    fn shown(&self) -> Result<Vec<u64>, Halt>
+        ensures { IfOk result (λ ids. All (IsAbove self.now.after) ids.items) }
+    {
+        let mut ids = Vec::new(self.rt.alloc());
+        let entries = match fs::read_dir(self.rt, self.folder.versions()) {
+            Ok(entries) => entries,
+            Err(error) if error.kind() == ErrorKind::NotFound => return Ok(ids),
+            Err(error) => return Err(at_error(Doing::Listing, error)),
+        };
+        for entry in entries {
+            let id = match entry {
+                Ok(entry) => self.folder.id_of(entry.file_name()),
+                // A name that is no text is none of the object's.
+                Err(error) if error.kind() == ErrorKind::InvalidFilename => None,
+                Err(error) => return Err(at_error(Doing::Listing, error)),
+            };
+            if let Some(id) = id {
+                keep(&mut ids, id, self.after)?;
+            }
         }
-        let last = first.last().copied().or(after).unwrap_or(0);
-        if !is_same_up_to(&first, &second, last) {
-            first = second;
-            continue;
-        }
-        let third = scan(rt, folder, after)?;
-        if let Some(run) = settled_run(&first, &second, &third, last) {
-            first.extend_from_slice(run)?;
-            return Ok(first);
-        }
-        first = third;
+        Ok(ids)
     }
-    Err(Halt::Fault(Fault::at(Doing::Unsettled)))
+
+    /// The ids, ascending, of the versions that the folder shows as it is gone through once.
+    fn scan(&self) -> Result<Vec<u64>, Halt>
+        ensures { IfOk result (λ ids. AscendAbove self.now.after ids.items) }
+    {
+        let mut ids = self.shown()?;
+        ids.sort_unstable();
+        ids.dedup();
+        Ok(ids)
+    }
+
+    /// The ids, ascending, as they stood at one moment, where nothing is removed meanwhile. No scan of a folder is that by
+    /// itself: it can tell of a version and miss an older one. What two scans in a row tell stood between them. Where there
+    /// are new versions in the second, which are made in the order of their ids, a third one tells that nothing else came
+    /// meanwhile: then there was a moment with what the first told and with the new ones that follow it in the second.
+    fn settled(&self) -> Result<Vec<u64>, Halt>
+        ensures { IfOk result (λ ids. AscendAbove self.now.after ids.items) }
+    {
+        let mut first = self.scan()?;
+        for _ in 0..LISTINGS {
+            let second = self.scan()?;
+            if second == first {
+                return Ok(second);
+            }
+            let last = first.last().copied().or(self.after).unwrap_or(0);
+            if !is_same_up_to(&first, &second, last) {
+                first = second;
+                continue;
+            }
+            let third = self.scan()?;
+            if let Some(run) = settled_run(&first, &second, &third, last) {
+                first.extend_from_slice(run)?;
+                return Ok(first);
+            }
+            first = third;
+        }
+        Err(Halt::Fault(Fault::at(Doing::Unsettled)))
+    }
 }
 
 /// The first versions above one, up to the limit, as they stood at one moment, where nothing is removed meanwhile.
@@ -124,8 +122,9 @@ pub(crate) fn page_after<R: Files + Alloc<A = Global> + Clone + Drop>(
 ) -> Result<Page, Halt>
     ensures { IfOk result (IsPageAfter names.now after limit) }
 {
+    let search = Search { rt, folder, after };
     for _ in 0..LISTINGS {
-        let ids = settled(rt, folder, after)?;
+        let ids = search.settled()?;
         if let Some(page) = page_of(rt, alloc, folder, names, &ids, limit)? {
             return Ok(page);
         }
