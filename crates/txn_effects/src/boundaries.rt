@@ -88,6 +88,14 @@ fn loose<F: Fn(&Asked<'_>) -> Option<u64>>(
 }
 
 impl Boundaries {
+    /// No boundaries.
+    fn none(alloc: Global) -> Boundaries {
+        Boundaries {
+            writers: BTreeMap::new(alloc),
+            of_token: HashMap::new(alloc),
+        }
+    }
+
     /// Notes what the replies of one call say.
     fn note(&mut self, place: usize, call: &Asked<'_>) -> Result<(), AllocError> {
         if let (Some(number), Some(token)) = (call.raises(), call.given()) {
@@ -216,10 +224,7 @@ pub(crate) fn written(
     calls: &[Asked<'_>],
     fates: &mut Vec<Fate>,
 ) -> Result<Boundaries, AllocError> {
-    let mut boundaries = Boundaries {
-        writers: BTreeMap::new(alloc),
-        of_token: HashMap::new(alloc),
-    };
+    let mut boundaries = Boundaries::none(alloc);
     boundaries.find(calls, fates)?;
     Ok(boundaries)
 }

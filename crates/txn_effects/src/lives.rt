@@ -144,25 +144,27 @@ fn may_make(call: &Asked<'_>, id: u64, seen: Seen<'_>) -> bool {
     }
 }
 
-/// The call asked first of which nobody knows whether it took effect, and which may have made what was seen by then. One that
-/// was asked later could not have made it where this could not.
-fn loose_maker(
-    calls: &[Asked<'_>],
-    fates: &[Fate],
-    loose: &[(u64, usize)],
-    id: u64,
-    seen: Seen<'_>,
-    until: u64,
-) -> Option<usize> {
-    for (_, place) in loose {
-        if let Some(call) = calls.get(*place) {
-            let in_time = call.from <= until;
-            if in_time && !has_place(fates, *place) && may_make(call, id, seen) {
-                return Some(*place);
+/// All calls, and which of them are creates of versions whose reply nobody saw: each with when it was asked, in that order.
+#[derive(Clone, Copy)]
+struct Loose<'x, 'a> {
+    calls: &'x [Asked<'a>],
+    creates: &'x [(u64, usize)],
+}
+
+impl Loose<'_, '_> {
+    /// The create asked first of which nobody knows whether it took effect, and which may have made what was seen by then. One
+    /// that was asked later could not have made it where this could not.
+    fn maker(&self, fates: &[Fate], id: u64, seen: Seen<'_>, until: u64) -> Option<usize> {
+        for (_, place) in self.creates {
+            if let Some(call) = self.calls.get(*place) {
+                let in_time = call.from <= until;
+                if in_time && !has_place(fates, *place) && may_make(call, id, seen) {
+                    return Some(*place);
+                }
             }
         }
+        None
     }
-    None
 }
 
 /// Adds the creates of versions whose reply nobody saw, each with when it was asked.
@@ -184,6 +186,14 @@ fn loose_creates(alloc: Global, calls: &[Asked<'_>]) -> Result<Vec<(u64, usize)>
 }
 
 impl Lives {
+    /// No lives.
+    fn none(alloc: Global) -> Lives {
+        Lives {
+            lives: Vec::new(alloc),
+            of_token: HashMap::new(alloc),
+        }
+    }
+
     /// Adds a life that a call makes.
     fn add(
         &mut self,
@@ -211,28 +221,34 @@ impl Lives {
         Ok(())
     }
 
+    /// Has a loose call make what was seen of a version by a time, where one may have. Whether one may.
+    fn land_made(
+        &mut self,
+        loose: Loose<'_, '_>,
+        fates: &mut Vec<Fate>,
+        (id, token): (u64, Option<u64>),
+        seen: Seen<'_>,
+        until: u64,
+    ) -> Result<bool, AllocError> {
+        let Some(place) = loose.maker(fates.as_slice(), id, seen, until) else {
+            return Ok(false);
+        };
+        land(fates, place, token);
+        self.add(loose.calls, id, token, place)?;
+        Ok(true)
+    }
+
     /// What was seen, and no call was told to have made, a loose one made.
     fn land_seen(
         &mut self,
-        calls: &[Asked<'_>],
+        loose: Loose<'_, '_>,
         fates: &mut Vec<Fate>,
-        loose: &[(u64, usize)],
         sights: &[Sight<'_>],
     ) -> Result<(), AllocError> {
         for sight in sights {
             if !self.of_token.contains_key(&(sight.id, sight.token)) {
-                let maker = loose_maker(
-                    calls,
-                    fates.as_slice(),
-                    loose,
-                    sight.id,
-                    sight.seen,
-                    sight.until,
-                );
-                if let Some(place) = maker {
-                    land(fates, place, Some(sight.token));
-                    self.add(calls, sight.id, Some(sight.token), place)?;
-                }
+                let version = (sight.id, Some(sight.token));
+                self.land_made(loose, fates, version, sight.seen, sight.until)?;
             }
         }
         Ok(())
@@ -241,36 +257,17 @@ impl Lives {
     /// A version that stood in the way of a create, and that no call is known to have made, a loose one made.
     fn land_taken(
         &mut self,
-        calls: &[Asked<'_>],
+        loose: Loose<'_, '_>,
         fates: &mut Vec<Fate>,
-        loose: &[(u64, usize)],
         ids: &mut HashSet<u64>,
     ) -> Result<(), AllocError> {
-        for call in calls {
+        for call in loose.calls {
             if let Some(id) = taken_for(call) {
-                self.land_taken_id(calls, fates, loose, ids, id, call.until)?;
+                let is_new = !ids.contains(&id);
+                if is_new && self.land_made(loose, fates, (id, None), Seen::Stood, call.until)? {
+                    ids.insert(id)?;
+                }
             }
-        }
-        Ok(())
-    }
-
-    /// A version that stood in the way by a time, and that no call is known to have made, a loose one made.
-    fn land_taken_id(
-        &mut self,
-        calls: &[Asked<'_>],
-        fates: &mut Vec<Fate>,
-        loose: &[(u64, usize)],
-        ids: &mut HashSet<u64>,
-        id: u64,
-        until: u64,
-    ) -> Result<(), AllocError> {
-        if ids.contains(&id) {
-            return Ok(());
-        }
-        if let Some(place) = loose_maker(calls, fates.as_slice(), loose, id, Seen::Stood, until) {
-            land(fates, place, None);
-            self.add(calls, id, None, place)?;
-            ids.insert(id)?;
         }
         Ok(())
     }
@@ -313,14 +310,13 @@ impl Lives {
     fn land(
         &mut self,
         alloc: Global,
-        calls: &[Asked<'_>],
+        loose: Loose<'_, '_>,
         fates: &mut Vec<Fate>,
-        loose: &[(u64, usize)],
         sights: &[Sight<'_>],
     ) -> Result<(), AllocError> {
-        self.land_seen(calls, fates, loose, sights)?;
+        self.land_seen(loose, fates, sights)?;
         let mut ids = ids_of(alloc, self.lives.as_slice())?;
-        self.land_taken(calls, fates, loose, &mut ids)
+        self.land_taken(loose, fates, &mut ids)
     }
 
     /// Adds the lives that loose calls made, by what all calls saw, and notes when each life was seen last.
@@ -331,8 +327,12 @@ impl Lives {
         fates: &mut Vec<Fate>,
         sights: &[Sight<'_>],
     ) -> Result<(), AllocError> {
-        let loose = loose_creates(alloc, calls)?;
-        let landed = self.land(alloc, calls, fates, loose.as_slice(), sights);
+        let creates = loose_creates(alloc, calls)?;
+        let loose = Loose {
+            calls,
+            creates: creates.as_slice(),
+        };
+        let landed = self.land(alloc, loose, fates, sights);
         self.note_sights(sights);
         landed
     }
@@ -403,10 +403,7 @@ pub(crate) fn lived(
     calls: &[Asked<'_>],
     fates: &mut Vec<Fate>,
 ) -> Result<Lives, AllocError> {
-    let mut lives = Lives {
-        lives: Vec::new(alloc),
-        of_token: HashMap::new(alloc),
-    };
+    let mut lives = Lives::none(alloc);
     match lives.find(alloc, calls, fates) {
         Ok(()) => Ok(lives),
         Err(error) => Err(error),
