@@ -1,7 +1,7 @@
 //! How a call is written.
 
 ghost use Rattle.std.specs.Prelude.{Some};
-ghost use Rattle.txn_lines.specs.Grammar.{base_text, bound_text, plain_text, view_call_text, call_text};
+ghost use Rattle.txn_lines.specs.Grammar.{base_text, bound_text, call_text};
 
 use crate::text_form::LineValue;
 use std::fmt;
@@ -39,59 +39,6 @@ impl fmt::Display for UpTo {
     }
 }
 
-/// A call without a view, as it is written.
-#[derive(Clone, Copy)]
-struct PlainCalled<'a, T>(&'a PlainCall<T>);
-
-impl<T: LineValue> fmt::Display for PlainCalled<'_, T> {
-    ghost output = { λ called. Some (plain_text T.text called.0.now) };
-
-    fn fmt<W: fmt::Write>(&self, f: &mut fmt::Formatter<W>) -> fmt::Result {
-        match self.0 {
-            PlainCall::Write(base, value) => {
-                let base = OnBase(*base);
-                write!(f, "write {base} {value}")
-            }
-            PlainCall::WriteUnchecked(base, value) => {
-                let base = OnBase(*base);
-                write!(f, "write_unchecked {base} {value}")
-            }
-            PlainCall::Read => write!(f, "read"),
-            PlainCall::ReadUnchecked(id) => write!(f, "read_unchecked {id}"),
-            PlainCall::ReadSeen(id) => write!(f, "read_seen {id}"),
-            PlainCall::ListIds(from, to) => {
-                let from = UpTo(*from);
-                let to = UpTo(*to);
-                write!(f, "list {from} {to}")
-            }
-            PlainCall::Delete(id) => write!(f, "delete {id}"),
-            PlainCall::Check(id) => write!(f, "check {id}"),
-            PlainCall::Advance(to) => write!(f, "advance {to}"),
-        }
-    }
-}
-
-/// A call that makes a view, or uses one, as it is written.
-#[derive(Clone, Copy)]
-struct ViewCalled<'a, T>(&'a ViewCall<T>);
-
-impl<T: LineValue> fmt::Display for ViewCalled<'_, T> {
-    ghost output = { λ called. Some (view_call_text T.text called.0.now) };
-
-    fn fmt<W: fmt::Write>(&self, f: &mut fmt::Formatter<W>) -> fmt::Result {
-        match self.0 {
-            ViewCall::Init(value) => write!(f, "init {value}"),
-            ViewCall::Load => write!(f, "load"),
-            ViewCall::Refresh(view) => write!(f, "refresh {view}"),
-            ViewCall::Update(view, value) => write!(f, "update {view} {value}"),
-            ViewCall::Claim(view) => write!(f, "claim {view}"),
-            ViewCall::ClaimAt(view, epoch) => write!(f, "claim_at {view} {epoch}"),
-            ViewCall::HolderRefresh(view) => write!(f, "holder_refresh {view}"),
-            ViewCall::HolderUpdate(view, value) => write!(f, "holder_update {view} {value}"),
-        }
-    }
-}
-
 /// A call as it is written: the text of which it is read.
 #[derive(Clone, Copy, Debug)]
 pub struct Called<'a, T>(pub &'a Call<T>);
@@ -101,13 +48,34 @@ impl<T: LineValue> fmt::Display for Called<'_, T> {
 
     fn fmt<W: fmt::Write>(&self, f: &mut fmt::Formatter<W>) -> fmt::Result {
         match self.0 {
-            Call::Plain(call) => {
-                let called = PlainCalled(call);
-                write!(f, "{called}")
+            Call::Plain(PlainCall::Write(base, value)) => {
+                let base = OnBase(*base);
+                write!(f, "write {base} {value}")
             }
-            Call::View(call) => {
-                let called = ViewCalled(call);
-                write!(f, "{called}")
+            Call::Plain(PlainCall::WriteUnchecked(base, value)) => {
+                let base = OnBase(*base);
+                write!(f, "write_unchecked {base} {value}")
+            }
+            Call::Plain(PlainCall::Read) => write!(f, "read"),
+            Call::Plain(PlainCall::ReadUnchecked(id)) => write!(f, "read_unchecked {id}"),
+            Call::Plain(PlainCall::ReadSeen(id)) => write!(f, "read_seen {id}"),
+            Call::Plain(PlainCall::ListIds(from, to)) => {
+                let from = UpTo(*from);
+                let to = UpTo(*to);
+                write!(f, "list {from} {to}")
+            }
+            Call::Plain(PlainCall::Delete(id)) => write!(f, "delete {id}"),
+            Call::Plain(PlainCall::Check(id)) => write!(f, "check {id}"),
+            Call::Plain(PlainCall::Advance(to)) => write!(f, "advance {to}"),
+            Call::View(ViewCall::Init(value)) => write!(f, "init {value}"),
+            Call::View(ViewCall::Load) => write!(f, "load"),
+            Call::View(ViewCall::Refresh(view)) => write!(f, "refresh {view}"),
+            Call::View(ViewCall::Update(view, value)) => write!(f, "update {view} {value}"),
+            Call::View(ViewCall::Claim(view)) => write!(f, "claim {view}"),
+            Call::View(ViewCall::ClaimAt(view, epoch)) => write!(f, "claim_at {view} {epoch}"),
+            Call::View(ViewCall::HolderRefresh(view)) => write!(f, "holder_refresh {view}"),
+            Call::View(ViewCall::HolderUpdate(view, value)) => {
+                write!(f, "holder_update {view} {value}")
             }
         }
     }
