@@ -7,6 +7,7 @@ use Rattle.std.specs.Cmp.Lexicographic.{same_text}
 use Rattle.std.proofs.lemmas.Str.Parse.{not_in_digits}
 use Rattle.std.proofs.lemmas.Str.Pattern.{IsSplitOnceResult, split_after, split_parts}
 use Rattle.std.proofs.lemmas.Fmt.{digits_decimal}
+use Rattle.std.proofs.lemmas.Option.{same_Some}
 use Rattle.std.proofs.lemmas.Grind.{common_steps}
 use denote.Ref.{Bor}
 use lib.Pointwise.{pointwise}
@@ -17,7 +18,7 @@ use Rattle.txn_lines.specs.Numerals.{decimal_read}
 use Rattle.txn_lines.proofs.NumeralLemmas.{decimal_read_is}
 use Rattle.txn_lines.proofs.RecordLemmas.{own}
 use Rattle.txn_lines.specs.Numerals.{pair_text}
-use Rattle.txn_lines.specs.Grammar.{base_text, write_text, bound_text, list_text, update_text, begin_text, failure_text, fail_text, BaseFits, BoundFits}
+use Rattle.txn_lines.specs.Grammar.{base_text, write_text, bound_text, list_text, begin_text, failure_text, fail_text, BaseFits, BoundFits}
 
 -- the bytes do not have this one among them
 abbrev pub Lacks : ℕ → List ℕ → Type 0
@@ -80,6 +81,17 @@ clash r x some none = let same : None ≡ Some x = sym none ∙ some in cc
 pub same : {A : Type 0} (r : Option A) (x y : A) → r ≡ Some x → r ≡ Some y → y ≡ x
 same r x y one two = let both : Some y ≡ Some x = sym two ∙ one in cc
 
+-- a view and a value that are read as a base and a value, and a base that is none
+pub view_same : {T : Type 0} (r : Option (Option ℕ × T)) (base : Option ℕ) (view wanted : ℕ) (value told : T) → r ≡ Some (Some wanted, value) → r ≡ Some (base, told) → base ≡ Some view → ◌≡◌ {A = Option (ℕ × T)} (Some (view, told)) (Some (wanted, value))
+view_same {T} r base view wanted value told one two is =
+    let pair = same r (Some wanted, value) (base, told) one two in
+    let view_is = same_Some view wanted (sym is ∙ ap (λ (p : Option ℕ × T). p.0) pair) in
+    let value_is : told ≡ value = ap (λ (p : Option ℕ × T). p.1) pair in
+    rw (view_is, value_is) refl
+
+pub no_view : {T : Type 0} (r : Option (Option ℕ × T)) (base : Option ℕ) (wanted : ℕ) (value told : T) → r ≡ Some (Some wanted, value) → r ≡ Some (base, told) → base ≡ None → ⊥
+no_view {T} r base wanted value told one two is = clash base wanted (ap (λ (p : Option ℕ × T). p.0) (same r (Some wanted, value) (base, told) one two)) is
+
 module _ {T : Type 0} (text : T → List ℕ) where
   -- the client and the call of a begin
   pub begin_cut : (bs : List ℕ) (client : ℕ) (call : T) (r : Found) (a b : Bor (List ℕ)) → IsSplitOnceResult 32 bs r → client < 2 ^ 64 → bs ≡ begin_text text client call → r ≡ Some (a, b) → (a.now ≡ decimal client) × (b.now ≡ text call)
@@ -94,13 +106,6 @@ module _ {T : Type 0} (text : T → List ℕ) where
 
   pub write_no_cut : (bs : List ℕ) (base : Option ℕ) (value : T) (r : Found) → IsSplitOnceResult 32 bs r → BaseFits base → bs ≡ write_text text base value → r ≡ None → ⊥
   write_no_cut bs base value r h fits e is = at_none (base_text base) (text value) r (cut bs (base_text base) (text value) r h (base_lacks base fits) e) is
-
-  -- the view and the value of an update
-  pub update_cut : (bs : List ℕ) (view : ℕ) (value : T) (r : Found) (a b : Bor (List ℕ)) → IsSplitOnceResult 32 bs r → view < 2 ^ 64 → bs ≡ update_text text view value → r ≡ Some (a, b) → (a.now ≡ decimal view) × (b.now ≡ text value)
-  update_cut bs view value r a b h small e is = at_some (decimal view) (text value) r a b (cut bs (decimal view) (text value) r h (decimal_lacks 32 view small (λ k. omega (arith, k))) e) is
-
-  pub update_no_cut : (bs : List ℕ) (view : ℕ) (value : T) (r : Found) → IsSplitOnceResult 32 bs r → view < 2 ^ 64 → bs ≡ update_text text view value → r ≡ None → ⊥
-  update_no_cut bs view value r h small e is = at_none (decimal view) (text value) r (cut bs (decimal view) (text value) r h (decimal_lacks 32 view small (λ k. omega (arith, k))) e) is
 
 -- the bounds of a listing
 pub list_cut : (bs : List ℕ) (from to : Bound ℕ) (r : Found) (a b : Bor (List ℕ)) → IsSplitOnceResult 32 bs r → BoundFits from → bs ≡ list_text from to → r ≡ Some (a, b) → (a.now ≡ bound_text from) × (b.now ≡ bound_text to)

@@ -79,7 +79,7 @@ fn read_list(text: &str) -> Option<(Bound<u64>, Bound<u64>)>
     Some((from, read_bound(to_word)?))
 }
 
-/// The view and the value of the update that these words say.
+/// The view and the value of the update that these words say: a view stands where a write has a base.
 fn read_update<T: TextForm>(alloc: Global, words: &str) -> Result<Option<(u64, T)>, AllocError>
     ensures fits { IfOk result (λ read. IfSome read (λ update. UpdateFits T.fits update.0 update.1)) }
     ensures reads { IfOk result (λ read. IfSome read (λ update. words.now ≡ update_text T.text update.0 update.1)) }
@@ -87,14 +87,9 @@ fn read_update<T: TextForm>(alloc: Global, words: &str) -> Result<Option<(u64, T
         → UpdateFits T.fits view value → words.now ≡ update_text T.text view value
         → read ≡ Some (view, value)) }
 {
-    let Some((view_word, rest)) = words.split_once(' ') else {
-        return Ok(None);
-    };
-    let Some(view) = read_decimal(view_word) else {
-        return Ok(None);
-    };
-    match T::read_text(alloc, rest)? {
-        Some(value) => Ok(Some((view, value))),
+    match read_write(alloc, words)? {
+        Some((Some(view), value)) => Ok(Some((view, value))),
+        Some((None, _)) => Ok(None),
         None => Ok(None),
     }
 }
