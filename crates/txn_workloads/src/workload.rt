@@ -26,10 +26,9 @@ impl Workload {
     {
         match self {
             Workload::Update => 0,
-            Workload::ReadWarm => 1,
+            Workload::ReadWarm | Workload::LoadClaimFresh => 1,
             Workload::LoadCold100 => 100,
             Workload::List10000 => 10_000,
-            Workload::LoadClaimFresh => 1,
         }
     }
 
@@ -52,9 +51,8 @@ impl Workload {
         match self {
             Workload::Update => 10_000,
             Workload::ReadWarm => 20_000,
-            Workload::LoadCold100 => 1000,
+            Workload::LoadCold100 | Workload::LoadClaimFresh => 1000,
             Workload::List10000 => 20,
-            Workload::LoadClaimFresh => 1000,
         }
     }
 }
