@@ -99,68 +99,61 @@ fn try_out(alloc: Global, workload: Workload) -> Result<(), Fault> {
     Setting::new(alloc, workload.versions())?.perform(workload, FEW)
 }
 
-/// Measures a workload, or makes a few of its calls, and prints its line.
-fn print_line<R: Clock, W: Write>(
-    clock: &R,
+/// A run of a command: the clock that it reads, and where its memory is.
+#[derive(Drop)]
+struct Run<'r, R> {
+    clock: &'r R,
     alloc: Global,
     command: Command,
-    workload: Workload,
-    out: &mut W,
-) -> Result<(), Fault>
-    ensures { OnOk result (PrintsLine command workload (W.contents out.old) (W.contents out.new)) }
-{
-    let written = match command {
-        Command::Run => {
-            let nanos = measure(clock, alloc, workload)?;
-            out.writeln(Figure { workload, nanos })
-        }
-        Command::Check => {
-            try_out(alloc, workload)?;
-            out.writeln(Passed(workload))
-        }
-    };
-    match written {
-        Ok(()) => Ok(()),
-        Err(_) => Err(Fault::WriteFailed),
-    }
 }
 
-/// The same, flushed, and the workload is named where it stops.
-fn print_or_halt<R: Clock, W: Write>(
-    clock: &R,
-    alloc: Global,
-    command: Command,
-    workload: Workload,
-    out: &mut W,
-) -> Result<(), Halt>
-    ensures { OnOk result (PrintsLine command workload (W.contents out.old) (W.contents out.new)) }
-{
-    if let Err(fault) = print_line(clock, alloc, command, workload, out) {
-        return Err(Halt { workload, fault });
+impl<R: Clock> Run<'_, R> {
+    /// Measures a workload, or makes a few of its calls, and prints its line.
+    fn print_line<W: Write>(&self, workload: Workload, out: &mut W) -> Result<(), Fault>
+        ensures { OnOk result (PrintsLine self.now.command workload (W.contents out.old) (W.contents out.new)) }
+    {
+        let written = match self.command {
+            Command::Run => {
+                let nanos = measure(self.clock, self.alloc, workload)?;
+                out.writeln(Figure { workload, nanos })
+            }
+            Command::Check => {
+                try_out(self.alloc, workload)?;
+                out.writeln(Passed(workload))
+            }
+        };
+        match written {
+            Ok(()) => Ok(()),
+            Err(_) => Err(Fault::WriteFailed),
+        }
     }
-    match out.flush() {
-        Ok(()) => Ok(()),
-        Err(_) => Err(Halt {
-            workload,
-            fault: Fault::WriteFailed,
-        }),
-    }
-}
 
-/// Prints the line of each workload, in the order in which they are declared.
-fn print_lines<R: Clock, W: Write>(
-    clock: &R,
-    alloc: Global,
-    command: Command,
-    out: &mut W,
-) -> Result<(), Halt>
-    ensures { OnOk result (Prints command (W.contents out.old) (W.contents out.new)) }
-{
-    print_or_halt(clock, alloc, command, Workload::Update, out)?;
-    print_or_halt(clock, alloc, command, Workload::ReadWarm, out)?;
-    print_or_halt(clock, alloc, command, Workload::LoadCold100, out)?;
-    print_or_halt(clock, alloc, command, Workload::List10000, out)?;
-    print_or_halt(clock, alloc, command, Workload::LoadClaimFresh, out)
+    /// The same, flushed, and the workload is named where it stops.
+    fn print_or_halt<W: Write>(&self, workload: Workload, out: &mut W) -> Result<(), Halt>
+        ensures { OnOk result (PrintsLine self.now.command workload (W.contents out.old) (W.contents out.new)) }
+    {
+        if let Err(fault) = self.print_line(workload, out) {
+            return Err(Halt { workload, fault });
+        }
+        match out.flush() {
+            Ok(()) => Ok(()),
+            Err(_) => Err(Halt {
+                workload,
+                fault: Fault::WriteFailed,
+            }),
+        }
+    }
+
+    /// Prints the line of each workload, in the order in which they are declared.
+    fn print_lines<W: Write>(&self, out: &mut W) -> Result<(), Halt>
+        ensures { OnOk result (Prints self.now.command (W.contents out.old) (W.contents out.new)) }
+    {
+        self.print_or_halt(Workload::Update, out)?;
+        self.print_or_halt(Workload::ReadWarm, out)?;
+        self.print_or_halt(Workload::LoadCold100, out)?;
+        self.print_or_halt(Workload::List10000, out)?;
+        self.print_or_halt(Workload::LoadClaimFresh, out)
+    }
 }
 
 /// The same as `run_command`. The only error is that of `err`.
@@ -175,7 +168,12 @@ fn run_or_name<R: Clock, W: Write, E: Write>(
     ensures silent { IfOk result (λ status. status ≡ 0 → err.new ≡ err.old) }
     ensures done { IfOk result (λ status. status ≡ 0 → Prints command (W.contents out.old) (W.contents out.new)) }
 {
-    match print_lines(clock, alloc, command, out) {
+    let run = Run {
+        clock,
+        alloc,
+        command,
+    };
+    match run.print_lines(out) {
         Ok(()) => Ok(0),
         Err(halt) => {
             err.writeln(halt)?;
