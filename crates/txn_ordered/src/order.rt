@@ -3,7 +3,7 @@
 use crate::graph::Graph;
 use crate::precedence::Precedence;
 use crate::times::{Time, link_times, times_asked};
-use std::alloc::{AllocError, AllocFailed, Global};
+use std::alloc::{AllocError, Global};
 use txn_effects::boundaries::Boundaries;
 use txn_effects::calls::Asked;
 use txn_effects::clock::Clock;
@@ -40,12 +40,6 @@ pub enum OrderFault {
 
 impl From<AllocError> for OrderFault {
     fn from(_e: AllocError) -> OrderFault {
-        OrderFault::NoMemory
-    }
-}
-
-impl<T: Drop> From<AllocFailed<T>> for OrderFault {
-    fn from(_e: AllocFailed<T>) -> OrderFault {
         OrderFault::NoMemory
     }
 }

@@ -14,6 +14,13 @@ use txn_store::request::{Reply, Request};
 use txn_store::store::{PutMode, StoreError, Token};
 use txn_types::boundary::read_boundary;
 
+/// A call, and the place of its node.
+#[derive(Clone, Copy)]
+struct Node<'c, 'a> {
+    at: usize,
+    call: &'c Asked<'a>,
+}
+
 /// What the edges are made of.
 #[derive(Clone, Copy)]
 pub(crate) struct Precedence<'a> {
@@ -108,8 +115,7 @@ impl<'a> Precedence<'a> {
     fn absent(
         &self,
         graph: &mut Graph,
-        at: usize,
-        call: &Asked<'_>,
+        node: Node<'_, '_>,
         id: u64,
         made: bool,
     ) -> Result<(), AllocError> {
@@ -121,9 +127,9 @@ impl<'a> Precedence<'a> {
                 return Ok(());
             };
             if place == start || removed.is_some() {
-                if self.may_stand(call, removed, Some(life)) && !(made && removed.is_none()) {
-                    graph.edge(removed, Some(at))?;
-                    return graph.edge(Some(at), Some(life.made_by));
+                if self.may_stand(node.call, removed, Some(life)) && !(made && removed.is_none()) {
+                    graph.edge(removed, Some(node.at))?;
+                    return graph.edge(Some(node.at), Some(life.made_by));
                 }
                 if fallback.is_none() {
                     fallback = Some((removed, life.made_by));
@@ -131,24 +137,18 @@ impl<'a> Precedence<'a> {
             }
             removed = life.removed_by;
         }
-        if removed.is_some() && self.may_stand(call, removed, None) {
-            return graph.edge(removed, Some(at));
+        if removed.is_some() && self.may_stand(node.call, removed, None) {
+            return graph.edge(removed, Some(node.at));
         }
         if let Some((removed, made)) = fallback {
-            graph.edge(removed, Some(at))?;
-            graph.edge(Some(at), Some(made))?;
+            graph.edge(removed, Some(node.at))?;
+            graph.edge(Some(node.at), Some(made))?;
         }
         Ok(())
     }
 
     /// A call saw that a version was there.
-    fn present(
-        &self,
-        graph: &mut Graph,
-        at: usize,
-        call: &Asked<'_>,
-        id: u64,
-    ) -> Result<(), AllocError> {
+    fn present(&self, graph: &mut Graph, node: Node<'_, '_>, id: u64) -> Result<(), AllocError> {
         let (start, end) = self.lives.of(id);
         let mut fallback = None;
         for place in start..end {
@@ -156,17 +156,17 @@ impl<'a> Precedence<'a> {
                 return Ok(());
             };
             let early = match life.removed_by {
-                Some(removed) => call.from < self.times(removed).1,
+                Some(removed) => node.call.from < self.times(removed).1,
                 None => true,
             };
-            if call.until > life.from && early {
-                return self.saw(graph, at, Some(life));
+            if node.call.until > life.from && early {
+                return self.saw(graph, node.at, Some(life));
             }
             if fallback.is_none() {
                 fallback = Some(life);
             }
         }
-        self.saw(graph, at, fallback)
+        self.saw(graph, node.at, fallback)
     }
 
     /// A call saw this life.
@@ -209,17 +209,18 @@ impl<'a> Precedence<'a> {
     fn get_version(
         &self,
         graph: &mut Graph,
-        at: usize,
-        call: &Asked<'_>,
+        node: Node<'_, '_>,
         id: u64,
     ) -> Result<(), AllocError> {
-        match call.reply {
+        match node.call.reply {
             Some(Reply::Get(Ok(got))) => {
-                self.saw(graph, at, self.lives.with_token(id, got.token.number()))
+                self.saw(
+                    graph,
+                    node.at,
+                    self.lives.with_token(id, got.token.number()),
+                )
             }
-            Some(Reply::Get(Err(StoreError::NotFound))) => {
-                self.absent(graph, at, call, id, false)
-            }
+            Some(Reply::Get(Err(StoreError::NotFound))) => { self.absent(graph, node, id, false) }
             _ => Ok(()),
         }
     }
@@ -228,18 +229,17 @@ impl<'a> Precedence<'a> {
     fn get_boundary(
         &self,
         graph: &mut Graph,
-        at: usize,
-        call: &Asked<'_>,
+        node: Node<'_, '_>,
         known: Option<Token>,
     ) -> Result<(), AllocError> {
-        match call.reply {
+        match node.call.reply {
             Some(Reply::Get(Ok(got))) => match read_boundary(got.bytes.as_slice()) {
-                Some(number) => self.saw_boundary(graph, at, number),
+                Some(number) => self.saw_boundary(graph, node.at, number),
                 None => Ok(()),
             },
-            Some(Reply::Get(Err(StoreError::NotModified))) => self.saw_token(graph, at, known),
+            Some(Reply::Get(Err(StoreError::NotModified))) => self.saw_token(graph, node.at, known),
             Some(Reply::Get(Err(StoreError::NotFound))) => {
-                graph.edge(Some(at), self.first_writer())
+                graph.edge(Some(node.at), self.first_writer())
             }
             _ => Ok(()),
         }
@@ -249,14 +249,13 @@ impl<'a> Precedence<'a> {
     fn get(
         &self,
         graph: &mut Graph,
-        at: usize,
-        call: &Asked<'_>,
+        node: Node<'_, '_>,
         path: &Path,
         known: Option<Token>,
     ) -> Result<(), AllocError> {
         match name_of(path) {
-            Name::Version(id) => self.get_version(graph, at, call, id),
-            Name::Boundary => self.get_boundary(graph, at, call, known),
+            Name::Version(id) => self.get_version(graph, node, id),
+            Name::Boundary => self.get_boundary(graph, node, known),
         }
     }
 
@@ -284,24 +283,25 @@ impl<'a> Precedence<'a> {
     fn put(
         &self,
         graph: &mut Graph,
-        at: usize,
-        call: &Asked<'_>,
+        node: Node<'_, '_>,
         path: &Path,
         mode: PutMode,
     ) -> Result<(), AllocError> {
-        let Some(Reply::Put(answer)) = call.reply else {
+        let Some(Reply::Put(answer)) = node.call.reply else {
             return Ok(());
         };
         match (name_of(path), answer, mode) {
             (Name::Version(id), Err(StoreError::AlreadyExists), _) => {
-                self.present(graph, at, call, id)
+                self.present(graph, node, id)
             }
             (Name::Boundary, Err(StoreError::AlreadyExists), _) => {
-                graph.edge(self.first_writer(), Some(at))
+                graph.edge(self.first_writer(), Some(node.at))
             }
-            (Name::Boundary, Ok(_), PutMode::Update(token)) => self.update(graph, at, token, true),
+            (Name::Boundary, Ok(_), PutMode::Update(token)) => self.update(
+                graph, node.at, token, true,
+            ),
             (Name::Boundary, Err(StoreError::Precondition), PutMode::Update(token)) => {
-                self.update(graph, at, token, false)
+                self.update(graph, node.at, token, false)
             }
             _ => Ok(()),
         }
@@ -312,18 +312,17 @@ impl<'a> Precedence<'a> {
         &self,
         alloc: Global,
         graph: &mut Graph,
-        at: usize,
-        call: &Asked<'_>,
+        node: Node<'_, '_>,
         standing: &Standing,
     ) -> Result<(), AllocError> {
-        let Some((low, page)) = call.lists() else {
+        let Some((low, page)) = node.call.lists() else {
             return Ok(());
         };
         let mut told = Vec::new(alloc);
-        self.tell(graph, at, page, &mut told)?;
+        self.tell(graph, node.at, page, &mut told)?;
         let missing = standing.left_out(alloc, low, told.as_slice(), page.more)?;
-        self.all_absent(graph, at, call, missing.as_slice())?;
-        self.goes_on(graph, at, page)
+        self.all_absent(graph, node, missing.as_slice())?;
+        self.goes_on(graph, node.at, page)
     }
 
     /// What the files of a page show, whose versions are added.
@@ -347,12 +346,11 @@ impl<'a> Precedence<'a> {
     fn all_absent(
         &self,
         graph: &mut Graph,
-        at: usize,
-        call: &Asked<'_>,
+        node: Node<'_, '_>,
         missing: &[Missing],
     ) -> Result<(), AllocError> {
         for (id, below) in missing {
-            self.absent(graph, at, call, *id, *below)?;
+            self.absent(graph, node, *id, *below)?;
         }
         Ok(())
     }
@@ -387,7 +385,7 @@ impl<'a> Precedence<'a> {
         for (_, at) in asked {
             if let Some(call) = self.calls.get(*at) {
                 standing.move_to(call)?;
-                self.list(alloc, graph, *at, call, standing)?;
+                self.list(alloc, graph, Node { at: *at, call }, standing)?;
             }
         }
         Ok(())
@@ -411,13 +409,13 @@ impl<'a> Precedence<'a> {
     }
 
     /// What a call shows that is no listing.
-    fn call(&self, graph: &mut Graph, at: usize, call: &Asked<'_>) -> Result<(), AllocError> {
-        match call.request {
+    fn call(&self, graph: &mut Graph, node: Node<'_, '_>) -> Result<(), AllocError> {
+        match node.call.request {
             Request::Get {
                 path,
                 if_none_match,
-            } => self.get(graph, at, call, path, *if_none_match),
-            Request::Put { path, mode, .. } => self.put(graph, at, call, path, *mode),
+            } => self.get(graph, node, path, *if_none_match),
+            Request::Put { path, mode, .. } => self.put(graph, node, path, *mode),
             Request::List { .. } | Request::Delete { .. } => Ok(()),
         }
     }
@@ -433,14 +431,14 @@ impl<'a> Precedence<'a> {
         self.lives(graph)?;
         for (id, at) in idle {
             if let Some(call) = self.calls.get(*at) {
-                self.absent(graph, *at, call, *id, false)?;
+                self.absent(graph, Node { at: *at, call }, *id, false)?;
             }
         }
         for at in 0..self.calls.len() {
             let call = &self.calls[at];
             if has_place(self.fates, at) {
                 graph.edge(call.before, Some(at))?;
-                self.call(graph, at, call)?;
+                self.call(graph, Node { at, call })?;
             }
         }
         self.listings(alloc, graph)
