@@ -2,6 +2,7 @@
 ghost use Rattle.std.specs.Prelude.{◌≡◌, ◌↔◌, Some, IfOk, IfSome, string_bytes};
 ghost use Rattle.txn_entries.specs.declared.entry.Entry.{Entry};
 ghost use Rattle.txn_entries.specs.Text.{entry_text, IsEntry};
+ghost use Rattle.txn_entries.specs.TextLaws.{entry_utf8};
 
 use crate::entry::Entry;
 use bytes::Bytes;
@@ -56,9 +57,6 @@ pub fn decode(alloc: Global, text: &str) -> Result<Option<Entry>, AllocError>
 }
 
 impl TextForm for Entry {
-    ghost use Rattle.txn_entries.specs.Text.{entry_text, IsEntry};
-    ghost use Rattle.txn_entries.specs.TextLaws.{entry_utf8};
-
     ghost text = { entry_text };
 
     ghost fits = { IsEntry };
