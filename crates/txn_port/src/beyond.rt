@@ -5,7 +5,7 @@ use crate::plain::{done, newest, said_of};
 use crate::reading::{first_word, read_update_at};
 use crate::said::Said;
 use crate::setting::{Client, Desk, Store};
-use crate::views::{apply, fences, place, try_load, update};
+use crate::views::{Target, apply, fences, place, try_load, update};
 use slatedb_txn_obj::{MonotonicId, SequencedStorageProtocol};
 use std::alloc::AllocError;
 use txn_lines::numerals::{read_decimal, read_pair};
@@ -51,7 +51,7 @@ fn apply_to<S: ObjectStore, P: SequencedStorageProtocol<Record, S>>(
 ) -> Option<Said> {
     let (number, change) = read_change(words)?;
     match objects.get_mut(place(number)) {
-        Some(object) => Some(apply(number, object, protocol, desk, change)),
+        Some(object) => Some(apply(Target { number, object }, protocol, desk, change)),
         None => Some(Said::Misplaced),
     }
 }
@@ -65,7 +65,7 @@ fn update_at<S: ObjectStore, P: SequencedStorageProtocol<Record, S>>(
 ) -> Option<Said> {
     let (number, id, value) = read_update_at(words)?;
     match objects.get_mut(place(number)) {
-        Some(object) => Some(update(number, object, protocol, desk, Some(id), value)),
+        Some(object) => Some(update(Target { number, object }, protocol, desk, Some(id), value)),
         None => Some(Said::Misplaced),
     }
 }

@@ -7,6 +7,9 @@ use txn_history::event::{Answer, PlainAnswer};
 use txn_store::path::{Path, PathFault};
 use txn_store::store::{Got, ObjectStore, PutMode, StoreError};
 
+/// What a line says, none where its words are no path and no bytes of a file. The only error is want of memory.
+type Read = Result<Option<Said>, AllocError>;
+
 /// The path that a word is, where it is one.
 fn read_path(alloc: Global, word: &str) -> Result<Option<Path>, AllocError> {
     match Path::from_text(alloc, word) {
@@ -42,11 +45,7 @@ fn read_put(alloc: Global, words: &str) -> Result<Option<(Path, Bytes)>, AllocEr
 }
 
 /// A file is put, in place of any other.
-pub(crate) fn put<S: ObjectStore>(
-    alloc: Global,
-    store: &mut S,
-    words: &str,
-) -> Result<Option<Said>, AllocError> {
+pub(crate) fn put<S: ObjectStore>(alloc: Global, store: &mut S, words: &str) -> Read {
     match read_put(alloc, words)? {
         None => Ok(None),
         Some((path, bytes)) => Ok(Some(done(store.put(&path, &bytes, &PutMode::Overwrite)))),
@@ -54,11 +53,7 @@ pub(crate) fn put<S: ObjectStore>(
 }
 
 /// What a file holds. It gets the file.
-pub(crate) fn look<S: ObjectStore>(
-    alloc: Global,
-    store: &mut S,
-    word: &str,
-) -> Result<Option<Said>, AllocError> {
+pub(crate) fn look<S: ObjectStore>(alloc: Global, store: &mut S, word: &str) -> Read {
     match read_path(alloc, word)? {
         None => Ok(None),
         Some(path) => Ok(Some(got(store.get(&path, None)))),
@@ -66,11 +61,7 @@ pub(crate) fn look<S: ObjectStore>(
 }
 
 /// A file is removed.
-pub(crate) fn erase<S: ObjectStore>(
-    alloc: Global,
-    store: &mut S,
-    word: &str,
-) -> Result<Option<Said>, AllocError> {
+pub(crate) fn erase<S: ObjectStore>(alloc: Global, store: &mut S, word: &str) -> Read {
     match read_path(alloc, word)? {
         None => Ok(None),
         Some(path) => Ok(Some(done(store.delete(&path)))),

@@ -72,40 +72,7 @@ impl fmt::Display for Cause<'_> {
     }
 }
 
-/// What a boundary object has cached, as it is printed.
-#[derive(Clone, Copy)]
-struct Known<'a>(&'a Option<CachedBoundary>);
-
-impl fmt::Display for Known<'_> {
-    fn fmt<W: fmt::Write>(&self, f: &mut fmt::Formatter<W>) -> fmt::Result {
-        match self.0 {
-            None => write!(f, "cached none"),
-            Some(cached) => {
-                let number = cached.number;
-                let token = cached.token.number();
-                write!(f, "cached {number} token {token}")
-            }
-        }
-    }
-}
-
-/// What a file holds, as it is printed: its token, and its bytes, each outside `!` to `~`, and `%`, as `%XX`.
-#[derive(Clone, Copy)]
-struct Held<'a>(&'a Option<Got>);
-
-impl fmt::Display for Held<'_> {
-    fn fmt<W: fmt::Write>(&self, f: &mut fmt::Formatter<W>) -> fmt::Result {
-        match self.0 {
-            None => write!(f, "file none"),
-            Some(got) => {
-                let token = got.token.number();
-                let bytes = percent_encode(got.bytes.as_slice(), ESCAPED);
-                write!(f, "file token {token} {bytes}")
-            }
-        }
-    }
-}
-
+/// It is printed so. The bytes of a file, each outside `!` to `~`, and `%`, are shown as `%XX`.
 impl fmt::Display for Said {
     fn fmt<W: fmt::Write>(&self, f: &mut fmt::Formatter<W>) -> fmt::Result {
         match self {
@@ -119,13 +86,17 @@ impl fmt::Display for Said {
                 let cause = Cause(error);
                 write!(f, "{named}{cause}")
             }
-            Said::Cached(cached) => {
-                let known = Known(cached);
-                write!(f, "{known}")
+            Said::Cached(None) => write!(f, "cached none"),
+            Said::Cached(Some(cached)) => {
+                let number = cached.number;
+                let token = cached.token.number();
+                write!(f, "cached {number} token {token}")
             }
-            Said::File(got) => {
-                let held = Held(got);
-                write!(f, "{held}")
+            Said::File(None) => write!(f, "file none"),
+            Said::File(Some(got)) => {
+                let token = got.token.number();
+                let bytes = percent_encode(got.bytes.as_slice(), ESCAPED);
+                write!(f, "file token {token} {bytes}")
             }
             Said::Fenced(fenced) => write!(f, "fenced {fenced}"),
             Said::Read(count) => write!(f, "clock read {count}"),

@@ -21,6 +21,13 @@ pub(crate) fn place(number: u64) -> usize {
     }
 }
 
+/// The object that a call is for, and its number.
+#[derive(Drop)]
+pub(crate) struct Target<'o> {
+    pub number: u64,
+    pub object: &'o mut Object,
+}
+
 /// A view gets the next number.
 fn enter(objects: &mut Vec<Object>, view: View) -> Result<Said, AllocError> {
     let number = (objects.len() as u64).saturating_add(1);
@@ -73,13 +80,12 @@ fn take_view(object: &mut Object) -> Option<View> {
 
 /// The view leaves its place, and its holder takes it.
 fn claim<S: ObjectStore, P: TransactionalStorageProtocol<Record, MonotonicId, S>>(
-    number: u64,
-    object: &mut Object,
+    target: Target<'_>,
     protocol: &mut P,
     desk: &mut Desk<S>,
     epoch: Option<u64>,
 ) -> Said {
-    let Some(view) = take_view(object) else {
+    let Some(view) = take_view(target.object) else {
         return Said::Misplaced;
     };
     let Desk {
@@ -91,19 +97,19 @@ fn claim<S: ObjectStore, P: TransactionalStorageProtocol<Record, MonotonicId, S>
     } = desk;
     match claimed(view, protocol, store, turns, clock, *timeout, epoch) {
         Ok(holder) => {
-            *object = Object::Holder(holder);
-            shown(number, object)
+            *target.object = Object::Holder(holder);
+            shown(target.number, target.object)
         }
         Err(error) => Said::Refused(error),
     }
 }
 
 fn refresh<S: ObjectStore, P: TransactionalStorageProtocol<Record, MonotonicId, S>>(
-    number: u64,
-    object: &mut Object,
+    target: Target<'_>,
     protocol: &mut P,
     desk: &mut Desk<S>,
 ) -> Said {
+    let Target { number, object } = target;
     let Desk { store, turns, .. } = desk;
     match object {
         Object::Ended => Said::Misplaced,
@@ -114,13 +120,13 @@ fn refresh<S: ObjectStore, P: TransactionalStorageProtocol<Record, MonotonicId, 
 
 /// An update to this value, whose candidate has this id where one is given.
 pub(crate) fn update<S: ObjectStore, P: TransactionalStorageProtocol<Record, MonotonicId, S>>(
-    number: u64,
-    object: &mut Object,
+    target: Target<'_>,
     protocol: &mut P,
     desk: &mut Desk<S>,
     id: Option<u64>,
     value: Record,
 ) -> Said {
+    let Target { number, object } = target;
     let store = &mut desk.store;
     match object {
         Object::Ended => Said::Misplaced,
@@ -131,12 +137,12 @@ pub(crate) fn update<S: ObjectStore, P: TransactionalStorageProtocol<Record, Mon
 
 /// An update of a view by a mutator.
 pub(crate) fn apply<S: ObjectStore, P: TransactionalStorageProtocol<Record, MonotonicId, S>>(
-    number: u64,
-    object: &mut Object,
+    target: Target<'_>,
     protocol: &mut P,
     desk: &mut Desk<S>,
     change: Change,
 ) -> Said {
+    let Target { number, object } = target;
     let Desk { store, turns, .. } = desk;
     match object {
         Object::View(view) => Said::of(applied(number, view, protocol, store, turns, change)),
@@ -146,19 +152,18 @@ pub(crate) fn apply<S: ObjectStore, P: TransactionalStorageProtocol<Record, Mono
 
 /// A call of an object that is there.
 fn act<S: ObjectStore, P: TransactionalStorageProtocol<Record, MonotonicId, S>>(
-    number: u64,
-    object: &mut Object,
+    target: Target<'_>,
     protocol: &mut P,
     desk: &mut Desk<S>,
     call: ViewCall<Record>,
 ) -> Said {
     match call {
-        ViewCall::Refresh(_) => refresh(number, object, protocol, desk),
-        ViewCall::HolderRefresh(_) => refresh(number, object, protocol, desk),
-        ViewCall::Update(_, value) => update(number, object, protocol, desk, None, value),
-        ViewCall::HolderUpdate(_, value) => update(number, object, protocol, desk, None, value),
-        ViewCall::Claim(_) => claim(number, object, protocol, desk, None),
-        ViewCall::ClaimAt(_, epoch) => claim(number, object, protocol, desk, Some(epoch)),
+        ViewCall::Refresh(_) => refresh(target, protocol, desk),
+        ViewCall::HolderRefresh(_) => refresh(target, protocol, desk),
+        ViewCall::Update(_, value) => update(target, protocol, desk, None, value),
+        ViewCall::HolderUpdate(_, value) => update(target, protocol, desk, None, value),
+        ViewCall::Claim(_) => claim(target, protocol, desk, None),
+        ViewCall::ClaimAt(_, epoch) => claim(target, protocol, desk, Some(epoch)),
         _ => Said::Misplaced,
     }
 }
@@ -196,7 +201,7 @@ pub(crate) fn view_call<S: ObjectStore, P: TransactionalStorageProtocol<Record, 
         call => {
             let number = number_of(&call);
             match objects.get_mut(place(number)) {
-                Some(object) => Ok(act(number, object, protocol, desk, call)),
+                Some(object) => Ok(act(Target { number, object }, protocol, desk, call)),
                 None => Ok(Said::Misplaced),
             }
         }
