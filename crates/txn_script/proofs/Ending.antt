@@ -35,6 +35,10 @@ pub gathers : (o : Option (List ℕ)) (old new text : List ℕ) → new ≡ old 
 gathers None old new text e = tt
 gathers (Some xs) old new text e = ap (λ ys. xs ++ ys) e ∙ sym (append_assoc xs old text)
 
+-- what was gathered, in other words for the same bytes
+pub gathered_so : (old out : Option (List ℕ)) (text : List ℕ) {items now : List ℕ} → now ≡ items → Appends old (append_known out items) text → Appends old (append_known out now) text
+gathered_so old out text same = subst (λ (items : List ℕ). Appends old (append_known out items) text) (sym same)
+
 -- one more line, and then perhaps all is written
 pub gathers_line : (a b c : Option (List ℕ)) (old mid new text line : List ℕ) → Appends a (append_known b old) text → mid ≡ old ++ line → Appends (append_known b mid) (append_known c new) [] → Appends a (append_known c new) (text ++ line)
 gathers_line a b c old mid new text line before grown written =
@@ -140,14 +144,14 @@ module _ {T C : Type 0} {rules : Rules T C} {s : State T} {values : List T} {ids
   -- a stop at the line of the boundary
   pub stops_at_boundary : (stop : Stop) (old out : Option (List ℕ)) (first now : List ℕ) → stop ≡ stops.NoMemory → now ≡ first → Appends old (append_known out first) entries_part → StopsInEnd rules stop s old (append_known out now)
   stops_at_boundary stop old out first now is same grown =
-      line_front stop old (append_known out now) entries_part (boundary_part ++ (erased_part ++ (pinned_line pins ++ views_part))) is refl (subst (λ (items : List ℕ). Appends old (append_known out items) entries_part) (sym same) grown)
+      line_front stop old (append_known out now) entries_part (boundary_part ++ (erased_part ++ (pinned_line pins ++ views_part))) is refl (gathered_so old out entries_part same grown)
 
   -- at that of the erased ids
   pub stops_at_erased : (stop : Stop) (old out : Option (List ℕ)) (first second now : List ℕ) → stop ≡ stops.NoMemory → now ≡ second → Appends old (append_known out first) entries_part → second ≡ first ++ boundary_part → StopsInEnd rules stop s old (append_known out now)
   stops_at_erased stop old out first second now is same grown one =
       let after = erased_part ++ (pinned_line pins ++ views_part) in
       let printed = appends_both old (append_known out first) (append_known out second) entries_part boundary_part grown (gathers out first second boundary_part one) in
-      line_front stop old (append_known out now) (entries_part ++ boundary_part) after is (append_assoc entries_part boundary_part after) (subst (λ (items : List ℕ). Appends old (append_known out items) (entries_part ++ boundary_part)) (sym same) printed)
+      line_front stop old (append_known out now) (entries_part ++ boundary_part) after is (append_assoc entries_part boundary_part after) (gathered_so old out (entries_part ++ boundary_part) same printed)
 
   -- at that of what is pinned
   pub stops_at_pinned : (stop : Stop) (old out : Option (List ℕ)) (first second third now : List ℕ) → stop ≡ stops.NoMemory → now ≡ third → Appends old (append_known out first) entries_part → second ≡ first ++ boundary_part → third ≡ second ++ erased_part → StopsInEnd rules stop s old (append_known out now)
@@ -156,4 +160,4 @@ module _ {T C : Type 0} {rules : Rules T C} {s : State T} {values : List T} {ids
       let after = pinned_line pins ++ views_part in
       let printed = appends_both old (append_known out first) (append_known out third) entries_part both grown (gathers out first third both (both_after first second third boundary_part erased_part one two)) in
       let whole : (entries_part ++ both) ++ after ≡ ending_of = append_assoc entries_part both after ∙ ap (λ xs. entries_part ++ xs) (append_assoc boundary_part erased_part after) in
-      line_front stop old (append_known out now) (entries_part ++ both) after is whole (subst (λ (items : List ℕ). Appends old (append_known out items) (entries_part ++ both)) (sym same) printed)
+      line_front stop old (append_known out now) (entries_part ++ both) after is whole (gathered_so old out (entries_part ++ both) same printed)

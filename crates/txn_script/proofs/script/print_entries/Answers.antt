@@ -1,11 +1,10 @@
-use Rattle.std.proofs.Common.{[], ◌+◌, ◌++◌, drop, drop_of_length-le, List, sym, refl, ◌∙◌, ap, subst}
-use Rattle.std.proofs.Common.{ℕ, inr}
+use Rattle.std.proofs.Common.{[], ◌+◌, ◌++◌, drop, drop_of_length-le, List, sym, refl, ◌∙◌, ap, subst, inr}
 use Rattle.std.proofs.lemmas.Result.{err_from_is_err_and}
 use Rattle.std.proofs.lemmas.List.{append-nil}
 use Rattle.txn_lines.specs.Printed.{entry_text}
 use Rattle.txn_script.specs.Printed.{with_feed, entries_text}
 use Rattle.std.specs.Io.KnownBytes.{Appends, append_known}
-use Rattle.txn_script.proofs.Ending.{appends_nothing, entry_printed}
+use Rattle.txn_script.proofs.Ending.{appends_nothing, gathered_so, entry_printed}
 use Rattle.txn_script.proofs.script.print_entries.Goals as goal
 
 pub loop-index-init : goal.loop-index-init
@@ -26,8 +25,6 @@ returns-clause-ok g c =
 pub returns-in_err-print_line-clause-err : goal.returns-in_err-print_line-clause-err
 returns-in_err-print_line-clause-err g c =
     let before = c.loop-index.invariant in
-    let held = append_known (g.W.Write.contents c.args.out.now) c.args.printer.now.text.items in
     let err = c.in_err-print_line.ensures.err in
-    let grown = subst (λ (items : List ℕ). Appends held (append_known (g.W.Write.contents c.loop-index.out) items) before.0) (sym err.1) before.1 in
     let p = err_from_is_err_and c.from_residual.result c.from_residual.ensures.1 in
-    rw (p.1, p.2) (inr (err.0, before.0, entries_text g.T.TextForm.text (c.loop-index.index + 1) (drop c.loop-index.index c.args.entries.now), before.2, grown))
+    rw (p.1, p.2) (inr (err.0, before.0, entries_text g.T.TextForm.text (c.loop-index.index + 1) (drop c.loop-index.index c.args.entries.now), before.2, gathered_so _ (g.W.Write.contents c.loop-index.out) before.0 err.1 before.1))

@@ -1,11 +1,11 @@
-use Rattle.std.proofs.Common.{ℕ, [], ◌+◌, ◌++◌, ◌<◌, ◌≤◌, List, drop, drop_of_length-le, get_or, length, Option, None, inr, sym, refl, ◌∙◌, ap, subst, arith}
+use Rattle.std.proofs.Common.{[], ◌+◌, ◌++◌, ◌<◌, ◌≤◌, List, drop, drop_of_length-le, get_or, length, Option, None, inr, sym, refl, ◌∙◌, ap, subst, arith}
 use Rattle.std.proofs.lemmas.Result.{err_from_is_err_and}
 use Rattle.std.proofs.lemmas.List.{append-nil, append_assoc, length-map}
 use Rattle.std.specs.Io.KnownBytes.{Appends, append_known}
 use Rattle.txn_history.specs.Views.{View}
 use Rattle.txn_machine.specs.Machine.{seen_view, seen_views}
 use Rattle.txn_script.specs.Printed.{view_line, views_text}
-use Rattle.txn_script.proofs.Ending.{appends_nothing, gathers_line, views_step, view_there}
+use Rattle.txn_script.proofs.Ending.{appends_nothing, gathered_so, gathers_line, views_step, view_there}
 use Rattle.txn_script.proofs.script.print_views.Goals as goal
 
 pub loop-index-init : goal.loop-index-init
@@ -40,8 +40,6 @@ returns-clause-ok g c =
 pub returns-in_err-print_view-clause-err : goal.returns-in_err-print_view-clause-err
 returns-in_err-print_view-clause-err g c =
     let before = c.loop-index.invariant in
-    let held = append_known (g.W.Write.contents c.args.out.now) c.args.printer.now.text.items in
     let err = c.in_err-print_view.ensures.err in
-    let grown = subst (λ (items : List ℕ). Appends held (append_known (g.W.Write.contents c.loop-index.out) items) before.0) (sym err.1) before.1 in
     let p = err_from_is_err_and c.from_residual.result c.from_residual.ensures.1 in
-    rw (p.1, p.2) (inr (err.0, before.0, views_text g.T.TextForm.text (c.loop-index.index + 1) (drop c.loop-index.index (seen_views (g.K.ScriptWorld.state c.args.world.now).views)), before.2, grown))
+    rw (p.1, p.2) (inr (err.0, before.0, views_text g.T.TextForm.text (c.loop-index.index + 1) (drop c.loop-index.index (seen_views (g.K.ScriptWorld.state c.args.world.now).views)), before.2, gathered_so _ (g.W.Write.contents c.loop-index.out) before.0 err.1 before.1))
