@@ -37,23 +37,13 @@ returns-in_err-line-clause-stop g c =
 
 pub returns-in_default-clause-ok : goal.returns-in_default-clause-ok
 returns-in_default-clause-ok g c =
-    let start = g.R.Read.remaining c.args.lines.now.reader in
-    let before = g.R.Read.remaining c.loop-line.lines.reader in
-    let after = g.R.Read.remaining c.next_line.new.self.reader in
-    let held = append_known (g.W.Write.contents c.args.out.now) c.args.printer.now.text.items in
-    let now = append_known (g.W.Write.contents c.loop-line.out) c.loop-line.printer.text.items in
     let read = rw c.in_default.is at c.in_ok-line.ensures.ok in
-    on_ok_weaker c.print_end.result (play_end (rules g) start before after held now (append_known (g.W.Write.contents c.print_end.new.out) c.print_end.new.printer.text.items) c.loop-line.lines.number c.next_line.new.self.number (record { state = g.K.ScriptWorld.state c.loop-line.world; opened = c.loop-line.opened }) c.loop-line.invariant.playing read) c.print_end.ensures.ok
+    on_ok_weaker c.print_end.result (play_end (rules g) _ _ _ _ _ _ _ _ _ c.loop-line.invariant.playing read) c.print_end.ensures.ok
 
 pub returns-in_default-clause-stop : goal.returns-in_default-clause-stop
 returns-in_default-clause-stop g c =
-    let start = g.R.Read.remaining c.args.lines.now.reader in
-    let before = g.R.Read.remaining c.loop-line.lines.reader in
-    let after = g.R.Read.remaining c.next_line.new.self.reader in
-    let held = append_known (g.W.Write.contents c.args.out.now) c.args.printer.now.text.items in
-    let now = append_known (g.W.Write.contents c.loop-line.out) c.loop-line.printer.text.items in
     let read = rw c.in_default.is at c.in_ok-line.ensures.ok in
-    MatchResult-weaker c.print_end.result c.print_end.ensures.err (λ x h. h) (λ stop is. stops_end (rules g) stop start before after held now (append_known (g.W.Write.contents c.print_end.new.out) c.print_end.new.printer.text.items) c.loop-line.lines.number c.next_line.new.self.number (record { state = g.K.ScriptWorld.state c.loop-line.world; opened = c.loop-line.opened }) c.loop-line.invariant.playing read is)
+    MatchResult-weaker c.print_end.result c.print_end.ensures.err (λ x h. h) (λ stop is. stops_end (rules g) stop _ _ _ _ _ _ _ _ _ c.loop-line.invariant.playing read is)
 
 pub returns-in_err-take_line-clause-stop : goal.returns-in_err-take_line-clause-stop
 returns-in_err-take_line-clause-stop g c =
