@@ -1,7 +1,6 @@
 //! The run of a script of manifests.
 
-ghost use Rattle.std.specs.Prelude.{◌≡◌, ℕ, ◌≤◌};
-ghost use Rattle.txn_script.specs.Script.{IsPrinted, IsPrintedBefore};
+ghost use Rattle.txn_script.specs.Script.{RunEnds};
 ghost use Rattle.txn_manifest_script.specs.Manifests.{manifest_rules};
 
 use crate::call::ManifestCall;
@@ -19,13 +18,7 @@ pub fn run_manifest<R: Read + Drop, W: Write, E: Write>(
     out: &mut W,
     err: &mut E,
 ) -> u8
-    ensures status { result ≤ 2 }
-    // Nothing is said where nothing went wrong.
-    ensures silent { result ≡ 0 → err.new ≡ err.old }
-    ensures done { result ≡ 0
-        → IsPrinted manifest_rules (R.remaining reader) (W.contents out.old) (W.contents out.new) }
-    ensures bad_line { result ≡ 2 → (n : ℕ)
-        × IsPrintedBefore manifest_rules n (R.remaining reader) (W.contents out.old) (W.contents out.new) }
+    ensures { RunEnds manifest_rules result (R.remaining reader) (W.contents out.old) (W.contents out.new) err.old err.new }
 {
     let ended = print_world::<Manifest, ManifestCall, Scripted, R, W>(alloc, reader, out);
     exit_status(ended, err)

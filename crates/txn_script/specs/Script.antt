@@ -177,3 +177,10 @@ module _ {T C : Type 0} (rules : Rules T C) where
   StopsAfter stops.ReadFailed input old new = IsFrontPrinted input old new
   StopsAfter stops.NoMemory input old new = IsFrontPrinted input old new
   StopsAfter stops.WriteFailed input old new = Unit {0}
+
+  -- What the exit status of a run says: 0 that what the whole script prints was written and nothing said of errors, 2 that a line is bad and that what the lines before it print was written.
+  pub record RunEnds {E : Type 0} (status : ℕ) (input old new : Option (List ℕ)) (err err' : E) : Type 0 where
+    pub status_most : status ≤ 2
+    pub silent : status ≡ 0 → err' ≡ err
+    pub done : status ≡ 0 → IsPrinted input old new
+    pub bad_line : status ≡ 2 → (n : ℕ) × IsPrintedBefore n input old new

@@ -7,7 +7,7 @@ ghost use Rattle.txn_lines.specs.declared.line.Line.{Line};
 ghost use Rattle.txn_script.specs.Printed.{with_feed, pinned_line, entries_text, view_line, views_text};
 ghost use Rattle.txn_script.specs.Rules.{rules_of};
 ghost use Rattle.txn_script.specs.Records.{record_rules};
-ghost use Rattle.txn_script.specs.Script.{IsClients, Steps, RunsOperation, PageSteps, EventSteps, MayStand, EndsWith, IsPrinted, IsPrintedBefore, StopsAfter, ended_status};
+ghost use Rattle.txn_script.specs.Script.{IsClients, Steps, RunsOperation, PageSteps, EventSteps, MayStand, EndsWith, IsPrinted, StopsAfter, RunEnds, ended_status};
 ghost use Rattle.txn_lines.specs.Reading.{reader_of, number_of, OnBadLine};
 ghost use Rattle.txn_script.specs.Reading.{Opens, OpensBad};
 ghost use Rattle.txn_script.specs.Printing.{held, Gathers, IsUnchanged, StopsLine, StopsWithin, StopsInEnd};
@@ -377,13 +377,7 @@ pub fn run_script<R: Read + Drop, W: Write, E: Write>(
     out: &mut W,
     err: &mut E,
 ) -> u8
-    ensures status { result ≤ 2 }
-    // Nothing is said where nothing went wrong.
-    ensures silent { result ≡ 0 → err.new ≡ err.old }
-    ensures done { result ≡ 0
-        → IsPrinted record_rules (R.remaining reader) (W.contents out.old) (W.contents out.new) }
-    ensures bad_line { result ≡ 2 → (n : ℕ)
-        × IsPrintedBefore record_rules n (R.remaining reader) (W.contents out.old) (W.contents out.new) }
+    ensures { RunEnds record_rules result (R.remaining reader) (W.contents out.old) (W.contents out.new) err.old err.new }
 {
     let ended = print_script(alloc, reader, out);
     exit_status(ended, err)
