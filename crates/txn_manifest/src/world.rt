@@ -25,6 +25,9 @@ use txn_world::world::World;
 /// The world of manifests below.
 type Manifests = World<Manifest, ManifestCodec, ManifestEpoch>;
 
+/// The event of the world that one of manifests is, or why there is none.
+type Made = Result<Event<Manifest>, ManifestFault>;
+
 /// The client's view of this number, where it is there.
 fn own_view(world: &Manifests, client: u64, number: u64) -> Option<&View<Manifest>>
     ensures { IsOwnView world.now.state client number (option_copied result) }
@@ -36,7 +39,7 @@ fn own_view(world: &Manifests, client: u64, number: u64) -> Option<&View<Manifes
 }
 
 /// An event of the world, unless it is the begin of a call that is not of manifests.
-fn make_plain(world: &Manifests, event: Event<Manifest>) -> Result<Event<Manifest>, ManifestFault>
+fn make_plain(world: &Manifests, event: Event<Manifest>) -> Made
     ensures { IsMadeAs world.now.state (made.World event) result }
 {
     if let Event::Begin(_, call) = &event {
@@ -47,12 +50,7 @@ fn make_plain(world: &Manifests, event: Event<Manifest>) -> Result<Event<Manifes
     Ok(event)
 }
 
-fn make_checkpoint(
-    alloc: Global,
-    world: &Manifests,
-    client: u64,
-    number: u64,
-) -> Result<Event<Manifest>, ManifestFault>
+fn make_checkpoint(alloc: Global, world: &Manifests, client: u64, number: u64) -> Made
     ensures { IsMadeAs world.now.state (Checkpoint client number) result }
 {
     let Some(view) = own_view(world, client, number) else {
@@ -64,13 +62,7 @@ fn make_checkpoint(
     }
 }
 
-fn make_release(
-    alloc: Global,
-    world: &Manifests,
-    client: u64,
-    number: u64,
-    id: u64,
-) -> Result<Event<Manifest>, ManifestFault>
+fn make_release(alloc: Global, world: &Manifests, client: u64, number: u64, id: u64) -> Made
     ensures { IsMadeAs world.now.state (Release client number id) result }
 {
     let Some(view) = own_view(world, client, number) else {
@@ -86,12 +78,7 @@ fn make_release(
     }
 }
 
-fn make_payload(
-    world: &Manifests,
-    client: u64,
-    number: u64,
-    payload: u64,
-) -> Result<Event<Manifest>, ManifestFault>
+fn make_payload(world: &Manifests, client: u64, number: u64, payload: u64) -> Made
     ensures { IsMadeAs world.now.state (SetPayload client number payload) result }
 {
     let Some(view) = own_view(world, client, number) else {
@@ -103,7 +90,7 @@ fn make_payload(
     }
 }
 
-fn make_fence(world: &Manifests, client: u64, number: u64) -> Result<Event<Manifest>, ManifestFault>
+fn make_fence(world: &Manifests, client: u64, number: u64) -> Made
     ensures { IsMadeAs world.now.state (Fence client number) result }
 {
     let Some(view) = own_view(world, client, number) else {
@@ -113,12 +100,7 @@ fn make_fence(world: &Manifests, client: u64, number: u64) -> Result<Event<Manif
     Ok(Event::Begin(client, Call::Plain(PlainCall::Advance(to))))
 }
 
-fn make_sweep(
-    world: &Manifests,
-    client: u64,
-    number: u64,
-    id: u64,
-) -> Result<Event<Manifest>, ManifestFault>
+fn make_sweep(world: &Manifests, client: u64, number: u64, id: u64) -> Made
     ensures { IsMadeAs world.now.state (Sweep client number id) result }
 {
     let Some(view) = own_view(world, client, number) else {
@@ -131,11 +113,7 @@ fn make_sweep(
 }
 
 /// The event of the world that an event of manifests is.
-fn make(
-    alloc: Global,
-    world: &Manifests,
-    event: ManifestEvent,
-) -> Result<Event<Manifest>, ManifestFault>
+fn make(alloc: Global, world: &Manifests, event: ManifestEvent) -> Made
     ensures { IsMadeAs world.now.state event result }
 {
     match event {
