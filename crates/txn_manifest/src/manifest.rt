@@ -4,6 +4,7 @@ ghost use Rattle.std.specs.List.{slice_split};
 ghost use Rattle.txn_types.specs.Refusal.{OnRefused};
 ghost use Rattle.txn_manifest.specs.declared.manifest.Manifest.{Manifest};
 ghost use Rattle.txn_manifest.specs.Text.{manifest_text, pins_read, manifest_read, IsManifest};
+ghost use Rattle.txn_manifest.specs.TextLaws.{manifest_utf8};
 ghost use Rattle.txn_manifest.specs.Refusal.{IsBadManifest};
 
 use crate::pins::{Commas, Pins};
@@ -131,9 +132,6 @@ impl ObjectCodec<Manifest> for ManifestCodec {
 
 /// A script speaks of manifests by their texts. A manifest has as many pins as there is memory for, so its text has no bound.
 impl TextForm for Manifest {
-    ghost use Rattle.txn_manifest.specs.Text.{manifest_text, IsManifest};
-    ghost use Rattle.txn_manifest.specs.TextLaws.{manifest_utf8};
-
     ghost text = { manifest_text };
 
     ghost fits = { IsManifest };

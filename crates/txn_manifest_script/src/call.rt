@@ -1,7 +1,8 @@
 //! The calls of a script of manifests, and how one is read.
 
 ghost use Rattle.std.specs.Prelude.{◌≡◌, IfSome, Some};
-ghost use Rattle.txn_manifest_script.specs.Calls.{own_text, OwnFits, event_of, as_manifests};
+ghost use Rattle.txn_manifest_script.specs.Calls.{own_text, manifest_call_text, OwnFits, ManifestCallFits, event_of, as_manifests};
+ghost use Rattle.txn_manifest_script.specs.CallLaws.{manifest_call_utf8};
 ghost use Rattle.txn_history.specs.declared.event.EventOf.{EventOf};
 ghost use Rattle.txn_manifest_script.specs.declared.call.OwnCall.{OwnCall};
 
@@ -64,9 +65,6 @@ fn read_own(text: &str) -> Option<OwnCall>
 
 /// A manifest in it has as many pins as there is memory for, so its text has no bound.
 impl TextForm for ManifestCall {
-    ghost use Rattle.txn_manifest_script.specs.Calls.{manifest_call_text, ManifestCallFits};
-    ghost use Rattle.txn_manifest_script.specs.CallLaws.{manifest_call_utf8};
-
     ghost text = { manifest_call_text };
 
     ghost fits = { ManifestCallFits };
