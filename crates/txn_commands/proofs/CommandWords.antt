@@ -1,29 +1,19 @@
 -- What words ask for.
-use Rattle.std.proofs.Common.{◌≡◌, ◌≢◌, ℕ, ◌<◌, ◌≤◌, ◌↔◌, List, [], ◌∷◌, length, get_or, drop, map, Bool, true, MatchBool, nat_eq, Some, refl, sym, ap, subst, ◌∙◌, arith}
+use Rattle.std.proofs.Common.{◌≡◌, ◌≢◌, ℕ, ◌<◌, ◌≤◌, ◌↔◌, List, [], ◌∷◌, length, get_or, drop, drop_of_length-le, map, Some, refl, sym, ap, ◌∙◌, arith}
 use Rattle.std.specs.Prelude.{codes}
-use Rattle.std.specs.Cmp.Lexicographic.{told_text}
+use Rattle.std.proofs.lemmas.List.{drop_more}
 use Rattle.std.proofs.lemmas.Option.{same_Some}
-use lib.Pointwise.{pointwise}
 use Rattle.txn_commands.specs.declared.command.Command.{Command}
 use Rattle.txn_commands.specs.declared.command.Command.TheVariants as commands
 use Rattle.txn_commands.specs.Commands.{IsCount, count_text, IsCommand, command_words}
 
--- a text that was compared, and found the same
-pub said : (b : Bool) (text want : List ℕ) → b ≡ true → b ≡ pointwise nat_eq text want → text ≡ want
-said b text want is told = subst (λ (c : Bool). MatchBool c (text ≡ want) (text ≢ want)) is (told_text text want b told)
-
 pub two_words : {S : Type 0} (f : S → List ℕ) (words : List S) (mode : S) → 2 ≤ length words → length words < 3 → mode ≡ get_or words 1 mode → map f (drop 1 words) ≡ f mode ∷ []
-two_words f [] mode least most is = absurd (omega (arith, least))
-two_words f (a ∷ []) mode least most is = absurd (omega (arith, least))
-two_words f (a ∷ m ∷ []) mode least most is = ap (λ s. f s ∷ []) (sym is)
-two_words f (a ∷ m ∷ n ∷ more) mode least most is = absurd (omega (arith, most))
+two_words f words mode least most is = ap (map f) (drop_more words 1 mode least ∙ ap (λ rest. get_or words 1 mode ∷ rest) (drop_of_length-le words {i = 2} (omega (arith, most)))) ∙ ap (λ w. f w ∷ []) (sym is)
 
 pub three_words : {S : Type 0} (f : S → List ℕ) (words : List S) (mode count : S) → 3 ≤ length words → length words < 4 → mode ≡ get_or words 1 mode → count ≡ get_or words 2 count → map f (drop 1 words) ≡ f mode ∷ f count ∷ []
-three_words f [] mode count least most is at = absurd (omega (arith, least))
-three_words f (a ∷ []) mode count least most is at = absurd (omega (arith, least))
-three_words f (a ∷ m ∷ []) mode count least most is at = absurd (omega (arith, least))
-three_words f (a ∷ m ∷ n ∷ []) mode count least most is at = ap (λ s. f s ∷ f n ∷ []) (sym is) ∙ ap (λ s. f mode ∷ f s ∷ []) (sym at)
-three_words f (a ∷ m ∷ n ∷ o ∷ more) mode count least most is at = absurd (omega (arith, most))
+three_words f words mode count least most is at =
+    let rest = drop_more words 2 count least ∙ ap (λ more. get_or words 2 count ∷ more) (drop_of_length-le words {i = 3} (omega (arith, most))) in
+    ap (map f) (drop_more words 1 mode (omega (arith, least)) ∙ ap (λ more. get_or words 1 mode ∷ more) rest) ∙ ap (λ w. f w ∷ f (get_or words 2 count) ∷ []) (sym is) ∙ ap (λ w. f mode ∷ f w ∷ []) (sym at)
 
 one_not_two : (a b c : List ℕ) → (a ∷ []) ≡ (b ∷ c ∷ []) → ⊥
 one_not_two a b c e = let lengths : length (a ∷ []) ≡ length (b ∷ c ∷ []) = ap length e in absurd (omega (arith, lengths))

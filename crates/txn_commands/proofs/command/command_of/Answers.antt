@@ -1,24 +1,25 @@
-use Rattle.std.proofs.Common.{◌≡◌, ◌↔◌, ◌∙◌, Some, ap, subst, nat_eq, string_bytes}
+use Rattle.std.proofs.Common.{◌≡◌, ◌↔◌, ◌∙◌, Some, ap, sym, subst, nat_eq, string_bytes}
+use Rattle.std.specs.Cmp.Lexicographic.{same_text}
 use lib.Pointwise.{pointwise}
 use Rattle.txn_commands.specs.Commands.{count_text}
-use Rattle.txn_commands.proofs.CommandWords.{said, two_words, three_words, asks_for_script, asks_for_manifest, asks_for_threads}
+use Rattle.txn_commands.proofs.CommandWords.{two_words, three_words, asks_for_script, asks_for_manifest, asks_for_threads}
 use Rattle.txn_commands.proofs.command.command_of.Goals as goal
 
 pub returns-in-len2-clause-exact : goal.returns-in-len2-clause-exact
 returns-in-len2-clause-exact c =
     asks_for_script _ (string_bytes c.mode-item.result)
     (two_words string_bytes c.args.words.now c.mode-item.result c.in-len2.len_at_least c.in-len2.len_below c.mode-item.is)
-    (said c.eq.result (string_bytes c.mode-item.result) _ c.if-eq.true (c.eq.ensures ∙ ap (λ t. pointwise nat_eq t _) c.as_str.ensures.value))
+    (same_text (string_bytes c.mode-item.result) _ (sym c.if-eq.true ∙ c.eq.ensures ∙ ap (λ t. pointwise nat_eq t _) c.as_str.ensures.value))
 
 pub returns-in_ok-count_of-in-len3-clause-exact : goal.returns-in_ok-count_of-in-len3-clause-exact
 returns-in_ok-count_of-in-len3-clause-exact c =
     asks_for_threads _ (string_bytes c.mode-item-then-words-lt4.result) (string_bytes c.count-item.result) c.in_ok-count_of-in-len3.field-0
     (three_words string_bytes c.args.words.now c.mode-item-then-words-lt4.result c.count-item.result c.in-len3.len_at_least c.in-len3.len_below c.mode-item-then-words-lt4.is c.count-item.is)
-    (said c.eq-then-words-lt4.result (string_bytes c.mode-item-then-words-lt4.result) _ c.if-eq-3.true (c.eq-then-words-lt4.ensures ∙ ap (λ t. pointwise nat_eq t _) c.as_str-then-words-lt4.ensures.value))
+    (same_text (string_bytes c.mode-item-then-words-lt4.result) _ (sym c.if-eq-3.true ∙ c.eq-then-words-lt4.ensures ∙ ap (λ t. pointwise nat_eq t _) c.as_str-then-words-lt4.ensures.value))
     (λ n fits. subst (λ t. (Some c.in_ok-count_of-in-len3.field-0 ≡ Some n) ↔ (t ≡ count_text n)) c.as_str-in-len3.ensures.value (c.in_ok-count_of-in-len3.ensures.exact n fits))
 
 pub returns-in-len2-2-clause-exact : goal.returns-in-len2-2-clause-exact
 returns-in-len2-2-clause-exact c =
     asks_for_manifest _ (string_bytes c.mode-item-then-words-lt3.result)
     (two_words string_bytes c.args.words.now c.mode-item-then-words-lt3.result c.in-len2.len_at_least c.in-len2.len_below c.mode-item-then-words-lt3.is)
-    (said c.eq-then-words-lt3.result (string_bytes c.mode-item-then-words-lt3.result) _ c.if-eq-2.true (c.eq-then-words-lt3.ensures ∙ ap (λ t. pointwise nat_eq t _) c.as_str-then-words-lt3.ensures.value))
+    (same_text (string_bytes c.mode-item-then-words-lt3.result) _ (sym c.if-eq-2.true ∙ c.eq-then-words-lt3.ensures ∙ ap (λ t. pointwise nat_eq t _) c.as_str-then-words-lt3.ensures.value))
