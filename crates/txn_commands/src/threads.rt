@@ -159,30 +159,22 @@ fn says_answered(row: &Row<Record>) -> bool
     matches!(row, Row::Answered(_, _))
 }
 
-/// How many rows say that a call began.
-fn begun(rows: &[Row<Record>]) -> u64
-    ensures { result ≡ begun_count rows.now }
+/// How many rows say that a call began, and how many that one was answered.
+fn counted(rows: &[Row<Record>]) -> (u64, u64)
+    ensures begun { result.0 ≡ begun_count rows.now }
+    ensures answered { result.1 ≡ answered_count rows.now }
 {
-    let mut count = 0;
+    let mut calls = 0;
+    let mut answers = 0;
     for row in rows {
         if says_begun(row) {
-            count += 1;
+            calls += 1;
         }
-    }
-    count
-}
-
-/// How many rows say that a call was answered.
-fn answered(rows: &[Row<Record>]) -> u64
-    ensures { result ≡ answered_count rows.now }
-{
-    let mut count = 0;
-    for row in rows {
         if says_answered(row) {
-            count += 1;
+            answers += 1;
         }
     }
-    count
+    (calls, answers)
 }
 
 /// Whether the shares finish the kept world.
@@ -202,8 +194,7 @@ fn tally_of(
     ensures ok { IfOk result (Tallies workers kept shares.items) }
     ensures err { IfErr result (λ stop. stop ≡ stops.NoMemory) }
 {
-    let rows = kept.world().trace();
-    let (calls, answers) = (begun(rows), answered(rows));
+    let (calls, answers) = counted(kept.world().trace());
     let Ok(entries) = kept.world().entries(alloc) else {
         return Err(Stop::NoMemory);
     };
