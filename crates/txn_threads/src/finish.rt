@@ -12,12 +12,12 @@ use txn_types::epoch::EpochField;
 #[derive(Clone, Copy, Debug, PartialEq, Eq)]
 pub enum FinishFault {
     /// The shares are not each worker's share once.
-    ShareMissing,
+    ShareMissing = 1,
     /// A share's count is not how many rows of the journal are its worker's.
-    CountsDiffer,
+    CountsDiffer = 2,
     /// A growth was refused. [`finish`] never answers it, since the room for the counts is made with the
     /// kept world; it stands here so that the faults keep their numbers.
-    NoMemory,
+    NoMemory = 3,
 }
 
 impl FinishFault {
@@ -28,11 +28,7 @@ impl FinishFault {
     pub fn number(&self) -> u8
         ensures { result ≡ fault_number self.now }
     {
-        match self {
-            FinishFault::ShareMissing => 1,
-            FinishFault::CountsDiffer => 2,
-            FinishFault::NoMemory => 3,
-        }
+        *self as u8
     }
 }
 
