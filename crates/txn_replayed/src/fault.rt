@@ -1,6 +1,6 @@
 //! Why a client cannot have made a row of its recording.
 
-use std::alloc::{AllocError, AllocFailed};
+use std::alloc::AllocError;
 use std::fmt;
 use txn_history::event::EventFault;
 
@@ -28,12 +28,6 @@ pub enum RowFault {
 
 impl From<AllocError> for RowFault {
     fn from(_e: AllocError) -> RowFault {
-        RowFault::NoMemory
-    }
-}
-
-impl<T: Drop> From<AllocFailed<T>> for RowFault {
-    fn from(_e: AllocFailed<T>) -> RowFault {
         RowFault::NoMemory
     }
 }
