@@ -29,10 +29,10 @@ module _ {T : Type 0} (decode : List ℕ → Option T) (get_epoch : T → ℕ) (
   own_entered before op id (any.View (view_calls.ClaimAt view at)) (answers.Held shown n found held) e h = (found, subst (λ (m : ℕ). Entered decode before op m found) (same_Some n id e) h.1.entered)
   own_entered before op id _ _ e h = cc
 
-  own_wrote : (rows : List (Row T)) → IsOneHistory decode get_epoch set_epoch failed rows → (k op id : ℕ) → AnswersOwn rows k op id → Wrote decode rows k op id
+  own_wrote : (rows : List (Row T)) → IsOneHistory decode get_epoch set_epoch failed rows → (k op id : ℕ) → AnswersOwn id_entered rows k op id → Wrote decode rows k op id
   own_wrote rows good k op id w =
       let a = good k (Answered op w.answer) w.there in
       answer_wrote decode rows (are_numbered rows good) k op id (λ c. AnswerFits decode get_epoch failed (take k rows) op c w.answer) a.call w.call a.called w.called a.once a.fits (own_entered (take k rows) op id w.call w.answer w.own)
 
-  pub one_writer : (rows : List (Row T)) → IsOneHistory decode get_epoch set_epoch failed rows → HasOneWriter rows
+  pub one_writer : (rows : List (Row T)) → IsOneHistory decode get_epoch set_epoch failed rows → HasOneWriter id_entered rows
   one_writer rows good j k op other id a b = one_row decode rows j k op other id a.answer b.answer a.there b.there (own_wrote rows good j op id a) (own_wrote rows good k other id b)

@@ -24,6 +24,20 @@ module _ {C A : Type 0} where
   abbrev pub KeepsAbove : List (RowOf C A) → Type 0
   KeepsAbove rows = (k id : ℕ) (row : RowOf C A) → slice_get rows k ≡ Some row → erases id row ≡ true → id ≤ boundary (take k rows)
 
+-- `id_entered` is the id that a checked write answers as its own
+module _ {C A : Type 0} (id_entered : C → A → Option ℕ) where
+  -- row k is an answer of the operation, which is its own version of this id
+  pub record AnswersOwn (rows : List (RowOf C A)) (k op id : ℕ) : Type 0 where
+    pub call : C
+    pub called : IsCall rows op call
+    pub answer : A
+    pub there : slice_get rows k ≡ Some (Answered op answer)
+    pub own : id_entered call answer ≡ Some id
+
+  -- two successful checked writes never have the same id: rows that answer it are one row
+  abbrev pub HasOneWriter : List (RowOf C A) → Type 0
+  HasOneWriter rows = (j k op other id : ℕ) → AnswersOwn rows j op id → AnswersOwn rows k other id → j ≡ k
+
 module _ {T : Type 0} where
   -- the id that a checked write answers as its own
   abbrev pub id_entered : Call T → Answer T → Option ℕ
@@ -34,18 +48,6 @@ module _ {T : Type 0} where
   id_entered (calls.View (view_calls.Claim view)) (answers.Held shown id found held) = Some id
   id_entered (calls.View (view_calls.ClaimAt view epoch)) (answers.Held shown id found held) = Some id
   id_entered call answer = None
-
-  -- row k is an answer of the operation, which is its own version of this id
-  pub record AnswersOwn (rows : List (Row T)) (k op id : ℕ) : Type 0 where
-    pub call : Call T
-    pub called : IsCall rows op call
-    pub answer : Answer T
-    pub there : slice_get rows k ≡ Some (Answered op answer)
-    pub own : id_entered call answer ≡ Some id
-
-  -- two successful checked writes never have the same id: rows that answer it are one row
-  abbrev pub HasOneWriter : List (Row T) → Type 0
-  HasOneWriter rows = (j k op other id : ℕ) → AnswersOwn rows j op id → AnswersOwn rows k other id → j ≡ k
 
   -- two successful claims never have the same epoch: rows that answer it are one row
   abbrev pub HasOneClaimer : List (Row T) → Type 0

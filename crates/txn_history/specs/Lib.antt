@@ -5,6 +5,7 @@ pub mod History
 pub mod Calls
 pub mod Facts
 pub mod Views
+pub mod Effects
 pub mod OneHistory
 pub mod Laws
 pub mod Seen

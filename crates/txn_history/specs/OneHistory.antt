@@ -5,7 +5,7 @@ use Rattle.txn_types.specs.Numbers.{number_of}
 use Rattle.txn_history.specs.declared.event.PlainCall.TheVariants as plain_calls
 use Rattle.txn_history.specs.declared.event.PlainAnswer.TheVariants as plain_answers
 use Rattle.txn_history.specs.declared.trace.RowOf.TheVariants.{Effect, Begun, Answered}
-use Rattle.txn_history.specs.History.{Version, created, raised, removed, has_id, versions_of, newest, boundary, was_erased, IsEntry, epoch_at}
+use Rattle.txn_history.specs.History.{Version, newest, IsEntry, epoch_at}
 use Rattle.txn_history.specs.Calls.{was_answered, IsCall, begun_count, before_begin, view_used, is_holders, value_written, was_told, is_below_told}
 use Rattle.txn_history.specs.Facts.{base_on, is_high, greatest, Entered, WasNewest, WasEmpty, NoTokens, WriteRefused, Fails, PlainSucceeds, PlainRefuses}
 use Rattle.txn_history.specs.declared.event.ViewCall.TheVariants as view_calls
@@ -14,6 +14,7 @@ use Rattle.txn_history.specs.declared.event.Call.TheVariants as calls
 use Rattle.txn_history.specs.declared.event.Answer.{Answer}
 use Rattle.txn_history.specs.declared.event.Answer.TheVariants as answers
 use Rattle.txn_history.specs.Trace.{Row}
+use Rattle.txn_history.specs.Effects as effects
 use Rattle.txn_history.specs.Views.{view_at, epoch_held, view_count}
 
 -- both or neither
@@ -70,28 +71,6 @@ module _ {T : Type 0} (decode : List ℕ → Option T) (get_epoch : T → ℕ) w
     pub low : has_low_boundary before call ≡ true
     pub keeps : keeps_epoch before (base_now before call) call ≡ true
 
-module _ {T : Type 0} where
-  -- A raise: the boundary goes up to what its operation advances to, and stays below the newest entry.
-  pub record Raises (before : List (Row T)) (op to : ℕ) : Type 0 where
-    pub called : IsCall before op (calls.Plain (plain_calls.Advance to))
-    pub up : boundary before < to
-    pub under : to < newest before
-
-  -- the boundary that is put, if one is, is a raise
-  abbrev pub BoundaryPut : List (Row T) → ℕ → Option ℕ → Type 0
-  BoundaryPut before op None = ⊥
-  BoundaryPut before op (Some to) = Raises before op to
-
-  -- An erasure: the name that its operation deletes goes, and the boundary has reached its id.
-  pub record Erases (before : List (Row T)) (op id : ℕ) : Type 0 where
-    pub called : IsCall before op (calls.Plain (plain_calls.Delete id))
-    pub below : id ≤ boundary before
-
-  -- the version that is removed, if one is, is an erasure
-  abbrev pub VersionRemoved : List (Row T) → ℕ → Option ℕ → Type 0
-  VersionRemoved before op None = ⊥
-  VersionRemoved before op (Some id) = Erases before op id
-
 module _ {T : Type 0} (decode : List ℕ → Option T) (get_epoch : T → ℕ) (set_epoch : T → ℕ → T) where
   -- a claim enters entry n again with its epoch one higher
   pub record ClaimsOn (before : List (Row T)) (n : ℕ) (entry : T) : Type 0 where
@@ -129,38 +108,13 @@ module _ {T : Type 0} (decode : List ℕ → Option T) (get_epoch : T → ℕ) (
   MayAppend before (calls.View (view_calls.HolderUpdate view value)) = IsUnfenced before view value
   MayAppend before _ = Unit {0}
 
-  -- An append: the name is the next, the value is its operation's, written directly on the newest entry, whose epoch is no greater.
-  pub record Appends (before : List (Row T)) (op id : ℕ) (bytes : List ℕ) : Type 0 where
-    pub call : Call T
-    pub called : IsCall before op call
-    pub value : T
-    pub reads : decode bytes ≡ Some value
-    pub next : id ≡ newest before + 1
-    pub written : WritesOn before op call (newest before) value
-    pub rises : epoch_at decode get_epoch before (newest before) ≤ get_epoch value
-    pub unfenced : MayAppend before call
-
-  -- A re-creation: the name was created before, was erased, and the boundary has reached its id. It is no move, since the history keeps the first create.
-  pub record Recreates (before : List (Row T)) (op id : ℕ) (bytes : List ℕ) : Type 0 where
-    pub call : Call T
-    pub called : IsCall before op call
-    pub value : T
-    pub reads : decode bytes ≡ Some value
-    pub base : ℕ
-    pub next : id ≡ base + 1
-    pub written : WritesOn before op call base value
-    pub again : has_id (versions_of before) id ≡ true
-    pub erased : was_erased before id ≡ true
-    pub below : id ≤ boundary before
-
   -- the version that is put, if one is, is an append or a re-creation
   abbrev pub VersionPut : List (Row T) → ℕ → Option Version → Type 0
-  VersionPut before op None = ⊥
-  VersionPut before op (Some version) = Appends before op version.0 version.1 ⊎ Recreates before op version.0 version.1
+  VersionPut = effects.VersionPut decode get_epoch WritesOn MayAppend
 
-  -- An effect is a legal move, which is an append, a raise or an erasure, or it is a re-creation.
+  -- An effect is a legal move of its call, or a re-creation.
   abbrev pub IsLegal : List (Row T) → ℕ → Request → Type 0
-  IsLegal before op request = VersionPut before op (created request) ⊎ BoundaryPut before op (raised request) ⊎ VersionRemoved before op (removed request)
+  IsLegal = effects.IsLegal calls.Plain decode get_epoch WritesOn MayAppend
 
 -- The answers. Each refusal has its number: 2, a failed store call, or no token left; 4, no version; 5, a conflict;
 -- 6, fenced by a greater epoch; 7, not to be deleted, or a value of another epoch than its holder's; 9, want of memory; 10, no id or no epoch left.

@@ -2,7 +2,7 @@
 ghost use Rattle.std.specs.Prelude.{◌≡◌, ◌+◌, List, Option, None, ℕ};
 ghost use Rattle.txn_history.specs.declared.event.EventOf.TheVariants as events;
 ghost use Rattle.txn_history.specs.Calls.{begun_count};
-ghost use Rattle.txn_history.specs.Laws.{NeverFalls, KeepsAbove, HasOneWriter, HasOneClaimer, HoldersRise, HoldersStand};
+ghost use Rattle.txn_history.specs.Laws.{NeverFalls, KeepsAbove, id_entered, HasOneWriter, HasOneClaimer, HoldersRise, HoldersStand};
 ghost use Rattle.txn_history.specs.declared.event.Call.{Call};
 ghost use Rattle.txn_history.specs.Trace.{Row};
 ghost use Rattle.txn_history.specs.Views.{View, ViewsFit};
@@ -22,7 +22,7 @@ pub fn above_boundary_is_not_removed<T: Drop>(_value: &T)
 
 /// Two successful checked writes never have the same id.
 pub fn one_writer_per_id<T: Drop>(_value: &T)
-    ensures { (decode : List ℕ → Option T) (get_epoch : T → ℕ) (set_epoch : T → ℕ → T) (failed : List ℕ) (rows : List (Row T)) → IsOneHistory decode get_epoch set_epoch failed rows → HasOneWriter rows }
+    ensures { (decode : List ℕ → Option T) (get_epoch : T → ℕ) (set_epoch : T → ℕ → T) (failed : List ℕ) (rows : List (Row T)) → IsOneHistory decode get_epoch set_epoch failed rows → HasOneWriter id_entered rows }
 {}
 
 /// Two successful claims never have the same epoch.

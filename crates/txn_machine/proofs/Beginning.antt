@@ -14,11 +14,10 @@ use Rattle.txn_history.specs.declared.event.EventFault.{EventFault}
 use Rattle.txn_history.specs.declared.event.EventFault.TheVariants as faults
 use Rattle.txn_history.specs.declared.event.EventOf.TheVariants as events
 use Rattle.txn_history.specs.declared.trace.RowOf.TheVariants.{Begun}
-use Rattle.txn_machine_inner.specs.PlainTrace.{PlainRow}
 use Rattle.txn_history.specs.Lists.{numbered}
 use Rattle.txn_history.specs.Allowed.{is_client, first_fault, is_own, may_use, is_busy, base_seen, fault_of}
 use Rattle.txn_history.specs.History.{epoch_at}
-use Rattle.txn_machine_inner.specs.PlainCalls as plain_calls
+use Rattle.txn_machine_inner.specs.PlainHistory.{tells as plain_tells}
 use Rattle.txn_history.specs.Calls.{was_begun, begun_count, tells as any_tells, view_used, is_holders}
 use Rattle.txn_machine_inner.specs.PlainHistory as plain_history
 use Rattle.txn_history.specs.Added.{answer_rows}
@@ -29,7 +28,7 @@ use Rattle.txn_machine_inner.proofs.World.{client_within, first_true}
 use Rattle.txn_history.specs.declared.event.ViewCall.{ViewCall}
 use Rattle.txn_history.specs.declared.event.Call.{Call}
 use Rattle.txn_history.specs.declared.event.Call.TheVariants as any
-use Rattle.txn_history.specs.Trace.{Row, Told}
+use Rattle.txn_history.specs.Trace.{Row, Told, PlainRow}
 use Rattle.txn_history.specs.Seen.{view_in}
 use Rattle.txn_history.specs.Views.{View, ViewsFit, ViewFits}
 use Rattle.txn_history.specs.OneHistory as history
@@ -330,7 +329,7 @@ module _ {T : Type 0} where
   plain_known fine rows told (Some n) e = told (nat_eq n) e
 
   plain_low : (fine : List (PlainRow T)) (rows : List (Row T)) → ToldBy fine rows → (call : PlainCall T) → history.has_low_boundary rows (any.Plain call) ≡ true → plain_history.has_low_boundary fine call ≡ true
-  plain_low fine rows told (calls.Advance to) e = elim (or_cases (to == 0) (list_any (any_tells (nat_lt to)) rows) e) [ inl z ↦ or_left (to == 0) (plain_calls.is_below_told fine to) z | inr below ↦ or_right (to == 0) (plain_calls.is_below_told fine to) (told (nat_lt to) below) ]
+  plain_low fine rows told (calls.Advance to) e = elim (or_cases (to == 0) (list_any (any_tells (nat_lt to)) rows) e) [ inl z ↦ or_left (to == 0) (list_any (plain_tells (nat_lt to)) fine) z | inr below ↦ or_right (to == 0) (list_any (plain_tells (nat_lt to)) fine) (told (nat_lt to) below) ]
   plain_low fine rows told (calls.Write base value) e = refl
   plain_low fine rows told (calls.WriteUnchecked base value) e = refl
   plain_low fine rows told calls.Read e = refl

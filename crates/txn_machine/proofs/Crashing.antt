@@ -6,7 +6,6 @@ use Rattle.std.proofs.lemmas.Bool.{cases_Bool, cases_eq, eq-eqb, ne_eqb}
 use Rattle.txn_store.specs.declared.request.Request.{Request}
 use Rattle.txn_caches.specs.declared.caches.Caches.{Caches}
 use Rattle.txn_history.specs.declared.event.ToldOf.TheVariants as told
-use Rattle.txn_machine_inner.specs.PlainTrace.{PlainRow}
 use Rattle.txn_history.specs.Lists.{numbered}
 use Rattle.txn_history.specs.Seen.{Ask, Store, Operation as SeenOperation}
 use Rattle.txn_history.specs.GoesOn.{all_left_loose}
@@ -17,7 +16,7 @@ use Rattle.txn_machine_inner.specs.Machine as machine
 use Rattle.txn_machine_inner.proofs.Lists.{numbered_append, numbered_map}
 use Rattle.txn_machine_inner.proofs.Stands as machine_stands
 use Rattle.txn_machine_inner.proofs.Crashes as machine_crashes
-use Rattle.txn_history.specs.Trace.{Row, Told}
+use Rattle.txn_history.specs.Trace.{Row, Told, PlainRow}
 use Rattle.txn_history.specs.Calls.{view_used}
 use Rattle.txn_machine_views.specs.Layer as layer
 use Rattle.txn_machine_views.specs.Layer.{Used, Inner, Layer, look_up, local_of}

@@ -7,7 +7,7 @@ use Rattle.txn_store.specs.declared.request.Request.{Request}
 use Rattle.txn_caches.specs.declared.caches.Caches.{Caches}
 use Rattle.txn_history.specs.declared.trace.RowOf.TheVariants.{Answered}
 use Rattle.txn_history.specs.Lists.{numbered}
-use Rattle.txn_machine_inner.specs.PlainCalls as plain_calls
+use Rattle.txn_machine_inner.specs.PlainHistory.{tells as plain_tells}
 use Rattle.txn_machine_inner.proofs.Lists.{within, numbered_here, numbered_other}
 use Rattle.txn_history.specs.declared.event.Call.{Call}
 use Rattle.txn_history.specs.declared.event.Answer.{Answer}
@@ -116,7 +116,7 @@ module _ {T : Type 0} (decode : List ℕ → Option T) (get_epoch : T → ℕ) (
 
   module _ (ending : Ending T) (answer : Answer T) (change : Change T) (answers : (count : ℕ) → answer_of count (view_used call) ending ≡ answer) (changes : change_of (is_claim_call call) ending ≡ change) (quiet : view_used call ≡ None → (client : ℕ) → made_by client ending ≡ [])
       (stands : layer_stands.NextStands decode get_epoch set_epoch h.l.failed h.l.rows h.l.views h.l.count op laid (Ends answer change))
-      (told : (test : ℕ → Bool) → tells_id test answer ≡ true → list_any (plain_calls.tells test) h.fine.trace ≡ true) (seen : (number : ℕ) → ViewTold h.fine.trace (views_changed h.l call change number)) where
+      (told : (test : ℕ → Bool) → tells_id test answer ≡ true → list_any (plain_tells test) h.fine.trace ≡ true) (seen : (number : ℕ) → ViewTold h.fine.trace (views_changed h.l call change number)) where
     abbrev after : State T
     after = acted s op operation (ended, Some ending) left
 

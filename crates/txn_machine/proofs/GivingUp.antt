@@ -8,7 +8,6 @@ use Rattle.txn_store.specs.Requests.{Serves}
 use Rattle.txn_store.specs.declared.request.Request.{Request}
 use Rattle.txn_caches.specs.declared.caches.Caches.{Caches}
 use Rattle.txn_history.specs.declared.event.ToldOf.TheVariants as told
-use Rattle.txn_machine_inner.specs.PlainTrace.{PlainRow}
 use Rattle.txn_history.specs.Lists.{numbered}
 use Rattle.txn_history.specs.GoesOn.{left_loose}
 use Rattle.txn_machine_inner.specs.PlainHistory as plain_history
@@ -21,7 +20,7 @@ use Rattle.txn_machine_inner.proofs.Stands as machine_stands
 use Rattle.txn_machine_inner.proofs.States.{at_place}
 use Rattle.txn_machine_inner.proofs.Events.{give_up_keeps, land_keeps}
 use Rattle.txn_history.specs.declared.event.Call.{Call}
-use Rattle.txn_history.specs.Trace.{Row, Told}
+use Rattle.txn_history.specs.Trace.{Row, Told, PlainRow}
 use Rattle.txn_history.specs.Calls.{view_used}
 use Rattle.txn_machine_views.specs.Layer as layer
 use Rattle.txn_machine_views.specs.Layer.{Used, Inner, Starts, Writes, Reads, Acts, Change, Keeps as Frees, Closes, changed, look_up, local_of, set_at, set_used, views_changed}

@@ -7,8 +7,7 @@ use Rattle.txn_history.specs.declared.event.PlainCall.{PlainCall}
 use Rattle.txn_history.specs.declared.event.PlainAnswer.{PlainAnswer}
 use Rattle.txn_history.specs.declared.event.PlainAnswer.TheVariants as answers
 use Rattle.txn_history.specs.declared.trace.RowOf.TheVariants.{Answered}
-use Rattle.txn_machine_inner.specs.PlainTrace.{PlainRow}
-use Rattle.txn_machine_inner.specs.PlainCalls as plain_calls
+use Rattle.txn_machine_inner.specs.PlainHistory.{tells as plain_tells}
 use Rattle.txn_history.specs.Calls.{IsCall}
 use Rattle.txn_machine_inner.specs.PlainHistory as plain_history
 use Rattle.txn_machine_inner.specs.PlainHistory.{Answers}
@@ -18,7 +17,7 @@ use Rattle.txn_history.specs.declared.event.Call.{Call}
 use Rattle.txn_history.specs.declared.event.Call.TheVariants as any
 use Rattle.txn_history.specs.declared.event.Answer.TheVariants as any_answers
 use Rattle.txn_history.specs.OneHistory as history
-use Rattle.txn_history.specs.Trace.{Row}
+use Rattle.txn_history.specs.Trace.{Row, PlainRow}
 use Rattle.txn_machine_views.specs.Layer.{Used, Inner, Starts, Writes, Reads, Acts, Layer, noted}
 use Rattle.txn_machine_views.proofs.Inside.{write_fits, read_fits}
 use Rattle.txn_machine_views.proofs.Inner.{PastFenced}
@@ -72,7 +71,7 @@ module _ {T : Type 0} where
   -- with the row of an answer, where there is one, what was true stays true
 
   pub answer_told : (rows : List (PlainRow T)) (n : ℕ) (answer : PlainAnswer T) → AnswerTold (rows ++ Answered n answer ∷ []) answer
-  answer_told rows n answer test e = any_last (plain_calls.tells test) rows (Answered n answer) e
+  answer_told rows n answer test e = any_last (plain_tells test) rows (Answered n answer) e
 
   module _ (decode : List ℕ → Option T) (get_epoch : T → ℕ) (fine : List (PlainRow T)) (n : ℕ) where
     pub core_answer : (fine_failed : List ℕ) (rows : List (Row T)) (views : ℕ → Option (Used T)) (failed : List ℕ) (owner : ℕ → ℕ) (answer : Option (PlainAnswer T)) → Core fine fine_failed rows views failed owner → Core (fine ++ answer_rows n answer) fine_failed rows views failed owner

@@ -6,10 +6,9 @@ use Rattle.std.specs.List.{list_any}
 use Rattle.txn_store.specs.declared.request.Request.{Request}
 use Rattle.txn_caches.specs.declared.caches.Caches.{Caches}
 use Rattle.txn_history.specs.declared.event.PlainAnswer.{PlainAnswer}
-use Rattle.txn_machine_inner.specs.PlainTrace.{PlainRow}
 use Rattle.txn_history.specs.Lists.{numbered}
 use Rattle.txn_history.specs.History.{boundary}
-use Rattle.txn_machine_inner.specs.PlainCalls as plain_calls
+use Rattle.txn_machine_inner.specs.PlainHistory.{tells as plain_tells}
 use Rattle.txn_history.specs.Calls as calls
 use Rattle.txn_history.specs.Calls.{was_begun, IsCall, tells, view_used}
 use Rattle.txn_history.specs.Facts.{Entered}
@@ -22,7 +21,7 @@ use Rattle.txn_machine_inner.proofs.Stands as machine_stands
 use Rattle.txn_history.specs.declared.event.Call.{Call}
 use Rattle.txn_history.specs.declared.event.Call.TheVariants as any
 use Rattle.txn_history.specs.declared.event.Answer.TheVariants as any_answers
-use Rattle.txn_history.specs.Trace.{Row}
+use Rattle.txn_history.specs.Trace.{Row, PlainRow}
 use Rattle.txn_machine_views.specs.Layer as layer
 use Rattle.txn_machine_views.specs.Layer.{Used, Inner, Starts, Writes, Reads, Acts, Asked, Layer, look_up, local_of}
 use Rattle.txn_machine_views.specs.Parts.{plain_inner, InsideFits, is_claim_call}
@@ -56,11 +55,11 @@ module _ {T : Type 0} where
 
   -- an id was told, whatever the test
   abbrev pub IsTold : List (PlainRow T) → ℕ → Type 0
-  IsTold rows id = (test : ℕ → Bool) → test id ≡ true → list_any (plain_calls.tells test) rows ≡ true
+  IsTold rows id = (test : ℕ → Bool) → test id ≡ true → list_any (plain_tells test) rows ≡ true
 
   -- what the rows tell, the fine rows tell
   abbrev pub ToldBy : List (PlainRow T) → List (Row T) → Type 0
-  ToldBy fine rows = (test : ℕ → Bool) → list_any (tells test) rows ≡ true → list_any (plain_calls.tells test) fine ≡ true
+  ToldBy fine rows = (test : ℕ → Bool) → list_any (tells test) rows ≡ true → list_any (plain_tells test) fine ≡ true
 
   -- the id at which a view stands was told
   abbrev pub ViewTold : List (PlainRow T) → Option (Used T) → Type 0
@@ -69,7 +68,7 @@ module _ {T : Type 0} where
 
   -- what an answer tells was told
   abbrev pub AnswerTold : List (PlainRow T) → PlainAnswer T → Type 0
-  AnswerTold rows answer = (test : ℕ → Bool) → calls.plain_tells_id test answer ≡ true → list_any (plain_calls.tells test) rows ≡ true
+  AnswerTold rows answer = (test : ℕ → Bool) → calls.plain_tells_id test answer ≡ true → list_any (plain_tells test) rows ≡ true
 
 module _ {T : Type 0} where
   -- a call on a view writes, or reads

@@ -5,11 +5,12 @@ use Rattle.txn_types.specs.Numbers.{number_of}
 use Rattle.txn_history.specs.declared.event.PlainCall.{PlainCall}
 use Rattle.txn_history.specs.declared.event.PlainCall.TheVariants as calls
 use Rattle.txn_history.specs.declared.trace.RowOf.TheVariants.{Effect, Begun}
-use Rattle.txn_machine_inner.specs.PlainTrace.{PlainRow}
+use Rattle.txn_history.specs.Trace.{PlainRow}
 use Rattle.txn_history.specs.History.{Version, created, raised, removed, has_id, versions_of, newest, was_erased}
 use Rattle.txn_history.specs.Calls.{IsCall}
 use Rattle.txn_history.specs.Facts.{base_on}
-use Rattle.txn_machine_inner.specs.PlainHistory.{WritesOn, VersionPut, BoundaryPut, VersionRemoved, IsLegal, IsOneHistory}
+use Rattle.txn_machine_inner.specs.PlainHistory.{alone, WritesOn, VersionPut, IsLegal, IsOneHistory}
+use Rattle.txn_history.specs.Effects.{Raises, BoundaryPut, Erases, VersionRemoved}
 use Rattle.txn_history.proofs.Numbered.{one_call}
 use Rattle.txn_history.specs.declared.event.Call.{Call}
 use Rattle.txn_history.specs.declared.event.Call.TheVariants as any
@@ -113,7 +114,7 @@ module _ {T : Type 0} (decode : List ℕ → Option T) (get_epoch : T → ℕ) (
   versions_step None e put = absurd put
   versions_step (Some version) e put = put_step version e put
 
-  raises_step : (found : Option ℕ) → raised request ≡ found → BoundaryPut fine n found → Steps decode get_epoch set_epoch l (with_row l (Effect op request))
+  raises_step : (found : Option ℕ) → raised request ≡ found → BoundaryPut alone fine n found → Steps decode get_epoch set_epoch l (with_row l (Effect op request))
   raises_step None e put = absurd put
   raises_step (Some to) e up =
       let is : call ≡ any.Plain (calls.Advance to) = is_advance call inner to (sym (one (calls.Advance to) up.called)) in
@@ -123,11 +124,11 @@ module _ {T : Type 0} (decode : List ℕ → Option T) (get_epoch : T → ℕ) (
         to = to;
         request = request;
         puts = e;
-        raises = subst (λ (o : ℕ). history.Raises l.rows o to) own (raises_too owner fine l.rows alike n to (subst (λ (o : ℕ). IsCall l.rows o (any.Plain (calls.Advance to))) (sym own) called) up);
+        raises = subst (λ (o : ℕ). Raises any.Plain l.rows o to) own (raises_too owner fine l.rows alike n to (subst (λ (o : ℕ). IsCall l.rows o (any.Plain (calls.Advance to))) (sym own) called) up);
         new = refl;
       })))))
 
-  removes_step : (found : Option ℕ) → removed request ≡ found → VersionRemoved fine n found → Steps decode get_epoch set_epoch l (with_row l (Effect op request))
+  removes_step : (found : Option ℕ) → removed request ≡ found → VersionRemoved alone fine n found → Steps decode get_epoch set_epoch l (with_row l (Effect op request))
   removes_step None e gone = absurd gone
   removes_step (Some id) e gone =
       let is : call ≡ any.Plain (calls.Delete id) = is_delete call inner id (sym (one (calls.Delete id) gone.called)) in
@@ -137,7 +138,7 @@ module _ {T : Type 0} (decode : List ℕ → Option T) (get_epoch : T → ℕ) (
         id = id;
         request = request;
         removes = e;
-        erases = subst (λ (o : ℕ). history.Erases l.rows o id) own (erases_too owner fine l.rows alike n id (subst (λ (o : ℕ). IsCall l.rows o (any.Plain (calls.Delete id))) (sym own) called) gone);
+        erases = subst (λ (o : ℕ). Erases any.Plain l.rows o id) own (erases_too owner fine l.rows alike n id (subst (λ (o : ℕ). IsCall l.rows o (any.Plain (calls.Delete id))) (sym own) called) gone);
         new = refl;
       }))))))
 

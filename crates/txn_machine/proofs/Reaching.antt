@@ -5,7 +5,6 @@ use Rattle.txn_store.specs.Store.{State as StoreState}
 use Rattle.txn_store.specs.declared.request.Request.{Request}
 use Rattle.txn_caches.specs.declared.caches.Caches.{Caches}
 use Rattle.txn_history.specs.declared.trace.RowOf.TheVariants.{Effect}
-use Rattle.txn_machine_inner.specs.PlainTrace.{PlainRow}
 use Rattle.txn_history.specs.Lists.{numbered}
 use Rattle.txn_history.specs.History.{boundary}
 use Rattle.txn_history.specs.Calls.{was_begun}
@@ -19,7 +18,7 @@ use Rattle.txn_machine_inner.specs.Machine as machine
 use Rattle.txn_machine_inner.proofs.Lists.{within, numbered_here, numbered_other}
 use Rattle.txn_machine_inner.proofs.Stands as machine_stands
 use Rattle.txn_history.specs.declared.event.Call.{Call}
-use Rattle.txn_history.specs.Trace.{Row}
+use Rattle.txn_history.specs.Trace.{Row, PlainRow}
 use Rattle.txn_machine_views.specs.Layer.{Used, Inner, Starts, Writes, Reads, Acts, Layer, with_row}
 use Rattle.txn_machine_views.specs.Steps.{Steps}
 use Rattle.txn_machine_views.proofs.Stands as layer_stands

@@ -4,15 +4,14 @@ use Rattle.std.specs.List.{list_any}
 use Rattle.std.proofs.lemmas.Bool.{both_ways, eq-eqb, eqb-true}
 use Rattle.txn_store.specs.declared.request.Request.{Request}
 use Rattle.txn_history.specs.declared.trace.RowOf.TheVariants.{Effect, Begun, Answered}
-use Rattle.txn_machine_inner.specs.PlainTrace.{PlainRow}
 use Rattle.txn_history.specs.History.{boundary}
-use Rattle.txn_machine_inner.specs.PlainCalls as plain_calls
+use Rattle.txn_machine_inner.specs.PlainHistory.{tells as plain_tells}
 use Rattle.txn_history.specs.Calls.{begins, was_begun, tells}
 use Rattle.txn_history.proofs.Lists.{any_true, any_last, any_more}
 use Rattle.txn_history.proofs.More.{call_kept, entered_back}
 use Rattle.txn_history.proofs.Rows.{stored-more, boundary-same}
 use Rattle.txn_history.specs.declared.event.Call.{Call}
-use Rattle.txn_history.specs.Trace.{Row}
+use Rattle.txn_history.specs.Trace.{Row, PlainRow}
 use Rattle.txn_machine_views.specs.Layer.{Used, Inner, Starts, Writes, Reads, Acts, Asked, noted}
 use Rattle.txn_machine_views.specs.Steps.{IsAsked}
 use Rattle.txn_machine_views.proofs.Tied.{is_effect, Tied, tied_fine, tied_rows, tied_effect}
@@ -23,7 +22,7 @@ module _ {T : Type 0} where
   -- more fine rows tell no less
 
   pub told_more : (fine : List (PlainRow T)) (row : PlainRow T) (id : ℕ) → IsTold fine id → IsTold (fine ++ row ∷ []) id
-  told_more fine row id h test e = any_true (plain_calls.tells test) fine row (h test e)
+  told_more fine row id h test e = any_true (plain_tells test) fine row (h test e)
 
   pub view_told_more : (fine : List (PlainRow T)) (row : PlainRow T) (used : Option (Used T)) → ViewTold fine used → ViewTold (fine ++ row ∷ []) used
   view_told_more fine row None h = tt
@@ -35,13 +34,13 @@ module _ {T : Type 0} where
     core_fine row none begun =
         record {
           tied = tied_fine owner fine rows row none begun h.tied;
-          told = λ test e. any_true (plain_calls.tells test) fine row (h.told test e);
+          told = λ test e. any_true (plain_tells test) fine row (h.told test e);
           seen = λ number. view_told_more fine row (views number) (h.seen number);
           noted = λ n e. (let was = h.noted n e in (any_true (begins n) fine row was.0, was.1));
         }
 
     -- a row of the layer, of a begin or of an answer, which tells what was told
-    pub core_row : (row : Row T) → is_effect row ≡ false → ((test : ℕ → Bool) → tells test row ≡ true → list_any (plain_calls.tells test) fine ≡ true) → Core fine fine_failed (rows ++ row ∷ []) views failed owner
+    pub core_row : (row : Row T) → is_effect row ≡ false → ((test : ℕ → Bool) → tells test row ≡ true → list_any (plain_tells test) fine ≡ true) → Core fine fine_failed (rows ++ row ∷ []) views failed owner
     core_row row none told =
         record {
           tied = tied_rows owner fine rows row none h.tied;
@@ -57,7 +56,7 @@ module _ {T : Type 0} where
         let laid : Row T = Effect op request in
         record {
           tied = subst (λ (o : ℕ). Tied owner (fine ++ row ∷ []) (rows ++ Effect o request ∷ [])) own (tied_effect owner fine rows n request begun h.tied);
-          told = λ test e. elim (any_more (tells test) rows laid e) [ inl old ↦ any_true (plain_calls.tells test) fine row (h.told test old) | inr new ↦ (let clash : false ≡ true = new in cc) ];
+          told = λ test e. elim (any_more (tells test) rows laid e) [ inl old ↦ any_true (plain_tells test) fine row (h.told test old) | inr new ↦ (let clash : false ≡ true = new in cc) ];
           seen = λ number. view_told_more fine row (views number) (h.seen number);
           noted = λ i e. (let was = h.noted i e in (any_true (begins i) fine row was.0, was.1));
         }

@@ -6,7 +6,6 @@ use Rattle.txn_store.specs.Requests.{Serves}
 use Rattle.txn_store.specs.declared.request.Request.{Request}
 use Rattle.txn_caches.specs.declared.caches.Caches.{Caches}
 use Rattle.txn_history.specs.declared.event.ToldOf.TheVariants as told
-use Rattle.txn_machine_inner.specs.PlainTrace.{PlainRow}
 use Rattle.txn_history.specs.Lists.{numbered}
 use Rattle.txn_history.specs.Seen.{Ask, Store, Look}
 use Rattle.txn_history.specs.Added.{told_of, answer_rows, effect_rows}
@@ -16,7 +15,7 @@ use Rattle.txn_machine_inner.proofs.Lists.{within}
 use Rattle.txn_machine_inner.proofs.Stands as machine_stands
 use Rattle.txn_machine_inner.proofs.Events.{look_keeps, serve_keeps}
 use Rattle.txn_machine_inner.proofs.Replies.{stood_replies, stood_looks}
-use Rattle.txn_history.specs.Trace.{Row, Told}
+use Rattle.txn_history.specs.Trace.{Row, Told, PlainRow}
 use Rattle.txn_history.specs.Calls.{view_used}
 use Rattle.txn_machine_views.specs.Layer.{Used, look_up, local_of}
 use Rattle.txn_machine_views.proofs.Stands as layer_stands

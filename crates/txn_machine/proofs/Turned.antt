@@ -8,9 +8,8 @@ use Rattle.txn_types.specs.Numbers.{number_of}
 use Rattle.txn_history.specs.declared.event.PlainCall.{PlainCall}
 use Rattle.txn_history.specs.declared.event.PlainAnswer.{PlainAnswer}
 use Rattle.txn_history.specs.declared.event.PlainAnswer.TheVariants as plain_answers
-use Rattle.txn_machine_inner.specs.PlainTrace.{PlainRow}
 use Rattle.txn_history.specs.History.{epoch_at}
-use Rattle.txn_machine_inner.specs.PlainCalls as plain_calls
+use Rattle.txn_machine_inner.specs.PlainHistory.{tells as plain_tells}
 use Rattle.txn_history.specs.Calls as calls
 use Rattle.txn_history.specs.Calls.{begun_count, tells_id, view_used}
 use Rattle.txn_machine_inner.specs.PlainHistory as plain_history
@@ -22,7 +21,7 @@ use Rattle.txn_history.specs.declared.event.Call.{Call}
 use Rattle.txn_history.specs.declared.event.Call.TheVariants as any
 use Rattle.txn_history.specs.declared.event.Answer.{Answer}
 use Rattle.txn_history.specs.declared.event.Answer.TheVariants as answers
-use Rattle.txn_history.specs.Trace.{Row}
+use Rattle.txn_history.specs.Trace.{Row, PlainRow}
 use Rattle.txn_machine_views.specs.Layer as layer
 use Rattle.txn_machine_views.specs.Layer.{Used, Inner, Starts, Writes, Reads, Acts, Asked, Layer, Change, Keeps, Puts, Makes, Closes, Goes, Ends, Opens, changed, look_up, local_of, set_used, views_changed, turned}
 use Rattle.txn_machine_views.specs.Parts.{Inside, HasEpoch}
@@ -64,7 +63,7 @@ module _ {T : Type 0} where
   inside_told get_epoch set_epoch rows (plain_answers.Refused number) h = tt
 
   -- an answer tells only what was told
-  answer_only : (rows : List (PlainRow T)) (answer : Answer T) → AnswerOnly (IsTold rows) answer → (test : ℕ → Bool) → tells_id test answer ≡ true → list_any (plain_calls.tells test) rows ≡ true
+  answer_only : (rows : List (PlainRow T)) (answer : Answer T) → AnswerOnly (IsTold rows) answer → (test : ℕ → Bool) → tells_id test answer ≡ true → list_any (plain_tells test) rows ≡ true
   answer_only rows (answers.Plain answer) h test e = absurd (both_ways (calls.plain_tells_id test answer) (h test) e)
   answer_only rows (answers.View number id value) h test e = h test e
   answer_only rows (answers.Held number id value epoch) h test e = h test e

@@ -1,5 +1,6 @@
 -- How a call starts fits.
 use Rattle.std.proofs.Common.{◌≡◌, nat_eq, nat_lt, ℕ, zero, suc, ◌+◌, ◌<◌, ◌≤◌, ◌^◌, List, [], ◌∷◌, ◌++◌, length, Bool, true, false, ◌==◌, ◌||◌, cond, Option, Some, None, inl, inr, refl, sym, ap, subst, arith}
+use Rattle.std.specs.List.{list_any}
 use Rattle.std.specs.List.Sorted.{IsStrictlySortedBy}
 use Rattle.std.specs.Ordering.{nat_cmp}
 use Rattle.std.specs.declared.ops.Bound.{Bound}
@@ -13,14 +14,13 @@ use Rattle.txn_steps.specs.Listings.{listing_started}
 use Rattle.txn_history.specs.declared.event.PlainCall.{PlainCall}
 use Rattle.txn_history.specs.declared.event.PlainCall.TheVariants as calls
 use Rattle.txn_history.specs.declared.event.PlainAnswer.TheVariants as answers
-use Rattle.txn_machine_inner.specs.PlainTrace.{PlainRow}
+use Rattle.txn_history.specs.Trace.{PlainRow}
 use Rattle.txn_history.specs.declared.trace.RowOf.TheVariants.{Begun}
 use Rattle.txn_history.specs.Names.{world_names, world_boundary}
 use Rattle.txn_history.specs.History.{newest, boundary, epoch_at}
 use Rattle.txn_history.specs.Calls.{begins, ends}
-use Rattle.txn_machine_inner.specs.PlainCalls.{is_below_told}
 use Rattle.txn_history.specs.Facts.{base_on}
-use Rattle.txn_machine_inner.specs.PlainHistory.{is_known_base, Opens, AnswerFits}
+use Rattle.txn_machine_inner.specs.PlainHistory.{tells, is_known_base, Opens, AnswerFits}
 use Rattle.txn_history.proofs.Lists.{get_last, any_false, any_last}
 use Rattle.txn_machine_inner.specs.declared.doing.PlainDoing.TheVariants.{Write, WriteUnchecked, Read, Ended}
 use Rattle.txn_machine_inner.specs.Doing.{started, ReadsBack, FitsWord}
@@ -125,9 +125,9 @@ module _ {T : Type 0} (encode : T → List ℕ) (decode : List ℕ → Option T)
               ((number_of base + 1, putting call base value (inr refl) (creates call base value known keeps next (back next))), base, value, refl))
         ]
 
-    low_room : (call : PlainCall T) (to : ℕ) → (to == 0 || is_below_told rows to) ≡ true → Room (after call) to
+    low_room : (call : PlainCall T) (to : ℕ) → (to == 0 || list_any (tells (nat_lt to)) rows) ≡ true → Room (after call) to
     low_room call to e =
-        elim (or_cases (to == 0) (is_below_told rows to) e) [
+        elim (or_cases (to == 0) (list_any (tells (nat_lt to)) rows) e) [
           | inl z ↦ inl (eqb-true to 0 z)
           | inr told ↦
               let one = k.history.told (nat_lt to) told in

@@ -7,7 +7,7 @@ use Rattle.txn_store.specs.Store.{State as StoreState}
 use Rattle.txn_store.specs.declared.request.Request.{Request}
 use Rattle.txn_caches.specs.declared.caches.CachedBoundary.{CachedBoundary}
 use Rattle.txn_caches.specs.declared.caches.Caches.{Caches}
-use Rattle.txn_machine_inner.specs.PlainTrace.{PlainRow, PlainTold}
+use Rattle.txn_history.specs.Trace.{PlainRow, PlainTold}
 use Rattle.txn_history.specs.Lists.{numbered}
 use Rattle.txn_history.specs.Seen.{Ask, Store}
 use Rattle.txn_history.specs.GoesOn.{may_be_loose, left_loose, all_left_loose}

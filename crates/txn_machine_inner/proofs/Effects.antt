@@ -22,13 +22,13 @@ use Rattle.txn_types.specs.BoundaryText.{boundary_read}
 use Rattle.txn_types.proofs.BoundaryLemmas.{read_decimal_text}
 use Rattle.txn_history.specs.declared.event.PlainCall.{PlainCall}
 use Rattle.txn_history.specs.declared.event.PlainAnswer.{PlainAnswer}
-use Rattle.txn_machine_inner.specs.PlainTrace.{PlainRow}
+use Rattle.txn_history.specs.Trace.{PlainRow}
 use Rattle.txn_history.specs.declared.trace.RowOf.TheVariants.{Effect, Begun, Answered}
 use Rattle.txn_history.specs.Lists.{numbered}
 use Rattle.txn_history.specs.Names.{world_names, world_boundary}
 use Rattle.txn_history.specs.History.{Contents, Version, is_id, has_id, with_version, versions_of, newest, stored, boundary, boundary_said, erases, put_count, HasContents}
-use Rattle.txn_machine_inner.specs.PlainCalls.{tells}
-use Rattle.txn_machine_inner.specs.PlainHistory.{Opens, Appends, Recreates, Raises, Erases, VersionPut, BoundaryPut, VersionRemoved, Answers, Fits}
+use Rattle.txn_history.specs.Effects.{Raises, Erases, BoundaryPut, VersionRemoved}
+use Rattle.txn_machine_inner.specs.PlainHistory.{tells, alone, Opens, Appends, Recreates, VersionPut, Answers, Fits}
 use Rattle.txn_history.proofs.Lists.{get_more, get_last, any_true, any_more, any_last, get_other}
 use Rattle.txn_history.proofs.Entries as entries
 use Rattle.txn_history.proofs.Rows.{versions_of-more, stored-more, boundary-same, newest_grows}
@@ -470,10 +470,10 @@ module _ {T : Type 0} (decode : List ℕ → Option T) (get_epoch : T → ℕ) (
 
   -- a raise
 
-  raise_legal : (rows : List (PlainRow T)) (op to : ℕ) (mode : PutMode) → to < 2 ^ 64 → Raises rows op to → Fits decode get_epoch failed rows (Effect op (raise_of to mode))
-  raise_legal rows op to mode fits raises = inr (inl (subst (BoundaryPut rows op) (sym (raised_is to mode fits)) raises))
+  raise_legal : (rows : List (PlainRow T)) (op to : ℕ) (mode : PutMode) → to < 2 ^ 64 → Raises alone rows op to → Fits decode get_epoch failed rows (Effect op (raise_of to mode))
+  raise_legal rows op to mode fits raises = inr (inl (subst (BoundaryPut alone rows op) (sym (raised_is to mode fits)) raises))
 
-  pub raise_more : (rows : List (PlainRow T)) (old new : StoreState) (op to : ℕ) (mode : PutMode) (token : ℕ) → KnowStands decode get_epoch failed rows old → Raises rows op to → Placed world_boundary (decimal to) token old new → new.failures ≡ 0 →
+  pub raise_more : (rows : List (PlainRow T)) (old new : StoreState) (op to : ℕ) (mode : PutMode) (token : ℕ) → KnowStands decode get_epoch failed rows old → Raises alone rows op to → Placed world_boundary (decimal to) token old new → new.failures ≡ 0 →
       KnowStands decode get_epoch failed (rows ++ Effect op (raise_of to mode) ∷ []) new
   raise_more rows old new op to mode token know raises placed honest =
       let row : PlainRow T = Effect op (raise_of to mode) in
@@ -507,10 +507,10 @@ module _ {T : Type 0} (decode : List ℕ → Option T) (get_epoch : T → ℕ) (
 
   -- a removal
 
-  remove_legal : (rows : List (PlainRow T)) (op id : ℕ) → id < 2 ^ 64 → Erases rows op id → Fits decode get_epoch failed rows (Effect op (remove_version id))
-  remove_legal rows op id fits erased = inr (inr (subst (VersionRemoved rows op) (sym (removed_is id fits)) erased))
+  remove_legal : (rows : List (PlainRow T)) (op id : ℕ) → id < 2 ^ 64 → Erases alone rows op id → Fits decode get_epoch failed rows (Effect op (remove_version id))
+  remove_legal rows op id fits erased = inr (inr (subst (VersionRemoved alone rows op) (sym (removed_is id fits)) erased))
 
-  pub remove_more : (rows : List (PlainRow T)) (old new : StoreState) (op id : ℕ) → KnowStands decode get_epoch failed rows old → Erases rows op id → Removed (version_path world_names id) old new → new.failures ≡ 0 →
+  pub remove_more : (rows : List (PlainRow T)) (old new : StoreState) (op id : ℕ) → KnowStands decode get_epoch failed rows old → Erases alone rows op id → Removed (version_path world_names id) old new → new.failures ≡ 0 →
       KnowStands decode get_epoch failed (rows ++ Effect op (remove_version id) ∷ []) new
   remove_more rows old new op id know erased gone honest =
       let row : PlainRow T = Effect op (remove_version id) in

@@ -24,7 +24,7 @@ use Rattle.txn_steps.specs.declared.latest.LatestOp.{LatestOp}
 use Rattle.txn_steps.specs.declared.latest.LatestOp.TheVariants.{Looks, Probes, Finds, Lists, Chooses, Gets as GetsVersion, Keeps, Drops, Ended}
 use Rattle.txn_steps.specs.Requests.{version_got, version_page}
 use Rattle.txn_steps.specs.Latest.{ReadAnswer, latest_asked, paged_turned, listed, unlisted, found_kept, latest_left, read_in_hand, answered, probed, keeping, got_decoded, in_hand, held_or_got, chosen, begins_with, found_turned, latest_got, latest_turned}
-use Rattle.txn_machine_inner.specs.PlainTrace.{PlainRow}
+use Rattle.txn_history.specs.Trace.{PlainRow}
 use Rattle.txn_history.specs.Lists.{numbered}
 use Rattle.txn_history.specs.Names.{world_names}
 use Rattle.txn_history.specs.History.{Version, versions_of, newest, boundary, IsEntry}

@@ -13,7 +13,7 @@ use Rattle.txn_store.specs.declared.request.Reply.TheVariants as replies
 use Rattle.txn_steps.specs.declared.listing.ListOp.{ListOp}
 use Rattle.txn_steps.specs.Picked.{picked}
 use Rattle.txn_steps.specs.Listings.{listing_after, listing_answered, listing_turned}
-use Rattle.txn_machine_inner.specs.PlainTrace.{PlainRow}
+use Rattle.txn_history.specs.Trace.{PlainRow}
 use Rattle.txn_history.specs.Names.{world_names}
 use Rattle.txn_history.specs.Calls.{was_begun}
 use Rattle.txn_history.specs.Facts.{Lists}

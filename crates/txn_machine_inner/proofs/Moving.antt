@@ -16,7 +16,7 @@ use Rattle.txn_steps.specs.declared.read.ReadOp.TheVariants as reads
 use Rattle.txn_steps.specs.Latest.{ReadAnswer}
 use Rattle.txn_steps.specs.Reads.{read_started, read_asked, read_turned, read_left}
 use Rattle.txn_history.specs.declared.event.PlainCall.TheVariants as calls
-use Rattle.txn_machine_inner.specs.PlainTrace.{PlainTold, PlainEvent, PlainRow}
+use Rattle.txn_history.specs.Trace.{PlainTold, PlainEvent, PlainRow}
 use Rattle.txn_history.specs.declared.event.EventOf.TheVariants as events
 use Rattle.txn_history.specs.Lists.{numbered}
 use Rattle.txn_history.specs.Names.{world_names, world_boundary}

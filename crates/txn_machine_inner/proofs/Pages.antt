@@ -26,7 +26,7 @@ use Rattle.txn_steps.specs.Latest.{greater_of, greatest_from}
 use Rattle.txn_steps.specs.Listed.{Listed}
 use Rattle.txn_steps.specs.Picked.{picked}
 use Rattle.txn_steps.specs.Requests.{version_page, last_location, next_after}
-use Rattle.txn_machine_inner.specs.PlainTrace.{PlainRow}
+use Rattle.txn_history.specs.Trace.{PlainRow}
 use Rattle.txn_history.specs.Names.{world_names}
 use Rattle.txn_history.specs.History.{newest, boundary}
 use Rattle.txn_history.specs.Facts.{Lists}

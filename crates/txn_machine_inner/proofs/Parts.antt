@@ -38,7 +38,7 @@ use Rattle.txn_caches.specs.BoundaryReads.{text_read, boundary_got, boundary_hel
 use Rattle.txn_caches.specs.BoundaryChecks.{reads_turned, turned_at, asked_at, cached_at}
 use Rattle.txn_caches.specs.Checks.{check_asked, checks_turned, check_turned, check_caches}
 use Rattle.txn_caches.specs.BoundaryAdvances.{raise_mode, raise_known, known_after, advance_looked, put_answered, put_turned, advance_read, boundary_advance_asked, boundary_advance_turned, boundary_advance_cached}
-use Rattle.txn_machine_inner.specs.PlainTrace.{PlainRow}
+use Rattle.txn_history.specs.Trace.{PlainRow}
 use Rattle.txn_history.specs.Names.{world_boundary}
 use Rattle.txn_history.specs.History.{boundary, boundary_said}
 use Rattle.txn_history.specs.Facts.{NoTokens}

@@ -6,7 +6,7 @@ use Rattle.txn_caches.specs.declared.turned.Turned.TheVariants.{Goes}
 use Rattle.txn_steps.specs.declared.read.ReadOp.{ReadOp}
 use Rattle.txn_steps.specs.Latest.{ReadAnswer}
 use Rattle.txn_steps.specs.Reads.{read_started, read_left}
-use Rattle.txn_machine_inner.specs.PlainTrace.{PlainRow}
+use Rattle.txn_history.specs.Trace.{PlainRow}
 use Rattle.txn_history.specs.Names.{world_boundary}
 use Rattle.txn_machine_inner.specs.declared.doing.PlainDoing.TheVariants.{Ended}
 use Rattle.txn_machine_inner.specs.Machine.{State, next_op, IsReached}

@@ -19,13 +19,14 @@ use Rattle.txn_caches.specs.declared.caches.Cached.{Cached}
 use Rattle.txn_caches.specs.BoundaryAdvances.{raise_mode}
 use Rattle.txn_history.specs.declared.event.PlainCall.{PlainCall}
 use Rattle.txn_history.specs.declared.event.PlainCall.TheVariants as calls
-use Rattle.txn_machine_inner.specs.PlainTrace.{PlainRow}
+use Rattle.txn_history.specs.Trace.{PlainRow}
 use Rattle.txn_history.specs.declared.trace.RowOf.TheVariants.{Effect}
 use Rattle.txn_history.specs.Names.{world_names, world_boundary}
 use Rattle.txn_history.specs.History.{Version, versions_of, newest, boundary, boundary_said, epoch_at}
 use Rattle.txn_history.specs.Calls.{IsCall}
 use Rattle.txn_history.specs.Facts.{base_on}
-use Rattle.txn_machine_inner.specs.PlainHistory.{WritesOn, Appends, Recreates, Raises, Erases}
+use Rattle.txn_machine_inner.specs.PlainHistory.{alone, WritesOn, Appends, Recreates}
+use Rattle.txn_history.specs.Effects.{Raises, Erases}
 use Rattle.txn_history.specs.Added.{effect_rows}
 use Rattle.txn_machine_inner.specs.Machine.{effect_of}
 use Rattle.txn_machine_inner.proofs.Stands.{KnowStands, Frame, IsWriteOf, Creates, Room, KnownBelow, Asks, IsQuiet, create, raise, remove_version, is_there}
@@ -52,6 +53,7 @@ module _ {T : Type 0} (decode : List ℕ → Option T) (get_epoch : T → ℕ) w
         next = (let next = c.next in omega (arith, next, at));
         written = writes_on rows op call base value (newest rows) is (c.base_is ∙ ap base_on at);
         rises = subst (λ (n : ℕ). epoch_at decode get_epoch rows n ≤ get_epoch value) at c.keeps;
+        unfenced = tt;
       }
 
 module _ {T : Type 0} (decode : List ℕ → Option T) (get_epoch : T → ℕ) (failed : List ℕ) where
@@ -159,7 +161,7 @@ module _ {T : Type 0} (decode : List ℕ → Option T) (get_epoch : T → ℕ) (
       let up = raise_up rows old to token k below p.allowed in
       let under : to < newest rows = elim room [ inl z ↦ absurd (omega (arith, z, up)) | inr lt ↦ lt ] in
       let small = k.history.small in
-      let raises : Raises rows op to = record { called = called; up = up; under = under } in
+      let raises : Raises alone rows op to = record { called = called; up = up; under = under } in
       record {
         know = raise_more decode get_epoch failed rows old new op to (raise_mode token) given k raises p.placed honest;
         frame = raise_frame rows old new op to (raise_mode token) given (omega (arith, under, small)) up p.placed;
@@ -180,7 +182,7 @@ module _ {T : Type 0} (decode : List ℕ → Option T) (get_epoch : T → ℕ) (
   removal_reached : (there : Bool) (rows : List (PlainRow T)) (old new : StoreState) (op id : ℕ) → is_there old.files id ≡ there → KnowStands decode get_epoch failed rows old → IsCall rows op (calls.Delete id) → id ≤ boundary rows →
       Removed (version_path world_names id) old new → new.failures ≡ 0 → Reached decode get_epoch failed rows old op (remove_version id) (replies.Delete (Ok tt)) new
   removal_reached true rows old new op id e k called below gone honest =
-      let erased : Erases rows op id = record { called = called; below = below } in
+      let erased : Erases alone rows op id = record { called = called; below = below } in
       effect_reached rows old new op (remove_version id) (remove_version id) (replies.Delete (Ok tt)) (rw e refl) (remove_more decode get_epoch failed rows old new op id k erased gone honest) (remove_frame rows old new op id gone)
   removal_reached false rows old new op id e k called below gone honest =
       quiet_reached rows old new op (remove_version id) (replies.Delete (Ok tt)) (rw e refl) k (missing_kept old new id e gone) honest

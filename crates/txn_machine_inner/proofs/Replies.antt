@@ -47,7 +47,7 @@ use Rattle.txn_steps.specs.Reads.{read_asked, IsReadReply}
 use Rattle.txn_steps.specs.SeenSteps.{seen_asked, IsSeenReply}
 use Rattle.txn_steps.specs.Deletes.{removal_asked_at, IsRemovalReplyAt, delete_asked, delete_asked_at, IsDeleteReplyAt}
 use Rattle.txn_history.specs.declared.event.PlainCall.{PlainCall}
-use Rattle.txn_machine_inner.specs.PlainTrace.{PlainRow}
+use Rattle.txn_history.specs.Trace.{PlainRow}
 use Rattle.txn_history.specs.Lists.{numbered}
 use Rattle.txn_history.specs.Seen.{Store, Look}
 use Rattle.txn_history.specs.Facts.{Entered, WasNewest}

@@ -30,7 +30,7 @@ use Rattle.txn_steps.specs.declared.read.ReadOp.TheVariants as reads
 use Rattle.txn_steps.specs.Requests.{version_got, version_page, next_after}
 use Rattle.txn_steps.specs.Latest.{ReadAnswer, greatest_from, latest_turned, paged_turned, unlisted, read_in_hand, probed, keeping, in_hand, held_or_got, chosen, begins_with, found_turned, latest_got, latest_replied}
 use Rattle.txn_steps.specs.Reads.{read_turned, reads_turned, checks_turned}
-use Rattle.txn_machine_inner.specs.PlainTrace.{PlainRow}
+use Rattle.txn_history.specs.Trace.{PlainRow}
 use Rattle.txn_history.specs.Names.{world_names, world_boundary}
 use Rattle.txn_history.specs.History.{newest, versions_of}
 use Rattle.txn_machine_inner.specs.declared.doing.PlainDoing.TheVariants.{Read}

@@ -21,7 +21,7 @@ use Rattle.txn_steps.specs.declared.delete.DeleteStep.{DeleteStep}
 use Rattle.txn_steps.specs.declared.delete.DeleteStep.TheVariants as deletes
 use Rattle.txn_steps.specs.declared.delete.DeleteOp.{DeleteOp}
 use Rattle.txn_history.specs.declared.event.PlainCall.{PlainCall}
-use Rattle.txn_machine_inner.specs.PlainTrace.{PlainRow}
+use Rattle.txn_history.specs.Trace.{PlainRow}
 use Rattle.txn_history.specs.Calls.{was_begun}
 use Rattle.txn_history.specs.Facts.{Entered, WasNewest}
 use Rattle.txn_machine_inner.specs.declared.doing.PlainDoing.{PlainDoing}

@@ -5,7 +5,7 @@ use Rattle.std.proofs.lemmas.Bool.{ne_eqb, eq-eqb}
 use Rattle.std.proofs.Math.Bool.{or-true}
 use Rattle.std.proofs.lemmas.Option.{slice_get_within}
 use Rattle.txn_store.specs.declared.request.Request.{Request}
-use Rattle.txn_machine_inner.specs.PlainTrace.{PlainRow}
+use Rattle.txn_history.specs.Trace.{PlainRow}
 use Rattle.txn_history.specs.declared.trace.RowOf.TheVariants.{Effect, Begun, Answered}
 use Rattle.txn_machine_inner.specs.PlainHistory.{Fits, IsOneHistory}
 use Rattle.txn_history.proofs.Lists.{get_more}

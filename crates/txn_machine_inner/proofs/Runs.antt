@@ -5,7 +5,7 @@ use Rattle.txn_history.specs.declared.event.PlainCall.{PlainCall}
 use Rattle.txn_history.specs.declared.event.PlainAnswer.TheVariants as answers
 use Rattle.txn_history.specs.declared.event.Failure.{Failure}
 use Rattle.txn_history.specs.declared.event.Failure.TheVariants as failures
-use Rattle.txn_machine_inner.specs.PlainTrace.{PlainTold, PlainEvent}
+use Rattle.txn_history.specs.Trace.{PlainTold, PlainEvent}
 use Rattle.txn_history.specs.declared.event.ToldOf.TheVariants as told
 use Rattle.txn_history.specs.declared.event.EventOf.TheVariants as events
 use Rattle.txn_history.specs.declared.trace.RowOf.TheVariants.{Begun}

@@ -21,7 +21,7 @@ use Rattle.txn_steps.specs.SeenSteps.{value_read, as_found, value_got, unchecked
 use Rattle.txn_history.specs.declared.event.PlainCall.{PlainCall}
 use Rattle.txn_history.specs.declared.event.PlainCall.TheVariants as calls
 use Rattle.txn_history.specs.declared.event.PlainAnswer.TheVariants as answers
-use Rattle.txn_machine_inner.specs.PlainTrace.{PlainRow}
+use Rattle.txn_history.specs.Trace.{PlainRow}
 use Rattle.txn_history.specs.Names.{world_names}
 use Rattle.txn_history.specs.History.{newest}
 use Rattle.txn_history.specs.Facts.{IsFound}

@@ -27,7 +27,7 @@ use Rattle.txn_steps.specs.SeenSteps.{unchecked_turned as value_turned, seen_ask
 use Rattle.txn_steps.proofs.RangeLemmas.{read_stays}
 use Rattle.txn_history.specs.declared.event.PlainCall.{PlainCall}
 use Rattle.txn_history.specs.declared.event.PlainCall.TheVariants as calls
-use Rattle.txn_machine_inner.specs.PlainTrace.{PlainRow}
+use Rattle.txn_history.specs.Trace.{PlainRow}
 use Rattle.txn_history.specs.Names.{world_names, world_boundary}
 use Rattle.txn_history.specs.Facts.{Entered, WasNewest}
 use Rattle.txn_machine_inner.specs.Doing.{Next, write_next, read_next, value_next, seen_next}

@@ -52,15 +52,14 @@ use Rattle.txn_steps.specs.Deletes.{removal_started}
 use Rattle.txn_history.specs.declared.event.PlainCall.{PlainCall}
 use Rattle.txn_history.specs.declared.event.PlainCall.TheVariants as calls
 use Rattle.txn_history.specs.declared.event.PlainAnswer.{PlainAnswer}
-use Rattle.txn_machine_inner.specs.PlainTrace.{PlainRow}
+use Rattle.txn_history.specs.Trace.{PlainRow}
 use Rattle.txn_history.specs.declared.trace.RowOf.TheVariants.{Effect, Begun, Answered}
 use Rattle.txn_history.specs.Lists.{numbered}
 use Rattle.txn_history.specs.Names.{world_names, world_boundary}
 use Rattle.txn_history.specs.History.{Version, created, versions_of, newest, boundary, was_erased, stored, is_stored, put_count, epoch_at, HasContents}
 use Rattle.txn_history.specs.Calls.{was_begun, was_answered, IsCall, begun_count, plain_tells_id, AtRow}
-use Rattle.txn_machine_inner.specs.PlainCalls.{tells}
 use Rattle.txn_history.specs.Facts.{base_on, Created, Entered, WasNewest}
-use Rattle.txn_machine_inner.specs.PlainHistory.{AnswerFits, IsOneHistory}
+use Rattle.txn_machine_inner.specs.PlainHistory.{tells, AnswerFits, IsOneHistory}
 use Rattle.txn_history.proofs.Rows.{row_op}
 use Rattle.txn_machine_inner.specs.declared.doing.PlainDoing.{PlainDoing}
 use Rattle.txn_machine_inner.specs.declared.doing.PlainDoing.TheVariants.{Write, WriteUnchecked, Read, ReadUnchecked, ReadSeen, ListIds, Delete, Check, Advance, Ended}

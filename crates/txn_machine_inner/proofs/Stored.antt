@@ -8,7 +8,7 @@ use Rattle.txn_store.specs.VersionName.{version_path}
 use Rattle.txn_store.specs.Store.{State as StoreState}
 use Rattle.txn_store.specs.declared.store.Got.{Got}
 use Rattle.txn_caches.specs.declared.caches.Cached.{Cached}
-use Rattle.txn_machine_inner.specs.PlainTrace.{PlainRow}
+use Rattle.txn_history.specs.Trace.{PlainRow}
 use Rattle.txn_history.specs.Lists.{numbered}
 use Rattle.txn_history.specs.Names.{world_names}
 use Rattle.txn_history.specs.History.{Version, newest, boundary, versions_of, IsEntry}

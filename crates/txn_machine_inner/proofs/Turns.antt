@@ -20,7 +20,7 @@ use Rattle.txn_steps.specs.Listed.{Listed}
 use Rattle.txn_history.specs.declared.event.PlainCall.{PlainCall}
 use Rattle.txn_history.specs.declared.event.PlainAnswer.{PlainAnswer}
 use Rattle.txn_history.specs.declared.event.PlainAnswer.TheVariants as answers
-use Rattle.txn_machine_inner.specs.PlainTrace.{PlainRow}
+use Rattle.txn_history.specs.Trace.{PlainRow}
 use Rattle.txn_history.specs.History.{boundary}
 use Rattle.txn_history.specs.Calls.{plain_tells_id, AtRow}
 use Rattle.txn_history.specs.Facts.{Lists, WasNewest, NoTokens}

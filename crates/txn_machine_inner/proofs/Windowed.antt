@@ -36,7 +36,7 @@ use Rattle.txn_steps.specs.Writes.{unchecked_latest, write_caches_at}
 use Rattle.txn_steps.specs.SeenSteps.{seen_latest}
 use Rattle.txn_steps.specs.Deletes.{removal_latest_at, delete_caches_at}
 use Rattle.txn_history.specs.declared.event.PlainAnswer.{PlainAnswer}
-use Rattle.txn_machine_inner.specs.PlainTrace.{PlainEvent, PlainTold}
+use Rattle.txn_history.specs.Trace.{PlainEvent, PlainTold}
 use Rattle.txn_history.specs.declared.event.EventOf.TheVariants as events
 use Rattle.txn_history.specs.declared.event.Failure.{Failure}
 use Rattle.txn_history.specs.declared.event.Failure.TheVariants as failures

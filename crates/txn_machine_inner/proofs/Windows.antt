@@ -4,7 +4,7 @@ use Rattle.std.proofs.lemmas.Bool.{cases_Bool, eqb-true}
 use Rattle.std.proofs.lemmas.Option.{same_Some}
 use Rattle.txn_caches.specs.declared.caches.Cached.{Cached}
 use Rattle.txn_caches.specs.Windows.{held, greatest_held, placed, replaced, kept_beside, kept, without, above}
-use Rattle.txn_machine_inner.specs.PlainTrace.{PlainRow}
+use Rattle.txn_history.specs.Trace.{PlainRow}
 use Rattle.txn_machine_inner.proofs.Stands.{Carried, WindowFits}
 
 module _ {T : Type 0} (decode : List ℕ → Option T) (rows : List (PlainRow T)) where

@@ -18,7 +18,7 @@ use Rattle.txn_steps.specs.declared.write.WriteUncheckedOp.TheVariants as unchec
 use Rattle.txn_steps.specs.Writes.{unchecked_turned, put_answered}
 use Rattle.txn_history.specs.declared.event.PlainCall.{PlainCall}
 use Rattle.txn_history.specs.declared.event.PlainAnswer.TheVariants as answers
-use Rattle.txn_machine_inner.specs.PlainTrace.{PlainRow}
+use Rattle.txn_history.specs.Trace.{PlainRow}
 use Rattle.txn_history.specs.declared.trace.RowOf.TheVariants.{Effect}
 use Rattle.txn_history.specs.Names.{world_names}
 use Rattle.txn_history.specs.History.{Version, created, has_id, versions_of, newest, boundary}

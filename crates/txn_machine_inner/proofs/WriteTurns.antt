@@ -16,7 +16,7 @@ use Rattle.txn_steps.specs.Writes.{at_write, at_check, written_turned, checked_t
 use Rattle.txn_history.specs.declared.event.PlainCall.{PlainCall}
 use Rattle.txn_history.specs.declared.event.PlainCall.TheVariants as calls
 use Rattle.txn_history.specs.declared.event.PlainAnswer.TheVariants as answers
-use Rattle.txn_machine_inner.specs.PlainTrace.{PlainRow}
+use Rattle.txn_history.specs.Trace.{PlainRow}
 use Rattle.txn_history.specs.Names.{world_boundary}
 use Rattle.txn_history.specs.History.{newest, boundary}
 use Rattle.txn_history.specs.Facts.{Created, Entered}

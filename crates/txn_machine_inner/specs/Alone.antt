@@ -10,7 +10,7 @@ use Rattle.txn_steps.specs.declared.latest.LatestOp.TheVariants as latest
 use Rattle.txn_steps.specs.declared.read.ReadOp.TheVariants as reads
 use Rattle.txn_steps.specs.Requests.{next_after}
 use Rattle.txn_history.specs.declared.event.PlainCall.TheVariants as calls
-use Rattle.txn_machine_inner.specs.PlainTrace.{PlainTold}
+use Rattle.txn_history.specs.Trace.{PlainTold}
 use Rattle.txn_history.specs.declared.event.EventOf.TheVariants as events
 use Rattle.txn_history.specs.Lists.{numbered}
 use Rattle.txn_history.specs.Names.{world_names}

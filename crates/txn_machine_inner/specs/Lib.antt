@@ -1,5 +1,3 @@
-pub mod PlainTrace
-pub mod PlainCalls
 pub mod PlainHistory
 pub mod PlainLaws
 pub mod PlainAllowed

@@ -5,7 +5,7 @@ use Rattle.txn_history.specs.declared.event.EventFault.{EventFault}
 use Rattle.txn_history.specs.declared.event.EventFault.TheVariants as faults
 use Rattle.txn_history.specs.Seen.{Seen}
 use Rattle.txn_history.specs.Allowed.{is_client, first_fault, event_fault}
-use Rattle.txn_machine_inner.specs.PlainTrace.{PlainRow, PlainEvent}
+use Rattle.txn_history.specs.Trace.{PlainRow, PlainEvent}
 use Rattle.txn_machine_inner.specs.PlainHistory.{base_of, is_known_base, has_low_boundary, keeps_epoch}
 
 module _ {T : Type 0} (decode : List ℕ → Option T) (get_epoch : T → ℕ) where

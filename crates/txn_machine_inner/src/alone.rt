@@ -3,7 +3,7 @@
 ghost use Rattle.std.specs.Prelude.{◌≡◌, ◌+◌, ◌*◌, ◌≤◌, ℕ, List, Some};
 ghost use Rattle.txn_caches.specs.declared.caches.Caches.{Caches};
 ghost use Rattle.txn_history.specs.Lists.{numbered};
-ghost use Rattle.txn_machine_inner.specs.PlainTrace.{PlainEvent, PlainTold};
+ghost use Rattle.txn_history.specs.Trace.{PlainEvent, PlainTold};
 ghost use Rattle.txn_machine_inner.specs.Machine.{State, opening, next_op, Runs, IsReached};
 ghost use Rattle.txn_machine_inner.specs.Alone.{IsWindow, ReadsAlone, HasPages, passes, turns};
 

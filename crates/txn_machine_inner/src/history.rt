@@ -6,9 +6,9 @@ ghost use Rattle.txn_history.specs.Seen.{Seen};
 ghost use Rattle.txn_history.specs.declared.event.PlainCall.{PlainCall};
 ghost use Rattle.txn_history.specs.declared.event.EventOf.TheVariants as events;
 ghost use Rattle.txn_machine_inner.specs.PlainHistory.{Opens, IsOneHistory};
-ghost use Rattle.txn_history.specs.Laws.{NeverFalls, KeepsAbove};
-ghost use Rattle.txn_machine_inner.specs.PlainLaws.{HasOneWriter};
-ghost use Rattle.txn_machine_inner.specs.PlainTrace.{PlainRow};
+ghost use Rattle.txn_history.specs.Laws.{NeverFalls, KeepsAbove, HasOneWriter};
+ghost use Rattle.txn_machine_inner.specs.PlainLaws.{id_entered};
+ghost use Rattle.txn_history.specs.Trace.{PlainRow};
 
 /// The boundary never falls.
 pub fn boundary_never_falls<T: Drop>(_value: &T)
@@ -22,7 +22,7 @@ pub fn above_boundary_is_not_removed<T: Drop>(_value: &T)
 
 /// Two successful checked writes never have the same id.
 pub fn one_writer_per_id<T: Drop>(_value: &T)
-    ensures { (decode : List ℕ → Option T) (get_epoch : T → ℕ) (failed : List ℕ) (rows : List (PlainRow T)) → IsOneHistory decode get_epoch failed rows → HasOneWriter rows }
+    ensures { (decode : List ℕ → Option T) (get_epoch : T → ℕ) (failed : List ℕ) (rows : List (PlainRow T)) → IsOneHistory decode get_epoch failed rows → HasOneWriter id_entered rows }
 {}
 
 /// A begin that is allowed opens the next operation.

@@ -2,7 +2,7 @@
 //! What follows of that is in `history`.
 ghost use Rattle.std.specs.Prelude.{◌≤◌, List};
 ghost use Rattle.txn_machine_inner.specs.PlainHistory.{IsOneHistory};
-ghost use Rattle.txn_machine_inner.specs.PlainTrace.{PlainEvent, PlainTold};
+ghost use Rattle.txn_history.specs.Trace.{PlainEvent, PlainTold};
 ghost use Rattle.txn_machine_inner.specs.Machine.{State, opening, Runs};
 
 use txn_types::codec::ObjectCodec;

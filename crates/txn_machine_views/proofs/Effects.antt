@@ -17,7 +17,8 @@ use Rattle.txn_history.specs.declared.event.Call.{Call}
 use Rattle.txn_history.specs.declared.event.Call.TheVariants as any
 use Rattle.txn_history.specs.Trace.{Row}
 use Rattle.txn_history.specs.Views.{view_count}
-use Rattle.txn_history.specs.OneHistory.{MayAppend, Appends, Recreates, VersionPut, BoundaryPut, VersionRemoved, IsLegal, IsOneHistory}
+use Rattle.txn_history.specs.OneHistory.{WritesOn, MayAppend, VersionPut, IsLegal, IsOneHistory}
+use Rattle.txn_history.specs.Effects.{Appends, Recreates, BoundaryPut, VersionRemoved}
 use Rattle.txn_machine_views.specs.Layer.{Operation, Asked, Layer, with_row}
 use Rattle.txn_machine_views.specs.Steps.{IsAsked, IsDue, WasRemoved, Creates, Advances, Removes}
 use Rattle.txn_machine_views.proofs.History.{one_history-more, boundary_up, top_epoch}
@@ -95,12 +96,12 @@ module _ {T : Type 0} (decode : List ℕ → Option T) (get_epoch : T → ℕ) (
       record { epoch = h.epoch; holder = h.holder; keeps = h.keeps; none_above = λ id. (let top = top_epoch decode get_epoch set_epoch failed rows good id in let below = h.below in omega (arith, top, below)) }
   may_append failed rows good _ h = tt
 
-  appends : (failed : List ℕ) (rows : List (Row T)) → IsOneHistory decode get_epoch set_epoch failed rows → (op base : ℕ) (call : Call T) (value : T) (bytes : List ℕ) → WriteStands decode get_epoch set_epoch rows op call base value → decode bytes ≡ Some value → base ≡ newest rows → Appends decode get_epoch set_epoch rows op (base + 1) bytes
+  appends : (failed : List ℕ) (rows : List (Row T)) → IsOneHistory decode get_epoch set_epoch failed rows → (op base : ℕ) (call : Call T) (value : T) (bytes : List ℕ) → WriteStands decode get_epoch set_epoch rows op call base value → decode bytes ≡ Some value → base ≡ newest rows → Appends decode get_epoch (WritesOn decode get_epoch set_epoch) (MayAppend decode get_epoch set_epoch) rows op (base + 1) bytes
   appends failed rows good op base call value bytes w reads e =
       let w' : WriteStands decode get_epoch set_epoch rows op call (newest rows) value = subst (λ (n : ℕ). WriteStands decode get_epoch set_epoch rows op call n value) e w in
       record { call = call; called = w.called; value = value; reads = reads; next = ap (λ (n : ℕ). n + 1) e; written = w'.written; rises = w'.rises; unfenced = may_append failed rows good call w'.may }
 
-  recreates : (rows : List (Row T)) (op base : ℕ) (call : Call T) (value : T) (bytes : List ℕ) → WriteStands decode get_epoch set_epoch rows op call base value → decode bytes ≡ Some value → WasRemoved rows (base + 1) → Recreates decode get_epoch set_epoch rows op (base + 1) bytes
+  recreates : (rows : List (Row T)) (op base : ℕ) (call : Call T) (value : T) (bytes : List ℕ) → WriteStands decode get_epoch set_epoch rows op call base value → decode bytes ≡ Some value → WasRemoved rows (base + 1) → Recreates decode get_epoch (WritesOn decode get_epoch set_epoch) (MayAppend decode get_epoch set_epoch) rows op (base + 1) bytes
   recreates rows op base call value bytes w reads r = record { call = call; called = w.called; value = value; reads = reads; base = base; next = refl; written = w.written; again = r.again; erased = r.erased; below = r.below }
 
   create_legal : (s : Layer T) → Stands decode get_epoch set_epoch s → (write : Asked T) → IsAsked write s.asked → (request : Request) (bytes : List ℕ) → created request ≡ Some (write.base + 1, bytes) → decode bytes ≡ Some write.value → (write.base ≡ newest s.rows) ⊎ WasRemoved s.rows (write.base + 1) → IsLegal decode get_epoch set_epoch s.rows write.op request
@@ -127,9 +128,9 @@ module _ {T : Type 0} (decode : List ℕ → Option T) (get_epoch : T → ℕ) (
   pub advance_keeps : (s after : Layer T) → Stands decode get_epoch set_epoch s → Advances s after → Stands decode get_epoch set_epoch after
   advance_keeps s after st a =
       subst (Stands decode get_epoch set_epoch) (sym a.new)
-      (effect_keeps s a.op a.request st (inr (inl (subst (BoundaryPut s.rows a.op) (sym a.puts) a.raises))) (λ o e none. makes_none a.op a.op a.request (raised_creates a.request a.to a.puts)))
+      (effect_keeps s a.op a.request st (inr (inl (subst (BoundaryPut any.Plain s.rows a.op) (sym a.puts) a.raises))) (λ o e none. makes_none a.op a.op a.request (raised_creates a.request a.to a.puts)))
 
   pub remove_keeps : (s after : Layer T) → Stands decode get_epoch set_epoch s → Removes s after → Stands decode get_epoch set_epoch after
   remove_keeps s after st r =
       subst (Stands decode get_epoch set_epoch) (sym r.new)
-      (effect_keeps s r.op r.request st (inr (inr (subst (VersionRemoved s.rows r.op) (sym r.removes) r.erases))) (λ o e none. makes_none r.op r.op r.request (removed_creates r.request r.id r.removes)))
+      (effect_keeps s r.op r.request st (inr (inr (subst (VersionRemoved any.Plain s.rows r.op) (sym r.removes) r.erases))) (λ o e none. makes_none r.op r.op r.request (removed_creates r.request r.id r.removes)))

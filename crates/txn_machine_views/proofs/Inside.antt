@@ -8,14 +8,14 @@ use Rattle.txn_history.specs.declared.event.PlainCall.TheVariants as calls
 use Rattle.txn_history.specs.declared.event.PlainAnswer.{PlainAnswer}
 use Rattle.txn_history.specs.declared.event.PlainAnswer.TheVariants as answers
 use Rattle.txn_history.specs.declared.trace.RowOf.TheVariants.{Effect, Begun}
-use Rattle.txn_machine_inner.specs.PlainTrace.{PlainRow}
 use Rattle.txn_history.specs.History.{Version, created, raised, removed, newest}
 use Rattle.txn_history.specs.Calls.{IsCall}
 use Rattle.txn_history.specs.Facts.{base_on, Entered}
-use Rattle.txn_machine_inner.specs.PlainHistory.{WritesOn, BoundaryPut, VersionRemoved, VersionPut, IsLegal, AnswerFits, IsOneHistory}
+use Rattle.txn_machine_inner.specs.PlainHistory.{alone, WritesOn, VersionPut, IsLegal, AnswerFits, IsOneHistory}
+use Rattle.txn_history.specs.Effects.{BoundaryPut, VersionRemoved}
 use Rattle.txn_history.proofs.Fronts.{of_front}
 use Rattle.txn_history.proofs.Numbered.{one_call}
-use Rattle.txn_history.specs.Trace.{Row}
+use Rattle.txn_history.specs.Trace.{Row, PlainRow}
 use Rattle.txn_machine_views.specs.Layer.{Writes, Reads}
 use Rattle.txn_machine_views.specs.Parts.{Inside, Wrote, Found, Nothing, Refused, InsideFits}
 use Rattle.txn_machine_views.proofs.Effects.{raised_creates, removed_creates}
@@ -30,12 +30,12 @@ module _ {T : Type 0} (decode : List ℕ → Option T) (get_epoch : T → ℕ) w
   put_of_legal before op request version e (inl put) = subst (VersionPut decode get_epoch before op) e put
   put_of_legal before op request version e (inr (inl up)) = absurd (by (raised request) refl up)
     where
-      by : (found : Option ℕ) → raised request ≡ found → BoundaryPut before op found → ⊥
+      by : (found : Option ℕ) → raised request ≡ found → BoundaryPut alone before op found → ⊥
       by None is u = u
       by (Some to) is u = (let none = raised_creates request to is in cc)
   put_of_legal before op request version e (inr (inr gone)) = absurd (by (removed request) refl gone)
     where
-      by : (found : Option ℕ) → removed request ≡ found → VersionRemoved before op found → ⊥
+      by : (found : Option ℕ) → removed request ≡ found → VersionRemoved alone before op found → ⊥
       by None is u = u
       by (Some id) is u = (let none = removed_creates request id is in cc)
 

@@ -14,7 +14,8 @@ use Rattle.txn_history.specs.Trace.{Row}
 use Rattle.txn_history.specs.Calls.{view_used, is_holders}
 use Rattle.txn_history.specs.Views.{ViewGoesOn}
 use Rattle.txn_history.specs.OneHistory as history
-use Rattle.txn_history.specs.OneHistory.{Raises, Erases, AnswerFits}
+use Rattle.txn_history.specs.OneHistory.{AnswerFits}
+use Rattle.txn_history.specs.Effects.{Raises, Erases}
 use Rattle.txn_machine_views.specs.Layer.{Used, Inner, Writes, Operation, Asked, Layer, Keeps, Closes, Next, Ends, look_up, local_of, starting, views_changed, set_at, turned, opened, with_row}
 use Rattle.txn_machine_views.specs.Parts.{Inside, InsideFits, is_claim_call, taken, started, HasEpoch, OrLacking}
 
@@ -102,7 +103,7 @@ module _ {T : Type 0} where
     pub to : ℕ
     pub request : Request
     pub puts : raised request ≡ Some to
-    pub raises : Raises s.rows op to
+    pub raises : Raises any.Plain s.rows op to
     pub new : after ≡ with_row s (Effect op request)
 
   -- a version goes
@@ -111,7 +112,7 @@ module _ {T : Type 0} where
     pub id : ℕ
     pub request : Request
     pub removes : removed request ≡ Some id
-    pub erases : Erases s.rows op id
+    pub erases : Erases any.Plain s.rows op id
     pub new : after ≡ with_row s (Effect op request)
 
   -- a give-up frees the view, or ends that of a claim
