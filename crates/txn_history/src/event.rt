@@ -236,19 +236,19 @@ pub type Told<T> = ToldOf<Answer<T>>;
 pub enum EventFault {
     /// A client, an operation, a loose request or a view that is not there; an operation or a view that has ended; a view
     /// that is another client's, or is a holder's where the call is not, or is no holder's where the call is.
-    UnknownNumber,
+    UnknownNumber = 1,
     /// The operation asks for something else.
-    NotAsked,
+    NotAsked = 2,
     /// A base that no call answered.
-    UnknownBase,
+    UnknownBase = 3,
     /// A boundary to advance to that is neither 0 nor below an id that some call answered.
-    BoundaryTooHigh,
+    BoundaryTooHigh = 4,
     /// A value whose epoch is below that of its base's entry.
-    EpochLowered,
+    EpochLowered = 5,
     /// A view that an operation uses already.
-    ViewBusy,
+    ViewBusy = 6,
     /// A growth was refused before the event took effect.
-    NoMemory,
+    NoMemory = 7,
 }
 
 impl EventFault {
@@ -259,14 +259,6 @@ impl EventFault {
     pub fn number(&self) -> u8
         ensures { result ≡ fault_number self.now }
     {
-        match self {
-            EventFault::UnknownNumber => 1,
-            EventFault::NotAsked => 2,
-            EventFault::UnknownBase => 3,
-            EventFault::BoundaryTooHigh => 4,
-            EventFault::EpochLowered => 5,
-            EventFault::ViewBusy => 6,
-            EventFault::NoMemory => 7,
-        }
+        *self as u8
     }
 }

@@ -12,7 +12,8 @@ use Rattle.txn_machine_views.specs.Layer.{Used}
 use Rattle.txn_machine.specs.declared.doing.Operation.{Operation}
 use Rattle.txn_machine.specs.Doing.{Next}
 use Rattle.txn_machine_views.specs.Parts.{is_claim_call}
-use Rattle.txn_machine.specs.Machine.{State, views_after, views_taken, answered, new_operation, next_op, begun_as}
+use Rattle.txn_machine_inner.specs.Machine.{next_op}
+use Rattle.txn_machine.specs.Machine.{State, views_after, views_taken, answered, new_operation, begun_as}
 use Rattle.txn_journals.specs.Parts as diary
 use Rattle.txn_journals.specs.Parts.{Part, epoch_written}
 use Rattle.txn_journals.specs.Numbers.{count, number, number_or_next}

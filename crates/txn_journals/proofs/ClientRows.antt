@@ -17,14 +17,14 @@ use Rattle.txn_history.specs.Seen.{Ask, Store, Look}
 use Rattle.txn_history.specs.GoesOn.{may_be_loose, as_loose, all_left_loose}
 use Rattle.txn_history.specs.Allowed.{is_client, ask_fault}
 use Rattle.txn_history.specs.Added.{told_of, answer_rows, effect_rows}
-use Rattle.txn_machine_inner.specs.Machine.{effect_of}
+use Rattle.txn_machine_inner.specs.Machine.{effect_of, effected, loosened, failing, next_op}
 use Rattle.txn_history.specs.declared.event.Call.{Call}
 use Rattle.txn_history.specs.declared.event.Answer.{Answer}
 use Rattle.txn_history.specs.Trace.{Row, Told}
 use Rattle.txn_history.specs.Calls.{view_used}
 use Rattle.txn_machine.specs.declared.doing.Operation.{Operation}
 use Rattle.txn_machine.specs.Doing.{ended, refused, asked, started, caches_left, Turns}
-use Rattle.txn_machine.specs.Machine.{State, opening, seen_view, used_by, seen_operations, acted, effected, loosened, failing, given_up, crashed, answered, begun_as, next_op, TakesOrLacks, RunsOrLacks, IsReached}
+use Rattle.txn_machine.specs.Machine.{State, opening, seen_view, used_by, seen_operations, acted, given_up, crashed, answered, begun_as, TakesOrLacks, RunsOrLacks, IsReached}
 use Rattle.txn_machine.proofs.Busy.{seen_asks}
 use Rattle.txn_machine.proofs.Runs.{runs_more_or_lacking}
 use Rattle.txn_journals.specs.declared.rows.Receipt.{Receipt}
@@ -189,13 +189,15 @@ module _ {T : Type 0} (page : ℕ) (encode : T → List ℕ) (decode : List ℕ 
     got_takes = record {
       allowed = ap (ask_fault true) (asks_there k v.operation v.found ask v.asks);
       step = inl (record {
-        operation = got_op;
-        request = receipt.request;
-        caches = part.caches;
-        acts = record { found = there k v.operation v.found ask v.asks; asks = v.asks; kept = kept_by k v.operation v.found ask v.asks };
-        reply = receipt.reply;
-        store = after;
-        reaches = record { serves = subst (λ (old : StoreState). Serves receipt.request old receipt.reply after) (sym g.store_is) serves; honest = honest };
+        call = record {
+          operation = got_op;
+          request = receipt.request;
+          caches = part.caches;
+          acts = record { found = there k v.operation v.found ask v.asks; asks = v.asks; kept = kept_by k v.operation v.found ask v.asks };
+          reply = receipt.reply;
+          store = after;
+          reaches = record { serves = subst (λ (old : StoreState). Serves receipt.request old receipt.reply after) (sym g.store_is) serves; honest = honest };
+        };
         next = v.next;
         turns = subst (λ (p : ℕ). Turns p encode decode get_epoch set_epoch v.operation.doing part.caches (Some receipt.reply) v.next) (sym g.page_is) v.turns;
         tells = ap (told_of (told.Went got_n) got_n) (sym got_says);

@@ -10,7 +10,7 @@ use Rattle.txn_history.specs.Lists.{numbered}
 use Rattle.txn_history.specs.Seen.{Ask}
 use Rattle.txn_history.specs.Added.{answer_rows, effect_rows}
 use Rattle.txn_history.proofs.Lists.{get_kept, get_last}
-use Rattle.txn_machine_inner.specs.Machine.{effect_of}
+use Rattle.txn_machine_inner.specs.Machine.{effect_of, effected, loosened, failing}
 use Rattle.txn_machine_inner.proofs.Lists.{numbered_here, numbered_other}
 use Rattle.txn_history.specs.declared.event.Call.{Call}
 use Rattle.txn_history.specs.declared.event.Call.TheVariants as any
@@ -19,7 +19,7 @@ use Rattle.txn_history.specs.Trace.{Row}
 use Rattle.txn_history.specs.OneHistory.{IsOneHistory}
 use Rattle.txn_machine.specs.declared.doing.Operation.{Operation}
 use Rattle.txn_machine.specs.Doing.{Next, ended}
-use Rattle.txn_machine.specs.Machine.{State, let_go, views_after, answered, acted, effected, loosened, failing, given_up}
+use Rattle.txn_machine.specs.Machine.{State, let_go, views_after, answered, acted, given_up}
 use Rattle.txn_journals.specs.Parts as diary
 use Rattle.txn_journals.specs.Parts.{Part, note_of, written_in, epoch_written, answer_in}
 use Rattle.txn_journals.specs.Numbers.{count, number, number_or_next}

@@ -16,7 +16,7 @@ use Rattle.txn_history.specs.declared.trace.RowOf.TheVariants.{Effect, Begun, An
 use Rattle.txn_history.specs.Calls.{begun_count, view_used}
 use Rattle.txn_history.specs.Added.{Tells, answer_row, answer_rows, effect_rows, AddsRows}
 use Rattle.txn_history.specs.Seen.{Store}
-use Rattle.txn_machine_inner.specs.Machine.{effect_of}
+use Rattle.txn_machine_inner.specs.Machine.{effect_of, next_op, effected, loosened, failing, Reaches}
 use Rattle.txn_machine_inner.proofs.Stands.{AllGiven}
 use Rattle.txn_machine_inner.proofs.EffectRows.{tells_answer, went_row, began_row, adds_answer, adds_effect, adds_landing}
 use Rattle.txn_history.specs.declared.event.Call.{Call}
@@ -25,7 +25,7 @@ use Rattle.txn_history.specs.declared.event.Answer.TheVariants as answers
 use Rattle.txn_history.specs.Trace.{Row, Event, Told}
 use Rattle.txn_machine.specs.declared.doing.Operation.{Operation}
 use Rattle.txn_machine.specs.Doing.{Next, ended, refused, caches_left}
-use Rattle.txn_machine.specs.Machine.{State, opening, seen_calls, answered, answer_next, doing_next, next_op, new_operation, acted, effected, loosened, failing, given_up, ended_by, crashed, begun_as, ReachesStore, Fails, Lands, Looks, Served, Begins, Lacks, Takes, TakesOrLacks, IsReached}
+use Rattle.txn_machine.specs.Machine.{State, opening, seen_calls, answered, answer_next, doing_next, new_operation, acted, given_up, ended_by, crashed, begun_as, Fails, Lands, Looks, Served, Begins, Lacks, Takes, TakesOrLacks, IsReached}
 use Rattle.txn_machine.proofs.Busy.{seen_asks}
 use Rattle.txn_machine.proofs.Runs.{runs_keep, or_lacking}
 use Rattle.txn_machine.proofs.TokensGiven.{served_given}
@@ -49,8 +49,8 @@ module _ {T : Type 0} where
   fail_adds failures.Loose old op said new v given = ((answers.Plain (plain_answers.Refused 2), v.tells), adds_answer op (answers.Plain (plain_answers.Refused 2)) old.trace new.trace old.store.files new.store.files said v.tells (ap (λ (s : State T). s.trace) v.state) (ap (λ (s : State T). s.store.files) v.state))
   fail_adds failures.After old op said new v given = (
     (answers.Plain (plain_answers.Refused 2), v.tells),
-    adds_effect (seen_calls old) op v.request v.reply old.store v.store old.trace new.trace new.store.files said (seen_asks old.operations op v.operation v.acts.found ∙ v.acts.asks) given v.reaches.serves v.reaches.honest (ap (λ (s : State T). s.store.files) v.state) (inr (answers.Plain (plain_answers.Refused 2), v.tells))
-        (ap (λ (s : State T). s.trace) v.state ∙ ap (λ (t : Told T). (old.trace ++ effect_rows op (effect_of old.store.files v.request v.reply)) ++ answer_row t) (sym v.tells)),
+    adds_effect (seen_calls old) op v.call.request v.call.reply old.store v.call.store old.trace new.trace new.store.files said (seen_asks old.operations op v.call.operation v.call.acts.found ∙ v.call.acts.asks) given v.call.reaches.serves v.call.reaches.honest (ap (λ (s : State T). s.store.files) v.state) (inr (answers.Plain (plain_answers.Refused 2), v.tells))
+        (ap (λ (s : State T). s.trace) v.state ∙ ap (λ (t : Told T). (old.trace ++ effect_rows op (effect_of old.store.files v.call.request v.call.reply)) ++ answer_row t) (sym v.tells)),
   )
 
   land_adds : (old : State T) (k : ℕ) (said : Told T) (new : State T) → Lands old k said new → AllGiven old.store → AddsRows (seen_calls old) old.trace old.store.files (events.Land k) said new.trace new.store.files
@@ -88,7 +88,7 @@ module _ {T : Type 0} where
         count = length-set s.operations (op - 1) (doing_next o next.0) ∙ (none_more (length s.operations) (begun_count s.trace) (begun_count (answer_rows op answer)) h.count (answers_begun op answer) ∙ sym (begun_more s.trace (answer_rows op answer)));
       }
 
-  effected_counted : (s : State T) (op : ℕ) (request : Request) (reply : Reply) (store : StoreState) → ReachesStore s request reply store → Counted s → Counted (effected s op request reply store)
+  effected_counted : (s : State T) (op : ℕ) (request : Request) (reply : Reply) (store : StoreState) → Reaches s request reply store → Counted s → Counted (effected s op request reply store)
   effected_counted s op request reply store r h =
       let effect = effect_of s.store.files request reply in
       record {
@@ -118,8 +118,8 @@ module _ {T : Type 0} where
   fails_counted : (failure : Failure) (old : State T) (op : ℕ) (said : Told T) (new : State T) → Fails old op failure said new → Counted old → Counted new
   fails_counted failures.Before old op said new v h = subst Counted (sym v.state) (acted_counted (failing old op) op v.operation (refused 2) v.caches (kept old (failing old op) h refl refl refl))
   fails_counted failures.After old op said new v h =
-      let middle = effected old op v.request v.reply v.store in
-      subst Counted (sym v.state) (acted_counted (failing middle op) op v.operation (refused 2) v.caches (kept middle (failing middle op) (effected_counted old op v.request v.reply v.store v.reaches h) refl refl refl))
+      let middle = effected old op v.call.request v.call.reply v.call.store in
+      subst Counted (sym v.state) (acted_counted (failing middle op) op v.call.operation (refused 2) v.call.caches (kept middle (failing middle op) (effected_counted old op v.call.request v.call.reply v.call.store v.call.reaches h) refl refl refl))
   fails_counted failures.Loose old op said new v h =
       let middle = failing (loosened old op (Store v.request)) op in
       subst Counted (sym v.state) (acted_counted middle op v.operation (refused 2) v.caches (kept old middle h refl refl refl))
@@ -127,10 +127,10 @@ module _ {T : Type 0} where
 module _ {T : Type 0} (encode : T → List ℕ) (decode : List ℕ → Option T) (get_epoch : T → ℕ) (set_epoch : T → ℕ → T) where
   serve_adds : (old : State T) (op : ℕ) (said : Told T) (new : State T) → Served encode decode get_epoch set_epoch old op said new → AllGiven old.store → AddsRows (seen_calls old) old.trace old.store.files (events.Serve op) said new.trace new.store.files
   serve_adds old op said new v given =
-      let answer = answer_next old v.operation v.next in
-      adds_effect (seen_calls old) op v.request v.reply old.store v.store old.trace new.trace new.store.files said (seen_asks old.operations op v.operation v.acts.found ∙ v.acts.asks) given v.reaches.serves v.reaches.honest (ap (λ (s : State T). s.store.files) v.state)
+      let answer = answer_next old v.call.operation v.next in
+      adds_effect (seen_calls old) op v.call.request v.call.reply old.store v.call.store old.trace new.trace new.store.files said (seen_asks old.operations op v.call.operation v.call.acts.found ∙ v.call.acts.asks) given v.call.reaches.serves v.call.reaches.honest (ap (λ (s : State T). s.store.files) v.state)
       (subst (λ (t : Told T). Tells (told.Went op) op t) (sym v.tells) (tells_answer (told.Went op) op answer))
-      (ap (λ (s : State T). s.trace) v.state ∙ ap (λ more. (old.trace ++ effect_rows op (effect_of old.store.files v.request v.reply)) ++ more) (went_row op answer ∙ ap answer_row (sym v.tells)))
+      (ap (λ (s : State T). s.trace) v.state ∙ ap (λ more. (old.trace ++ effect_rows op (effect_of old.store.files v.call.request v.call.reply)) ++ more) (went_row op answer ∙ ap answer_row (sym v.tells)))
 
   look_adds : (old : State T) (op : ℕ) (said : Told T) (new : State T) → Looks encode decode get_epoch set_epoch old op said new → AddsRows (seen_calls old) old.trace old.store.files (events.Look op) said new.trace new.store.files
   look_adds old op said new v =
@@ -168,7 +168,7 @@ module _ {T : Type 0} (encode : T → List ℕ) (decode : List ℕ → Option T)
   takes_counted old (events.Begin client call) said new h t = subst Counted (sym t.step.state) (begun_counted old client call t.step.next h)
   takes_counted old (events.Look op) said new h t = (let v = t.step in subst Counted (sym v.state) (acted_counted old op v.operation v.next (caches_left v.operation.doing v.caches v.next.1) h))
   takes_counted old (events.Serve op) said new h t = elim t.step [
-    | inl v ↦ subst Counted (sym v.state) (acted_counted (effected old op v.request v.reply v.store) op v.operation v.next (caches_left v.operation.doing v.caches v.next.1) (effected_counted old op v.request v.reply v.store v.reaches h))
+    | inl v ↦ subst Counted (sym v.state) (acted_counted (effected old op v.call.request v.call.reply v.call.store) op v.call.operation v.next (caches_left v.call.operation.doing v.call.caches v.next.1) (effected_counted old op v.call.request v.call.reply v.call.store v.call.reaches h))
     | inr v ↦ subst Counted (sym v.state) (acted_counted old op v.operation (refused 9) v.caches h)
   ]
   takes_counted old (events.Fail op failure) said new h t = fails_counted failure old op said new t.step h

@@ -48,7 +48,8 @@ use Rattle.txn_machine_views.proofs.Tables.{Leaves, set_here, set_other, used_le
 use Rattle.txn_machine.specs.declared.doing.Operation.{Operation}
 use Rattle.txn_machine.specs.Doing as whole
 use Rattle.txn_machine.specs.Doing.{ended}
-use Rattle.txn_machine.specs.Machine.{State, used_in, used_by, seen_view, seen_views, seen_of, views_taken, answered, next_op, new_operation, doing_next, begun_as, acted, view_now, Begins}
+use Rattle.txn_machine_inner.specs.Machine.{next_op}
+use Rattle.txn_machine.specs.Machine.{State, used_in, used_by, seen_view, seen_views, seen_of, views_taken, answered, new_operation, doing_next, begun_as, acted, view_now, Begins}
 use Rattle.txn_machine.proofs.Matched.{HasView, NextAs, Answered as IsAnswered}
 use Rattle.txn_machine.proofs.PlainTurns.{plain_start}
 use Rattle.txn_machine.proofs.Starts.{every_start}
@@ -260,7 +261,7 @@ module _ {T : Type 0} (encode : T → List ℕ) (decode : List ℕ → Option T)
         local = local_left decode get_epoch set_epoch l over l'.views o (allowed_leaves l client call (option_map (with_busy (Some op)) (look_up j.l.views (view_used call))) o (view_used call) may) c other inner w.runs;
         does = does_row get_epoch j.fine.trace j.l.rows (Begun op call ∷ []) j.l.asked (j.now o) o other inner w.does;
         past = w.past;
-      }) (j.each o))
+      }) (j.rest.each o))
 
   loose' : (k o : ℕ) (request : Request) → numbered s.loose k ≡ Some (o, request) → LooseAt decode get_epoch j.fine.loose j.fine.trace l'.rows j.owner l'.ops j.l.asked o request
   loose' k o request e =
@@ -269,7 +270,7 @@ module _ {T : Type 0} (encode : T → List ℕ) (decode : List ℕ → Option T)
       let ne : o ≢ op = (λ q. both_ways (was_begun j.l.rows op) (over.fresh op (omega arith)).0.begun (subst (λ (i : ℕ). was_begun j.l.rows i ≡ true) q (begun_of j.l.rows o c d.own))) in
       set_other j.l.ops op (Some (starting client call)) o ne ∙ gone
       ))
-      (λ m c inner d. does_row get_epoch j.fine.trace j.l.rows (Begun op call ∷ []) j.l.asked m o c inner d) (j.loose k o request e)
+      (λ m c inner d. does_row get_epoch j.fine.trace j.l.rows (Begun op call ∷ []) j.l.asked m o c inner d) (j.rest.loose k o request e)
 
   abbrev left : List Caches
   left = slice_set s.caches (client - 1) kept.0
@@ -297,13 +298,15 @@ module _ {T : Type 0} (encode : T → List ℕ) (decode : List ℕ → Option T)
         grown = j.grown;
         caches = j.caches ∙ sym (set_id s.caches client kept.0 kept.1);
         core = core_views j.fine.trace j.fine.failed l'.rows j.l.views j.l.failed j.owner (core_row j.fine.trace j.fine.failed j.l.rows j.l.views j.l.failed j.owner j.core (Begun op call) refl (λ test e. absurd (both_ways false refl e))) l'.views (taken_told j.fine.trace op j.l.views (view_used call) j.core.seen);
-        found = numbered_new s.operations x op refl;
-        runs = set_here j.l.ops op (Some (starting client call));
-        view = refl;
-        claims = refl;
-        others = others';
-        loose = loose';
-        client = (is_there.0, (let le = is_there.1 in let same = j.tie.clients in omega (arith, le, same)));
+        rest = record {
+          found = numbered_new s.operations x op refl;
+          runs = set_here j.l.ops op (Some (starting client call));
+          view = refl;
+          claims = refl;
+          others = others';
+          loose = loose';
+          client = (is_there.0, (let le = is_there.1 in let same = j.tie.clients in omega (arith, le, same)));
+        };
       }
 
   -- what the layer does first
@@ -378,7 +381,7 @@ module _ {T : Type 0} (encode : T → List ℕ) (decode : List ℕ → Option T)
       let starts = ap (λ (p : ℕ). plain.started p encode call) (sym j.tie.page) in
       let opened' = plain_opens decode get_epoch j.fine.trace j.l.rows j.core.told (same_epoch decode get_epoch j.owner j.fine.trace j.l.rows j.core.tied.top) (next_op s) (machine.next_op j.fine) (ap (λ (n : ℕ). n + 1) j.stands.count) call (opens encode decode get_epoch set_epoch past s j busy client (any.Plain call) allowed) in
       let next = first_begins encode decode get_epoch set_epoch past s j busy client (any.Plain call) allowed (Goes (plain_inner get_epoch call)) (inl refl) (first_epoch get_epoch call) in
-      let fenced = (op_of decode get_epoch set_epoch h.l h.over (next_op s) (as_laid client (any.Plain call) Starts) h.runs).inner in
+      let fenced = (op_of decode get_epoch set_epoch h.l h.over (next_op s) (as_laid client (any.Plain call) Starts) h.rest.runs).inner in
       let m = fine_begins encode decode get_epoch set_epoch past _ _ _ (any.Plain call) Starts (plain_inner get_epoch call) _ h start starts opened' v.reads_back v.word refl next fenced in
       let page = fine_begins_page encode decode get_epoch set_epoch past _ _ _ (any.Plain call) Starts (plain_inner get_epoch call) _ h start starts opened' v.reads_back v.word refl next fenced in
       let answered' = plain_start s.page encode decode get_epoch set_epoch call (local_of (look_up m.opened.l.views None)) (view_now s (any.Plain call)) v.next v.starts in

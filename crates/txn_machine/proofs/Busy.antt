@@ -25,7 +25,7 @@ use Rattle.txn_history.proofs.Rows.{is_id_some}
 use Rattle.txn_history.proofs.Lists.{numbered_kept}
 use Rattle.txn_machine_inner.proofs.Lists.{numbered_here, numbered_other, numbered_map, numbered_append, within, numbered_of_map, numbered_new}
 use Rattle.txn_machine_inner.specs.declared.doing.PlainDoing.TheVariants as doings
-use Rattle.txn_machine_inner.specs.Machine.{effect_of}
+use Rattle.txn_machine_inner.specs.Machine.{effect_of, effected, loosened, failing, next_op}
 use Rattle.txn_view_steps.specs.declared.outcome.Outcome.TheVariants as outcomes
 use Rattle.txn_history.specs.declared.event.Call.{Call}
 use Rattle.txn_history.specs.declared.event.Answer.{Answer}
@@ -41,7 +41,7 @@ use Rattle.txn_machine.specs.declared.doing.Ending.{Ending}
 use Rattle.txn_machine.specs.declared.doing.Ending.TheVariants as endings
 use Rattle.txn_machine.specs.Doing.{Next, asked, ended, refused, caches_left}
 use Rattle.txn_machine_views.specs.Parts.{is_claim_call}
-use Rattle.txn_machine.specs.Machine.{State, opening, refusal_of, seen_operation, seen_operations, seen_view, seen_views, seen_of, used_in, used_by, with_used, let_go, made_by, change_of, views_after, views_taken, answered, doing_next, with_doing, acted, effected, loosened, failing, given_up, next_op, new_operation, begun_as, Fails, Looks, Served, Lacks, TakesOrLacks, IsReached}
+use Rattle.txn_machine.specs.Machine.{State, opening, refusal_of, seen_operation, seen_operations, seen_view, seen_views, seen_of, used_in, used_by, with_used, let_go, made_by, change_of, views_after, views_taken, answered, doing_next, with_doing, acted, given_up, new_operation, begun_as, Fails, Looks, Served, Lacks, TakesOrLacks, IsReached}
 use Rattle.txn_machine.proofs.Places.{set_new, any_at, place_of_any}
 use Rattle.txn_machine.proofs.Fits.{Fits, turned_fits, started_fits}
 use Rattle.txn_machine.proofs.Busies.{IsRunning, Busies, HasNoBegin, Frees, TakesOne, busies_opening, busies_rows, busies_goes, busies_ends, busies_begins, busies_crashes}
@@ -315,8 +315,8 @@ module _ {T : Type 0} (encode : T → List ℕ) (decode : List ℕ → Option T)
   served_busied : (old : State T) (op : ℕ) (said : Told T) (new : State T) → Busied old → Served encode decode get_epoch set_epoch old op said new → Busied new
   served_busied old op said new h v =
       subst Busied (sym v.state)
-      (acted_busied (effected old op v.request v.reply v.store) op v.operation v.next (caches_left v.operation.doing v.caches v.next.1) (effected_busied old op v.request v.reply v.store h) v.acts.found (ap is_some v.acts.asks)
-      (subst Fits (sym v.turns.turns) (turned_fits old.page encode decode get_epoch set_epoch v.turns.refused v.operation.doing v.caches (Some v.reply) (Store v.request) v.acts.asks)))
+      (acted_busied (effected old op v.call.request v.call.reply v.call.store) op v.call.operation v.next (caches_left v.call.operation.doing v.call.caches v.next.1) (effected_busied old op v.call.request v.call.reply v.call.store h) v.call.acts.found (ap is_some v.call.acts.asks)
+      (subst Fits (sym v.turns.turns) (turned_fits old.page encode decode get_epoch set_epoch v.turns.refused v.call.operation.doing v.call.caches (Some v.call.reply) (Store v.call.request) v.call.acts.asks)))
 
   lacks_busied : (old : State T) (op : ℕ) (said : Told T) (new : State T) → Busied old → Lacks old op said new → Busied new
   lacks_busied old op said new h v = subst Busied (sym v.state) (acted_busied old op v.operation (refused 9) v.caches h v.acts.found (ap is_some v.acts.asks) refl)
@@ -324,7 +324,7 @@ module _ {T : Type 0} (encode : T → List ℕ) (decode : List ℕ → Option T)
   fails_busied : (failure : Failure) (old : State T) (op : ℕ) (said : Told T) (new : State T) → Busied old → Fails old op failure said new → Busied new
   fails_busied failures.Before old op said new h v = subst Busied (sym v.state) (acted_busied (failing old op) op v.operation (refused 2) v.caches h v.acts.found (ap is_some v.acts.asks) refl)
   fails_busied failures.After old op said new h v =
-      subst Busied (sym v.state) (acted_busied (failing (effected old op v.request v.reply v.store) op) op v.operation (refused 2) v.caches (effected_busied old op v.request v.reply v.store h) v.acts.found (ap is_some v.acts.asks) refl)
+      subst Busied (sym v.state) (acted_busied (failing (effected old op v.call.request v.call.reply v.call.store) op) op v.call.operation (refused 2) v.call.caches (effected_busied old op v.call.request v.call.reply v.call.store h) v.call.acts.found (ap is_some v.call.acts.asks) refl)
   fails_busied failures.Loose old op said new h v =
       subst Busied (sym v.state) (acted_busied (failing (loosened old op (Store v.request)) op) op v.operation (refused 2) v.caches h v.acts.found (ap is_some v.acts.asks) refl)
 

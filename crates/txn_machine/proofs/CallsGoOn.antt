@@ -10,8 +10,8 @@ use Rattle.txn_history.specs.Lists.{numbered}
 use Rattle.txn_history.specs.Seen.{Ask, Store, Look, asks_of}
 use Rattle.txn_history.specs.GoesOn.{left_loose, state_of, states_after, OperationsGoOn}
 use Rattle.txn_history.specs.Added.{told_of}
-use Rattle.txn_machine_inner.specs.Machine.{effect_of}
-use Rattle.txn_machine_inner.proofs.Ends.{EndsOne, answer_ends, give_up_ends, told_ends, states_stay, states_acted, states_new, states_crashed}
+use Rattle.txn_machine_inner.specs.Machine.{effected, loosened, failing, next_op}
+use Rattle.txn_machine_inner.proofs.Ends.{EndsOne, answer_ends, give_up_ends, told_ends, told_so, land_goes, states_acted, states_new, states_crashed}
 use Rattle.txn_history.specs.declared.event.Call.{Call}
 use Rattle.txn_history.specs.declared.event.Answer.{Answer}
 use Rattle.txn_history.specs.declared.event.Answer.TheVariants as answers
@@ -21,7 +21,7 @@ use Rattle.txn_machine.specs.declared.doing.Doing.{Doing}
 use Rattle.txn_machine.specs.declared.doing.Operation.{Operation}
 use Rattle.txn_machine.specs.declared.doing.Ending.{Ending}
 use Rattle.txn_machine.specs.Doing.{Next, asked, ended, refused, caches_left}
-use Rattle.txn_machine.specs.Machine.{State, seen_operation, seen_operations, seen_calls, seen_view, used_by, answered, answer_next, doing_next, with_doing, new_operation, acted, effected, loosened, failing, given_up, ended_by, crashed, next_op, begun_as, Fails, GivesUp, Lands, Crashes, Looks, Served, Begins, Lacks, TakesOrLacks}
+use Rattle.txn_machine.specs.Machine.{State, seen_operation, seen_operations, seen_calls, seen_view, used_by, answered, answer_next, doing_next, with_doing, new_operation, acted, given_up, ended_by, crashed, begun_as, Fails, GivesUp, Crashes, Looks, Served, Begins, Lacks, TakesOrLacks}
 use Rattle.txn_machine.proofs.Fits.{Fits, turned_fits, started_fits}
 use Rattle.txn_machine.proofs.Busy.{seen_asks}
 
@@ -44,10 +44,6 @@ module _ {T : Type 0} where
   stays_so client o ne = rw (ne_eqb o.client client ne) refl
 
   -- each event
-
-  -- by what is told, and the state that is left
-  told_so : (old : State T) (event : Event T) (said t : Told T) (new s : State T) → said ≡ t → new ≡ s → OperationsGoOn (seen_calls old) event t (seen_calls s) → OperationsGoOn (seen_calls old) event said (seen_calls new)
-  told_so old event said t new s tells is g = subst (λ (u : Told T). OperationsGoOn (seen_calls old) event u (seen_calls new)) (sym tells) (subst (λ (x : State T). OperationsGoOn (seen_calls old) event t (seen_calls x)) (sym is) g)
 
   -- whether an ending is told
   answered_some : (count : ℕ) (view : Option ℕ) (ending : Option (Ending T)) → is_some (answered count view ending) ≡ is_some ending
@@ -73,23 +69,23 @@ module _ {T : Type 0} where
   lacks_goes : (old : State T) (op : ℕ) (said : Told T) (new : State T) → Lacks old op said new → OperationsGoOn {C = Call T} (seen_calls old) (events.Serve op) said (seen_calls new)
   lacks_goes old op said new v =
       let answer : Answer T = answers.Plain (plain_answers.Refused 9) in
-      told_so old (events.Serve op) said (told.Answered op answer) new (acted old op v.operation (refused 9) v.caches) v.tells v.state
+      told_so seen_operation old (events.Serve op) said (told.Answered op answer) new (acted old op v.operation (refused 9) v.caches) v.tells v.state
       (record { clients = refl; operations = acted_states (told.Answered op answer) op true old.operations v.operation (Store v.request) ended v.acts.found (answer_ends op answer) v.acts.asks refl; loose = refl; failed = refl })
 
   fail_goes : (failure : Failure) (old : State T) (op : ℕ) (said : Told T) (new : State T) → Fails old op failure said new → OperationsGoOn {C = Call T} (seen_calls old) (events.Fail op failure) said (seen_calls new)
   fail_goes failures.Before old op said new v =
-      told_so old (events.Fail op failures.Before) said (told.Answered op (answers.Plain (plain_answers.Refused 2))) new (acted (failing old op) op v.operation (refused 2) v.caches) v.tells v.state
+      told_so seen_operation old (events.Fail op failures.Before) said (told.Answered op (answers.Plain (plain_answers.Refused 2))) new (acted (failing old op) op v.operation (refused 2) v.caches) v.tells v.state
       (record { clients = refl; operations = failed_states old op v.operation (Store v.request) v.acts.found v.acts.asks; loose = refl; failed = refl })
   fail_goes failures.After old op said new v =
-      told_so old (events.Fail op failures.After) said (told.Answered op (answers.Plain (plain_answers.Refused 2))) new (acted (failing (effected old op v.request v.reply v.store) op) op v.operation (refused 2) v.caches) v.tells v.state
-      (record { clients = refl; operations = failed_states old op v.operation (Store v.request) v.acts.found v.acts.asks; loose = refl; failed = refl })
+      told_so seen_operation old (events.Fail op failures.After) said (told.Answered op (answers.Plain (plain_answers.Refused 2))) new (acted (failing (effected old op v.call.request v.call.reply v.call.store) op) op v.call.operation (refused 2) v.call.caches) v.tells v.state
+      (record { clients = refl; operations = failed_states old op v.call.operation (Store v.call.request) v.call.acts.found v.call.acts.asks; loose = refl; failed = refl })
   fail_goes failures.Loose old op said new v =
-      told_so old (events.Fail op failures.Loose) said (told.Answered op (answers.Plain (plain_answers.Refused 2))) new (acted (failing (loosened old op (Store v.request)) op) op v.operation (refused 2) v.caches) v.tells v.state
+      told_so seen_operation old (events.Fail op failures.Loose) said (told.Answered op (answers.Plain (plain_answers.Refused 2))) new (acted (failing (loosened old op (Store v.request)) op) op v.operation (refused 2) v.caches) v.tells v.state
       (record { clients = refl; operations = failed_states old op v.operation (Store v.request) v.acts.found v.acts.asks; loose = leaves old op v.operation (Store v.request) v.acts.found v.acts.asks; failed = refl })
 
   give_up_goes : (old : State T) (op : ℕ) (said : Told T) (new : State T) → GivesUp old op said new → OperationsGoOn {C = Call T} (seen_calls old) (events.GiveUp op) said (seen_calls new)
   give_up_goes old op said new v =
-      told_so old (events.GiveUp op) said (told.GaveUp op) new (given_up (loosened old op v.ask) op v.operation) v.tells v.state
+      told_so seen_operation old (events.GiveUp op) said (told.GaveUp op) new (given_up (loosened old op v.ask) op v.operation) v.tells v.state
       (record {
         clients = refl;
         operations = acted_states (told.GaveUp op) op true old.operations v.operation v.ask ended v.found (give_up_ends op) v.asks refl;
@@ -97,15 +93,9 @@ module _ {T : Type 0} where
         failed = refl;
       })
 
-  land_goes : (old : State T) (k : ℕ) (said : Told T) (new : State T) → Lands old k said new → OperationsGoOn {C = Call T} (seen_calls old) (events.Land k) said (seen_calls new)
-  land_goes old k said new v =
-      let t = told.Landed k (is_some (effect_of old.store.files v.request v.reply)) in
-      told_so old (events.Land k) said t new (effected old v.op v.request v.reply v.store) v.tells v.state
-      (record { clients = refl; operations = states_stay t 1 (seen_operations old.operations) (λ client n le. refl); loose = refl; failed = refl })
-
   crash_goes : (old : State T) (client : ℕ) (said : Told T) (new : State T) → Crashes old client said new → OperationsGoOn {C = Call T} (seen_calls old) (events.Crash client) said (seen_calls new)
   crash_goes old client said new v =
-      told_so old (events.Crash client) said (told.Crashed client) new (crashed old client) v.tells v.state
+      told_so seen_operation old (events.Crash client) said (told.Crashed client) new (crashed old client) v.tells v.state
       (record { clients = refl; operations = states_crashed (Answer T) seen_operation (ended_by client) client (ended_state client) (stays_so client) 1 old.operations; loose = refl; failed = refl })
 
 module _ {T : Type 0} (encode : T → List ℕ) (decode : List ℕ → Option T) (get_epoch : T → ℕ) (set_epoch : T → ℕ → T) where
@@ -115,7 +105,7 @@ module _ {T : Type 0} (encode : T → List ℕ) (decode : List ℕ → Option T)
       let answer = answered (length old.views) (view_used call) v.next.1 in
       let t = told_of (told.Began n) n answer in
       let fits = subst Fits (sym v.starts) (started_fits old.page encode get_epoch set_epoch call (seen_view (used_by old.views (view_used call)))) in
-      told_so old (events.Begin client call) said t new (begun_as old client call v.next) v.tells v.state
+      told_so seen_operation old (events.Begin client call) said t new (begun_as old client call v.next) v.tells v.state
       (record {
         clients = refl;
         operations = new_states t client call (is_some answer) old.operations v.next.0 (told_ends (told.Began n) n answer (λ c m. refl)) (fits ∙ ap not (sym (answered_some (length old.views) (view_used call) v.next.1)));
@@ -126,14 +116,14 @@ module _ {T : Type 0} (encode : T → List ℕ) (decode : List ℕ → Option T)
   look_goes : (old : State T) (op : ℕ) (said : Told T) (new : State T) → Looks encode decode get_epoch set_epoch old op said new → OperationsGoOn {C = Call T} (seen_calls old) (events.Look op) said (seen_calls new)
   look_goes old op said new v =
       let fits = subst Fits (sym v.turns.turns) (turned_fits old.page encode decode get_epoch set_epoch v.turns.refused v.operation.doing v.caches None Look v.acts.asks) in
-      told_so old (events.Look op) said (told_of (told.Went op) op (answer_next old v.operation v.next)) new (acted old op v.operation v.next (caches_left v.operation.doing v.caches v.next.1)) v.tells v.state
+      told_so seen_operation old (events.Look op) said (told_of (told.Went op) op (answer_next old v.operation v.next)) new (acted old op v.operation v.next (caches_left v.operation.doing v.caches v.next.1)) v.tells v.state
       (record { clients = refl; operations = turn_states old op v.operation Look v.next v.acts.found v.acts.asks fits; loose = refl; failed = refl })
 
   serve_goes : (old : State T) (op : ℕ) (said : Told T) (new : State T) → Served encode decode get_epoch set_epoch old op said new → OperationsGoOn {C = Call T} (seen_calls old) (events.Serve op) said (seen_calls new)
   serve_goes old op said new v =
-      let fits = subst Fits (sym v.turns.turns) (turned_fits old.page encode decode get_epoch set_epoch v.turns.refused v.operation.doing v.caches (Some v.reply) (Store v.request) v.acts.asks) in
-      told_so old (events.Serve op) said (told_of (told.Went op) op (answer_next old v.operation v.next)) new (acted (effected old op v.request v.reply v.store) op v.operation v.next (caches_left v.operation.doing v.caches v.next.1)) v.tells v.state
-      (record { clients = refl; operations = turn_states old op v.operation (Store v.request) v.next v.acts.found v.acts.asks fits; loose = refl; failed = refl })
+      let fits = subst Fits (sym v.turns.turns) (turned_fits old.page encode decode get_epoch set_epoch v.turns.refused v.call.operation.doing v.call.caches (Some v.call.reply) (Store v.call.request) v.call.acts.asks) in
+      told_so seen_operation old (events.Serve op) said (told_of (told.Went op) op (answer_next old v.call.operation v.next)) new (acted (effected old op v.call.request v.call.reply v.call.store) op v.call.operation v.next (caches_left v.call.operation.doing v.call.caches v.next.1)) v.tells v.state
+      (record { clients = refl; operations = turn_states old op v.call.operation (Store v.call.request) v.next v.call.acts.found v.call.acts.asks fits; loose = refl; failed = refl })
 
   -- what a world shows of its operations goes on with each event that is taken, whatever the state before it
   pub calls_go_on : (old : State T) (event : Event T) (said : Told T) (new : State T) → TakesOrLacks encode decode get_epoch set_epoch old event said new → OperationsGoOn (seen_calls old) event said (seen_calls new)
@@ -142,5 +132,5 @@ module _ {T : Type 0} (encode : T → List ℕ) (decode : List ℕ → Option T)
   calls_go_on old (events.Serve op) said new t = elim t.step [ inl v ↦ serve_goes old op said new v | inr v ↦ lacks_goes old op said new v ]
   calls_go_on old (events.Fail op failure) said new t = fail_goes failure old op said new t.step
   calls_go_on old (events.GiveUp op) said new t = give_up_goes old op said new t.step
-  calls_go_on old (events.Land k) said new t = land_goes old k said new t.step
+  calls_go_on old (events.Land k) said new t = (let v = t.step in land_goes seen_operation old k v.op v.request v.reply v.store said new v.tells v.state)
   calls_go_on old (events.Crash client) said new t = crash_goes old client said new t.step

@@ -62,7 +62,7 @@ module _ {T : Type 0} where
 
   fails_claims : (failure : Failure) (old : State T) (op : ℕ) (said : Told T) (new : State T) → ClaimsFit old → Fails old op failure said new → ClaimsFit new
   fails_claims failures.Before old op said new h v = subst ClaimsFit (sym v.state) (each_set OpFits old.operations op v.operation (doing_next v.operation ended) v.acts.found h (λ e. refl))
-  fails_claims failures.After old op said new h v = subst ClaimsFit (sym v.state) (each_set OpFits old.operations op v.operation (doing_next v.operation ended) v.acts.found h (λ e. refl))
+  fails_claims failures.After old op said new h v = subst ClaimsFit (sym v.state) (each_set OpFits old.operations op v.call.operation (doing_next v.call.operation ended) v.call.acts.found h (λ e. refl))
   fails_claims failures.Loose old op said new h v = subst ClaimsFit (sym v.state) (each_set OpFits old.operations op v.operation (doing_next v.operation ended) v.acts.found h (λ e. refl))
 
   -- which rows are the begin of a claim on a view
@@ -155,8 +155,8 @@ module _ {T : Type 0} (encode : T → List ℕ) (decode : List ℕ → Option T)
       subst ClaimsFit (sym v.state) (each_set OpFits old.operations op v.operation (doing_next v.operation v.next.0) v.acts.found h fits.0)
   takes_claims old (events.Serve op) said new h t = elim t.step [
     | inl v ↦ (
-        let fits = subst (NextFits v.operation.claims) (sym v.turns.turns) (turned_claims old.page encode decode get_epoch set_epoch v.operation.claims v.turns.refused v.operation.doing v.caches (Some v.reply) (Store v.request) v.acts.asks (h op v.operation v.acts.found)) in
-        subst ClaimsFit (sym v.state) (each_set OpFits old.operations op v.operation (doing_next v.operation v.next.0) v.acts.found h fits.0))
+        let fits = subst (NextFits v.call.operation.claims) (sym v.turns.turns) (turned_claims old.page encode decode get_epoch set_epoch v.call.operation.claims v.turns.refused v.call.operation.doing v.call.caches (Some v.call.reply) (Store v.call.request) v.call.acts.asks (h op v.call.operation v.call.acts.found)) in
+        subst ClaimsFit (sym v.state) (each_set OpFits old.operations op v.call.operation (doing_next v.call.operation v.next.0) v.call.acts.found h fits.0))
     | inr v ↦ subst ClaimsFit (sym v.state) (each_set OpFits old.operations op v.operation (doing_next v.operation ended) v.acts.found h (λ e. refl))
   ]
   takes_claims old (events.Fail op failure) said new h t = fails_claims failure old op said new h t.step

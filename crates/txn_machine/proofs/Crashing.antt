@@ -154,7 +154,7 @@ module _ {T : Type 0} (encode : T → List ℕ) (decode : List ℕ → Option T)
   loose_after : (k op : ℕ) (request : Request) → numbered (crashed s client).loose k ≡ Some (op, request) → LooseAt decode get_epoch fine'.loose j.fine.trace j.l.rows j.owner l'.ops j.l.asked op request
   loose_after k op request e =
       elim (numbered_append s.loose (all_left_loose client 1 (seen_operations s.operations)) k (op, request) e) [
-        | inl old ↦ loose_on decode get_epoch j.fine.loose fine'.loose j.fine.trace j.fine.trace j.l.rows j.l.rows j.owner j.owner j.l.ops l'.ops j.l.asked j.l.asked op request (λ p m there. numbered_kept j.fine.loose (all_left_loose client 1 (machine.seen_operations j.fine.operations)) p (m, request) there) (λ m c inner d own. own) (λ m c inner d gone. without_none client op j.l.ops gone) (λ m c inner d. d) (j.loose k op request old)
+        | inl old ↦ loose_on decode get_epoch j.fine.loose fine'.loose j.fine.trace j.fine.trace j.l.rows j.l.rows j.owner j.owner j.l.ops l'.ops j.l.asked j.l.asked op request (λ p m there. numbered_kept j.fine.loose (all_left_loose client 1 (machine.seen_operations j.fine.operations)) p (m, request) there) (λ m c inner d own. own) (λ m c inner d gone. without_none client op j.l.ops gone) (λ m c inner d. d) (j.rest.loose k op request old)
         | inr new ↦ (
             let l = left_from client 1 (seen_operations s.operations) new.0 op request new.1 in
             let number : suc l.place ≡ op = (let is = l.number in omega (arith, is)) in
@@ -188,6 +188,8 @@ module _ {T : Type 0} (encode : T → List ℕ) (decode : List ℕ → Option T)
         grown = j.grown;
         caches = ap (λ (cs : List Caches). slice_set cs (client - 1) machine.no_caches) j.caches;
         core = core_views j.fine.trace j.fine.failed j.l.rows j.l.views j.l.failed j.owner j.core l'.views (λ number. told_without j.fine.trace client (j.l.views number) (j.core.seen number));
-        each = λ op. subst (AtAfter op) (sym (numbered_mapped (ended_by client) s.operations op)) (at_mapped op (numbered s.operations op) (j.each op));
-        loose = loose_after;
+        rest = record {
+          each = λ op. subst (AtAfter op) (sym (numbered_mapped (ended_by client) s.operations op)) (at_mapped op (numbered s.operations op) (j.rest.each op));
+          loose = loose_after;
+        };
       })

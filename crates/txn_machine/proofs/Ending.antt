@@ -79,7 +79,7 @@ module _ {T : Type 0} (decode : List ℕ → Option T) (get_epoch : T → ℕ) (
   laid = as_laid operation.client call inner
 
   some_op : 0 < op
-  some_op = (within s.operations op operation h.found).0
+  some_op = (within s.operations op operation h.rest.found).0
 
   -- the others, in a layer with one more row where this operation is none, or is another, and which left their views
   pub others_on : (row : Row T) (views : ℕ → Option (Used T)) (ops : ℕ → Option (layer.Operation T)) → ((o : ℕ) → o ≢ op → ops o ≡ h.l.ops o) → ((o : ℕ) → o ≢ op → Leaves h.l.views views o) → (o : ℕ) → o ≢ op → At decode get_epoch h.fine.operations h.fine.trace (h.l.rows ++ row ∷ []) h.owner h.now ops views h.l.asked o (numbered s.operations o)
@@ -94,22 +94,22 @@ module _ {T : Type 0} (decode : List ℕ → Option T) (get_epoch : T → ℕ) (
         does = does_row get_epoch h.fine.trace h.l.rows (row ∷ []) h.l.asked (h.now o) o c i w.does;
         past = w.past;
       })
-      (h.others o ne)
+      (h.rest.others o ne)
 
   pub loose_row : (row : Row T) (ops : ℕ → Option (layer.Operation T)) → ((o : ℕ) → h.l.ops o ≡ None → ops o ≡ None) → (k o : ℕ) (request : Request) → numbered s.loose k ≡ Some (o, request) → LooseAt decode get_epoch h.fine.loose h.fine.trace (h.l.rows ++ row ∷ []) h.owner ops h.l.asked o request
   loose_row row ops gone k o request e =
-      loose_on decode get_epoch h.fine.loose h.fine.loose h.fine.trace h.fine.trace h.l.rows (h.l.rows ++ row ∷ []) h.owner h.owner h.l.ops ops h.l.asked h.l.asked o request (λ j n there. there) (λ n c i d own. own) (λ n c i d was. gone o was) (λ n c i d. does_row get_epoch h.fine.trace h.l.rows (row ∷ []) h.l.asked n o c i d) (h.loose k o request e)
+      loose_on decode get_epoch h.fine.loose h.fine.loose h.fine.trace h.fine.trace h.l.rows (h.l.rows ++ row ∷ []) h.owner h.owner h.l.ops ops h.l.asked h.l.asked o request (λ j n there. there) (λ n c i d own. own) (λ n c i d was. gone o was) (λ n c i d. does_row get_epoch h.fine.trace h.l.rows (row ∷ []) h.l.asked n o c i d) (h.rest.loose k o request e)
 
   -- the operation at its own place, and the others at theirs
   pub each_at : (P : ℕ → Option (Operation T) → Type 0) (new : Operation T) → P op (Some new) → ((o : ℕ) → o ≢ op → P o (numbered s.operations o)) → (o : ℕ) → P o (numbered (slice_set s.operations (op - 1) new) o)
   each_at P new here others o =
       elim (cases_eq o op) [
-        | inl same ↦ subst (λ (n : ℕ). P n (numbered (set s.operations (op - 1) new) n)) (sym same) (subst (P op) (sym (numbered_here s.operations op new operation h.found)) here)
+        | inl same ↦ subst (λ (n : ℕ). P n (numbered (set s.operations (op - 1) new) n)) (sym same) (subst (P op) (sym (numbered_here s.operations op new operation h.rest.found)) here)
         | inr apart ↦ subst (P o) (sym (numbered_other s.operations op o new some_op apart)) (others o apart)
       ]
 
   ends_leaves : (new : Option (Used T)) (o : ℕ) → o ≢ op → Leaves h.l.views (set_used h.l.views (view_used call) new) o
-  ends_leaves new o ne = used_leaves h.l.views o (view_used call) new (alone h.l.rows h.l.views op o laid ne (view_used call) (op_of decode get_epoch set_epoch h.l h.over op laid h.runs).uses)
+  ends_leaves new o ne = used_leaves h.l.views o (view_used call) new (alone h.l.rows h.l.views op o laid ne (view_used call) (op_of decode get_epoch set_epoch h.l h.over op laid h.rest.runs).uses)
 
   pub gone_on : (o : ℕ) → h.l.ops o ≡ None → set_at h.l.ops op None o ≡ None
   gone_on o e = elim (cases_Bool (o == op)) [ inl q ↦ rw q refl | inr q ↦ rw q e ]
@@ -128,20 +128,20 @@ module _ {T : Type 0} (decode : List ℕ → Option T) (get_epoch : T → ℕ) (
 
     views_same : (m : ℕ) → views_changed h.l call change m ≡ used_by after.views (Some m)
     views_same m =
-        let uses = (op_of decode get_epoch set_epoch h.l h.over op laid h.runs).uses in
+        let uses = (op_of decode get_epoch set_epoch h.l h.over op laid h.rest.runs).uses in
         ended_views h.l.rows h.l.views s.views h.tie.views op operation.client laid change (is_claim_call call) ending (view_used call) uses changes (λ e. quiet e operation.client) m
-        ∙ ap (λ (v : Option ℕ). used_by (views_after s.views operation.client v (is_claim_call call) (Some ending)) (Some m)) (sym h.view)
-        ∙ ap (λ (b : Bool). used_by (views_after s.views operation.client operation.view b (Some ending)) (Some m)) (sym h.claims)
+        ∙ ap (λ (v : Option ℕ). used_by (views_after s.views operation.client v (is_claim_call call) (Some ending)) (Some m)) (sym h.rest.view)
+        ∙ ap (λ (b : Bool). used_by (views_after s.views operation.client operation.view b (Some ending)) (Some m)) (sym h.rest.claims)
 
     count_same : h.l.count ≡ length after.views
     count_same =
         h.tie.count
         ∙ ended_count h.l.rows h.l.views s.views h.tie.views op operation.client laid change (is_claim_call call) ending (view_used call) (λ e. quiet e operation.client)
-        ∙ ap (λ (v : Option ℕ). length (views_after s.views operation.client v (is_claim_call call) (Some ending))) (sym h.view)
-        ∙ ap (λ (b : Bool). length (views_after s.views operation.client operation.view b (Some ending))) (sym h.claims)
+        ∙ ap (λ (v : Option ℕ). length (views_after s.views operation.client v (is_claim_call call) (Some ending))) (sym h.rest.view)
+        ∙ ap (λ (b : Bool). length (views_after s.views operation.client operation.view b (Some ending))) (sym h.rest.claims)
 
     row_same : row ≡ answered_row op (answer_of (length s.views) operation.view ending)
-    row_same = ap (answered_row op) (sym (answers (length s.views)) ∙ ap (λ (v : Option ℕ). answer_of (length s.views) v ending) (sym h.view))
+    row_same = ap (answered_row op) (sym (answers (length s.views)) ∙ ap (λ (v : Option ℕ). answer_of (length s.views) v ending) (sym h.rest.view))
 
     -- with these loose requests, which may be its own
     pub end_joins_with : (loose : List (ℕ × Request)) → ((k o : ℕ) (request : Request) → numbered loose k ≡ Some (o, request) → LooseAt decode get_epoch h.fine.loose h.fine.trace (h.l.rows ++ row ∷ []) h.owner (set_at h.l.ops op None) h.l.asked o request) → Joined decode get_epoch set_epoch past (record after { loose = loose })
@@ -152,7 +152,7 @@ module _ {T : Type 0} (decode : List ℕ → Option T) (get_epoch : T → ℕ) (
           owner = h.owner;
           now = h.now;
           stands = h.stands;
-          over = layer_turns.turn_keeps decode get_epoch set_epoch h.l op laid (Ends answer change) h.over h.runs stands;
+          over = layer_turns.turn_keeps decode get_epoch set_epoch h.l op laid (Ends answer change) h.over h.rest.runs stands;
           tie = record {
             clients = h.tie.clients;
             page = h.tie.page;
@@ -167,9 +167,11 @@ module _ {T : Type 0} (decode : List ℕ → Option T) (get_epoch : T → ℕ) (
           grown = h.grown;
           caches = h.caches;
           core = core_views h.fine.trace h.fine.failed (h.l.rows ++ row ∷ []) h.l.views h.l.failed h.owner (core_row h.fine.trace h.fine.failed h.l.rows h.l.views h.l.failed h.owner h.core row refl told) (views_changed h.l call change) seen;
-          each = each_at (λ o x. At decode get_epoch h.fine.operations h.fine.trace (h.l.rows ++ row ∷ []) h.owner h.now (set_at h.l.ops op None) (views_changed h.l call change) h.l.asked o x) (doing_next operation ended) (inl (refl, set_here h.l.ops op None))
-              (others_on row (views_changed h.l call change) (set_at h.l.ops op None) (λ o ne. set_other h.l.ops op None o ne) (λ o ne. ends_leaves (changed (look_up h.l.views (view_used call)) change) o ne));
-          loose = loosed;
+          rest = record {
+            each = each_at (λ o x. At decode get_epoch h.fine.operations h.fine.trace (h.l.rows ++ row ∷ []) h.owner h.now (set_at h.l.ops op None) (views_changed h.l call change) h.l.asked o x) (doing_next operation ended) (inl (refl, set_here h.l.ops op None))
+                (others_on row (views_changed h.l call change) (set_at h.l.ops op None) (λ o ne. set_other h.l.ops op None o ne) (λ o ne. ends_leaves (changed (look_up h.l.views (view_used call)) change) o ne));
+            loose = loosed;
+          };
         }
 
     pub end_joins : Joined decode get_epoch set_epoch past after

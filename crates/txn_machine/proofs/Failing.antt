@@ -37,7 +37,8 @@ use Rattle.txn_machine_views.proofs.Tables.{set_here}
 use Rattle.txn_machine.specs.declared.doing.Operation.{Operation}
 use Rattle.txn_machine.specs.declared.doing.Ending.TheVariants as endings
 use Rattle.txn_machine.specs.Doing.{refused}
-use Rattle.txn_machine.specs.Machine.{State, acted, effected, failing, let_go, FailsFirst, FailsAfter, Fails}
+use Rattle.txn_machine_inner.specs.Machine.{effected, failing}
+use Rattle.txn_machine.specs.Machine.{State, acted, let_go, FailsFirst, FailsAfter, Fails}
 use Rattle.txn_machine.proofs.Joined.{Past, as_laid, as_fine, IsAtWork, Held, LooseAt, Core, Joined, Mid}
 use Rattle.txn_machine.proofs.Rows.{core_failed, does_fine, does_row}
 use Rattle.txn_machine.proofs.Ending.{end_joins_with, loose_row, gone_on}
@@ -91,14 +92,14 @@ module _ {T : Type 0} (decode : List ℕ → Option T) (get_epoch : T → ℕ) (
   failed_joins (any.Plain call) inner m loose loosed =
       let h = m.opened in
       end_joins_with decode get_epoch set_epoch past s op operation (any.Plain call) inner left h (endings.Answers (plain_answers.Refused 2)) (layer.refused 2) Keeps (λ count. refl) refl (λ e client. refl)
-      (tell_stands decode get_epoch set_epoch h.l (turned h.l op (as_laid operation.client (any.Plain call) inner) (Ends (layer.refused 2) Keeps)) (record { op = op; client = operation.client; call = call; inner = inner; runs = h.runs; answer = plain_answers.Refused 2; fits = m.owes.0; new = refl }))
+      (tell_stands decode get_epoch set_epoch h.l (turned h.l op (as_laid operation.client (any.Plain call) inner) (Ends (layer.refused 2) Keeps)) (record { op = op; client = operation.client; call = call; inner = inner; runs = h.rest.runs; answer = plain_answers.Refused 2; fits = m.owes.0; new = refl }))
       m.owes.1 h.core.seen loose loosed
   failed_joins (any.View call) inner m loose loosed =
       let h = m.opened in
       let laid = as_laid operation.client (any.View call) inner in
       let change : Change T = let_go (is_claim_call (any.View call)) in
       let t = take_stands decode get_epoch set_epoch h.l (turned h.l op laid (refusing (any.View call) 2)) h.over
-      (record { op = op; client = operation.client; call = call; inner = inner; runs = h.runs; answer = failed_inside; fits = m.owes.0; next = refusing (any.View call) 2; makes = inl (failure_is get_epoch set_epoch call (local_of (look_up h.l.views (view_used (any.View call)))) inner m.does.first); has = refusing_epoch get_epoch call 2; new = refl }) in
+      (record { op = op; client = operation.client; call = call; inner = inner; runs = h.rest.runs; answer = failed_inside; fits = m.owes.0; next = refusing (any.View call) 2; makes = inl (failure_is get_epoch set_epoch call (local_of (look_up h.l.views (view_used (any.View call)))) inner m.does.first); has = refusing_epoch get_epoch call 2; new = refl }) in
       let stands = subst (λ (n : Next T). layer_stands.NextStands decode get_epoch set_epoch h.l.failed h.l.rows h.l.views h.l.count op laid n) (refusing_is call 2) t in
       end_joins_with decode get_epoch set_epoch past s op operation (any.View call) inner left h (endings.Answers (plain_answers.Refused 2)) (layer.refused 2) change (λ count. refl) refl (λ e client. refl) stands
       (λ test e. let clash : false ≡ true = e in cc) (left_told h.fine.trace h.l.views (view_used (any.View call)) (is_claim_call (any.View call)) h.core.seen) loose loosed
@@ -208,19 +209,19 @@ module _ {T : Type 0} (encode : T → List ℕ) (decode : List ℕ → Option T)
 
   after_joins : FailsAfter s op said new → Joined decode get_epoch set_epoch past new
   after_joins v =
-      let operation = v.operation in
-      let h = asking encode decode get_epoch set_epoch past s j op operation (Store v.request) v.caches v.acts in
+      let operation = v.call.operation in
+      let h = asking encode decode get_epoch set_epoch past s j op operation (Store v.call.request) v.call.caches v.call.acts in
       let n = j.now op in
       let o = as_fine operation.client h.held.doing in
-      let serves : Serves v.request j.fine.store v.reply v.store = subst (λ (st : StoreState). Serves v.request st v.reply v.store) (sym j.tie.store) v.reaches.serves in
-      let effect = machine.effect_of s.store.files v.request v.reply in
-      let fine = machine.acted (machine.failing (machine.effected j.fine n v.request v.reply v.store) n) n o machine.told_failure v.caches in
-      let stood = machine_events.fail_keeps decode get_epoch failures.After j.fine n (told.Answered n (plain_answers.Refused 2)) fine (record { operation = o; request = v.request; caches = v.caches; acts = h.acts; reply = v.reply; store = v.store; reaches = record { serves = serves; honest = v.reaches.honest }; tells = refl; state = refl }) j.stands in
-      let rows = ap (λ (st : StoreState). j.fine.trace ++ effect_rows n (machine.effect_of st.files v.request v.reply)) j.tie.store in
-      let stands = stood_as encode decode get_epoch set_epoch past s j op operation v.acts.found h.held h.client v.caches effect v.store [] v.store j.fine.loose (j.fine.trace ++ effect_rows n (machine.effect_of j.fine.store.files v.request v.reply)) refl (sym (append-nil j.fine.loose)) rows stood in
-      let joined = fails_joins encode decode get_epoch set_epoch past s j op operation v.acts.found h.held h.client v.caches effect v.store [] [] (λ i o request e. none_got i (o, request) e) stands in
+      let serves : Serves v.call.request j.fine.store v.call.reply v.call.store = subst (λ (st : StoreState). Serves v.call.request st v.call.reply v.call.store) (sym j.tie.store) v.call.reaches.serves in
+      let effect = machine.effect_of s.store.files v.call.request v.call.reply in
+      let fine = machine.acted (machine.failing (machine.effected j.fine n v.call.request v.call.reply v.call.store) n) n o machine.told_failure v.call.caches in
+      let stood = machine_events.fail_keeps decode get_epoch failures.After j.fine n (told.Answered n (plain_answers.Refused 2)) fine (record { call = record { operation = o; request = v.call.request; caches = v.call.caches; acts = h.acts; reply = v.call.reply; store = v.call.store; reaches = record { serves = serves; honest = v.call.reaches.honest } }; tells = refl; state = refl }) j.stands in
+      let rows = ap (λ (st : StoreState). j.fine.trace ++ effect_rows n (machine.effect_of st.files v.call.request v.call.reply)) j.tie.store in
+      let stands = stood_as encode decode get_epoch set_epoch past s j op operation v.call.acts.found h.held h.client v.call.caches effect v.call.store [] v.call.store j.fine.loose (j.fine.trace ++ effect_rows n (machine.effect_of j.fine.store.files v.call.request v.call.reply)) refl (sym (append-nil j.fine.loose)) rows stood in
+      let joined = fails_joins encode decode get_epoch set_epoch past s j op operation v.call.acts.found h.held h.client v.call.caches effect v.call.store [] [] (λ i o request e. none_got i (o, request) e) stands in
       subst (λ (x : State T). Joined decode get_epoch set_epoch past x) (sym v.state)
-      (subst (λ (ls : List (ℕ × Request)). Joined decode get_epoch set_epoch past (record (acted (failing (effected s op v.request v.reply v.store) op) op operation (refused 2) v.caches) { loose = ls })) (append-nil s.loose) joined)
+      (subst (λ (ls : List (ℕ × Request)). Joined decode get_epoch set_epoch past (record (acted (failing (effected s op v.call.request v.call.reply v.call.store) op) op operation (refused 2) v.call.caches) { loose = ls })) (append-nil s.loose) joined)
 
   pub fail_joins : (failure : Failure) → Fails s op failure said new → Joined decode get_epoch set_epoch past new
   fail_joins failures.Before v = first_joins false v

@@ -127,34 +127,36 @@ module _ {T : Type 0} (encode : T → List ℕ) (decode : List ℕ → Option T)
         grown = j.grown;
         caches = j.caches;
         core = core_views j.fine.trace j.fine.failed j.l.rows j.l.views j.l.failed j.owner j.core views (left_told j.fine.trace j.l.views (view_used call) (is_claim_call call) j.core.seen);
-        each = λ i. elim (cases_eq i op) [
-          | inl q ↦ subst (λ (k : ℕ). At decode get_epoch operations j.fine.trace j.l.rows j.owner j.now (set_at j.l.ops op None) views j.l.asked k (numbered (set s.operations (op - 1) (doing_next operation ended)) k)) (sym q)
-              (subst (λ (x : Option (Operation T)). At decode get_epoch operations j.fine.trace j.l.rows j.owner j.now (set_at j.l.ops op None) views j.l.asked op x) (sym (numbered_here s.operations op (doing_next operation ended) operation v.found)) (inl (refl, set_here j.l.ops op None)))
-          | inr ne ↦ subst (λ (x : Option (Operation T)). At decode get_epoch operations j.fine.trace j.l.rows j.owner j.now (set_at j.l.ops op None) views j.l.asked i x) (sym (numbered_other s.operations op i (doing_next operation ended) some_op ne))
-              (at_on decode get_epoch j.fine.operations operations j.fine.trace j.fine.trace j.l.rows j.l.rows j.owner j.owner j.now j.now j.l.ops (set_at j.l.ops op None) j.l.views views j.l.asked j.l.asked i (numbered s.operations i) (goneness i)
-              (λ client c inner w. record {
-                runs = set_other j.l.ops op None i ne ∙ w.runs;
-                there = λ doing e. numbered_other j.fine.operations n (j.now i) (as_fine operation.client doings.Ended) some_n (λ q. ne (sym w.owned ∙ (ap j.owner q ∙ held.owned))) ∙ e;
-                owned = w.owned;
-                local = local_left decode get_epoch set_epoch j.l j.over views i (leaves i ne) client c inner w.runs;
-                does = w.does;
-                past = w.past;
-              }) (j.each i))
-        ];
-        loose = λ k i request e. elim (numbered_append s.loose (left_loose op (Some v.ask)) k (i, request) e) [
-          | inl old ↦ loose_on decode get_epoch j.fine.loose (j.fine.loose ++ left_loose n (Some v.ask)) j.fine.trace j.fine.trace j.l.rows j.l.rows j.owner j.owner j.l.ops (set_at j.l.ops op None) j.l.asked j.l.asked i request (λ p m there. numbered_kept j.fine.loose (left_loose n (Some v.ask)) p (m, request) there) (λ m c inner d own'. own') (λ m c inner d gone. goneness i gone) (λ m c inner d. d) (j.loose k i request old)
-          | inr left ↦
-              let is = left_one op (Some v.ask) left.0 i request left.1 in
-              subst (λ (i' : ℕ). LooseAt decode get_epoch (j.fine.loose ++ left_loose n (Some v.ask)) j.fine.trace j.l.rows j.owner (set_at j.l.ops op None) j.l.asked i' request) (sym is.0)
-              (record { place = suc (length j.fine.loose + 0); n = n; there = numbered_past j.fine.loose (left_loose n (Some v.ask)) 0 (n, request) (leaves_one n (Some v.ask) request is.1); owned = held.owned; gone = set_here j.l.ops op None; call = call; inner = held.inner; does = held.does })
-        ];
+        rest = record {
+          each = λ i. elim (cases_eq i op) [
+            | inl q ↦ subst (λ (k : ℕ). At decode get_epoch operations j.fine.trace j.l.rows j.owner j.now (set_at j.l.ops op None) views j.l.asked k (numbered (set s.operations (op - 1) (doing_next operation ended)) k)) (sym q)
+                (subst (λ (x : Option (Operation T)). At decode get_epoch operations j.fine.trace j.l.rows j.owner j.now (set_at j.l.ops op None) views j.l.asked op x) (sym (numbered_here s.operations op (doing_next operation ended) operation v.found)) (inl (refl, set_here j.l.ops op None)))
+            | inr ne ↦ subst (λ (x : Option (Operation T)). At decode get_epoch operations j.fine.trace j.l.rows j.owner j.now (set_at j.l.ops op None) views j.l.asked i x) (sym (numbered_other s.operations op i (doing_next operation ended) some_op ne))
+                (at_on decode get_epoch j.fine.operations operations j.fine.trace j.fine.trace j.l.rows j.l.rows j.owner j.owner j.now j.now j.l.ops (set_at j.l.ops op None) j.l.views views j.l.asked j.l.asked i (numbered s.operations i) (goneness i)
+                (λ client c inner w. record {
+                  runs = set_other j.l.ops op None i ne ∙ w.runs;
+                  there = λ doing e. numbered_other j.fine.operations n (j.now i) (as_fine operation.client doings.Ended) some_n (λ q. ne (sym w.owned ∙ (ap j.owner q ∙ held.owned))) ∙ e;
+                  owned = w.owned;
+                  local = local_left decode get_epoch set_epoch j.l j.over views i (leaves i ne) client c inner w.runs;
+                  does = w.does;
+                  past = w.past;
+                }) (j.rest.each i))
+          ];
+          loose = λ k i request e. elim (numbered_append s.loose (left_loose op (Some v.ask)) k (i, request) e) [
+            | inl old ↦ loose_on decode get_epoch j.fine.loose (j.fine.loose ++ left_loose n (Some v.ask)) j.fine.trace j.fine.trace j.l.rows j.l.rows j.owner j.owner j.l.ops (set_at j.l.ops op None) j.l.asked j.l.asked i request (λ p m there. numbered_kept j.fine.loose (left_loose n (Some v.ask)) p (m, request) there) (λ m c inner d own'. own') (λ m c inner d gone. goneness i gone) (λ m c inner d. d) (j.rest.loose k i request old)
+            | inr left ↦
+                let is = left_one op (Some v.ask) left.0 i request left.1 in
+                subst (λ (i' : ℕ). LooseAt decode get_epoch (j.fine.loose ++ left_loose n (Some v.ask)) j.fine.trace j.l.rows j.owner (set_at j.l.ops op None) j.l.asked i' request) (sym is.0)
+                (record { place = suc (length j.fine.loose + 0); n = n; there = numbered_past j.fine.loose (left_loose n (Some v.ask)) 0 (n, request) (leaves_one n (Some v.ask) request is.1); owned = held.owned; gone = set_here j.l.ops op None; call = call; inner = held.inner; does = held.does })
+          ];
+        };
       })
 
   -- a landing
   pub land_joins : (k : ℕ) (said : Told T) (new : State T) → Lands s k said new → Joined decode get_epoch set_epoch past new
   land_joins k said new v =
       let op = v.op in
-      let loose = j.loose k op v.request v.found in
+      let loose = j.rest.loose k op v.request v.found in
       let n = loose.n in
       let serves : Serves v.request j.fine.store v.reply v.store = subst (λ (st : StoreState). Serves v.request st v.reply v.store) (sym j.tie.store) v.reaches.serves in
       let effect = machine.effect_of s.store.files v.request v.reply in
@@ -184,16 +186,18 @@ module _ {T : Type 0} (encode : T → List ℕ) (decode : List ℕ → Option T)
         grown = j.grown;
         caches = j.caches;
         core = core_effects decode get_epoch j.fine.trace j.fine.failed j.l.rows j.l.views j.l.failed j.owner n op loose.owned begun effect j.core;
-        each = λ i. at_on decode get_epoch j.fine.operations j.fine.operations j.fine.trace fine'.trace j.l.rows (j.l.rows ++ effect_rows op effect) j.owner j.owner j.now j.now j.l.ops j.l.ops j.l.views j.l.views j.l.asked j.l.asked i (numbered s.operations i) (λ gone. gone)
-            (λ client c inner w. record {
-              runs = w.runs;
-              there = λ doing e. e;
-              owned = w.owned;
-              local = refl;
-              does = grows (j.now i) i c inner w.does;
-              past = past_effects decode get_epoch j.fine.failed j.owner j.fine.trace n i (j.now i) effect good (λ q. absurd (let clash : None ≡ Some (as_laid client c inner) = sym loose.gone ∙ (ap j.l.ops (sym loose.owned ∙ q) ∙ w.runs) in cc)) w.past;
-            }) (j.each i);
-        loose = λ p i request e. loose_on decode get_epoch j.fine.loose j.fine.loose j.fine.trace fine'.trace j.l.rows (j.l.rows ++ effect_rows op effect) j.owner j.owner j.l.ops j.l.ops j.l.asked j.l.asked i request (λ q m there. there) (λ m c inner d own. own) (λ m c inner d gone. gone) (λ m c inner d. grows m i c inner d) (j.loose p i request e);
+        rest = record {
+          each = λ i. at_on decode get_epoch j.fine.operations j.fine.operations j.fine.trace fine'.trace j.l.rows (j.l.rows ++ effect_rows op effect) j.owner j.owner j.now j.now j.l.ops j.l.ops j.l.views j.l.views j.l.asked j.l.asked i (numbered s.operations i) (λ gone. gone)
+              (λ client c inner w. record {
+                runs = w.runs;
+                there = λ doing e. e;
+                owned = w.owned;
+                local = refl;
+                does = grows (j.now i) i c inner w.does;
+                past = past_effects decode get_epoch j.fine.failed j.owner j.fine.trace n i (j.now i) effect good (λ q. absurd (let clash : None ≡ Some (as_laid client c inner) = sym loose.gone ∙ (ap j.l.ops (sym loose.owned ∙ q) ∙ w.runs) in cc)) w.past;
+              }) (j.rest.each i);
+          loose = λ p i request e. loose_on decode get_epoch j.fine.loose j.fine.loose j.fine.trace fine'.trace j.l.rows (j.l.rows ++ effect_rows op effect) j.owner j.owner j.l.ops j.l.ops j.l.asked j.l.asked i request (λ q m there. there) (λ m c inner d own. own) (λ m c inner d gone. gone) (λ m c inner d. grows m i c inner d) (j.rest.loose p i request e);
+        };
       })
     where
       due_gone : (op : ℕ) (inner : Inner T) (o : Option (layer.Operation T)) → o ≡ None → DueFor op inner o

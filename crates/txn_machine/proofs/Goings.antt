@@ -86,13 +86,13 @@ module _ {T : Type 0} (encode : T → List ℕ) (decode : List ℕ → Option T)
   nows = renamed_here h.now op n
 
   begun_now : was_begun h.l.rows op ≡ true
-  begun_now = (op_of decode get_epoch set_epoch h.l h.over op (as_laid operation.client call was) h.runs).begun
+  begun_now = (op_of decode get_epoch set_epoch h.l h.over op (as_laid operation.client call was) h.rest.runs).begun
 
   begun_call : IsCall h.l.rows op call
-  begun_call = (op_of decode get_epoch set_epoch h.l h.over op (as_laid operation.client call was) h.runs).called
+  begun_call = (op_of decode get_epoch set_epoch h.l h.over op (as_laid operation.client call was) h.rest.runs).called
 
   stands' : machine_stands.Stands decode get_epoch fine'
-  stands' = opened_keeps encode decode get_epoch h.fine operation.client fcall (told_of (told.Began n) n start.1) fine' h.client.0 h.client.1 opens (record { reads_back = back; word = word; next = start; starts = starts; tells = refl; state = refl }) h.stands
+  stands' = opened_keeps encode decode get_epoch h.fine operation.client fcall (told_of (told.Began n) n start.1) fine' h.rest.client.0 h.rest.client.1 opens (record { reads_back = back; word = word; next = start; starts = starts; tells = refl; state = refl }) h.stands
 
   core_begun : Core begun h.fine.failed h.l.rows h.l.views h.l.failed owner'
   core_begun =
@@ -131,7 +131,7 @@ module _ {T : Type 0} (encode : T → List ℕ) (decode : List ℕ → Option T)
         does = subst (λ (j : ℕ). Does get_epoch fine'.trace h.l.rows (noted op inner h.l.asked) j o c i) (sym same) (fine_grown (h.now o) o c i w.does);
         past = subst (λ (j : ℕ). PastAt decode owner' fine'.trace o j) (sym same) (past_answer decode get_epoch begun n owner' o (h.now o) start.1 (past_fine decode owner' h.fine.trace (Begun n fcall) o (h.now o) refl (past_named decode h.owner h.fine.trace n op o (h.now o) unused w.past)));
       })
-      (h.others o ne)
+      (h.rest.others o ne)
 
   loose' : (k o : ℕ) (request : Request) → numbered s.loose k ≡ Some (o, request) → LooseAt decode get_epoch fine'.loose fine'.trace h.l.rows owner' (set_at h.l.ops op (Some (as_laid operation.client call inner))) (noted op inner h.l.asked) o request
   loose' k o request e =
@@ -139,11 +139,11 @@ module _ {T : Type 0} (encode : T → List ℕ) (decode : List ℕ → Option T)
       (λ j m there. there)
       (λ m c i d own. renamed_other h.owner n op m (not_next m o c i d) ∙ own)
       (λ m c i d gone. (
-      let apart : o ≢ op = (λ q. let clash : None ≡ Some (as_laid operation.client call was) = sym gone ∙ (ap h.l.ops q ∙ h.runs) in cc) in
+      let apart : o ≢ op = (λ q. let clash : None ≡ Some (as_laid operation.client call was) = sym gone ∙ (ap h.l.ops q ∙ h.rest.runs) in cc) in
       set_other h.l.ops op (Some (as_laid operation.client call inner)) o apart ∙ gone
       ))
       (λ m c i d. fine_grown m o c i d)
-      (h.loose k o request e)
+      (h.rest.loose k o request e)
 
   pub fine_begins : Mid decode get_epoch set_epoch past s op operation call inner start left
   fine_begins =
@@ -154,19 +154,21 @@ module _ {T : Type 0} (encode : T → List ℕ) (decode : List ℕ → Option T)
           owner = owner';
           now = now';
           stands = stands';
-          over = layer_turns.turn_keeps decode get_epoch set_epoch h.l op (as_laid operation.client call was) (Goes inner) h.over h.runs next;
+          over = layer_turns.turn_keeps decode get_epoch set_epoch h.l op (as_laid operation.client call was) (Goes inner) h.over h.rest.runs next;
           tie = record { clients = h.tie.clients; page = h.tie.page; store = h.tie.store; rows = h.tie.rows; failed = h.tie.failed; views = h.tie.views; count = h.tie.count; next = h.tie.next };
           goes = h.goes;
           grown = h.grown;
           caches = h.caches;
           core = core_answer decode get_epoch begun n h.fine.failed h.l.rows h.l.views h.l.failed owner' start.1 core_begun;
-          found = h.found;
-          runs = set_here h.l.ops op (Some (as_laid operation.client call inner));
-          view = h.view;
-          claims = h.claims;
-          others = others';
-          loose = loose';
-          client = h.client;
+          rest = record {
+            found = h.rest.found;
+            runs = set_here h.l.ops op (Some (as_laid operation.client call inner));
+            view = h.rest.view;
+            claims = h.rest.claims;
+            others = others';
+            loose = loose';
+            client = h.rest.client;
+          };
         };
         there = subst (λ (j : ℕ). numbered fine'.operations j ≡ Some (as_fine operation.client start.0)) (sym nows) (place (numbered_last h.fine.operations (as_fine operation.client start.0)));
         owned = ap owner' nows ∙ owns;

@@ -167,8 +167,8 @@ module _ {T : Type 0} where
   GoesFrom past views = (number : ℕ) → number ≤ past.count → GoesOn (past.views number) (views number)
 
 module _ {T : Type 0} (decode : List ℕ → Option T) (get_epoch : T → ℕ) (set_epoch : T → ℕ → T) where
-  -- What stands of a world, whose views have gone on from some time before.
-  pub record Joined (past : Past T) (s : State T) : Type 0 where
+  -- What stands of a world, whose views have gone on from some time before, where the machine's caches are these: of the machine, of the layer, of what ties them, and the rest.
+  pub record Standing (past : Past T) (s : State T) (kept : List Caches) (Rest : machine.State T → Layer T → (ℕ → ℕ) → (ℕ → ℕ) → Type 0) : Type 0 where
     pub fine : machine.State T
     pub l : Layer T
     pub owner : ℕ → ℕ
@@ -178,24 +178,20 @@ module _ {T : Type 0} (decode : List ℕ → Option T) (get_epoch : T → ℕ) (
     pub tie : Tie s fine l
     pub goes : GoesFrom past l.views
     pub grown : past.count ≤ l.count
-    pub caches : fine.caches ≡ s.caches
+    pub caches : fine.caches ≡ kept
     pub core : Core fine.trace fine.failed l.rows l.views l.failed owner
+    pub rest : Rest fine l owner now
+
+  -- every operation, and what is loose
+  pub record AllStand (s : State T) (fine : machine.State T) (l : Layer T) (owner now : ℕ → ℕ) : Type 0 where
     pub each : (op : ℕ) → At decode get_epoch fine.operations fine.trace l.rows owner now l.ops l.views l.asked op (numbered s.operations op)
     pub loose : (k op : ℕ) (request : Request) → numbered s.loose k ≡ Some (op, request) → LooseAt decode get_epoch fine.loose fine.trace l.rows owner l.ops l.asked op request
 
-  -- The same while an operation takes its turn: the machine and the layer have gone on with its look or its store call, and its caches are as it leaves them.
-  pub record Open (past : Past T) (s : State T) (op : ℕ) (operation : Operation T) (call : Call T) (inner : Inner T) (left : List Caches) : Type 0 where
-    pub fine : machine.State T
-    pub l : Layer T
-    pub owner : ℕ → ℕ
-    pub now : ℕ → ℕ
-    pub stands : machine_stands.Stands decode get_epoch fine
-    pub over : layer_stands.Stands decode get_epoch set_epoch l
-    pub tie : Tie s fine l
-    pub goes : GoesFrom past l.views
-    pub grown : past.count ≤ l.count
-    pub caches : fine.caches ≡ left
-    pub core : Core fine.trace fine.failed l.rows l.views l.failed owner
+  abbrev pub Joined : Past T → State T → Type 0
+  Joined past s = Standing past s s.caches (AllStand s)
+
+  -- the same of all but one operation, which takes its turn
+  pub record OthersStand (s : State T) (op : ℕ) (operation : Operation T) (call : Call T) (inner : Inner T) (fine : machine.State T) (l : Layer T) (owner now : ℕ → ℕ) : Type 0 where
     pub found : numbered s.operations op ≡ Some operation
     pub runs : l.ops op ≡ Some (as_laid operation.client call inner)
     pub view : operation.view ≡ view_used call
@@ -203,6 +199,10 @@ module _ {T : Type 0} (decode : List ℕ → Option T) (get_epoch : T → ℕ) (
     pub others : (o : ℕ) → o ≢ op → At decode get_epoch fine.operations fine.trace l.rows owner now l.ops l.views l.asked o (numbered s.operations o)
     pub loose : (k o : ℕ) (request : Request) → numbered s.loose k ≡ Some (o, request) → LooseAt decode get_epoch fine.loose fine.trace l.rows owner l.ops l.asked o request
     pub client : (0 < operation.client) × (operation.client ≤ fine.clients)
+
+  -- While an operation takes its turn: the machine and the layer have gone on with its look or its store call, and its caches are as it leaves them.
+  abbrev pub Open : Past T → State T → ℕ → Operation T → Call T → Inner T → List Caches → Type 0
+  Open past s op operation call inner left = Standing past s left (OthersStand s op operation call inner)
 
   -- Its fine operation has gone on so.
   pub record Mid (before : Past T) (s : State T) (op : ℕ) (operation : Operation T) (call : Call T) (inner : Inner T) (after : plain.Next T) (left : List Caches) : Type 0 where

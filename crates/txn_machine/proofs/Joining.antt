@@ -52,8 +52,10 @@ module _ {T : Type 0} (encode : T → List ℕ) (decode : List ℕ → Option T)
         grown = omega arith;
         caches = refl;
         core = record { tied = tied_first (λ n. n); told = λ test e. cc; seen = λ number. tt; noted = λ n e. cc };
-        each = λ op. subst (λ (x : Option (Operation T)). At decode get_epoch [] [] [] (λ n. n) (λ n. n) (λ o. None) (λ v. None) [] op x) (sym (no_number op)) refl;
-        loose = λ k op request e. none_numbered k (op, request) e;
+        rest = record {
+          each = λ op. subst (λ (x : Option (Operation T)). At decode get_epoch [] [] [] (λ n. n) (λ n. n) (λ o. None) (λ v. None) [] op x) (sym (no_number op)) refl;
+          loose = λ k op request e. none_numbered k (op, request) e;
+        };
       }
 
   -- an event keeps a world joined
@@ -79,18 +81,4 @@ module _ {T : Type 0} (encode : T → List ℕ) (decode : List ℕ → Option T)
 
   pub begins_again : (past : Past T) (s : State T) (j : Joined decode get_epoch set_epoch past s) → Joined decode get_epoch set_epoch (from_here past s j) s
   begins_again past s j =
-      record {
-        fine = j.fine;
-        l = j.l;
-        owner = j.owner;
-        now = j.now;
-        stands = j.stands;
-        over = j.over;
-        tie = j.tie;
-        goes = λ number le. same_goes (j.l.views number);
-        grown = omega arith;
-        caches = j.caches;
-        core = j.core;
-        each = j.each;
-        loose = j.loose;
-      }
+      record { fine = j.fine; l = j.l; owner = j.owner; now = j.now; stands = j.stands; over = j.over; tie = j.tie; goes = λ number le. same_goes (j.l.views number); grown = omega arith; caches = j.caches; core = j.core; rest = record { each = j.rest.each; loose = j.rest.loose } }

@@ -54,7 +54,8 @@ use Rattle.txn_machine.specs.declared.doing.Doing.TheVariants as does
 use Rattle.txn_machine.specs.declared.doing.Operation.{Operation}
 use Rattle.txn_machine.specs.Alone.{IsReading, read_of, read_by, read_in, passes, turns, Moves, MovesAlone, ReadsAlone}
 use Rattle.txn_machine.specs.Doing.{Next, ended, asked, plain_next, view_next, next_of, started, turned, caches_left}
-use Rattle.txn_machine.specs.Machine.{State, refusal_of, seen_of, doing_next, with_doing, next_op, new_operation, view_now, Looks, Served, IsReached}
+use Rattle.txn_machine_inner.specs.Machine.{next_op}
+use Rattle.txn_machine.specs.Machine.{State, refusal_of, seen_of, doing_next, with_doing, new_operation, view_now, Looks, Served, IsReached}
 use Rattle.txn_machine.proofs.Joined.{as_fine}
 use Rattle.txn_machine.proofs.Joining.{reached_joins}
 use Rattle.txn_machine.proofs.Windowed.{reached_windows}
@@ -202,35 +203,37 @@ module _ {T : Type 0} (encode : T → List ℕ) (decode : List ℕ → Option T)
 
     serve_mirrors : (said : Told T) (new : State T) → Served encode decode get_epoch set_epoch old op said new → Mirrored whole op f n new
     serve_mirrors said new v =
-        let o = v.operation in
-        let found = v.acts.found in
+        let o = v.call.operation in
+        let found = v.call.acts.found in
         let does_this : o.doing ≡ whole read = ap (λ (x : Operation T). x.doing) (acts_own o found) ∙ m.doing in
-        let turn : v.next ≡ turned old.page encode decode get_epoch set_epoch v.turns.refused (whole read) v.caches (Some v.reply) = v.turns.turns ∙ ap (λ (d : Doing T). turned old.page encode decode get_epoch set_epoch v.turns.refused d v.caches (Some v.reply)) does_this in
-        let t = told_by old.page read v.caches (Some v.reply) in
-        elim (subst (Follows whole t) (sym turn) (w.follows old.page v.turns.refused read v.caches (Some v.reply))) [
+        let turn : v.next ≡ turned old.page encode decode get_epoch set_epoch v.turns.refused (whole read) v.call.caches (Some v.call.reply) = v.turns.turns ∙ ap (λ (d : Doing T). turned old.page encode decode get_epoch set_epoch v.turns.refused d v.call.caches (Some v.call.reply)) does_this in
+        let t = told_by old.page read v.call.caches (Some v.call.reply) in
+        elim (subst (Follows whole t) (sym turn) (w.follows old.page v.turns.refused read v.call.caches (Some v.call.reply))) [
           | inl ends ↦ inl (ends_there new o v.next found (ap (λ (s : State T). s.operations) v.state) ends)
           | inr goes ↦ (
-              let g = machine.acted (machine.effected f n v.request v.reply v.store) n fine_own (doings.Read t.0, None) (read_left read v.caches Goes) in
-              let asks = fine_asks o (Store v.request) found v.acts.asks in
-              let kept = fine_kept o v.caches found v.acts.kept in
-              let fine_turn : ◌≡◌ {A = plain.Next T} (doings.Read t.0, None) (plain.turned f.page decode false (doings.Read read) v.caches (Some v.reply)) =
-              subst (λ (page : ℕ). ◌≡◌ {A = plain.Next T} (doings.Read t.0, None) (plain.turned page decode false (doings.Read read) v.caches (Some v.reply))) (sym m.page) (ap plain.read_next (sym goes.0)) in
-              let left : caches_left o.doing v.caches v.next.1 ≡ read_left read v.caches Goes = ap (λ (d : Doing T). caches_left d v.caches v.next.1) does_this ∙ (ap (λ (x : Next T). caches_left (whole read) v.caches x.1) goes.1 ∙ w.leaves read v.caches) in
+              let g = machine.acted (machine.effected f n v.call.request v.call.reply v.call.store) n fine_own (doings.Read t.0, None) (read_left read v.call.caches Goes) in
+              let asks = fine_asks o (Store v.call.request) found v.call.acts.asks in
+              let kept = fine_kept o v.call.caches found v.call.acts.kept in
+              let fine_turn : ◌≡◌ {A = plain.Next T} (doings.Read t.0, None) (plain.turned f.page decode false (doings.Read read) v.call.caches (Some v.call.reply)) =
+              subst (λ (page : ℕ). ◌≡◌ {A = plain.Next T} (doings.Read t.0, None) (plain.turned page decode false (doings.Read read) v.call.caches (Some v.call.reply))) (sym m.page) (ap plain.read_next (sym goes.0)) in
+              let left : caches_left o.doing v.call.caches v.next.1 ≡ read_left read v.call.caches Goes = ap (λ (d : Doing T). caches_left d v.call.caches v.next.1) does_this ∙ (ap (λ (x : Next T). caches_left (whole read) v.call.caches x.1) goes.1 ∙ w.leaves read v.call.caches) in
               inr (
                 g,
                 t.0,
                 (
                   told.Went n,
                   inr (record {
-                    allowed = ap (ask_fault true) (seen_asks (Store v.request) asks);
+                    allowed = ap (ask_fault true) (seen_asks (Store v.call.request) asks);
                     step = record {
-                      operation = fine_own;
-                      request = v.request;
-                      caches = v.caches;
-                      acts = record { found = m.fine; asks = asks; kept = kept };
-                      reply = v.reply;
-                      store = v.store;
-                      reaches = record { serves = subst (λ (store : StoreState). Serves v.request store v.reply v.store) (sym m.store) v.reaches.serves; honest = v.reaches.honest };
+                      call = record {
+                        operation = fine_own;
+                        request = v.call.request;
+                        caches = v.call.caches;
+                        acts = record { found = m.fine; asks = asks; kept = kept };
+                        reply = v.call.reply;
+                        store = v.call.store;
+                        reaches = record { serves = subst (λ (store : StoreState). Serves v.call.request store v.call.reply v.call.store) (sym m.store) v.call.reaches.serves; honest = v.call.reaches.honest };
+                      };
                       refused = false;
                       next = (doings.Read t.0, None);
                       turns = fine_turn;
@@ -239,7 +242,7 @@ module _ {T : Type 0} (encode : T → List ℕ) (decode : List ℕ → Option T)
                     };
                   }),
                 ),
-                goes_on new g o v.caches t.0 found v.acts.kept (ap (λ (s : State T). s.operations) v.state ∙ ap (λ (x : Next T). with_doing old.operations op o x.0) goes.1)
+                goes_on new g o v.call.caches t.0 found v.call.acts.kept (ap (λ (s : State T). s.operations) v.state ∙ ap (λ (x : Next T). with_doing old.operations op o x.0) goes.1)
                     (ap (λ (s : State T). s.caches) v.state ∙ ap (λ (c : Caches). set old.caches (o.client - 1) c) left) (ap (λ (s : State T). s.page) v.state) refl refl (sym (ap (λ (s : State T). s.store) v.state)) refl,
               )
               )
@@ -261,7 +264,7 @@ module _ {T : Type 0} (encode : T → List ℕ) (decode : List ℕ → Option T)
   gone_still op old new g moved =
       elim moved.1 [
         | inl t ↦ asks_nothing t.step.operation Look t.step.acts.found t.step.acts.asks
-        | inr t ↦ asks_nothing t.step.operation (Store t.step.request) t.step.acts.found t.step.acts.asks
+        | inr t ↦ asks_nothing t.step.call.operation (Store t.step.call.request) t.step.call.acts.found t.step.call.acts.asks
       ]
     where
       asks_nothing : (o : Operation T) (ask : Ask) → numbered old.operations op ≡ Some o → asked o.doing ≡ Some ask → ⊥

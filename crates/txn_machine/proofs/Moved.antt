@@ -42,19 +42,7 @@ module _ {T : Type 0} (decode : List ℕ → Option T) (get_epoch : T → ℕ) w
     pub held_on : (o : ℕ) (operation : Operation T) → ((client : ℕ) (call : Call T) (inner : Inner T) → client ≡ operation.client → Was o client call inner → Keeps o client call inner) → Held decode get_epoch operations fine rows owner now ops views asked o operation → Held decode get_epoch operations' fine' rows' owner' now' ops' views' asked' o operation
     held_on o operation keeps h =
         let k = keeps operation.client h.call h.inner refl (record { runs = h.runs; owned = h.owned; does = h.does; past = h.past }) in
-        record {
-          call = h.call;
-          inner = h.inner;
-          runs = k.runs;
-          view = h.view;
-          claims = h.claims;
-          doing = h.doing;
-          there = k.there h.doing h.there;
-          matched = subst (λ (local : Option ℕ). Matched get_epoch h.call local h.inner operation.doing h.doing) (sym k.local) h.matched;
-          owned = k.owned;
-          does = k.does;
-          past = k.past;
-        }
+        record { call = h.call; inner = h.inner; runs = k.runs; view = h.view; claims = h.claims; doing = h.doing; there = k.there h.doing h.there; matched = subst (λ (local : Option ℕ). Matched get_epoch h.call local h.inner operation.doing h.doing) (sym k.local) h.matched; owned = k.owned; does = k.does; past = k.past }
 
     pub at_on : (o : ℕ) (x : Option (Operation T)) → (ops o ≡ None → ops' o ≡ None) → ((client : ℕ) (call : Call T) (inner : Inner T) → Was o client call inner → Keeps o client call inner) → At decode get_epoch operations fine rows owner now ops views asked o x → At decode get_epoch operations' fine' rows' owner' now' ops' views' asked' o x
     at_on o None gone keeps h = gone h

@@ -64,7 +64,7 @@ module _ {T : Type 0} (decode : List ℕ → Option T) (get_epoch : T → ℕ) (
   views = set_at h.l.views (h.l.count + 1) (Some new)
 
   free : operation.view ≡ None
-  free = h.view ∙ none
+  free = h.rest.view ∙ none
 
   views_are : s.views ++ Some new ∷ [] ≡ after.views
   views_are = ap (λ (v : Option ℕ). views_after s.views operation.client v operation.claims (Some ending)) (sym free)
@@ -86,7 +86,7 @@ module _ {T : Type 0} (decode : List ℕ → Option T) (get_epoch : T → ℕ) (
         owner = h.owner;
         now = h.now;
         stands = h.stands;
-        over = layer_turns.turn_keeps decode get_epoch set_epoch h.l op (as_laid operation.client call inner) (Opens id value) h.over h.runs stands;
+        over = layer_turns.turn_keeps decode get_epoch set_epoch h.l op (as_laid operation.client call inner) (Opens id value) h.over h.rest.runs stands;
         tie = record {
           clients = h.tie.clients;
           page = h.tie.page;
@@ -101,7 +101,9 @@ module _ {T : Type 0} (decode : List ℕ → Option T) (get_epoch : T → ℕ) (
         grown = (let more = h.grown in omega (arith, more));
         caches = h.caches;
         core = core_views h.fine.trace h.fine.failed (h.l.rows ++ row ∷ []) h.l.views h.l.failed h.owner (core_row h.fine.trace h.fine.failed h.l.rows h.l.views h.l.failed h.owner h.core row refl (λ test e. told test e)) views seen;
-        each = each_at decode get_epoch set_epoch past s op operation call inner left h (λ o x. At decode get_epoch h.fine.operations h.fine.trace (h.l.rows ++ row ∷ []) h.owner h.now (set_at h.l.ops op None) views h.l.asked o x) (doing_next operation ended) (inl (refl, set_here h.l.ops op None))
-            (others_on decode get_epoch set_epoch past s op operation call inner left h row views (set_at h.l.ops op None) (λ o ne. set_other h.l.ops op None o ne) (λ o ne. leaves o));
-        loose = loose_row decode get_epoch set_epoch past s op operation call inner left h row (set_at h.l.ops op None) (gone_on decode get_epoch set_epoch past s op operation call inner left h);
+        rest = record {
+          each = each_at decode get_epoch set_epoch past s op operation call inner left h (λ o x. At decode get_epoch h.fine.operations h.fine.trace (h.l.rows ++ row ∷ []) h.owner h.now (set_at h.l.ops op None) views h.l.asked o x) (doing_next operation ended) (inl (refl, set_here h.l.ops op None))
+              (others_on decode get_epoch set_epoch past s op operation call inner left h row views (set_at h.l.ops op None) (λ o ne. set_other h.l.ops op None o ne) (λ o ne. leaves o));
+          loose = loose_row decode get_epoch set_epoch past s op operation call inner left h row (set_at h.l.ops op None) (gone_on decode get_epoch set_epoch past s op operation call inner left h);
+        };
       }

@@ -27,7 +27,9 @@ use Rattle.txn_machine.specs.declared.doing.Ending.{Ending}
 use Rattle.txn_machine.specs.declared.doing.Ending.TheVariants as endings
 use Rattle.txn_machine.specs.Doing.{Next, ended, refused, caches_left}
 use Rattle.txn_machine_views.specs.Parts.{is_claim_call}
-use Rattle.txn_machine.specs.Machine.{State, opening, refusal_of, seen_of, seen_views, used_in, used_by, views_changed, let_go, change_of, made_by, views_after, views_taken, doing_next, acted, effected, loosened, failing, given_up, ended_by, crashed, next_op, new_operation, begun_as, Fails, TakesOrLacks, RunsOrLacks, IsReached}
+use Rattle.txn_machine_inner.specs.Machine.{effected, loosened, failing, next_op}
+use Rattle.txn_machine.specs.Machine.{State, opening, refusal_of, seen_of, seen_views, used_in, used_by, views_changed, let_go, change_of, made_by, views_after, views_taken, doing_next, acted, given_up, ended_by, crashed, new_operation, begun_as, Fails, TakesOrLacks, RunsOrLacks, IsReached}
+use Rattle.txn_machine.specs.Laws.{KeepsClients}
 use Rattle.txn_machine.proofs.Busy.{view_there}
 use Rattle.txn_machine.proofs.Runs.{takes_same_or_lacking, runs_keep}
 
@@ -147,8 +149,8 @@ module _ {T : Type 0} where
   fails_owned : (failure : Failure) (old : State T) (op : ℕ) (said : Told T) (new : State T) → Owned old → Fails old op failure said new → Owned new
   fails_owned failures.Before old op said new h v = subst Owned (sym v.state) (acted_owned (failing old op) op v.operation (refused 2) v.caches (as_owned old (failing old op) refl refl refl h) v.acts.found)
   fails_owned failures.After old op said new h v =
-      let middle = failing (effected old op v.request v.reply v.store) op in
-      subst Owned (sym v.state) (acted_owned middle op v.operation (refused 2) v.caches (as_owned old middle refl refl refl h) v.acts.found)
+      let middle = failing (effected old op v.call.request v.call.reply v.call.store) op in
+      subst Owned (sym v.state) (acted_owned middle op v.call.operation (refused 2) v.call.caches (as_owned old middle refl refl refl h) v.call.acts.found)
   fails_owned failures.Loose old op said new h v =
       let middle = failing (loosened old op (Store v.request)) op in
       subst Owned (sym v.state) (acted_owned middle op v.operation (refused 2) v.caches (as_owned old middle refl refl refl h) v.acts.found)
@@ -169,8 +171,8 @@ module _ {T : Type 0} (encode : T → List ℕ) (decode : List ℕ → Option T)
   takes_owned old (events.Look op) said new h t = (let v = t.step in subst Owned (sym v.state) (acted_owned old op v.operation v.next (caches_left v.operation.doing v.caches v.next.1) h v.acts.found))
   takes_owned old (events.Serve op) said new h t = elim t.step [
     | inl v ↦ (
-        let middle = effected old op v.request v.reply v.store in
-        subst Owned (sym v.state) (acted_owned middle op v.operation v.next (caches_left v.operation.doing v.caches v.next.1) (as_owned old middle refl refl refl h) v.acts.found)
+        let middle = effected old op v.call.request v.call.reply v.call.store in
+        subst Owned (sym v.state) (acted_owned middle op v.call.operation v.next (caches_left v.call.operation.doing v.call.caches v.next.1) (as_owned old middle refl refl refl h) v.call.acts.found)
         )
     | inr v ↦ subst Owned (sym v.state) (acted_owned old op v.operation (refused 9) v.caches h v.acts.found)
   ]
@@ -199,6 +201,9 @@ module _ {T : Type 0} (encode : T → List ℕ) (decode : List ℕ → Option T)
       none_numbered : {A : Type 0} {P : Type 0} (n : ℕ) (x : A) → numbered {A = A} [] n ≡ Some x → P
       none_numbered zero x e = absurd (cc)
       none_numbered (suc n) x e = absurd (cc)
+
+  pub run_keeps_clients : (clients page : ℕ) (taken : List (Event T × Told T)) (s : State T) → RunsOrLacks encode decode get_epoch set_epoch (opening clients page) taken s → KeepsClients clients page s
+  run_keeps_clients clients page taken s runs = (let same = run_same clients page taken s runs in record { clients_are = same.0; page_is = same.1; owners = run_owned clients page taken s runs })
 
   -- in each state that is reached, of each view as it is seen
   pub reached_owned : (s : State T) → IsReached encode decode get_epoch set_epoch s → (number : ℕ) (view : View T) → view_of (seen_of s) number ≡ Some view → (1 ≤ view.client) × (view.client ≤ s.clients)

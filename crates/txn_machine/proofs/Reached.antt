@@ -23,6 +23,8 @@ use Rattle.txn_machine_views.proofs.Tables as layer_tables
 use Rattle.txn_machine.specs.declared.doing.Operation.{Operation}
 use Rattle.txn_machine.specs.Doing.{asked, IsReply, InRange}
 use Rattle.txn_machine.specs.Machine.{State, opening, used_in, seen_views, seen_of, Takes, TakesOrLacks, Runs, RunsOrLacks, IsReached}
+use Rattle.txn_machine.specs.Laws.{HasOneHistory, EventGoesOn}
+use Rattle.txn_machine.proofs.AddedRows.{added_rows_or_lacking}
 use Rattle.txn_machine.proofs.Joined.{as_fine, At, Joined}
 use Rattle.txn_machine.proofs.Alike.{matched_same}
 use Rattle.txn_machine.proofs.Serving.{held_of}
@@ -49,6 +51,9 @@ module _ {T : Type 0} (encode : T → List ℕ) (decode : List ℕ → Option T)
   -- no two claims are held with one epoch
   pub reached_claims : (s : State T) → IsReached encode decode get_epoch set_epoch s → HasOneClaimer s.trace
   reached_claims s r = one_claimer decode get_epoch set_epoch s.failed s.trace (reached_history s r)
+
+  pub reached_fits : (s : State T) → IsReached encode decode get_epoch set_epoch s → HasOneHistory decode get_epoch set_epoch s
+  reached_fits s r = record { rows = reached_history s r; views = reached_views s r; claims = reached_claims s r }
 
   -- the store has the contents that the effects say
   pub reached_stored : (s : State T) → IsReached encode decode get_epoch set_epoch s → HasContents s.store.files (stored s.trace)
@@ -82,7 +87,7 @@ module _ {T : Type 0} (encode : T → List ℕ) (decode : List ℕ → Option T)
         same.replies None (stood_looks decode get_epoch joined.fine joined.stands (joined.now op) (as_fine o.client held.doing) held.there (sym same.asks ∙ asks))
 
     pub reached_range : InRange o.doing
-    reached_range = by (subst (λ (x : Option (Operation T)). At decode get_epoch joined.fine.operations joined.fine.trace joined.l.rows joined.owner joined.now joined.l.ops joined.l.views joined.l.asked op x) found (joined.each op))
+    reached_range = by (subst (λ (x : Option (Operation T)). At decode get_epoch joined.fine.operations joined.fine.trace joined.l.rows joined.owner joined.now joined.l.ops joined.l.views joined.l.asked op x) found (joined.rest.each op))
       where
         by : At decode get_epoch joined.fine.operations joined.fine.trace joined.l.rows joined.owner joined.now joined.l.ops joined.l.views joined.l.asked op (Some o) → InRange o.doing
         by (inl h) = subst InRange (sym h.0) tt
@@ -113,6 +118,10 @@ module _ {T : Type 0} (encode : T → List ℕ) (decode : List ℕ → Option T)
   -- what stands beside the rows goes on
   pub reached_goes_on_or_lacking : (old : State T) (event : Event T) (said : Told T) (new : State T) → IsReached encode decode get_epoch set_epoch old → TakesOrLacks encode decode get_epoch set_epoch old event said new → AllGoOn (seen_of old) event said new.trace (seen_of new)
   reached_goes_on_or_lacking old event said new r t = goes_on_with encode decode get_epoch set_epoch old event said new r t (next_views_or_lacking encode decode get_epoch set_epoch old event said new r t)
+
+  -- with the rows that are added
+  pub reached_event : (old : State T) (event : Event T) (said : Told T) (new : State T) → IsReached encode decode get_epoch set_epoch old → TakesOrLacks encode decode get_epoch set_epoch old event said new → EventGoesOn old event said new
+  reached_event old event said new r t = record { added = added_rows_or_lacking encode decode get_epoch set_epoch old event said new r t; beside = reached_goes_on_or_lacking old event said new r t }
 
   -- the same of a world, of which no serve lacks memory
 

@@ -90,9 +90,7 @@ module _ {T : Type 0} (decode : List ℕ → Option T) (get_epoch : T → ℕ) (
 
     abbrev pub fine_after : machine.State T
     fine_after =
-        record {
-          clients = j.fine.clients;
-          page = j.fine.page;
+        record j.fine {
           store = store';
           caches = left;
           operations = machine.with_doing j.fine.operations n (as_fine operation.client held.doing) after.0;
@@ -105,7 +103,7 @@ module _ {T : Type 0} (decode : List ℕ → Option T) (get_epoch : T → ℕ) (
     l_after = laid_on j.l op effect failed'
 
     abbrev pub s_after : State T
-    s_after = record { clients = s.clients; page = s.page; store = store'; caches = s.caches; operations = s.operations; views = s.views; loose = s.loose; failed = failed'; trace = s.trace ++ effect_rows op effect }
+    s_after = record s { store = store'; failed = failed'; trace = s.trace ++ effect_rows op effect }
 
     begun_fine : was_begun j.fine.trace n ≡ true
     begun_fine = begun_of j.fine.trace n (fine_call held.call held.inner) held.does.called
@@ -158,7 +156,7 @@ module _ {T : Type 0} (decode : List ℕ → Option T) (get_epoch : T → ℕ) (
             does = does_after (j.now o) o call i w.does;
             past = past_at o (j.now o) (λ q. absurd (ne (sym q ∙ held.owned))) w.past;
           })
-          (j.each o)
+          (j.rest.each o)
 
       pub reach_mid : (tie : Tie s_after fine_after l_after) → Mid decode get_epoch set_epoch past s_after op operation held.call held.inner after left
       reach_mid tie =
@@ -175,13 +173,15 @@ module _ {T : Type 0} (decode : List ℕ → Option T) (get_epoch : T → ℕ) (
               grown = j.grown;
               caches = refl;
               core = core_answer decode get_epoch fine_effect n fine_failed' (j.l.rows ++ effect_rows op effect) j.l.views failed' j.owner after.1 core';
-              found = found;
-              runs = held.runs;
-              view = held.view;
-              claims = held.claims;
-              others = others';
-              loose = λ k o request e. loose_on decode get_epoch j.fine.loose loose' j.fine.trace fine_after.trace j.l.rows l_after.rows j.owner j.owner j.l.ops j.l.ops j.l.asked j.l.asked o request (λ i m there. loose_kept i m request there) (λ m c i d own. own) (λ m c i d gone. gone) (λ m c i d. does_after m o c i d) (j.loose k o request e);
-              client = client;
+              rest = record {
+                found = found;
+                runs = held.runs;
+                view = held.view;
+                claims = held.claims;
+                others = others';
+                loose = λ k o request e. loose_on decode get_epoch j.fine.loose loose' j.fine.trace fine_after.trace j.l.rows l_after.rows j.owner j.owner j.l.ops j.l.ops j.l.asked j.l.asked o request (λ i m there. loose_kept i m request there) (λ m c i d own. own) (λ m c i d gone. gone) (λ m c i d. does_after m o c i d) (j.rest.loose k o request e);
+                client = client;
+              };
             };
             there = numbered_here j.fine.operations n (as_fine operation.client after.0) (as_fine operation.client held.doing) held.there;
             owned = held.owned;

@@ -94,7 +94,7 @@ module _ {T : Type 0} (encode : T → List ℕ) (decode : List ℕ → Option T)
   -- what a failed reply makes of an operation is what its failure does
   pub failure_taken : (failure : Failure) (old : State T) (op : ℕ) (said : Told T) (new : State T) → Fails old op failure said new → FailsAsReplied encode decode get_epoch set_epoch old op said new
   failure_taken failures.Before old op said new v = as_failed old op said new v.operation v.request v.caches v.acts v.tells (ap (λ (s : State T). s.operations) v.state) (ap (λ (s : State T). s.caches) v.state) (ap (λ (s : State T). s.views) v.state)
-  failure_taken failures.After old op said new v = as_failed old op said new v.operation v.request v.caches v.acts v.tells (ap (λ (s : State T). s.operations) v.state) (ap (λ (s : State T). s.caches) v.state) (ap (λ (s : State T). s.views) v.state)
+  failure_taken failures.After old op said new v = as_failed old op said new v.call.operation v.call.request v.call.caches v.call.acts v.tells (ap (λ (s : State T). s.operations) v.state) (ap (λ (s : State T). s.caches) v.state) (ap (λ (s : State T). s.views) v.state)
   failure_taken failures.Loose old op said new v = as_failed old op said new v.operation v.request v.caches v.acts v.tells (ap (λ (s : State T). s.operations) v.state) (ap (λ (s : State T). s.caches) v.state) (ap (λ (s : State T). s.views) v.state)
 
 -- neither a write nor a read is refused with 10

@@ -21,7 +21,8 @@ use Rattle.txn_machine_views.specs.Layer.{Used, look_up, local_of}
 use Rattle.txn_machine_views.proofs.Stands as layer_stands
 use Rattle.txn_machine.specs.declared.doing.Operation.{Operation}
 use Rattle.txn_machine.specs.Doing.{Next, asked}
-use Rattle.txn_machine.specs.Machine.{State, acted, effected, Looks, Served, Acts}
+use Rattle.txn_machine_inner.specs.Machine.{effected}
+use Rattle.txn_machine.specs.Machine.{State, acted, Looks, Served, Acts}
 use Rattle.txn_machine.proofs.Matched.{Answered as IsAnswered}
 use Rattle.txn_machine.proofs.Turning.{every_turn}
 use Rattle.txn_machine.proofs.Joined.{Past, as_fine, Held, At, Core, Tie, Joined}
@@ -36,7 +37,7 @@ module _ {T : Type 0} (encode : T → List ℕ) (decode : List ℕ → Option T)
 
   -- an operation that asks runs
   pub held_of : (op : ℕ) (operation : Operation T) (ask : Ask) → numbered s.operations op ≡ Some operation → asked operation.doing ≡ Some ask → HeldBy op operation
-  held_of op operation ask found asks = by (subst (λ (x : Option (Operation T)). At decode get_epoch j.fine.operations j.fine.trace j.l.rows j.owner j.now j.l.ops j.l.views j.l.asked op x) found (j.each op))
+  held_of op operation ask found asks = by (subst (λ (x : Option (Operation T)). At decode get_epoch j.fine.operations j.fine.trace j.l.rows j.owner j.now j.l.ops j.l.views j.l.asked op x) found (j.rest.each op))
     where
       by : At decode get_epoch j.fine.operations j.fine.trace j.l.rows j.owner j.now j.l.ops j.l.views j.l.asked op (Some operation) → HeldBy op operation
       by (inl h) = absurd (let none : asked operation.doing ≡ None = ap asked h.0 in let clash : Some ask ≡ None = sym asks ∙ none in cc)
@@ -129,21 +130,21 @@ module _ {T : Type 0} (encode : T → List ℕ) (decode : List ℕ → Option T)
 
   pub serve_joins : (op : ℕ) (said : Told T) (new : State T) → Served encode decode get_epoch set_epoch s op said new → Joined decode get_epoch set_epoch past new
   serve_joins op said new v =
-      let operation = v.operation in
-      let h = asking op operation (Store v.request) v.caches v.acts in
+      let operation = v.call.operation in
+      let h = asking op operation (Store v.call.request) v.call.caches v.call.acts in
       let held = h.held in
       let n = j.now op in
       let o = as_fine operation.client held.doing in
-      let serves : Serves v.request j.fine.store v.reply v.store = subst (λ (st : StoreState). Serves v.request st v.reply v.store) (sym j.tie.store) v.reaches.serves in
-      let t = every_turn s.page encode decode get_epoch set_epoch held.call (local_of (look_up j.l.views (view_used held.call))) held.inner operation.doing held.doing v.caches (Some v.reply) v.next held.matched (stood_replies decode get_epoch j.fine j.stands n o held.there v.request v.reply v.store h.acts.asks serves) v.turns in
-      let left = plain.caches_left held.doing v.caches t.after.1 in
-      let fine = machine.acted (machine.effected j.fine n v.request v.reply v.store) n o t.after left in
+      let serves : Serves v.call.request j.fine.store v.call.reply v.call.store = subst (λ (st : StoreState). Serves v.call.request st v.call.reply v.call.store) (sym j.tie.store) v.call.reaches.serves in
+      let t = every_turn s.page encode decode get_epoch set_epoch held.call (local_of (look_up j.l.views (view_used held.call))) held.inner operation.doing held.doing v.call.caches (Some v.call.reply) v.next held.matched (stood_replies decode get_epoch j.fine j.stands n o held.there v.call.request v.call.reply v.call.store h.acts.asks serves) v.turns in
+      let left = plain.caches_left held.doing v.call.caches t.after.1 in
+      let fine = machine.acted (machine.effected j.fine n v.call.request v.call.reply v.call.store) n o t.after left in
       let stands = serve_keeps decode get_epoch j.fine n (told_of (told.Went n) n t.after.1) fine
-      (record { operation = o; request = v.request; caches = v.caches; acts = h.acts; reply = v.reply; store = v.store; reaches = record { serves = serves; honest = v.reaches.honest }; refused = t.refused; next = t.after; turns = t.turns ∙ ap (λ (p : ℕ). plain.turned p decode t.refused held.doing v.caches (Some v.reply)) (sym j.tie.page); tells = refl; state = refl }) j.stands in
+      (record { call = record { operation = o; request = v.call.request; caches = v.call.caches; acts = h.acts; reply = v.call.reply; store = v.call.store; reaches = record { serves = serves; honest = v.call.reaches.honest } }; refused = t.refused; next = t.after; turns = t.turns ∙ ap (λ (p : ℕ). plain.turned p decode t.refused held.doing v.call.caches (Some v.call.reply)) (sym j.tie.page); tells = refl; state = refl }) j.stands in
       let stood =
-      subst (λ (st : StoreState). machine_stands.Stands decode get_epoch (record fine { caches = slice_set s.caches (operation.client - 1) left; trace = (j.fine.trace ++ effect_rows n (machine.effect_of st.files v.request v.reply)) ++ answer_rows n t.after.1 })) j.tie.store
+      subst (λ (st : StoreState). machine_stands.Stands decode get_epoch (record fine { caches = slice_set s.caches (operation.client - 1) left; trace = (j.fine.trace ++ effect_rows n (machine.effect_of st.files v.call.request v.call.reply)) ++ answer_rows n t.after.1 })) j.tie.store
       (subst (λ (cs : List Caches). machine_stands.Stands decode get_epoch (record fine { caches = slice_set cs (operation.client - 1) left })) j.caches stands)
       in
-      let joined = acts_joins op operation v.acts.found held h.client (machine.effect_of s.store.files v.request v.reply) t.after v.store left v.next stood t.answered in
+      let joined = acts_joins op operation v.call.acts.found held h.client (machine.effect_of s.store.files v.call.request v.call.reply) t.after v.call.store left v.next stood t.answered in
       subst (λ (x : State T). Joined decode get_epoch set_epoch past x) (sym v.state)
-      (subst (λ (c : Caches). Joined decode get_epoch set_epoch past (acted (effected s op v.request v.reply v.store) op operation v.next c)) (sym t.leaves) joined)
+      (subst (λ (c : Caches). Joined decode get_epoch set_epoch past (acted (effected s op v.call.request v.call.reply v.call.store) op operation v.next c)) (sym t.leaves) joined)

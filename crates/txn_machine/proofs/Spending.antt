@@ -51,7 +51,8 @@ use Rattle.txn_machine.specs.declared.doing.Doing.TheVariants as does
 use Rattle.txn_machine.specs.declared.doing.Operation.{Operation}
 use Rattle.txn_machine.specs.Doing.{Next, ended, plain_next, next_of, with_local, first_next, started, turned, IsReply, Turns}
 use Rattle.txn_machine.specs.CallsLeft.{five_and_two, most_of, any_left, is_look_of, is_serve_of, taken_of}
-use Rattle.txn_machine.specs.Machine.{State, doing_next, with_doing, ended_by, next_op, new_operation, view_now, Fails, Takes, Runs, IsReached}
+use Rattle.txn_machine_inner.specs.Machine.{next_op}
+use Rattle.txn_machine.specs.Machine.{State, doing_next, with_doing, ended_by, new_operation, view_now, Fails, Takes, Runs, IsReached}
 use Rattle.txn_machine.proofs.Reached.{reached_replies, reached_looks}
 use Rattle.txn_machine.proofs.Runs.{taken_reached}
 
@@ -244,7 +245,7 @@ module _ {T : Type 0} where
 
   fails_spend : (failure : Failure) (old : State T) (other : ℕ) (said : Told T) (new : State T) (op : ℕ) (left : Left) → Fails old other failure said new → Has old op left → Spends (events.Fail other failure) op left new
   fails_spend failures.Before old other said new op left v h = one_ends (events.Fail other failures.Before) old new op other left v.operation refl refl v.acts.found (ap (λ (s : State T). s.operations) v.state) h
-  fails_spend failures.After old other said new op left v h = one_ends (events.Fail other failures.After) old new op other left v.operation refl refl v.acts.found (ap (λ (s : State T). s.operations) v.state) h
+  fails_spend failures.After old other said new op left v h = one_ends (events.Fail other failures.After) old new op other left v.call.operation refl refl v.call.acts.found (ap (λ (s : State T). s.operations) v.state) h
   fails_spend failures.Loose old other said new op left v h = one_ends (events.Fail other failures.Loose) old new op other left v.operation refl refl v.acts.found (ap (λ (s : State T). s.operations) v.state) h
 
   crash_spends : (old : State T) (client : ℕ) (new : State T) (op : ℕ) (left : Left) → new.operations ≡ map (ended_by client) old.operations → Has old op left → Spends (events.Crash client) op left new
@@ -282,7 +283,7 @@ module _ {T : Type 0} (encode : T → List ℕ) (decode : List ℕ → Option T)
   serve_spends : (old : State T) (other : ℕ) (said : Told T) (new : State T) (op : ℕ) (left : Left) → IsReached encode decode get_epoch set_epoch old → Takes encode decode get_epoch set_epoch old (events.Serve other) said new → Has old op left → Spends (events.Serve other) op left new
   serve_spends old other said new op left r t h =
       let v = t.step in
-      turn_is_spent (events.Serve other) old new op other left v.operation v.caches (Some v.reply) v.next v.acts.found (ap (λ (s : State T). s.operations) v.state) v.turns (reached_replies encode decode get_epoch set_epoch old r other v.operation v.acts.found v.request v.reply v.store v.acts.asks v.reaches.serves) (λ differ. (refl, differ))
+      turn_is_spent (events.Serve other) old new op other left v.call.operation v.call.caches (Some v.call.reply) v.next v.call.acts.found (ap (λ (s : State T). s.operations) v.state) v.turns (reached_replies encode decode get_epoch set_epoch old r other v.call.operation v.call.acts.found v.call.request v.call.reply v.call.store v.call.acts.asks v.call.reaches.serves) (λ differ. (refl, differ))
       (λ same after s. ((let le = s.0 in omega (arith, le)), rw same (let less = s.1 in omega (arith, less)))) h
 
   pub takes_spend : (old : State T) (event : Event T) (said : Told T) (new : State T) (op : ℕ) (left : Left) → IsReached encode decode get_epoch set_epoch old → Takes encode decode get_epoch set_epoch old event said new → Has old op left → Spends event op left new

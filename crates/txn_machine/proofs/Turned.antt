@@ -41,7 +41,7 @@ use Rattle.txn_machine.specs.declared.doing.Ending.TheVariants as endings
 use Rattle.txn_machine.specs.Doing.{Next, ended}
 use Rattle.txn_machine.specs.Machine.{State, acted, doing_next}
 use Rattle.txn_machine.proofs.Matched.{fine_call, Matched, NextAs, Answered as IsAnswered}
-use Rattle.txn_machine.proofs.Joined.{Past, as_laid, IsTold, ViewTold, AnswerTold, IsAtWork, At, Joined, Open, Mid}
+use Rattle.txn_machine.proofs.Joined.{Past, as_laid, IsTold, ViewTold, AnswerTold, IsAtWork, Held, At, Tie, Joined, Open, Mid}
 use Rattle.txn_machine.proofs.Ending.{each_at, end_joins}
 use Rattle.txn_machine.proofs.Opening.{opens_joins}
 use Rattle.txn_machine.proofs.Goings.{fine_begins, fine_begins_views}
@@ -110,38 +110,19 @@ module _ {T : Type 0} (encode : T → List ℕ) (decode : List ℕ → Option T)
   pub goes_on_joins : (call : Call T) (inner : Inner T) (doing : Doing T) (fine_doing : PlainDoing T) (m : Mid decode get_epoch set_epoch past s op operation call inner (fine_doing, None) kept) → Matched get_epoch call (local_of (look_up m.opened.l.views (view_used call))) inner doing fine_doing → Joined decode get_epoch set_epoch past (acted s op operation (doing, None) left)
   goes_on_joins call inner doing fine_doing m matched =
       let h = m.opened in
-      record {
-        fine = h.fine;
-        l = h.l;
-        owner = h.owner;
-        now = h.now;
-        stands = h.stands;
-        over = h.over;
-        tie = record {
-          clients = h.tie.clients;
-          page = h.tie.page;
-          store = h.tie.store;
-          rows = h.tie.rows ∙ sym (append-nil s.trace);
-          failed = h.tie.failed;
-          views = h.tie.views;
-          count = h.tie.count;
-          next = h.tie.next ∙ ap (λ (n : ℕ). n + 1) (sym (length-set s.operations (op - 1) (doing_next operation doing)));
-        };
-        goes = h.goes;
-        grown = h.grown;
-        caches = h.caches;
-        core = h.core;
-        each = each_at decode get_epoch set_epoch past s op operation call inner left h (λ o x. At decode get_epoch h.fine.operations h.fine.trace h.l.rows h.owner h.now h.l.ops h.l.views h.l.asked o x) (doing_next operation doing)
-            (inr (record { call = call; inner = inner; runs = h.runs; view = h.view; claims = h.claims; doing = fine_doing; there = m.there; matched = matched; owned = m.owned; does = m.does; past = m.past })) h.others;
-        loose = h.loose;
-      }
+      let t = h.tie in
+      let next = t.next ∙ ap (λ (n : ℕ). n + 1) (sym (length-set s.operations (op - 1) (doing_next operation doing))) in
+      let tie : Tie (acted s op operation (doing, None) left) h.fine h.l = record { clients = t.clients; page = t.page; store = t.store; rows = t.rows ∙ sym (append-nil s.trace); failed = t.failed; views = t.views; count = t.count; next = next } in
+      let held : Held decode get_epoch h.fine.operations h.fine.trace h.l.rows h.owner h.now h.l.ops h.l.views h.l.asked op (doing_next operation doing) = record { call = call; inner = inner; runs = h.rest.runs; view = h.rest.view; claims = h.rest.claims; doing = fine_doing; there = m.there; matched = matched; owned = m.owned; does = m.does; past = m.past } in
+      let each = each_at decode get_epoch set_epoch past s op operation call inner left h (λ o x. At decode get_epoch h.fine.operations h.fine.trace h.l.rows h.owner h.now h.l.ops h.l.views h.l.asked o x) (doing_next operation doing) (inr held) h.rest.others in
+      record { fine = h.fine; l = h.l; owner = h.owner; now = h.now; stands = h.stands; over = h.over; tie = tie; goes = h.goes; grown = h.grown; caches = h.caches; core = h.core; rest = record { each = each; loose = h.rest.loose } }
 
   -- a call without a view is answered
   pub tells_joins : (call : PlainCall T) (inner : Inner T) (fine_doing : PlainDoing T) (answer : PlainAnswer T) → Mid decode get_epoch set_epoch past s op operation (any.Plain call) inner (fine_doing, Some answer) kept → Joined decode get_epoch set_epoch past (acted s op operation (ended, Some (endings.Answers answer)) left)
   tells_joins call inner fine_doing answer m =
       let h = m.opened in
       end_joins decode get_epoch set_epoch past s op operation (any.Plain call) inner left h (endings.Answers answer) (answers.Plain answer) Keeps (λ count. refl) refl (λ e client. refl)
-      (tell_stands decode get_epoch set_epoch h.l (turned h.l op (as_laid operation.client (any.Plain call) inner) (Ends (answers.Plain answer) Keeps)) (record { op = op; client = operation.client; call = call; inner = inner; runs = h.runs; answer = answer; fits = m.owes.0; new = refl }))
+      (tell_stands decode get_epoch set_epoch h.l (turned h.l op (as_laid operation.client (any.Plain call) inner) (Ends (answers.Plain answer) Keeps)) (record { op = op; client = operation.client; call = call; inner = inner; runs = h.rest.runs; answer = answer; fits = m.owes.0; new = refl }))
       m.owes.1 h.core.seen
 
   -- a call on a view goes on as the layer says
@@ -189,6 +170,6 @@ module _ {T : Type 0} (encode : T → List ℕ) (decode : List ℕ → Option T)
       let h = m.opened in
       let local = local_of (look_up h.l.views (view_used (any.View call))) in
       let t = take_stands decode get_epoch set_epoch h.l (turned h.l op (as_laid operation.client (any.View call) inner) a.0) h.over
-      (record { op = op; client = operation.client; call = call; inner = inner; runs = h.runs; answer = inside answer; fits = m.owes.0; next = a.0; makes = a.2; has = a.3; new = refl }) in
+      (record { op = op; client = operation.client; call = call; inner = inner; runs = h.rest.runs; answer = inside answer; fits = m.owes.0; next = a.0; makes = a.2; has = a.3; new = refl }) in
       let only = lacking_only (IsTold h.fine.trace) (any.View call) (parts.taken get_epoch set_epoch (any.View call) local inner (inside answer)) a.0 a.2 (taken_only (IsTold h.fine.trace) get_epoch set_epoch call local inner (inside answer) (inside_told get_epoch set_epoch h.fine.trace answer m.owes.1)) in
       next_joins call inner h a.0 next t only a.4

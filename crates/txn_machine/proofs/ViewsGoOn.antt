@@ -15,7 +15,7 @@ use Rattle.txn_history.specs.History.{is_id}
 use Rattle.txn_history.specs.Lists.{numbered}
 use Rattle.txn_history.specs.Seen.{Operation as SeenOperation, Store, Look, view_of, view_in}
 use Rattle.txn_history.specs.Added.{told_of}
-use Rattle.txn_machine_inner.specs.Machine.{effect_of}
+use Rattle.txn_machine_inner.specs.Machine.{effect_of, effected, loosened, failing, next_op}
 use Rattle.txn_history.proofs.Lists.{numbered_kept}
 use Rattle.txn_machine_inner.proofs.Lists.{numbered_here, numbered_other, numbered_map, within, numbered_of_map, numbered_new}
 use Rattle.txn_view_steps.specs.declared.outcome.Outcome.TheVariants as outcomes
@@ -33,7 +33,7 @@ use Rattle.txn_machine.specs.declared.doing.Ending.{Ending}
 use Rattle.txn_machine.specs.declared.doing.Ending.TheVariants as endings
 use Rattle.txn_machine.specs.Doing.{Next, ended, refused, caches_left}
 use Rattle.txn_machine_views.specs.Parts.{is_claim_call}
-use Rattle.txn_machine.specs.Machine.{State, seen_operation, seen_view, seen_views, seen_of, used_in, used_by, with_used, let_go, answer_of, change_of, made_by, views_after, views_taken, answered, doing_next, answer_next, acted, effected, loosened, failing, given_up, crashed, next_op, new_operation, begun_as, Fails, TakesOrLacks, IsReached}
+use Rattle.txn_machine.specs.Machine.{State, seen_operation, seen_view, seen_views, seen_of, used_in, used_by, with_used, let_go, answer_of, change_of, made_by, views_after, views_taken, answered, doing_next, answer_next, acted, given_up, crashed, new_operation, begun_as, Fails, TakesOrLacks, IsReached}
 use Rattle.txn_machine.proofs.Busies.{IsRunning, uses_or_not}
 use Rattle.txn_machine.proofs.Busy.{Busied, IsFree, takes_free, effected_busied, view_there, takes_busied, reached_busied, free_begin}
 use Rattle.txn_machine.proofs.CallsGoOn.{calls_go_on}
@@ -344,9 +344,9 @@ module _ {T : Type 0} where
       let left = acted (failing old op) op v.operation (refused 2) v.caches in
       goes_so old.views said (told.Answered op (answers.Plain (plain_answers.Refused 2))) new left v.tells v.state (acted_goes (failing old op) op v.operation (refused 2) v.caches h v.acts.found (ap is_some v.acts.asks) (λ e. refl, tt) (subst Busied v.state after))
   fails_go failures.After old op said new h after v =
-      let middle = failing (effected old op v.request v.reply v.store) op in
-      goes_so old.views said (told.Answered op (answers.Plain (plain_answers.Refused 2))) new (acted middle op v.operation (refused 2) v.caches) v.tells v.state
-      (acted_goes middle op v.operation (refused 2) v.caches (effected_busied old op v.request v.reply v.store h) v.acts.found (ap is_some v.acts.asks) (λ e. refl, tt) (subst Busied v.state after))
+      let middle = failing (effected old op v.call.request v.call.reply v.call.store) op in
+      goes_so old.views said (told.Answered op (answers.Plain (plain_answers.Refused 2))) new (acted middle op v.call.operation (refused 2) v.call.caches) v.tells v.state
+      (acted_goes middle op v.call.operation (refused 2) v.call.caches (effected_busied old op v.call.request v.call.reply v.call.store h) v.call.acts.found (ap is_some v.call.acts.asks) (λ e. refl, tt) (subst Busied v.state after))
   fails_go failures.Loose old op said new h after v =
       let middle = failing (loosened old op (Store v.request)) op in
       goes_so old.views said (told.Answered op (answers.Plain (plain_answers.Refused 2))) new (acted middle op v.operation (refused 2) v.caches) v.tells v.state
@@ -368,11 +368,11 @@ module _ {T : Type 0} (encode : T → List ℕ) (decode : List ℕ → Option T)
       (acted_goes old op v.operation v.next caches h v.acts.found (ap is_some v.acts.asks) fits (subst Busied v.state after))
   takes_go old (events.Serve op) said new h claims after t = elim t.step [
     | inl v ↦ (
-        let fits = subst (NextFits v.operation.claims) (sym v.turns.turns) (turned_claims old.page encode decode get_epoch set_epoch v.operation.claims v.turns.refused v.operation.doing v.caches (Some v.reply) (Store v.request) v.acts.asks (claims op v.operation v.acts.found)) in
-        let caches = caches_left v.operation.doing v.caches v.next.1 in
-        let middle = effected old op v.request v.reply v.store in
-        goes_so old.views said (told_of (told.Went op) op (answer_next old v.operation v.next)) new (acted middle op v.operation v.next caches) v.tells v.state
-        (acted_goes middle op v.operation v.next caches (effected_busied old op v.request v.reply v.store h) v.acts.found (ap is_some v.acts.asks) fits (subst Busied v.state after)))
+        let fits = subst (NextFits v.call.operation.claims) (sym v.turns.turns) (turned_claims old.page encode decode get_epoch set_epoch v.call.operation.claims v.turns.refused v.call.operation.doing v.call.caches (Some v.call.reply) (Store v.call.request) v.call.acts.asks (claims op v.call.operation v.call.acts.found)) in
+        let caches = caches_left v.call.operation.doing v.call.caches v.next.1 in
+        let middle = effected old op v.call.request v.call.reply v.call.store in
+        goes_so old.views said (told_of (told.Went op) op (answer_next old v.call.operation v.next)) new (acted middle op v.call.operation v.next caches) v.tells v.state
+        (acted_goes middle op v.call.operation v.next caches (effected_busied old op v.call.request v.call.reply v.call.store h) v.call.acts.found (ap is_some v.call.acts.asks) fits (subst Busied v.state after)))
     | inr v ↦ goes_so old.views said (told.Answered op (answers.Plain (plain_answers.Refused 9))) new (acted old op v.operation (refused 9) v.caches) v.tells v.state
         (acted_goes old op v.operation (refused 9) v.caches h v.acts.found (ap is_some v.acts.asks) (λ e. refl, tt) (subst Busied v.state after))
   ]

@@ -1,11 +1,11 @@
 -- A read alone: from the begin of its call on, nothing happens but its own looks and its own serves.
-use Rattle.std.specs.Prelude.{◌⊎◌, ℕ, ◌+◌, if◌then◌else◌, List, [], ◌∷◌, Option, Some, None}
+use Rattle.std.specs.Prelude.{◌⊎◌, ℕ, List, [], ◌∷◌, Option, Some, None}
 use Rattle.txn_history.specs.declared.event.PlainCall.TheVariants as calls
 use Rattle.txn_history.specs.declared.event.EventOf.TheVariants as events
 use Rattle.txn_history.specs.Lists.{numbered}
 use Rattle.txn_machine_inner.specs.declared.doing.PlainDoing.{PlainDoing}
 use Rattle.txn_machine_inner.specs.declared.doing.PlainDoing.TheVariants as doings
-use Rattle.txn_machine_inner.specs.Alone.{begins_pass, is_turn}
+use Rattle.txn_machine_inner.specs.Alone.{passes_by, turns_by}
 use Rattle.txn_view_steps.specs.declared.op.ViewOp.TheVariants.{Enters, Reads, Claims}
 use Rattle.txn_history.specs.declared.event.ViewCall.TheVariants as view_calls
 use Rattle.txn_history.specs.declared.event.Call.{Call}
@@ -14,7 +14,8 @@ use Rattle.txn_history.specs.Trace.{Told}
 use Rattle.txn_machine.specs.declared.doing.Doing.{Doing}
 use Rattle.txn_machine.specs.declared.doing.Doing.TheVariants as does
 use Rattle.txn_machine.specs.declared.doing.Operation.{Operation}
-use Rattle.txn_machine.specs.Machine.{State, next_op, Takes}
+use Rattle.txn_machine_inner.specs.Machine.{next_op}
+use Rattle.txn_machine.specs.Machine.{State, Takes}
 
 module _ {T : Type 0} where
   -- the call is one read of the newest version: a read, a load, a refresh, or that of a holder
@@ -41,13 +42,11 @@ module _ {T : Type 0} where
 
   -- how many passes begin in these states
   abbrev pub passes : ℕ → List (State T) → ℕ
-  passes op [] = 0
-  passes op (s ∷ states) = (if begins_pass (read_in s op) then 1 else 0) + passes op states
+  passes = passes_by read_in
 
   -- how many turns it takes through these states
   abbrev pub turns : ℕ → State T → List (State T) → ℕ
-  turns op before [] = 0
-  turns op before (s ∷ states) = (if is_turn (read_in before op) (read_in s op) then 1 else 0) + turns op s states
+  turns = turns_by read_in
 
 module _ {T : Type 0} (encode : T → List ℕ) (decode : List ℕ → Option T) (get_epoch : T → ℕ) (set_epoch : T → ℕ → T) where
   -- the operation looks, or its request is served

@@ -68,21 +68,11 @@ module _ {T : Type 0} where
 
   abbrev pub is_look_of : ℕ → Event T → Bool
   is_look_of op (events.Look other) = other == op
-  is_look_of op (events.Begin client call) = false
-  is_look_of op (events.Serve other) = false
-  is_look_of op (events.Fail other failure) = false
-  is_look_of op (events.GiveUp other) = false
-  is_look_of op (events.Land k) = false
-  is_look_of op (events.Crash client) = false
+  is_look_of op _ = false
 
   abbrev pub is_serve_of : ℕ → Event T → Bool
   is_serve_of op (events.Serve other) = other == op
-  is_serve_of op (events.Begin client call) = false
-  is_serve_of op (events.Look other) = false
-  is_serve_of op (events.Fail other failure) = false
-  is_serve_of op (events.GiveUp other) = false
-  is_serve_of op (events.Land k) = false
-  is_serve_of op (events.Crash client) = false
+  is_serve_of op _ = false
 
   -- how many of such events were taken
   abbrev pub taken_of : (Event T → Bool) → List (Event T × Told T) → ℕ

@@ -3,3 +3,4 @@ pub mod Machine
 pub mod CallsLeft
 pub mod Refusals
 pub mod Alone
+pub mod Laws

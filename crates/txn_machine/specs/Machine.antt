@@ -1,5 +1,5 @@
 -- The world's step, over the store's contract, for all calls.
-use Rattle.std.specs.Prelude.{◌≡◌, ◌≤◌, ◌⊎◌, ℕ, List, [], ◌∷◌, ◌++◌, ◌+◌, ◌-◌, ◌==◌, Bool, true, false, if◌then◌else◌, Option, Some, None, Result, Ok, Err, length, slice_set, is_some, map, replicate}
+use Rattle.std.specs.Prelude.{◌≡◌, ◌≤◌, ◌⊎◌, ℕ, List, [], ◌∷◌, ◌++◌, ◌+◌, ◌-◌, ◌==◌, Bool, true, false, if◌then◌else◌, Option, Some, None, Result, Ok, Err, length, slice_set, is_some, map}
 use Rattle.std.specs.Option.{option_map}
 use Rattle.txn_store.specs.Store.{State as StoreState}
 use Rattle.txn_store.specs.declared.request.Request.{Request}
@@ -15,16 +15,15 @@ use Rattle.txn_history.specs.declared.event.EventFault.{EventFault}
 use Rattle.txn_history.specs.declared.trace.RowOf.TheVariants.{Begun}
 use Rattle.txn_history.specs.Lists.{numbered}
 use Rattle.txn_history.specs.Seen.{Ask, Store, Look, Operation as SeenOperation, Seen, asks_of, AllSeen}
-use Rattle.txn_history.specs.GoesOn.{left_loose, all_left_loose}
-use Rattle.txn_history.specs.Added.{told_of, answer_rows, effect_rows}
-use Rattle.txn_machine_inner.specs.Machine.{empty_store, no_caches, effect_of, fault_met, taken_count}
+use Rattle.txn_history.specs.GoesOn.{all_left_loose}
+use Rattle.txn_history.specs.Added.{told_of, answer_rows}
+use Rattle.txn_machine_inner.specs.Machine.{StateOf, no_caches, effect_of, opening_with, next_op, effected, loosened, failing, Reaches, seen_by, Asking, CallReaches, fault_met, taken_count}
 use Rattle.txn_store.specs.MemoryServes.{lacks_memory}
-use Rattle.txn_store.specs.Requests.{Serves}
 use Rattle.txn_view_steps.specs.declared.outcome.Outcome.TheVariants as outcomes
 use Rattle.txn_history.specs.declared.event.Call.{Call}
 use Rattle.txn_history.specs.declared.event.Answer.{Answer}
 use Rattle.txn_history.specs.declared.event.Answer.TheVariants as answers
-use Rattle.txn_history.specs.Trace.{Row, Event, Told}
+use Rattle.txn_history.specs.Trace.{Event, Told}
 use Rattle.txn_history.specs.Calls.{view_used}
 use Rattle.txn_history.specs.Views.{View}
 use Rattle.txn_history.specs.Allowed.{fault_of}
@@ -37,21 +36,9 @@ use Rattle.txn_machine.specs.declared.doing.Operation.{Operation}
 use Rattle.txn_machine.specs.Doing.{Next, ended, refused, asked, started, caches_left, ReadsBack, FitsWord, IsMadeSo, Turns}
 use Rattle.txn_machine_views.specs.Parts.{is_claim_call}
 
--- All of a world but its codec and its allocator. Each list is in the order of the numbers, from 1 on. An ended view is none.
-pub record State (T : Type 0) : Type 0 where
-  pub clients : ℕ
-  -- how many files a page of a listing has at most
-  pub page : ℕ
-  pub store : StoreState
-  -- what each client keeps
-  pub caches : List Caches
-  pub operations : List (Operation T)
-  pub views : List (Option (Used T))
-  -- requests that may still reach the store, each with its operation
-  pub loose : List (ℕ × Request)
-  -- the operations whose store call failed
-  pub failed : List ℕ
-  pub trace : List (Row T)
+-- All of a world but its codec and its allocator. An ended view is none.
+abbrev pub State : Type 0 → Type 0
+State T = StateOf (Operation T) (List (Option (Used T))) (Call T) (Answer T)
 
 -- a world: its codec, where its values keep their epochs, and its state
 pub record WorldState (T C E : Type 0) : Type 0 where
@@ -62,9 +49,9 @@ pub record WorldState (T C E : Type 0) : Type 0 where
 module _ {T : Type 0} where
   -- a world in which nothing has happened
   abbrev pub opening : ℕ → ℕ → State T
-  opening clients page = record { clients = clients; page = page; store = empty_store; caches = replicate clients no_caches; operations = []; views = []; loose = []; failed = []; trace = [] }
+  opening = opening_with []
 
-  -- what it shows beside its rows
+  -- what it shows beside its rows: its calls, and its views below
 
   abbrev pub seen_operation : Operation T → SeenOperation
   seen_operation operation = record { client = operation.client; asks = asked operation.doing }
@@ -73,7 +60,7 @@ module _ {T : Type 0} where
   seen_operations operations = map seen_operation operations
 
   abbrev pub seen_calls : State T → Seen
-  seen_calls s = record { clients = s.clients; operations = seen_operations s.operations; loose = s.loose; failed = s.failed }
+  seen_calls = seen_by seen_operation
 
   -- what an operation that asks for this is given: a look at its client's caches, and else a store call
   abbrev pub asked_event : ℕ → Option Ask → Event T
@@ -174,18 +161,6 @@ module _ {T : Type 0} where
     trace = s.trace ++ answer_rows op (answer_next s operation next);
   }
 
-  -- A request reaches the store, which becomes this: its row, where it changed the files.
-  abbrev pub effected : State T → ℕ → Request → Reply → StoreState → State T
-  effected s op request reply store = record s { store = store; trace = s.trace ++ effect_rows op (effect_of s.store.files request reply) }
-
-  -- what an operation asks for becomes loose, if it is a put or a delete
-  abbrev pub loosened : State T → ℕ → Ask → State T
-  loosened s op ask = record s { loose = s.loose ++ left_loose op (Some ask) }
-
-  -- its store call failed
-  abbrev pub failing : State T → ℕ → State T
-  failing s op = record s { failed = s.failed ++ op ∷ [] }
-
   -- an operation ends with no answer, and lets its view go
   abbrev pub given_up : State T → ℕ → Operation T → State T
   given_up s op operation = record s {
@@ -205,10 +180,6 @@ module _ {T : Type 0} where
     loose = s.loose ++ all_left_loose client 1 (seen_operations s.operations);
   }
 
-  -- the next operation's number
-  abbrev pub next_op : State T → ℕ
-  next_op s = length s.operations + 1
-
   -- a new operation, which does this
   abbrev pub new_operation : ℕ → Call T → Doing T → Operation T
   new_operation client call doing = record { client = client; view = view_used call; claims = is_claim_call call; doing = doing }
@@ -224,21 +195,13 @@ module _ {T : Type 0} where
     trace = (s.trace ++ Begun (next_op s) call ∷ []) ++ answer_rows (next_op s) (answered (length s.views) (view_used call) start.1);
   }
 
+  -- an operation that is there and asks for this, and what its client keeps
+  abbrev pub Acts : State T → ℕ → Operation T → Ask → Caches → Type 0
+  Acts = Asking seen_operation
+
   -- the view that a call uses, as it stands
   abbrev pub view_now : State T → Call T → Option (View T)
   view_now s call = seen_view (used_by s.views (view_used call))
-
-  -- an operation that is there and asks for this, and what its client keeps
-  pub record Acts (s : State T) (op : ℕ) (operation : Operation T) (ask : Ask) (caches : Caches) : Type 0 where
-    pub found : numbered s.operations op ≡ Some operation
-    pub asks : asked operation.doing ≡ Some ask
-    pub kept : numbered s.caches operation.client ≡ Some caches
-
-module _ {T : Type 0} where
-  -- a request reaches the store, which never fails
-  pub record ReachesStore (s : State T) (request : Request) (reply : Reply) (store : StoreState) : Type 0 where
-    pub serves : Serves request s.store reply store
-    pub honest : store.failures ≡ 0
 
   -- A failure before its effect, or of a request that becomes loose: nothing reaches the store.
   pub record FailsFirst (old : State T) (op : ℕ) (said : Told T) (looses : Bool) (new : State T) : Type 0 where
@@ -260,16 +223,10 @@ module _ {T : Type 0} where
 
   -- A failure after its effect: the request is served, and its reply is lost. Where the store finds no memory, there is no such event.
   pub record FailsAfter (old : State T) (op : ℕ) (said : Told T) (new : State T) : Type 0 where
-    pub operation : Operation T
-    pub request : Request
-    pub caches : Caches
-    pub acts : Acts old op operation (Store request) caches
-    pub reply : Reply
-    pub store : StoreState
-    pub reaches : ReachesStore old request reply store
-    pub answered : lacks_memory reply ≡ false
+    pub call : CallReaches seen_operation old op
+    pub answered : lacks_memory call.reply ≡ false
     pub tells : said ≡ told.Answered op (answers.Plain (plain_answers.Refused 2))
-    pub state : new ≡ acted (failing (effected old op request reply store) op) op operation (refused 2) caches
+    pub state : new ≡ acted (failing (effected old op call.request call.reply call.store) op) op call.operation (refused 2) call.caches
 
   -- a failure by its kind
   abbrev pub Fails : State T → ℕ → Failure → Told T → State T → Type 0
@@ -293,7 +250,7 @@ module _ {T : Type 0} where
     pub found : numbered old.loose k ≡ Some (op, request)
     pub reply : Reply
     pub store : StoreState
-    pub reaches : ReachesStore old request reply store
+    pub reaches : Reaches old request reply store
     pub answered : lacks_memory reply ≡ false
     pub tells : said ≡ told.Landed k (is_some (effect_of old.store.files request reply))
     pub state : new ≡ effected old op request reply store
@@ -316,17 +273,11 @@ module _ {T : Type 0} (encode : T → List ℕ) (decode : List ℕ → Option T)
 
   -- A serve: the operation's request is served by the store, and the operation takes the reply.
   pub record Served (old : State T) (op : ℕ) (said : Told T) (new : State T) : Type 0 where
-    pub operation : Operation T
-    pub request : Request
-    pub caches : Caches
-    pub acts : Acts old op operation (Store request) caches
-    pub reply : Reply
-    pub store : StoreState
-    pub reaches : ReachesStore old request reply store
+    pub call : CallReaches seen_operation old op
     pub next : Next T
-    pub turns : Turns old.page encode decode get_epoch set_epoch operation.doing caches (Some reply) next
-    pub tells : said ≡ told_of (told.Went op) op (answer_next old operation next)
-    pub state : new ≡ acted (effected old op request reply store) op operation next (caches_left operation.doing caches next.1)
+    pub turns : Turns old.page encode decode get_epoch set_epoch call.operation.doing call.caches (Some call.reply) next
+    pub tells : said ≡ told_of (told.Went op) op (answer_next old call.operation next)
+    pub state : new ≡ acted (effected old op call.request call.reply call.store) op call.operation next (caches_left call.operation.doing call.caches next.1)
 
   -- A begin: its call's operation starts.
   pub record Begins (old : State T) (client : ℕ) (call : Call T) (said : Told T) (new : State T) : Type 0 where

@@ -10,7 +10,8 @@ ghost use Rattle.txn_history.specs.Views.{View};
 ghost use Rattle.txn_machine.specs.declared.doing.Doing.{Doing};
 ghost use Rattle.txn_machine.specs.Doing.{ended, started, turned, IsReply};
 ghost use Rattle.txn_machine.specs.CallsLeft.{most_of, any_left, is_look_of, is_serve_of, taken_of};
-ghost use Rattle.txn_machine.specs.Machine.{State, opening, next_op, Takes, Runs};
+ghost use Rattle.txn_machine_inner.specs.Machine.{next_op};
+ghost use Rattle.txn_machine.specs.Machine.{State, opening, Takes, Runs};
 
 use txn_types::codec::ObjectCodec;
 use txn_types::epoch::EpochField;

@@ -1,14 +1,20 @@
--- Which operations what is told ends, of any calls: the one it is told of, or a client's. All others run on.
-use Rattle.std.proofs.Common.{◌≡◌, ◌≢◌, ℕ, zero, suc, ◌+◌, ◌-◌, ◌≤◌, List, [], ◌∷◌, ◌++◌, length, map, set, slice_get, slice_set, option_map, Bool, true, false, not, ◌==◌, ◌&&◌, is_some, Option, Some, None, inl, inr, refl, sym, ◌∙◌, ap, arith}
+-- Which operations what is told ends, of any calls: the one it is told of, or a client's. All others run on, and so does what is shown of them.
+use Rattle.std.proofs.Common.{◌≡◌, ◌≢◌, ℕ, zero, suc, ◌+◌, ◌-◌, ◌≤◌, List, [], ◌∷◌, ◌++◌, length, map, set, slice_get, slice_set, option_map, Bool, true, false, not, ◌==◌, ◌&&◌, is_some, Option, Some, None, inl, inr, refl, sym, ◌∙◌, ap, subst, arith}
 use Rattle.std.proofs.lemmas.Bool.{cases_Bool, both_ways, eqb-true, eq-eqb, ne_eqb}
 use Rattle.std.proofs.lemmas.List.{length-map, map-append, map-set}
 use Rattle.std.proofs.lemmas.Option.{same_Some, slice_get-map}
+use Rattle.txn_store.specs.Store.{State as StoreState}
+use Rattle.txn_store.specs.declared.request.Request.{Request}
+use Rattle.txn_store.specs.declared.request.Reply.{Reply}
 use Rattle.txn_history.specs.declared.event.ToldOf.{ToldOf}
 use Rattle.txn_history.specs.declared.event.ToldOf.TheVariants as told
+use Rattle.txn_history.specs.declared.event.EventOf.{EventOf}
+use Rattle.txn_history.specs.declared.event.EventOf.TheVariants as events
 use Rattle.txn_history.specs.Lists.{numbered}
 use Rattle.txn_history.specs.Seen.{Operation}
-use Rattle.txn_history.specs.GoesOn.{state_of, ends_operation, state_after, states_after}
+use Rattle.txn_history.specs.GoesOn.{state_of, ends_operation, state_after, states_after, OperationsGoOn}
 use Rattle.txn_history.specs.Added.{told_of}
+use Rattle.txn_machine_inner.specs.Machine.{StateOf, seen_by, effect_of, effected}
 
 -- an operation that is not ended runs on where it ran, and one that is ended runs no more
 runs_on : (runs ends : Bool) → ends ≡ false → runs ≡ (runs && not ends)
@@ -113,3 +119,15 @@ module _ (A : Type 0) where
     states_crashed from (x ∷ os) =
         ap (λ s. s ∷ map state_of (map seen (map by os))) (crashed_state client from (seen x) (seen (by x)) (ends x) (λ ne. ap (λ o. state_of (seen o)) (stays x ne)))
         ∙ ap (λ ss. state_after {A = A} (told.Crashed client) from (seen x) ∷ ss) (states_crashed (from + 1) os)
+
+module _ {O V C A : Type 0} (see : O → Operation) where
+  -- by what is told, and the state that is left
+  pub told_so : (old : StateOf O V C A) (event : EventOf C) (said t : ToldOf A) (new s : StateOf O V C A) → said ≡ t → new ≡ s → OperationsGoOn (seen_by see old) event t (seen_by see s) → OperationsGoOn (seen_by see old) event said (seen_by see new)
+  told_so old event said t new s tells is g = subst (λ (u : ToldOf A). OperationsGoOn (seen_by see old) event u (seen_by see new)) (sym tells) (subst (λ (x : StateOf O V C A). OperationsGoOn (seen_by see old) event t (seen_by see x)) (sym is) g)
+
+  -- a landing ends none
+  pub land_goes : (old : StateOf O V C A) (k op : ℕ) (request : Request) (reply : Reply) (store : StoreState) (said : ToldOf A) (new : StateOf O V C A) → said ≡ told.Landed k (is_some (effect_of old.store.files request reply)) → new ≡ effected old op request reply store → OperationsGoOn {C = C} (seen_by see old) (events.Land k) said (seen_by see new)
+  land_goes old k op request reply store said new tells is =
+      let t = told.Landed k (is_some (effect_of old.store.files request reply)) in
+      told_so old (events.Land k) said t new (effected old op request reply store) tells is
+      (record { clients = refl; operations = states_stay t 1 (map see old.operations) (λ client n le. refl); loose = refl; failed = refl })

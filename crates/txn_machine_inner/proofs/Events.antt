@@ -107,21 +107,21 @@ module _ {T : Type 0} (decode : List ℕ → Option T) (get_epoch : T → ℕ) w
 
   pub serve_keeps : (old : State T) (op : ℕ) (said : PlainTold T) (new : State T) → Served decode old op said new → Stands decode get_epoch old → Stands decode get_epoch new
   serve_keeps old op said new v st =
-      let a = v.acts in
-      let c = v.caches in
-      let doing = v.operation.doing in
-      let run = acts_run old op v.operation (Store v.request) c a st in
-      let asks = asks_of decode get_epoch old.trace old.store c.boundary op run.0 v.request run.1.runs doing run.1.stands a.asks in
-      let r = reached old op v.request v.reply v.store asks v.reaches st in
-      let bound = within old.operations op v.operation a.found in
-      let s' = effected old op v.request v.reply v.store in
-      let turn' = serve_turn decode get_epoch old.page st.paged v.refused old.failed old.trace old.store v.store c op run.0 v.request v.reply st.know r.know r.frame v.reaches.serves v.reaches.honest run.1.runs doing run.1 a.asks in
-      let turn = subst (λ (n : Next T). TurnStands decode get_epoch old.failed s'.trace v.store c.boundary op run.0 n) (sym v.turns) turn' in
-      let fits = caches_more decode get_epoch old.trace old.store s'.trace v.store r.frame c (st.caches v.operation.client c a.kept) in
-      let kept = turn_keeps decode get_epoch s' op v.operation (Store v.request) run.0 v.next.0 v.next.1 c c a.found a.asks a.kept fits (stays c.boundary)
-      (own_turn decode get_epoch old.failed s'.trace v.store c.boundary op run.0 v.next.0 v.next.1 turn) (effected_but old op v.request v.reply v.store bound.0 bound.1 r (but decode get_epoch old op st)) in
-      let same = keeps_caches decode get_epoch c v.request doing v.next.1 a.asks in
-      subst (λ (s : State T). Stands decode get_epoch s) (sym v.state) (subst (λ (d : Caches). Stands decode get_epoch (acted s' op v.operation v.next d)) (sym same) kept)
+      let a = v.call.acts in
+      let c = v.call.caches in
+      let doing = v.call.operation.doing in
+      let run = acts_run old op v.call.operation (Store v.call.request) c a st in
+      let asks = asks_of decode get_epoch old.trace old.store c.boundary op run.0 v.call.request run.1.runs doing run.1.stands a.asks in
+      let r = reached old op v.call.request v.call.reply v.call.store asks v.call.reaches st in
+      let bound = within old.operations op v.call.operation a.found in
+      let s' = effected old op v.call.request v.call.reply v.call.store in
+      let turn' = serve_turn decode get_epoch old.page st.paged v.refused old.failed old.trace old.store v.call.store c op run.0 v.call.request v.call.reply st.know r.know r.frame v.call.reaches.serves v.call.reaches.honest run.1.runs doing run.1 a.asks in
+      let turn = subst (λ (n : Next T). TurnStands decode get_epoch old.failed s'.trace v.call.store c.boundary op run.0 n) (sym v.turns) turn' in
+      let fits = caches_more decode get_epoch old.trace old.store s'.trace v.call.store r.frame c (st.caches v.call.operation.client c a.kept) in
+      let kept = turn_keeps decode get_epoch s' op v.call.operation (Store v.call.request) run.0 v.next.0 v.next.1 c c a.found a.asks a.kept fits (stays c.boundary)
+      (own_turn decode get_epoch old.failed s'.trace v.call.store c.boundary op run.0 v.next.0 v.next.1 turn) (effected_but old op v.call.request v.call.reply v.call.store bound.0 bound.1 r (but decode get_epoch old op st)) in
+      let same = keeps_caches decode get_epoch c v.call.request doing v.next.1 a.asks in
+      subst (λ (s : State T). Stands decode get_epoch s) (sym v.state) (subst (λ (d : Caches). Stands decode get_epoch (acted s' op v.call.operation v.next d)) (sym same) kept)
 
   -- failures
 
@@ -173,17 +173,17 @@ module _ {T : Type 0} (decode : List ℕ → Option T) (get_epoch : T → ℕ) w
 
   fails_after_keeps : (old : State T) (op : ℕ) (said : PlainTold T) (new : State T) → FailsAfter old op said new → Stands decode get_epoch old → Stands decode get_epoch new
   fails_after_keeps old op said new v st =
-      let a = v.acts in
-      let run = acts_run old op v.operation (Store v.request) v.caches a st in
-      let asks = asks_of decode get_epoch old.trace old.store v.caches.boundary op run.0 v.request run.1.runs v.operation.doing run.1.stands a.asks in
-      let r = reached old op v.request v.reply v.store asks v.reaches st in
-      let bound = within old.operations op v.operation a.found in
-      let s' = effected old op v.request v.reply v.store in
-      let effect = effect_of old.store.files v.request v.reply in
+      let a = v.call.acts in
+      let run = acts_run old op v.call.operation (Store v.call.request) v.call.caches a st in
+      let asks = asks_of decode get_epoch old.trace old.store v.call.caches.boundary op run.0 v.call.request run.1.runs v.call.operation.doing run.1.stands a.asks in
+      let r = reached old op v.call.request v.call.reply v.call.store asks v.call.reaches st in
+      let bound = within old.operations op v.call.operation a.found in
+      let s' = effected old op v.call.request v.call.reply v.call.store in
+      let effect = effect_of old.store.files v.call.request v.call.reply in
       let runs = runs_kept decode get_epoch old.trace op run.0 effect run.1.runs in
-      let fits = caches_more decode get_epoch old.trace old.store s'.trace v.store r.frame v.caches (st.caches v.operation.client v.caches a.kept) in
+      let fits = caches_more decode get_epoch old.trace old.store s'.trace v.call.store r.frame v.call.caches (st.caches v.call.operation.client v.call.caches a.kept) in
       subst (λ (s : State T). Stands decode get_epoch s) (sym v.state)
-      (failed_keeps s' op v.operation (Store v.request) run.0 v.caches (record { found = a.found; asks = a.asks; kept = a.kept }) (inr runs) fits (effected_but old op v.request v.reply v.store bound.0 bound.1 r (but decode get_epoch old op st)))
+      (failed_keeps s' op v.call.operation (Store v.call.request) run.0 v.call.caches (record { found = a.found; asks = a.asks; kept = a.kept }) (inr runs) fits (effected_but old op v.call.request v.call.reply v.call.store bound.0 bound.1 r (but decode get_epoch old op st)))
 
   pub fail_keeps : (failure : Failure) (old : State T) (op : ℕ) (said : PlainTold T) (new : State T) → Fails old op failure said new → Stands decode get_epoch old → Stands decode get_epoch new
   fail_keeps failures.Before old op said new v st = fails_first_keeps false old op said new v st

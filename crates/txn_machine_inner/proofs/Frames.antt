@@ -253,18 +253,7 @@ module _ {T : Type 0} (decode : List ℕ → Option T) (get_epoch : T → ℕ) (
 
   collecting_more : (from to : Bound ℕ) (ids : List ℕ) (request : Request) → CollectingStands rows from to ids request → CollectingStands after from to ids request
   collecting_more from to ids request h =
-      record {
-        after = h.after;
-        limit = h.limit;
-        room = h.room;
-        asks = h.asks;
-        reached = h.reached;
-        begins = h.begins;
-        known = let up = newest_up in omega (arith, h.known, up);
-        ascending = h.ascending;
-        there = h.there;
-        whole = λ n above le e. h.whole n (let up = f.up in omega (arith, above, up)) le e;
-      }
+      record { after = h.after; limit = h.limit; room = h.room; asks = h.asks; reached = h.reached; begins = h.begins; known = let up = newest_up in omega (arith, h.known, up); ascending = h.ascending; there = h.there; whole = λ n above le e. h.whole n (let up = f.up in omega (arith, above, up)) le e }
 
   -- what is asked
 

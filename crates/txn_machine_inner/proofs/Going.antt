@@ -29,8 +29,8 @@ use Rattle.txn_machine_inner.specs.declared.doing.PlainDoing.{PlainDoing}
 use Rattle.txn_machine_inner.specs.declared.doing.PlainDoing.TheVariants.{Write, WriteUnchecked, Read, ReadUnchecked, ReadSeen, ListIds, Delete, Check, Advance, Ended}
 use Rattle.txn_machine_inner.specs.declared.doing.PlainOperation.{PlainOperation}
 use Rattle.txn_machine_inner.specs.Doing.{Next, started, turned, caches_left, asked, next_of, or_no_memory, write_answer, read_answer, value_answer, ids_answer, done_answer}
-use Rattle.txn_machine_inner.specs.Machine.{State, seen_operation, seen_operations, seen_of, with_doing, effect_of, effected, acted, loosened, failing, given_up, told_failure, ended_by, crashed, next_op, begun_as, Acts, Fails, GivesUp, Lands, Crashes, Looks, Served, Begins, Takes}
-use Rattle.txn_machine_inner.proofs.Ends.{EndsOne, answer_ends, give_up_ends, told_ends, states_stay, seen_got, states_acted, states_new, states_crashed}
+use Rattle.txn_machine_inner.specs.Machine.{State, seen_operation, seen_operations, seen_of, with_doing, effected, acted, loosened, failing, given_up, told_failure, ended_by, crashed, next_op, begun_as, Acts, Fails, GivesUp, Crashes, Looks, Served, Begins, Takes}
+use Rattle.txn_machine_inner.proofs.Ends.{EndsOne, answer_ends, give_up_ends, told_ends, told_so, land_goes, seen_got, states_acted, states_new, states_crashed}
 
 module _ {T : Type 0} where
   -- what is seen of an operation
@@ -111,16 +111,12 @@ module _ {T : Type 0} where
 
   -- each event
 
-  -- by what is told, and the state that is left
-  told_so : (old : State T) (event : PlainEvent T) (said t : PlainTold T) (new s : State T) → said ≡ t → new ≡ s → OperationsGoOn (seen_of old) event t (seen_of s) → OperationsGoOn (seen_of old) event said (seen_of new)
-  told_so old event said t new s tells is g = subst (λ (u : PlainTold T). OperationsGoOn (seen_of old) event u (seen_of new)) (sym tells) (subst (λ (x : State T). OperationsGoOn (seen_of old) event t (seen_of x)) (sym is) g)
-
   begin_goes : (encode : T → List ℕ) (decode : List ℕ → Option T) (old : State T) (client : ℕ) (call : PlainCall T) (said : PlainTold T) (new : State T) → Begins encode decode old client call said new → OperationsGoOn (seen_of old) (events.Begin client call) said (seen_of new)
   begin_goes encode decode old client call said new v =
       let n = next_op old in
       let t = told_of (told.Began n) n v.next.1 in
       let fits = subst Fits (sym v.starts) (started_fits old.page encode call) in
-      told_so old (events.Begin client call) said t new (begun_as old client call v.next) v.tells v.state
+      told_so seen_operation old (events.Begin client call) said t new (begun_as old client call v.next) v.tells v.state
       (record {
         clients = refl;
         operations = new_states t client (is_some v.next.1) old.operations v.next.0 (told_ends (told.Began n) n v.next.1 (λ c m. refl)) fits;
@@ -136,14 +132,14 @@ module _ {T : Type 0} where
   look_goes : (decode : List ℕ → Option T) (old : State T) (op : ℕ) (said : PlainTold T) (new : State T) → Looks decode old op said new → OperationsGoOn {C = PlainCall T} (seen_of old) (events.Look op) said (seen_of new)
   look_goes decode old op said new v =
       let fits = subst Fits (sym v.turns) (turned_fits old.page decode v.refused v.operation.doing v.caches None Look v.acts.asks) in
-      told_so old (events.Look op) said (told_of (told.Went op) op v.next.1) new (acted old op v.operation v.next (caches_left v.operation.doing v.caches v.next.1)) v.tells v.state
+      told_so seen_operation old (events.Look op) said (told_of (told.Went op) op v.next.1) new (acted old op v.operation v.next (caches_left v.operation.doing v.caches v.next.1)) v.tells v.state
       (record { clients = refl; operations = turn_states old op v.operation Look v.caches v.next v.acts fits; loose = refl; failed = refl })
 
   serve_goes : (decode : List ℕ → Option T) (old : State T) (op : ℕ) (said : PlainTold T) (new : State T) → Served decode old op said new → OperationsGoOn {C = PlainCall T} (seen_of old) (events.Serve op) said (seen_of new)
   serve_goes decode old op said new v =
-      let fits = subst Fits (sym v.turns) (turned_fits old.page decode v.refused v.operation.doing v.caches (Some v.reply) (Store v.request) v.acts.asks) in
-      told_so old (events.Serve op) said (told_of (told.Went op) op v.next.1) new (acted (effected old op v.request v.reply v.store) op v.operation v.next (caches_left v.operation.doing v.caches v.next.1)) v.tells v.state
-      (record { clients = refl; operations = turn_states old op v.operation (Store v.request) v.caches v.next v.acts fits; loose = refl; failed = refl })
+      let fits = subst Fits (sym v.turns) (turned_fits old.page decode v.refused v.call.operation.doing v.call.caches (Some v.call.reply) (Store v.call.request) v.call.acts.asks) in
+      told_so seen_operation old (events.Serve op) said (told_of (told.Went op) op v.next.1) new (acted (effected old op v.call.request v.call.reply v.call.store) op v.call.operation v.next (caches_left v.call.operation.doing v.call.caches v.next.1)) v.tells v.state
+      (record { clients = refl; operations = turn_states old op v.call.operation (Store v.call.request) v.call.caches v.next v.call.acts fits; loose = refl; failed = refl })
 
   -- what an operation leaves loose, by what it is seen to ask for
   leaves : (old : State T) (op : ℕ) (o : PlainOperation T) (ask : Ask) (caches : Caches) → Acts old op o ask caches → old.loose ++ left_loose op (Some ask) ≡ old.loose ++ left_loose op (asks_of (seen_of old) op)
@@ -156,19 +152,19 @@ module _ {T : Type 0} where
 
   fail_goes : (failure : Failure) (old : State T) (op : ℕ) (said : PlainTold T) (new : State T) → Fails old op failure said new → OperationsGoOn {C = PlainCall T} (seen_of old) (events.Fail op failure) said (seen_of new)
   fail_goes failures.Before old op said new v =
-      told_so old (events.Fail op failures.Before) said (told.Answered op (answers.Refused 2)) new (acted (failing old op) op v.operation told_failure v.caches) v.tells v.state
+      told_so seen_operation old (events.Fail op failures.Before) said (told.Answered op (answers.Refused 2)) new (acted (failing old op) op v.operation told_failure v.caches) v.tells v.state
       (record { clients = refl; operations = failed_states old op v.operation (Store v.request) v.caches v.acts; loose = refl; failed = refl })
   fail_goes failures.After old op said new v =
-      told_so old (events.Fail op failures.After) said (told.Answered op (answers.Refused 2)) new (acted (failing (effected old op v.request v.reply v.store) op) op v.operation told_failure v.caches) v.tells v.state
-      (record { clients = refl; operations = failed_states old op v.operation (Store v.request) v.caches v.acts; loose = refl; failed = refl })
+      told_so seen_operation old (events.Fail op failures.After) said (told.Answered op (answers.Refused 2)) new (acted (failing (effected old op v.call.request v.call.reply v.call.store) op) op v.call.operation told_failure v.call.caches) v.tells v.state
+      (record { clients = refl; operations = failed_states old op v.call.operation (Store v.call.request) v.call.caches v.call.acts; loose = refl; failed = refl })
   fail_goes failures.Loose old op said new v =
-      told_so old (events.Fail op failures.Loose) said (told.Answered op (answers.Refused 2)) new (acted (failing (loosened old op (Store v.request)) op) op v.operation told_failure v.caches) v.tells v.state
+      told_so seen_operation old (events.Fail op failures.Loose) said (told.Answered op (answers.Refused 2)) new (acted (failing (loosened old op (Store v.request)) op) op v.operation told_failure v.caches) v.tells v.state
       (record { clients = refl; operations = failed_states old op v.operation (Store v.request) v.caches v.acts; loose = leaves old op v.operation (Store v.request) v.caches v.acts; failed = refl })
 
   give_up_goes : (old : State T) (op : ℕ) (said : PlainTold T) (new : State T) → GivesUp old op said new → OperationsGoOn {C = PlainCall T} (seen_of old) (events.GiveUp op) said (seen_of new)
   give_up_goes old op said new v =
       let a = v.acts in
-      told_so old (events.GiveUp op) said (told.GaveUp op) new (acted (loosened old op v.ask) op v.operation given_up v.caches) v.tells v.state
+      told_so seen_operation old (events.GiveUp op) said (told.GaveUp op) new (acted (loosened old op v.ask) op v.operation given_up v.caches) v.tells v.state
       (record {
         clients = refl;
         operations = acted_states (told.GaveUp op) op true old.operations v.operation v.ask Ended a.found (give_up_ends op) a.asks refl;
@@ -176,15 +172,9 @@ module _ {T : Type 0} where
         failed = refl;
       })
 
-  land_goes : (old : State T) (k : ℕ) (said : PlainTold T) (new : State T) → Lands old k said new → OperationsGoOn {C = PlainCall T} (seen_of old) (events.Land k) said (seen_of new)
-  land_goes old k said new v =
-      let t = told.Landed k (is_some (effect_of old.store.files v.request v.reply)) in
-      told_so old (events.Land k) said t new (effected old v.op v.request v.reply v.store) v.tells v.state
-      (record { clients = refl; operations = states_stay t 1 (seen_operations old.operations) (λ client n le. refl); loose = refl; failed = refl })
-
   crash_goes : (old : State T) (client : ℕ) (said : PlainTold T) (new : State T) → Crashes old client said new → OperationsGoOn {C = PlainCall T} (seen_of old) (events.Crash client) said (seen_of new)
   crash_goes old client said new v =
-      told_so old (events.Crash client) said (told.Crashed client) new (crashed old client) v.tells v.state
+      told_so seen_operation old (events.Crash client) said (told.Crashed client) new (crashed old client) v.tells v.state
       (record { clients = refl; operations = states_crashed (PlainAnswer T) seen_operation (ended_by client) client (ended_state client) (stays_so client) 1 old.operations; loose = refl; failed = refl })
 
 module _ {T : Type 0} (encode : T → List ℕ) (decode : List ℕ → Option T) (get_epoch : T → ℕ) where
@@ -195,5 +185,5 @@ module _ {T : Type 0} (encode : T → List ℕ) (decode : List ℕ → Option T)
   goes_on_with old (events.Serve op) said new t = serve_goes decode old op said new t.step
   goes_on_with old (events.Fail op failure) said new t = fail_goes failure old op said new t.step
   goes_on_with old (events.GiveUp op) said new t = give_up_goes old op said new t.step
-  goes_on_with old (events.Land k) said new t = land_goes old k said new t.step
+  goes_on_with old (events.Land k) said new t = (let v = t.step in land_goes seen_operation old k v.op v.request v.reply v.store said new v.tells v.state)
   goes_on_with old (events.Crash client) said new t = crash_goes old client said new t.step

@@ -173,16 +173,16 @@ module _ {T : Type 0} (encode : T → List ℕ) (decode : List ℕ → Option T)
 
     serve_moves : (old : State T) (said : PlainTold T) (new : State T) → Standing old → Served decode old op said new → Reading old op read caches → Outcome decode old op read caches new
     serve_moves old said new h v r =
-        let i = is_read old v.operation v.caches r v.acts.found v.acts.kept in
-        let turn : v.next ≡ turned old.page decode v.refused (Read read) caches (Some v.reply) = v.turns ∙ (ap (λ (d : PlainDoing T). turned old.page decode v.refused d v.caches (Some v.reply)) i.doing ∙ ap (λ (c : Caches). turned old.page decode v.refused (Read read) c (Some v.reply)) i.same) in
-        let left : caches_left v.operation.doing v.caches v.next.1 ≡ caches_left (Read read) caches v.next.1 = ap (λ (d : PlainDoing T). caches_left d v.caches v.next.1) i.doing ∙ ap (λ (c : Caches). caches_left (Read read) c v.next.1) i.same in
-        let middle = effected old op v.request v.reply v.store in
-        let is : new ≡ acted middle op v.operation v.next (caches_left (Read read) caches v.next.1) = v.state ∙ ap (λ (c : Caches). acted middle op v.operation v.next c) left in
-        let asks = asks_request (read_asked read) v.request (sym (ap asked i.doing) ∙ v.acts.asks) in
-        let quiet = read_quiet decode old.trace old.store caches op read v.request (read_stands old h r) asks in
+        let i = is_read old v.call.operation v.call.caches r v.call.acts.found v.call.acts.kept in
+        let turn : v.next ≡ turned old.page decode v.refused (Read read) caches (Some v.call.reply) = v.turns ∙ (ap (λ (d : PlainDoing T). turned old.page decode v.refused d v.call.caches (Some v.call.reply)) i.doing ∙ ap (λ (c : Caches). turned old.page decode v.refused (Read read) c (Some v.call.reply)) i.same) in
+        let left : caches_left v.call.operation.doing v.call.caches v.next.1 ≡ caches_left (Read read) caches v.next.1 = ap (λ (d : PlainDoing T). caches_left d v.call.caches v.next.1) i.doing ∙ ap (λ (c : Caches). caches_left (Read read) c v.next.1) i.same in
+        let middle = effected old op v.call.request v.call.reply v.call.store in
+        let is : new ≡ acted middle op v.call.operation v.next (caches_left (Read read) caches v.next.1) = v.state ∙ ap (λ (c : Caches). acted middle op v.call.operation v.next c) left in
+        let asks = asks_request (read_asked read) v.call.request (sym (ap asked i.doing) ∙ v.call.acts.asks) in
+        let quiet = read_quiet decode old.trace old.store caches op read v.call.request (read_stands old h r) asks in
         subst (λ (s : State T). Outcome decode old op read caches s) (sym is)
-        (replied decode old op v.operation read caches (Some v.reply) v.refused v.next middle v.acts.found i.kept (v.request, asks, v.reaches.serves, v.reaches.honest)
-        (quiet_rows old.trace op old.store.files v.request v.reply quiet) (quiet_files v.request v.reply old.store v.store quiet v.reaches.serves v.reaches.honest) refl turn)
+        (replied decode old op v.call.operation read caches (Some v.call.reply) v.refused v.next middle v.call.acts.found i.kept (v.call.request, asks, v.call.reaches.serves, v.call.reaches.honest)
+        (quiet_rows old.trace op old.store.files v.call.request v.call.reply quiet) (quiet_files v.call.request v.call.reply old.store v.call.store quiet v.call.reaches.serves v.call.reaches.honest) refl turn)
 
     -- a move of a read
     pub moves : (old new : State T) → Moves encode decode get_epoch op old new → Standing old → Reading old op read caches → Outcome decode old op read caches new
@@ -193,7 +193,7 @@ module _ {T : Type 0} (encode : T → List ℕ) (decode : List ℕ → Option T)
   ended_still op old new e m =
       elim m.1 [
         | inl t ↦ asks_runs t.step.operation.doing Look t.step.acts.asks (sym (ap doing_of t.step.acts.found) ∙ e)
-        | inr t ↦ asks_runs t.step.operation.doing (Store t.step.request) t.step.acts.asks (sym (ap doing_of t.step.acts.found) ∙ e)
+        | inr t ↦ asks_runs t.step.call.operation.doing (Store t.step.call.request) t.step.call.acts.asks (sym (ap doing_of t.step.call.acts.found) ∙ e)
       ]
 
   -- where it begins

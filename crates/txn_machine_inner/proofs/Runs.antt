@@ -69,9 +69,9 @@ module _ {T : Type 0} (encode : T → List ℕ) (decode : List ℕ → Option T)
 
   serve_adds : (old : State T) (op : ℕ) (said : PlainTold T) (new : State T) → Served decode old op said new → Stands decode get_epoch old → AddsRows (seen_of old) old.trace old.store.files (events.Serve op) said new.trace new.store.files
   serve_adds old op said new v st =
-      adds_effect (seen_of old) op v.request v.reply old.store v.store old.trace new.trace new.store.files said (seen_at old op v.operation v.acts.found ∙ v.acts.asks) st.know.files.given v.reaches.serves v.reaches.honest (ap (λ (s : State T). s.store.files) v.state)
+      adds_effect (seen_of old) op v.call.request v.call.reply old.store v.call.store old.trace new.trace new.store.files said (seen_at old op v.call.operation v.call.acts.found ∙ v.call.acts.asks) st.know.files.given v.call.reaches.serves v.call.reaches.honest (ap (λ (s : State T). s.store.files) v.state)
       (subst (λ (t : PlainTold T). Tells (told.Went op) op t) (sym v.tells) (tells_answer (told.Went op) op v.next.1))
-      (ap (λ (s : State T). s.trace) v.state ∙ ap (λ more. (old.trace ++ effect_rows op (effect_of old.store.files v.request v.reply)) ++ more) (went_row op v.next.1 ∙ ap answer_row (sym v.tells)))
+      (ap (λ (s : State T). s.trace) v.state ∙ ap (λ more. (old.trace ++ effect_rows op (effect_of old.store.files v.call.request v.call.reply)) ++ more) (went_row op v.next.1 ∙ ap answer_row (sym v.tells)))
 
   look_adds : (old : State T) (op : ℕ) (said : PlainTold T) (new : State T) → Looks decode old op said new → AddsRows (seen_of old) old.trace old.store.files (events.Look op) said new.trace new.store.files
   look_adds old op said new v = (
@@ -85,8 +85,8 @@ module _ {T : Type 0} (encode : T → List ℕ) (decode : List ℕ → Option T)
   fail_adds failures.Loose old op said new v st = ((answers.Refused 2, v.tells), adds_answer op (answers.Refused 2) old.trace new.trace old.store.files new.store.files said v.tells (ap (λ (s : State T). s.trace) v.state) (ap (λ (s : State T). s.store.files) v.state))
   fail_adds failures.After old op said new v st = (
     (answers.Refused 2, v.tells),
-    adds_effect (seen_of old) op v.request v.reply old.store v.store old.trace new.trace new.store.files said (seen_at old op v.operation v.acts.found ∙ v.acts.asks) st.know.files.given v.reaches.serves v.reaches.honest (ap (λ (s : State T). s.store.files) v.state) (inr (answers.Refused 2, v.tells))
-        (ap (λ (s : State T). s.trace) v.state ∙ ap (λ (t : PlainTold T). (old.trace ++ effect_rows op (effect_of old.store.files v.request v.reply)) ++ answer_row t) (sym v.tells)),
+    adds_effect (seen_of old) op v.call.request v.call.reply old.store v.call.store old.trace new.trace new.store.files said (seen_at old op v.call.operation v.call.acts.found ∙ v.call.acts.asks) st.know.files.given v.call.reaches.serves v.call.reaches.honest (ap (λ (s : State T). s.store.files) v.state) (inr (answers.Refused 2, v.tells))
+        (ap (λ (s : State T). s.trace) v.state ∙ ap (λ (t : PlainTold T). (old.trace ++ effect_rows op (effect_of old.store.files v.call.request v.call.reply)) ++ answer_row t) (sym v.tells)),
   )
 
   land_adds : (old : State T) (k : ℕ) (said : PlainTold T) (new : State T) → Lands old k said new → Stands decode get_epoch old → AddsRows (seen_of old) old.trace old.store.files (events.Land k) said new.trace new.store.files

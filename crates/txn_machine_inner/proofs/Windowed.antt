@@ -193,7 +193,7 @@ module _ {T : Type 0} (encode : T → List ℕ) (decode : List ℕ → Option T)
 
   fail_windowed : (failure : Failure) (old : State T) (op : ℕ) (said : PlainTold T) (new : State T) → Fails old op failure said new → Windowed old → Windowed new
   fail_windowed failures.Before old op said new v h = first_windowed false old op said new v h
-  fail_windowed failures.After old op said new v h = subst Windowed (sym v.state) (left_windows old.caches v.operation.client v.caches v.caches v.acts.kept h (λ w. w))
+  fail_windowed failures.After old op said new v h = subst Windowed (sym v.state) (left_windows old.caches v.call.operation.client v.call.caches v.call.caches v.call.acts.kept h (λ w. w))
   fail_windowed failures.Loose old op said new v h = first_windowed true old op said new v h
 
   pub takes_windowed : (old : State T) (event : PlainEvent T) (said : PlainTold T) (new : State T) → Takes encode decode get_epoch old event said new → Windowed old → Windowed new
@@ -203,7 +203,7 @@ module _ {T : Type 0} (encode : T → List ℕ) (decode : List ℕ → Option T)
       subst Windowed (sym v.state) (left_windows old.caches v.operation.client v.caches (caches_left v.operation.doing v.caches v.next.1) v.acts.kept h (left_window v.operation.doing v.caches v.next.1))
   takes_windowed old (events.Serve op) said new t h =
       let v = t.step in
-      subst Windowed (sym v.state) (left_windows old.caches v.operation.client v.caches (caches_left v.operation.doing v.caches v.next.1) v.acts.kept h (left_window v.operation.doing v.caches v.next.1))
+      subst Windowed (sym v.state) (left_windows old.caches v.call.operation.client v.call.caches (caches_left v.call.operation.doing v.call.caches v.next.1) v.call.acts.kept h (left_window v.call.operation.doing v.call.caches v.next.1))
   takes_windowed old (events.Fail op failure) said new t h = fail_windowed failure old op said new t.step h
   takes_windowed old (events.GiveUp op) said new t h =
       let v = t.step in

@@ -66,15 +66,24 @@ module _ {T : Type 0} where
   abbrev pub is_turn : PlainDoing T → PlainDoing T → Bool
   is_turn before after = begins_pass after || (asks_page after && (asks_page before || asks_version before))
 
+-- `does` is what an operation does in a state, whatever the states are
+module _ {S T : Type 0} (does : S → ℕ → PlainDoing T) where
   -- how many passes begin in these states
-  abbrev pub passes : ℕ → List (State T) → ℕ
-  passes op [] = 0
-  passes op (s ∷ states) = (if begins_pass (doing_in s op) then 1 else 0) + passes op states
+  abbrev pub passes_by : ℕ → List S → ℕ
+  passes_by op [] = 0
+  passes_by op (s ∷ states) = (if begins_pass (does s op) then 1 else 0) + passes_by op states
 
   -- how many turns it takes through these states
+  abbrev pub turns_by : ℕ → S → List S → ℕ
+  turns_by op before [] = 0
+  turns_by op before (s ∷ states) = (if is_turn (does before op) (does s op) then 1 else 0) + turns_by op s states
+
+module _ {T : Type 0} where
+  abbrev pub passes : ℕ → List (State T) → ℕ
+  passes = passes_by doing_in
+
   abbrev pub turns : ℕ → State T → List (State T) → ℕ
-  turns op before [] = 0
-  turns op before (s ∷ states) = (if is_turn (doing_in before op) (doing_in s op) then 1 else 0) + turns op s states
+  turns = turns_by doing_in
 
 module _ {T : Type 0} (encode : T → List ℕ) (decode : List ℕ → Option T) (get_epoch : T → ℕ) where
   -- the operation looks, or its request is served

@@ -63,13 +63,7 @@ module _ {T : Type 0} where
   abbrev pub is_write : PlainCall T → Bool
   is_write (calls.Write base value) = true
   is_write (calls.WriteUnchecked base value) = true
-  is_write calls.Read = false
-  is_write (calls.ReadUnchecked id) = false
-  is_write (calls.ReadSeen id) = false
-  is_write (calls.ListIds from to) = false
-  is_write (calls.Delete id) = false
-  is_write (calls.Check id) = false
-  is_write (calls.Advance to) = false
+  is_write _ = false
 
   -- an id that the call reads is a number of 64 bits, as its type says
   abbrev pub FitsWord : PlainCall T → Type 0

@@ -9,14 +9,16 @@ use Rattle.txn_store.specs.declared.request.Reply.{Reply}
 use Rattle.txn_store.specs.declared.request.Reply.TheVariants as replies
 use Rattle.txn_caches.specs.declared.caches.Caches.{Caches}
 use Rattle.txn_history.specs.declared.event.PlainCall.{PlainCall}
+use Rattle.txn_history.specs.declared.event.PlainAnswer.{PlainAnswer}
 use Rattle.txn_history.specs.declared.event.PlainAnswer.TheVariants as answers
 use Rattle.txn_history.specs.declared.event.Failure.{Failure}
 use Rattle.txn_history.specs.declared.event.Failure.TheVariants as failures
-use Rattle.txn_history.specs.Trace.{PlainTold, PlainEvent, PlainRow}
+use Rattle.txn_history.specs.Trace.{PlainTold, PlainEvent}
 use Rattle.txn_history.specs.declared.event.ToldOf.TheVariants as told
 use Rattle.txn_history.specs.declared.event.EventOf.TheVariants as events
 use Rattle.txn_history.specs.declared.event.EventFault.{EventFault}
 use Rattle.txn_history.specs.declared.event.EventFault.TheVariants as faults
+use Rattle.txn_history.specs.declared.trace.RowOf.{RowOf}
 use Rattle.txn_history.specs.declared.trace.RowOf.TheVariants.{Begun}
 use Rattle.txn_history.specs.Lists.{numbered}
 use Rattle.txn_history.specs.Seen.{Ask, Store, Look, Operation as SeenOperation, Seen}
@@ -28,20 +30,21 @@ use Rattle.txn_machine_inner.specs.declared.doing.PlainDoing.TheVariants.{Ended}
 use Rattle.txn_machine_inner.specs.declared.doing.PlainOperation.{PlainOperation}
 use Rattle.txn_machine_inner.specs.Doing.{Next, started, asked, turned, caches_left, ReadsBack, FitsWord}
 
--- All of a world but its codec and its allocator. Each list is in the order of the numbers, from 1 on.
-pub record State (T : Type 0) : Type 0 where
+-- All of a world but its codec and its allocator, whatever its operations, its views, its calls and their answers are. Each list is in the order of the numbers, from 1 on.
+pub record StateOf (O V C A : Type 0) : Type 0 where
   pub clients : ℕ
   -- how many files a page of a listing has at most
   pub page : ℕ
   pub store : StoreState
   -- what each client keeps
   pub caches : List Caches
-  pub operations : List (PlainOperation T)
+  pub operations : List O
+  pub views : V
   -- requests that may still reach the store, each with its operation
   pub loose : List (ℕ × Request)
   -- the operations whose store call failed
   pub failed : List ℕ
-  pub trace : List (PlainRow T)
+  pub trace : List (RowOf C A)
 
 -- the empty store, which gives the tokens 1, 2, 3 and so on
 abbrev pub empty_store : StoreState
@@ -71,10 +74,61 @@ may_change files (requests.Delete path) = if is_some (get files path) then Some 
 abbrev pub effect_of : Files → Request → Reply → Option Request
 effect_of files request reply = if took reply then may_change files request else None
 
+module _ {O V C A : Type 0} where
+  -- a world in which nothing has happened, with these views
+  abbrev pub opening_with : V → ℕ → ℕ → StateOf O V C A
+  opening_with views clients page = record { clients = clients; page = page; store = empty_store; caches = replicate clients no_caches; operations = []; views = views; loose = []; failed = []; trace = [] }
+
+  -- the next operation's number
+  abbrev pub next_op : StateOf O V C A → ℕ
+  next_op s = length s.operations + 1
+
+  -- A request reaches the store, which becomes this: its row, where it changed the files.
+  abbrev pub effected : StateOf O V C A → ℕ → Request → Reply → StoreState → StateOf O V C A
+  effected s op request reply store = record s { store = store; trace = s.trace ++ effect_rows op (effect_of s.store.files request reply) }
+
+  -- what an operation asks for becomes loose, if it is a put or a delete
+  abbrev pub loosened : StateOf O V C A → ℕ → Ask → StateOf O V C A
+  loosened s op ask = record s { loose = s.loose ++ left_loose op (Some ask) }
+
+  -- its store call failed
+  abbrev pub failing : StateOf O V C A → ℕ → StateOf O V C A
+  failing s op = record s { failed = s.failed ++ op ∷ [] }
+
+  -- a request reaches the store, which never fails
+  pub record Reaches (s : StateOf O V C A) (request : Request) (reply : Reply) (store : StoreState) : Type 0 where
+    pub serves : Serves request s.store reply store
+    pub honest : store.failures ≡ 0
+
+-- `see` is what a machine shows of an operation
+module _ {O V C A : Type 0} (see : O → SeenOperation) where
+  abbrev pub seen_by : StateOf O V C A → Seen
+  seen_by s = record { clients = s.clients; operations = map see s.operations; loose = s.loose; failed = s.failed }
+
+  -- an operation that is there and asks for this, and what its client keeps
+  pub record Asking (s : StateOf O V C A) (op : ℕ) (operation : O) (ask : Ask) (caches : Caches) : Type 0 where
+    pub found : numbered s.operations op ≡ Some operation
+    pub asks : (see operation).asks ≡ Some ask
+    pub kept : numbered s.caches (see operation).client ≡ Some caches
+
+  -- An operation's request reaches the store, which replies.
+  pub record CallReaches (s : StateOf O V C A) (op : ℕ) : Type 0 where
+    pub operation : O
+    pub request : Request
+    pub caches : Caches
+    pub acts : Asking s op operation (Store request) caches
+    pub reply : Reply
+    pub store : StoreState
+    pub reaches : Reaches s request reply store
+
+-- A state of the machine of plain calls, which has no views.
+abbrev pub State : Type 0 → Type 0
+State T = StateOf (PlainOperation T) (Unit {0}) (PlainCall T) (PlainAnswer T)
+
 module _ {T : Type 0} where
   -- a world in which nothing has happened
   abbrev pub opening : ℕ → ℕ → State T
-  opening clients page = record { clients = clients; page = page; store = empty_store; caches = replicate clients no_caches; operations = []; loose = []; failed = []; trace = [] }
+  opening = opening_with tt
 
   -- what it shows beside its rows
 
@@ -85,7 +139,7 @@ module _ {T : Type 0} where
   seen_operations operations = map seen_operation operations
 
   abbrev pub seen_of : State T → Seen
-  seen_of s = record { clients = s.clients; operations = seen_operations s.operations; loose = s.loose; failed = s.failed }
+  seen_of = seen_by seen_operation
 
   -- what a step changes
 
@@ -100,18 +154,6 @@ module _ {T : Type 0} where
     caches = slice_set s.caches (operation.client - 1) caches;
     trace = s.trace ++ answer_rows op next.1;
   }
-
-  -- A request reaches the store, which becomes this: its row, where it changed the files.
-  abbrev pub effected : State T → ℕ → Request → Reply → StoreState → State T
-  effected s op request reply store = record s { store = store; trace = s.trace ++ effect_rows op (effect_of s.store.files request reply) }
-
-  -- what an operation asks for becomes loose, if it is a put or a delete
-  abbrev pub loosened : State T → ℕ → Ask → State T
-  loosened s op ask = record s { loose = s.loose ++ left_loose op (Some ask) }
-
-  -- its store call failed
-  abbrev pub failing : State T → ℕ → State T
-  failing s op = record s { failed = s.failed ++ op ∷ [] }
 
   -- an operation that ends with no answer
   abbrev pub given_up : Next T
@@ -131,10 +173,6 @@ module _ {T : Type 0} where
     caches = slice_set s.caches (client - 1) no_caches;
     loose = s.loose ++ all_left_loose client 1 (seen_operations s.operations);
   }
-
-  -- the next operation's number
-  abbrev pub next_op : State T → ℕ
-  next_op s = length s.operations + 1
 
   abbrev pub begun_as : State T → ℕ → PlainCall T → Next T → State T
   begun_as s client call start = record s {
@@ -160,15 +198,8 @@ taken_count (met ∷ rest) = if is_ok met.1 then 1 + taken_count rest else taken
 
 module _ {T : Type 0} where
   -- an operation that is there and asks for this, and what its client keeps
-  pub record Acts (s : State T) (op : ℕ) (operation : PlainOperation T) (ask : Ask) (caches : Caches) : Type 0 where
-    pub found : numbered s.operations op ≡ Some operation
-    pub asks : asked operation.doing ≡ Some ask
-    pub kept : numbered s.caches operation.client ≡ Some caches
-
-  -- a request reaches the store, which never fails
-  pub record Reaches (s : State T) (request : Request) (reply : Reply) (store : StoreState) : Type 0 where
-    pub serves : Serves request s.store reply store
-    pub honest : store.failures ≡ 0
+  abbrev pub Acts : State T → ℕ → PlainOperation T → Ask → Caches → Type 0
+  Acts = Asking seen_operation
 
   -- A failure before its effect, or of a request that becomes loose: nothing reaches the store.
   pub record FailsFirst (old : State T) (op : ℕ) (said : PlainTold T) (looses : Bool) (new : State T) : Type 0 where
@@ -181,15 +212,9 @@ module _ {T : Type 0} where
 
   -- A failure after its effect: the request is served, and its reply is lost.
   pub record FailsAfter (old : State T) (op : ℕ) (said : PlainTold T) (new : State T) : Type 0 where
-    pub operation : PlainOperation T
-    pub request : Request
-    pub caches : Caches
-    pub acts : Acts old op operation (Store request) caches
-    pub reply : Reply
-    pub store : StoreState
-    pub reaches : Reaches old request reply store
+    pub call : CallReaches seen_operation old op
     pub tells : said ≡ told.Answered op (answers.Refused 2)
-    pub state : new ≡ acted (failing (effected old op request reply store) op) op operation told_failure caches
+    pub state : new ≡ acted (failing (effected old op call.request call.reply call.store) op) op call.operation told_failure call.caches
 
   -- a failure by its kind
   abbrev pub Fails : State T → ℕ → Failure → PlainTold T → State T → Type 0
@@ -237,19 +262,13 @@ module _ {T : Type 0} (decode : List ℕ → Option T) where
 
   -- A serve: the operation's request is served by the store, and the operation takes the reply.
   pub record Served (old : State T) (op : ℕ) (said : PlainTold T) (new : State T) : Type 0 where
-    pub operation : PlainOperation T
-    pub request : Request
-    pub caches : Caches
-    pub acts : Acts old op operation (Store request) caches
-    pub reply : Reply
-    pub store : StoreState
-    pub reaches : Reaches old request reply store
+    pub call : CallReaches seen_operation old op
     -- a growth of the operation was refused
     pub refused : Bool
     pub next : Next T
-    pub turns : next ≡ turned old.page decode refused operation.doing caches (Some reply)
+    pub turns : next ≡ turned old.page decode refused call.operation.doing call.caches (Some call.reply)
     pub tells : said ≡ told_of (told.Went op) op next.1
-    pub state : new ≡ acted (effected old op request reply store) op operation next (caches_left operation.doing caches next.1)
+    pub state : new ≡ acted (effected old op call.request call.reply call.store) op call.operation next (caches_left call.operation.doing call.caches next.1)
 
 module _ {T : Type 0} (encode : T → List ℕ) (decode : List ℕ → Option T) where
   -- A begin: its call's operation starts.

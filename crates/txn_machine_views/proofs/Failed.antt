@@ -90,13 +90,4 @@ module _ {T : Type 0} (decode : List ℕ → Option T) (get_epoch : T → ℕ) (
   pub fail_keeps : (s after : Layer T) → Stands decode get_epoch set_epoch s → FailsStep s after → Stands decode get_epoch set_epoch after
   fail_keeps s after st f =
       subst (Stands decode get_epoch set_epoch) (sym f.new)
-      (record {
-        good = λ k row e. row_still decode get_epoch s.failed f.op set_epoch (take k s.rows) row (st.good k row e);
-        count = st.count;
-        views = st.views;
-        ops = st.ops;
-        asked = st.asked;
-        unseen = st.unseen;
-        begun = st.begun;
-        fresh = st.fresh;
-      })
+      (record { good = λ k row e. row_still decode get_epoch s.failed f.op set_epoch (take k s.rows) row (st.good k row e); count = st.count; views = st.views; ops = st.ops; asked = st.asked; unseen = st.unseen; begun = st.begun; fresh = st.fresh })

@@ -65,16 +65,7 @@ module _ {C A D B T : Type 0} (decode : List ℕ → Option T) (owner : ℕ → 
         let m = tied.makers e.place o e.request e.effect in (
           m.maker,
           m.own,
-          record {
-            place = m.place;
-            request = e.request;
-            bytes = e.bytes;
-            effect = m.effect;
-            creates = e.creates;
-            begun = m.begun;
-            first = subst (λ (vs : List Version). has_id vs n ≡ false) (same_versions owner (take m.place fine) (take e.place rows) m.alike) e.first;
-            reads = e.reads;
-          },
+          record { place = m.place; request = e.request; bytes = e.bytes; effect = m.effect; creates = e.creates; begun = m.begun; first = subst (λ (vs : List Version). has_id vs n ≡ false) (same_versions owner (take m.place fine) (take e.place rows) m.alike) e.first; reads = e.reads },
         )
 
     pub overtaken_of_owner : (base : Option ℕ) → PastFenced → Overtaken decode fine op base → Overtaken decode rows (owner op) base

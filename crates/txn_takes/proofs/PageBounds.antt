@@ -14,7 +14,8 @@ use Rattle.txn_drivers.proofs.NextPages.{next_page, has_pages}
 use Rattle.txn_history.specs.declared.event.Call.{Call}
 use Rattle.txn_history.specs.Trace.{Event, Told}
 use Rattle.txn_machine.specs.Alone.{IsReading, ReadsAlone, turns}
-use Rattle.txn_machine.specs.Machine.{State, opening, next_op, Runs}
+use Rattle.txn_machine_inner.specs.Machine.{next_op}
+use Rattle.txn_machine.specs.Machine.{State, opening, Runs}
 use Rattle.txn_machine.proofs.Mirroring.{turns_at_rest}
 use Rattle.txn_machine.proofs.Owned.{run_same}
 use Rattle.txn_machine.proofs.Reached.{run_reaches}

@@ -5,7 +5,8 @@ ghost use Rattle.txn_drivers.specs.PageCount.{pages_below};
 ghost use Rattle.txn_history.specs.declared.event.Call.{Call};
 ghost use Rattle.txn_history.specs.Trace.{Event, Told};
 ghost use Rattle.txn_machine.specs.Alone.{IsReading, ReadsAlone, turns};
-ghost use Rattle.txn_machine.specs.Machine.{State, opening, next_op, Runs};
+ghost use Rattle.txn_machine_inner.specs.Machine.{next_op};
+ghost use Rattle.txn_machine.specs.Machine.{State, opening, Runs};
 
 use txn_types::codec::ObjectCodec;
 use txn_types::epoch::EpochField;

@@ -44,7 +44,7 @@ use Rattle.txn_machine_inner.specs.declared.doing.PlainDoing.{PlainDoing}
 use Rattle.txn_machine_inner.specs.declared.doing.PlainDoing.TheVariants.{Write, WriteUnchecked, Read, ReadUnchecked, ReadSeen, ListIds, Delete, Check, Advance, Ended}
 use Rattle.txn_machine_inner.specs.Doing as plain
 use Rattle.txn_machine_inner.specs.Doing.{next_of, or_no_memory, write_answer, read_answer, value_answer, ids_answer, done_answer, read_next, value_next, seen_next, ids_next, advance_next}
-use Rattle.txn_machine_inner.specs.Machine.{effect_of}
+use Rattle.txn_machine_inner.specs.Machine.{effect_of, effected, loosened, failing, next_op}
 use Rattle.txn_machine.specs.declared.doing.Doing.{Doing}
 use Rattle.txn_machine.specs.declared.doing.Doing.TheVariants as does
 use Rattle.txn_machine.specs.declared.doing.Operation.{Operation}
@@ -52,7 +52,7 @@ use Rattle.txn_machine.specs.declared.doing.Ending.{Ending}
 use Rattle.txn_machine.specs.declared.doing.Ending.TheVariants as endings
 use Rattle.txn_machine.specs.Doing.{Next, asked, ended, refused, plain_next, view_next, turned, started, caches_left, answer_in, IsClaimReading, IsMadeSo, ReadsBack, FitsWord, MayLack}
 use Rattle.txn_machine_views.specs.Parts.{is_claim_call}
-use Rattle.txn_machine.specs.Machine.{State, seen_operation, seen_operations, seen_of, with_doing, answer_of, answered, acted, effected, loosened, failing, given_up, let_go, views_changed, views_after, views_taken, next_op, begun_as, view_now, FailsFirst, FailsAfter, GivesUp, Lands, Looks, Served, Begins}
+use Rattle.txn_machine.specs.Machine.{State, seen_operation, seen_operations, seen_of, with_doing, answer_of, answered, acted, given_up, let_go, views_changed, views_after, views_taken, begun_as, view_now, FailsFirst, FailsAfter, GivesUp, Lands, Looks, Served, Begins}
 use Rattle.txn_clients.specs.declared.operations.Usage.{Usage}
 use Rattle.txn_clients.specs.Operations.{request_of, loose_of, asked_of, asked_by, usage_of, TakesReply}
 use Rattle.txn_clients.specs.Views.{seen_with}
@@ -262,13 +262,15 @@ module _ {T : Type 0} (encode : T → List ℕ) (decode : List ℕ → Option T)
       let answer = answered_as (length old.views) o of said t.next.1 same t.ends in
       let left : new.caches ≡ set old.caches (o.client - 1) (caches_left o.doing v.keeps t.next.1) = v.leaves ∙ ap (set old.caches (o.client - 1)) t.leaves in
       record {
-        operation = o;
-        request = request;
-        caches = v.keeps;
-        acts = record { found = t.found; asks = sym (ap asked_of t.found) ∙ asks; kept = v.kept };
-        reply = reply;
-        store = new.store;
-        reaches = record { serves = serves; honest = honest };
+        call = record {
+          operation = o;
+          request = request;
+          caches = v.keeps;
+          acts = record { found = t.found; asks = sym (ap asked_of t.found) ∙ asks; kept = v.kept };
+          reply = reply;
+          store = new.store;
+          reaches = record { serves = serves; honest = honest };
+        };
         next = t.next;
         turns = t.turns;
         tells = is ∙ ap (told_of (told.Went op) op) answer;
@@ -395,7 +397,7 @@ module _ {T : Type 0} where
   pub failed_after : (old middle new : State T) (op : ℕ) (request : Request) (reply : Reply) (tells : Told T) → asked_by old.operations op ≡ Some (Store request) → Serves request old.store reply middle.store → middle.store.failures ≡ 0 → lacks_memory reply ≡ false → middle ≡ effected old op request reply middle.store → ToldFailure middle op tells new → FailsAfter old op tells new
   failed_after old middle new op request reply tells asks serves honest answered e v =
       let w = subst (λ (s : State T). ToldFailure s op tells new) e v in
-      record { operation = w.operation; request = request; caches = w.caches; acts = record { found = w.found; asks = sym (ap asked_of w.found) ∙ asks; kept = w.kept }; reply = reply; store = middle.store; reaches = record { serves = serves; honest = honest }; answered = answered; tells = w.tells; state = w.state }
+      record { call = record { operation = w.operation; request = request; caches = w.caches; acts = record { found = w.found; asks = sym (ap asked_of w.found) ∙ asks; kept = w.kept }; reply = reply; store = middle.store; reaches = record { serves = serves; honest = honest } }; answered = answered; tells = w.tells; state = w.state }
 
 -- what an operation asks for, as it is seen
 pub asks_seen : {T : Type 0} (operations : List (Operation T)) (op : ℕ) → asked_by operations op ≡ asks_in (numbered (seen_operations operations) op)

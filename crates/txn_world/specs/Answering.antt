@@ -14,7 +14,8 @@ use Rattle.txn_history.specs.Trace.{Told}
 use Rattle.txn_history.specs.Allowed.{is_busy}
 use Rattle.txn_machine.specs.declared.doing.Operation.{Operation}
 use Rattle.txn_machine.specs.Doing.{asked, refused, IsReply, InRange}
-use Rattle.txn_machine.specs.Machine.{State, used_by, acted, failing, seen_of}
+use Rattle.txn_machine_inner.specs.Machine.{failing}
+use Rattle.txn_machine.specs.Machine.{State, used_by, acted, seen_of}
 use Rattle.txn_clients.specs.Views.{is_used}
 
 -- The store's reply to what an operation asks for is of the kind that it takes, a look is taken where it is asked for, no

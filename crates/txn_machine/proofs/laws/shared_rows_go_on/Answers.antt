@@ -1,28 +1,15 @@
-use Rattle.txn_machine.proofs.AddedRows.{added_rows_or_lacking}
-use Rattle.txn_machine.proofs.Owned.{run_same, run_owned}
-use Rattle.txn_machine.proofs.Reached.{run_reaches_or_lacking, reached_stored, reached_goes_on_or_lacking}
+use Rattle.txn_machine.proofs.Owned.{run_keeps_clients}
+use Rattle.txn_machine.proofs.Reached.{run_reaches_or_lacking, reached_stored, reached_event}
 use Rattle.txn_machine.proofs.laws.shared_rows_go_on.Goals as goal
 
-pub returns-clause-added : goal.returns-clause-added
-returns-clause-added g c clients page taken old event said new room runs takes =
-    added_rows_or_lacking _ _ _ _ old event said new (run_reaches_or_lacking _ _ _ _ clients page taken old room runs) takes
-
-pub returns-clause-beside : goal.returns-clause-beside
-returns-clause-beside g c clients page taken old event said new room runs takes =
-    reached_goes_on_or_lacking _ _ _ _ old event said new (run_reaches_or_lacking _ _ _ _ clients page taken old room runs) takes
+pub returns-clause-clients : goal.returns-clause-clients
+returns-clause-clients g c clients page taken state runs =
+    run_keeps_clients _ _ _ _ clients page taken state runs
 
 pub returns-clause-stored : goal.returns-clause-stored
 returns-clause-stored g c clients page taken state room runs =
     reached_stored _ _ _ _ state (run_reaches_or_lacking _ _ _ _ clients page taken state room runs)
 
-pub returns-clause-clients : goal.returns-clause-clients
-returns-clause-clients g c clients page taken state runs =
-    (run_same _ _ _ _ clients page taken state runs).0
-
-pub returns-clause-page : goal.returns-clause-page
-returns-clause-page g c clients page taken state runs =
-    (run_same _ _ _ _ clients page taken state runs).1
-
-pub returns-clause-owners : goal.returns-clause-owners
-returns-clause-owners g c clients page taken state runs number used there =
-    run_owned _ _ _ _ clients page taken state runs number used there
+pub returns-clause-events : goal.returns-clause-events
+returns-clause-events g c clients page taken old event said new room runs takes =
+    reached_event _ _ _ _ old event said new (run_reaches_or_lacking _ _ _ _ clients page taken old room runs) takes

@@ -1,6 +1,6 @@
 use Rattle.std.proofs.Common.{refl, ap, ◌∙◌}
 use Rattle.txn_store.specs.Memory.{searched_state}
-use Rattle.txn_machine.specs.Machine.{effected}
+use Rattle.txn_machine_inner.specs.Machine.{effected}
 use Rattle.txn_clients.specs.Operations.{asked_by, request_of}
 use Rattle.txn_world.specs.Shown.{shown}
 use Rattle.txn_world.proofs.Stepping.{request_asked, asks_some, same_state, failed_after}
