@@ -24,28 +24,29 @@ use Rattle.txn_history.specs.Trace.{Row, Told}
 use Rattle.txn_history.specs.Calls.{view_used}
 use Rattle.txn_machine.specs.declared.doing.Operation.{Operation}
 use Rattle.txn_machine.specs.Doing.{ended, refused, asked, started, caches_left, Turns}
-use Rattle.txn_machine.specs.Machine.{State, opening, seen_view, used_by, seen_operations, acted, given_up, crashed, answered, begun_as, TakesOrLacks, RunsOrLacks, IsReached}
+use Rattle.txn_machine.specs.Machine.{State, opening, seen_view, used_by, seen_operations, acted, given_up, crashed, answered, begun_as, Acts, TakesOrLacks, RunsOrLacks, IsReached}
 use Rattle.txn_machine.proofs.Busy.{seen_asks}
 use Rattle.txn_machine.proofs.Runs.{runs_more_or_lacking}
 use Rattle.txn_journals.specs.declared.rows.Receipt.{Receipt}
+use Rattle.txn_journals.specs.declared.rows.Act.{Act}
 use Rattle.txn_journals.specs.declared.rows.Act.TheVariants as acts
 use Rattle.txn_journals.specs.declared.rows.Left.{Left}
 use Rattle.txn_journals.specs.declared.rows.Step.{Step}
 use Rattle.txn_journals.specs.declared.rows.Step.TheVariants as steps
 use Rattle.txn_journals.specs.declared.rows.JournalRow.{JournalRow}
-use Rattle.txn_journals.specs.Parts.{Part, answer_in}
+use Rattle.txn_journals.specs.Parts.{Part, answer_in, turned_with}
 use Rattle.txn_journals.specs.Journals.{Begins, TakesTurn, FailsAt, LacksAt, GivesUp, IsKilled}
 use Rattle.txn_journals.specs.Logs.{IsLog, files_of}
 use Rattle.txn_journals.specs.Numbers.{count, number}
 use Rattle.txn_journals.specs.Merged.{Did, Merged, log_of, begins_of, views_of, with_view}
-use Rattle.txn_journals.specs.Traces.{named_call, told_in, next_in, op_in, loose_of, trace_of, taken_of}
+use Rattle.txn_journals.specs.Traces.{named_call, told_in, next_in, op_in, loose_of, trace_of, failed_of, event_in, tells_in, taken_of}
 use Rattle.txn_journals.proofs.Numbers.{count_other, IsWithin}
 use Rattle.txn_journals.proofs.Operations.{named_op, op_within}
 use Rattle.txn_journals.proofs.Files.{log_files}
 use Rattle.txn_journals.proofs.Calls.{reads_named, starts_named}
 use Rattle.txn_journals.proofs.Calls as by_client
 use Rattle.txn_journals.proofs.Ties.{TiedTo, effected_tied, turn_answer, turn_own, turn_other, turn_size, failing_tied, left_own, left_other, left_size}
-use Rattle.txn_journals.proofs.Lefts.{lefts_begin, lefts_look, lefts_lacks, lefts_got, lefts_given, lefts_failed, lefts_killed}
+use Rattle.txn_journals.proofs.Lefts.{AllLeft, lefts_begin, lefts_look, lefts_lacks, lefts_got, lefts_given, lefts_failed, lefts_killed}
 use Rattle.txn_journals.proofs.Killing.{killed_own, killed_other, killed_loose, killed_within}
 use Rattle.txn_journals.proofs.Begun.{some_client, uses_within, now_same, allowed}
 use Rattle.txn_journals.proofs.Begins.{begun_answer, begun_own, begun_other, begun_size, begun_views_size}
@@ -262,10 +263,13 @@ module _ {T : Type 0} (page : ℕ) (encode : T → List ℕ) (decode : List ℕ 
     abbrev left_step : Step T
     left_step = steps.Act k (acts.GiveUp left)
 
+    left_runs : RunsOrLacks encode decode get_epoch set_epoch (opening clients page) (taken_of (Did client (row_of page encode decode get_epoch set_epoch left_step None) ∷ m)) left_now
+    left_runs = runs_more_or_lacking encode decode get_epoch set_epoch (opening clients page) (taken_of m) s (events.GiveUp left_n) (told.GaveUp left_n) left_now g.runs left_takes
+
     left_stage : Stage page encode decode get_epoch set_epoch clients (Did client (row_of page encode decode get_epoch set_epoch left_step None) ∷ m) parts store left_now
     left_stage =
         record {
-          runs = runs_more_or_lacking encode decode get_epoch set_epoch (opening clients page) (taken_of m) s (events.GiveUp left_n) (told.GaveUp left_n) left_now g.runs left_takes;
+          runs = left_runs;
           clients_is = g.clients_is;
           page_is = g.page_is;
           trace = g.trace;
@@ -284,71 +288,82 @@ module _ {T : Type 0} (page : ℕ) (encode : T → List ℕ) (decode : List ℕ 
     pub left_more : (s2 : State T) × Stage page encode decode get_epoch set_epoch clients (Did client (row_of page encode decode get_epoch set_epoch left_step answer) ∷ m) parts store s2
     left_more = (left_now, subst (λ (a : Option (Answer T)). Stage page encode decode get_epoch set_epoch clients (Did client (row_of page encode decode get_epoch set_epoch left_step a) ∷ m) parts store left_now) (sym v.tells) left_stage)
 
+  -- A step by which an operation ends refused, with its caches as they were: this is loose then, and these operations have failed.
+
+  module _ (k : ℕ) (o : Operation T) (found : numbered part.operations k ≡ Some o) (request : Request) (asks : asked o.doing ≡ Some (Store request)) (act : Act) (refusal : ℕ) (loose : List (ℕ × Request)) (failed : List ℕ) where
+    abbrev end_n : ℕ
+    end_n = number begins client k
+
+    abbrev end_op : Operation T
+    end_op = op' k o found (Store request) asks
+
+    abbrev end_first : State T
+    end_first = record s { loose = loose; failed = failed }
+
+    abbrev end_now : State T
+    end_now = acted end_first end_n end_op (refused refusal) part.caches
+
+    abbrev end_answer : Option (Answer T)
+    end_answer = answer_in part o (refused refusal)
+
+    abbrev end_list : Merged T
+    end_list = Did client (row_of page encode decode get_epoch set_epoch (steps.Act k act) end_answer) ∷ m
+
+    end_acts : Acts s end_n end_op (Store request) part.caches
+    end_acts = record { found = there k o found (Store request) asks; asks = asks; kept = kept_by k o found (Store request) asks }
+
+    end_stage : TakesOrLacks encode decode get_epoch set_epoch s (event_in m client (steps.Act k act)) (tells_in m client (steps.Act k act) end_answer) end_now → end_now.trace ≡ trace_of end_list → failed ≡ failed_of end_list → loose ≡ loose_of end_list → AllLeft end_list →
+        ((d : ℕ) → TiedTo decode get_epoch end_first d (was d) begins views) → parts client ≡ turned_with get_epoch part k o (refused refusal) part.caches → Stage page encode decode get_epoch set_epoch clients end_list parts store end_now
+    end_stage takes trace failed_is loose_is lefts ties part_is =
+        let runs = runs_more_or_lacking encode decode get_epoch set_epoch (opening clients page) (taken_of m) s (event_in m client (steps.Act k act)) (tells_in m client (steps.Act k act) end_answer) end_now g.runs takes in
+        let good = law clients page (taken_of end_list) end_now room runs in
+        let one = some k o found (Store request) asks in
+        record {
+          runs = runs;
+          clients_is = g.clients_is;
+          page_is = g.page_is;
+          trace = trace;
+          failed = failed_is;
+          loose = loose_is;
+          lefts = lefts;
+          store_is = g.store_is;
+          all_operations = Rattle.std.proofs.lemmas.List.length-set s.operations (end_n - 1) (Rattle.txn_machine.specs.Machine.doing_next end_op ended) ∙ g.all_operations;
+          all_views = turn_size decode get_epoch set_epoch failed end_first client part begins views g.all_views (ties client) k o found (refused refusal) part.caches one;
+          above = g.above;
+          tied = both page encode decode get_epoch set_epoch (λ d. TiedTo decode get_epoch end_now d (parts d) begins (with_view client end_answer views)) client
+              (subst (λ (p : Part T). TiedTo decode get_epoch end_now client p begins (with_view client end_answer views)) (sym part_is) (turn_own decode get_epoch set_epoch failed end_first client part begins views g.all_views (ties client) k o found (refused refusal) part.caches one good))
+              (λ d ne. subst (λ (p : Part T). TiedTo decode get_epoch end_now d p begins (with_view client end_answer views)) (same d ne) (turn_other decode get_epoch set_epoch failed end_first client part begins views g.all_views (ties client) k o found (refused refusal) part.caches one d (was d) ne (ties d)));
+        }
+
   -- a failure
 
   module _ (k : ℕ) (request : Request) (answer : Option (Answer T)) (v : FailsAt get_epoch part k request answer (parts client)) where
     abbrev fail_n : ℕ
     fail_n = number begins client k
 
-    abbrev fail_op : Operation T
-    fail_op = op' k v.operation v.found (Store request) v.asks
-
     abbrev fail_first : State T
     fail_first = failing (loosened s fail_n (Store request)) fail_n
 
     abbrev fail_now : State T
-    fail_now = acted fail_first fail_n fail_op (refused 2) part.caches
+    fail_now = end_now k v.operation v.found request v.asks (acts.Fails request) 2 fail_first.loose fail_first.failed
 
     abbrev fail_answer : Option (Answer T)
     fail_answer = answer_in part v.operation (refused 2)
 
-    t2 : (d : ℕ) → TiedTo decode get_epoch fail_first d (was d) begins views
-    t2 d = failing_tied decode get_epoch s fail_n (Store request) d (was d) begins views (g.tied d)
-
-    fail_one : 1 ≤ client
-    fail_one = some k v.operation v.found (Store request) v.asks
-
     abbrev fail_step : Step T
     fail_step = steps.Act k (acts.Fails request)
 
-    abbrev fail_told : Told T
-    fail_told = told_of (told.Went fail_n) fail_n (told_in m client fail_answer)
-
-    fail_takes : TakesOrLacks encode decode get_epoch set_epoch s (events.Fail fail_n failures.Loose) fail_told fail_now
+    fail_takes : TakesOrLacks encode decode get_epoch set_epoch s (events.Fail fail_n failures.Loose) (told_of (told.Went fail_n) fail_n (told_in m client fail_answer)) fail_now
     fail_takes = record {
       allowed = ap (ask_fault true) (asks_there k v.operation v.found (Store request) v.asks);
-      step = record {
-        operation = fail_op;
-        request = request;
-        caches = part.caches;
-        acts = record { found = there k v.operation v.found (Store request) v.asks; asks = v.asks; kept = kept_by k v.operation v.found (Store request) v.asks };
-        tells = refl;
-        state = refl;
-      };
+      step = record { operation = op' k v.operation v.found (Store request) v.asks; request = request; caches = part.caches; acts = end_acts k v.operation v.found request v.asks (acts.Fails request) 2 fail_first.loose fail_first.failed; tells = refl; state = refl };
     }
-
-    fail_runs : RunsOrLacks encode decode get_epoch set_epoch (opening clients page) (taken_of (Did client (row_of page encode decode get_epoch set_epoch fail_step fail_answer) ∷ m)) fail_now
-    fail_runs = runs_more_or_lacking encode decode get_epoch set_epoch (opening clients page) (taken_of m) s (events.Fail fail_n failures.Loose) fail_told fail_now g.runs fail_takes
 
     fail_stage : Stage page encode decode get_epoch set_epoch clients (Did client (row_of page encode decode get_epoch set_epoch fail_step fail_answer) ∷ m) parts store fail_now
     fail_stage =
-        let good = law clients page (taken_of (Did client (row_of page encode decode get_epoch set_epoch fail_step fail_answer) ∷ m)) fail_now room fail_runs in
-        record {
-          runs = fail_runs;
-          clients_is = g.clients_is;
-          page_is = g.page_is;
-          trace = ap (λ (rows : List (Row T)). rows ++ answer_rows fail_n (told_in m client fail_answer)) g.trace;
-          failed = ap (λ (ops : List ℕ). ops ++ fail_n ∷ []) g.failed;
-          loose = ap (λ (rows : List (ℕ × Request)). rows ++ as_loose fail_n (may_be_loose (Store request))) g.loose;
-          lefts = lefts_failed client k request fail_answer m (op_within s.operations part.operations client begins views t.ops k v.operation v.found) g.lefts;
-          store_is = g.store_is;
-          all_operations = Rattle.std.proofs.lemmas.List.length-set s.operations (fail_n - 1) (Rattle.txn_machine.specs.Machine.doing_next fail_op ended) ∙ g.all_operations;
-          all_views = turn_size decode get_epoch set_epoch fail_now.failed fail_first client part begins views g.all_views (t2 client) k v.operation v.found (refused 2) part.caches fail_one;
-          above = g.above;
-          tied = both page encode decode get_epoch set_epoch (λ d. TiedTo decode get_epoch fail_now d (parts d) begins (with_view client fail_answer views)) client
-              (subst (λ (p : Part T). TiedTo decode get_epoch fail_now client p begins (with_view client fail_answer views)) (sym v.part) (turn_own decode get_epoch set_epoch fail_now.failed fail_first client part begins views g.all_views (t2 client) k v.operation v.found (refused 2) part.caches fail_one good))
-              (λ d ne. subst (λ (p : Part T). TiedTo decode get_epoch fail_now d p begins (with_view client fail_answer views)) (same d ne) (turn_other decode get_epoch set_epoch fail_now.failed fail_first client part begins views g.all_views (t2 client) k v.operation v.found (refused 2) part.caches fail_one d (was d) ne (t2 d)));
-        }
+        end_stage k v.operation v.found request v.asks (acts.Fails request) 2 fail_first.loose fail_first.failed fail_takes (ap (λ (rows : List (Row T)). rows ++ answer_rows fail_n (told_in m client fail_answer)) g.trace) (ap (λ (ops : List ℕ). ops ++ fail_n ∷ []) g.failed)
+        (ap (λ (rows : List (ℕ × Request)). rows ++ as_loose fail_n (may_be_loose (Store request))) g.loose) (lefts_failed client k request fail_answer m (op_within s.operations part.operations client begins views t.ops k v.operation v.found) g.lefts)
+        (λ d. failing_tied decode get_epoch s fail_n (Store request) d (was d) begins views (g.tied d)) v.part
 
     pub fail_more : (s2 : State T) × Stage page encode decode get_epoch set_epoch clients (Did client (row_of page encode decode get_epoch set_epoch fail_step answer) ∷ m) parts store s2
     fail_more = (fail_now, subst (λ (a : Option (Answer T)). Stage page encode decode get_epoch set_epoch clients (Did client (row_of page encode decode get_epoch set_epoch fail_step a) ∷ m) parts store fail_now) (sym v.tells) fail_stage)
@@ -359,62 +374,24 @@ module _ {T : Type 0} (page : ℕ) (encode : T → List ℕ) (decode : List ℕ 
     abbrev lack_n : ℕ
     lack_n = number begins client k
 
-    abbrev lack_op : Operation T
-    lack_op = op' k v.operation v.found (Store v.request) v.asks
-
     abbrev lack_now : State T
-    lack_now = acted s lack_n lack_op (refused 9) part.caches
+    lack_now = end_now k v.operation v.found v.request v.asks acts.Lacks 9 s.loose s.failed
 
     abbrev lack_answer : Option (Answer T)
     lack_answer = answer_in part v.operation (refused 9)
 
-    lack_one : 1 ≤ client
-    lack_one = some k v.operation v.found (Store v.request) v.asks
-
-    abbrev lack_step : Step T
-    lack_step = steps.Act k acts.Lacks
-
-    abbrev lack_told : Told T
-    lack_told = told_of (told.Went lack_n) lack_n (told_in m client lack_answer)
-
-    lack_takes : TakesOrLacks encode decode get_epoch set_epoch s (events.Serve lack_n) lack_told lack_now
+    lack_takes : TakesOrLacks encode decode get_epoch set_epoch s (events.Serve lack_n) (told_of (told.Went lack_n) lack_n (told_in m client lack_answer)) lack_now
     lack_takes = record {
       allowed = ap (ask_fault true) (asks_there k v.operation v.found (Store v.request) v.asks);
-      step = inr (record {
-        operation = lack_op;
-        request = v.request;
-        caches = part.caches;
-        acts = record { found = there k v.operation v.found (Store v.request) v.asks; asks = v.asks; kept = kept_by k v.operation v.found (Store v.request) v.asks };
-        tells = refl;
-        state = refl;
-      });
+      step = inr (record { operation = op' k v.operation v.found (Store v.request) v.asks; request = v.request; caches = part.caches; acts = end_acts k v.operation v.found v.request v.asks acts.Lacks 9 s.loose s.failed; tells = refl; state = refl });
     }
 
-    lack_runs : RunsOrLacks encode decode get_epoch set_epoch (opening clients page) (taken_of (Did client (row_of page encode decode get_epoch set_epoch lack_step lack_answer) ∷ m)) lack_now
-    lack_runs = runs_more_or_lacking encode decode get_epoch set_epoch (opening clients page) (taken_of m) s (events.Serve lack_n) lack_told lack_now g.runs lack_takes
-
-    lack_stage : Stage page encode decode get_epoch set_epoch clients (Did client (row_of page encode decode get_epoch set_epoch lack_step lack_answer) ∷ m) parts store lack_now
+    lack_stage : Stage page encode decode get_epoch set_epoch clients (Did client (row_of page encode decode get_epoch set_epoch (steps.Act k acts.Lacks) lack_answer) ∷ m) parts store lack_now
     lack_stage =
-        let good = law clients page (taken_of (Did client (row_of page encode decode get_epoch set_epoch lack_step lack_answer) ∷ m)) lack_now room lack_runs in
-        record {
-          runs = lack_runs;
-          clients_is = g.clients_is;
-          page_is = g.page_is;
-          trace = ap (λ (rows : List (Row T)). rows ++ answer_rows lack_n (told_in m client lack_answer)) g.trace;
-          failed = g.failed;
-          loose = g.loose;
-          lefts = lefts_lacks client k lack_answer m g.lefts;
-          store_is = g.store_is;
-          all_operations = Rattle.std.proofs.lemmas.List.length-set s.operations (lack_n - 1) (Rattle.txn_machine.specs.Machine.doing_next lack_op ended) ∙ g.all_operations;
-          all_views = turn_size decode get_epoch set_epoch s.failed s client part begins views g.all_views t k v.operation v.found (refused 9) part.caches lack_one;
-          above = g.above;
-          tied = both page encode decode get_epoch set_epoch (λ d. TiedTo decode get_epoch lack_now d (parts d) begins (with_view client lack_answer views)) client
-              (subst (λ (p : Part T). TiedTo decode get_epoch lack_now client p begins (with_view client lack_answer views)) (sym v.part) (turn_own decode get_epoch set_epoch s.failed s client part begins views g.all_views t k v.operation v.found (refused 9) part.caches lack_one good))
-              (λ d ne. subst (λ (p : Part T). TiedTo decode get_epoch lack_now d p begins (with_view client lack_answer views)) (same d ne) (turn_other decode get_epoch set_epoch s.failed s client part begins views g.all_views t k v.operation v.found (refused 9) part.caches lack_one d (was d) ne (g.tied d)));
-        }
+        end_stage k v.operation v.found v.request v.asks acts.Lacks 9 s.loose s.failed lack_takes (ap (λ (rows : List (Row T)). rows ++ answer_rows lack_n (told_in m client lack_answer)) g.trace) g.failed g.loose (lefts_lacks client k lack_answer m g.lefts) g.tied v.part
 
-    pub lack_more : (s2 : State T) × Stage page encode decode get_epoch set_epoch clients (Did client (row_of page encode decode get_epoch set_epoch lack_step answer) ∷ m) parts store s2
-    lack_more = (lack_now, subst (λ (a : Option (Answer T)). Stage page encode decode get_epoch set_epoch clients (Did client (row_of page encode decode get_epoch set_epoch lack_step a) ∷ m) parts store lack_now) (sym v.tells) lack_stage)
+    pub lack_more : (s2 : State T) × Stage page encode decode get_epoch set_epoch clients (Did client (row_of page encode decode get_epoch set_epoch (steps.Act k acts.Lacks) answer) ∷ m) parts store s2
+    lack_more = (lack_now, subst (λ (a : Option (Answer T)). Stage page encode decode get_epoch set_epoch clients (Did client (row_of page encode decode get_epoch set_epoch (steps.Act k acts.Lacks) a) ∷ m) parts store lack_now) (sym v.tells) lack_stage)
 
   -- a kill
 

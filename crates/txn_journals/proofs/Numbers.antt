@@ -1,6 +1,8 @@
 -- Numbers of what clients count by themselves.
-use Rattle.std.proofs.Common.{◌≡◌, ◌≢◌, ℕ, ◌+◌, ◌<◌, ◌≤◌, List, [], ◌∷◌, length, ◌==◌, nat_lt, false, ◌⊎◌, inl, inr, refl, sym, ◌∙◌, ap, arith}
+use Rattle.std.proofs.Common.{◌≡◌, ◌≢◌, ℕ, ◌+◌, ◌-◌, ◌<◌, ◌≤◌, List, [], ◌∷◌, length, set, Some, ◌==◌, nat_lt, false, ◌⊎◌, inl, inr, refl, sym, ◌∙◌, ap, arith}
 use Rattle.std.proofs.lemmas.Bool.{cases_Bool, cases_eq, eq-eqb, ne_eqb, lt-ltb}
+use Rattle.txn_history.specs.Lists.{numbered}
+use Rattle.txn_machine_inner.proofs.Lists.{within, numbered_other}
 use Rattle.txn_journals.specs.Numbers.{count, number, number_or_next}
 
 pub count_own : (client : ℕ) (owners : List ℕ) → count client (client ∷ owners) ≡ count client owners + 1
@@ -100,3 +102,9 @@ number_grows client j k (owner ∷ owners) one lt le =
           let at = older.at in
           omega (arith, at, old, less))
     ]
+
+-- where one is set under a client's number, what stands under another client's stays
+pub set_apart : {A : Type 0} (all : List A) (client d k j : ℕ) (owners : List ℕ) (was x : A) → numbered all (number owners client k) ≡ Some was → IsWithin k (count client owners) → IsWithin j (count d owners) → client ≢ d →
+    numbered (set all (number owners client k - 1) x) (number owners d j) ≡ numbered all (number owners d j)
+set_apart all client d k j owners was x there some own ne =
+    numbered_other all (number owners client k) (number owners d j) x (within all (number owners client k) was there).0 (λ same. ne (number_apart client k d j owners some.above some.below own.above own.below (sym same)).0)

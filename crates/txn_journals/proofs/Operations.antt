@@ -10,7 +10,7 @@ use Rattle.txn_machine.specs.declared.doing.Doing.{Doing}
 use Rattle.txn_machine.specs.declared.doing.Operation.{Operation}
 use Rattle.txn_machine.specs.Machine.{doing_next, with_doing}
 use Rattle.txn_journals.specs.Numbers.{count, number}
-use Rattle.txn_journals.proofs.Numbers.{count_own, count_other, number_own, number_old, IsWithin, number_apart}
+use Rattle.txn_journals.proofs.Numbers.{count_own, count_other, number_own, number_old, IsWithin, number_apart, set_apart}
 
 -- names stay where another is numbered
 pub named_stays : (client d : ℕ) (views : List ℕ) (view : Option ℕ) → ((w : ℕ) → view ≡ Some w → IsWithin w (count d views)) → option_map (number views d) view ≡ option_map (number (client ∷ views) d) view
@@ -72,15 +72,7 @@ module _ {T : Type 0} where
   pub ops_other : (all own : List (Operation T)) (client d k : ℕ) (begins views : List ℕ) (was x : Operation T) → numbered all (number begins client k) ≡ Some was → IsWithin k (count client begins) → client ≢ d → OpsTied all own d begins views →
       OpsTied (Rattle.std.proofs.Common.set all (number begins client k - 1) x) own d begins views
   ops_other all own client d k begins views was x there some ne t =
-      let n = number begins client k in
-      record {
-        size = t.size;
-        each = λ j o is. (
-            let in_own = op_within all own d begins views t j o is in
-            numbered_other all n (number begins d j) x (within all n was there).0 (λ same. ne (number_apart client k d j begins some.above some.below in_own.above in_own.below (sym same)).0) ∙ t.each j o is);
-        owner = t.owner;
-        has = t.has;
-      }
+      record { size = t.size; each = λ j o is. set_apart all client d k j begins was x there some (op_within all own d begins views t j o is) ne ∙ t.each j o is; owner = t.owner; has = t.has }
 
   -- an operation more
 

@@ -17,7 +17,7 @@ use Rattle.txn_machine.specs.Machine.{used_in, used_by, views_changed, change_of
 use Rattle.txn_journals.specs.Numbers.{count, number, number_or_next}
 use Rattle.txn_journals.specs.Merged.{with_view}
 use Rattle.txn_journals.specs.Traces.{named_answer}
-use Rattle.txn_journals.proofs.Numbers.{count_own, count_other, number_own, number_old, IsWithin, number_apart, known_number, next_number}
+use Rattle.txn_journals.proofs.Numbers.{count_own, count_other, number_own, number_old, IsWithin, number_apart, set_apart, known_number, next_number}
 use Rattle.txn_journals.proofs.Operations.{named_stays, within_more, OpsTied, ops_view}
 
 old_view : (client w : ℕ) (views : List ℕ) → w ≤ count client views → (if nat_lt (count client views) w then client ∷ views else views) ≡ views
@@ -84,14 +84,7 @@ module _ {T : Type 0} where
   pub views_other : (all own : List (Option (Used T))) (client d w : ℕ) (begins views : List ℕ) (was x : Option (Used T)) → numbered all (number views client w) ≡ Some was → IsWithin w (count client views) → client ≢ d → ViewsTied all own d begins views →
       ViewsTied (set all (number views client w - 1) x) own d begins views
   views_other all own client d w begins views was x there some ne t =
-      let n = number views client w in
-      record {
-        size = t.size;
-        each = λ v u is. (
-            let in_own = view_within all own d begins views t v u is in
-            numbered_other all n (number views d v) x (within all n was there).0 (λ same. ne (number_apart client w d v views some.above some.below in_own.above in_own.below (sym same)).0) ∙ t.each v u is);
-        owned = t.owned;
-      }
+      record { size = t.size; each = λ v u is. set_apart all client d w v views was x there some (view_within all own d begins views t v u is) ne ∙ t.each v u is; owned = t.owned }
 
   -- a view more
 
