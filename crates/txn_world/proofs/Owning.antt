@@ -19,7 +19,7 @@ use Rattle.txn_machine.specs.Machine.{seen_view, seen_views, used_in, used_by, w
 use Rattle.txn_clients.specs.Views.{as_made, IsFromOne}
 use Rattle.txn_clients.proofs.Acting.{held_at, numbered_past}
 use Rattle.txn_world.specs.Owning.{is_in_set, owns, is_own, stands_for, owner_of, emptied_where}
-use Rattle.txn_world.proofs.Running.{eq_cases, numbered_end, numbered_longer, numbered_mapped, same_numbered}
+use Rattle.txn_world.proofs.Running.{eq_cases, keeps_other, no_more, numbered_end, numbered_longer, numbered_mapped, same_numbered}
 
 -- what a place holds where this is put into it
 abbrev pub put_where : {A : Type 0} → A → Option A → Option A
@@ -75,20 +75,6 @@ stays : (b d e : Bool) → e ≡ false → (b && not (e && d)) ≡ b
 stays true d false h = refl
 stays true d true h = cc
 stays false d e h = refl
-
-apart : (b c e : Bool) → (b && not (e && (c && false))) ≡ b
-apart true true true = refl
-apart true true false = refl
-apart true false true = refl
-apart true false false = refl
-apart false c e = refl
-
-none_added : (b c e : Bool) → (b || (e && (c && false))) ≡ b
-none_added true c e = refl
-none_added false true true = refl
-none_added false true false = refl
-none_added false false true = refl
-none_added false false false = refl
 
 cut : (b d e : Bool) → (b ≡ true → e ≡ d) → (d ≡ true → e ≡ b) → (e && not d) ≡ cond b false e
 cut true true true h g = refl
@@ -243,7 +229,7 @@ module _ {S T : Type 0} where
             (owned_here owned new views number c put ends all keeps ended (left c number ∙ ap (λ o. owns owned c number && not (ends && (is_id c o && (number == number)))) who)
             ∙ sym (ap (is_own c) (ap (λ (vs : List (Option (Used T))). numbered vs number) is ∙ numbered_put views number put some)))
         | inr ne ↦
-            left c n ∙ (ap (λ b. owns owned c n && not (ends && (is_id c owner && b))) (ne_eqb number n (λ e. ne (sym e))) ∙ (apart (owns owned c n) (is_id c owner) ends ∙ (all c n
+            left c n ∙ (ap (λ b. owns owned c n && not (ends && (is_id c owner && b))) (ne_eqb number n (λ e. ne (sym e))) ∙ (keeps_other (owns owned c n) (is_id c owner) ends ∙ (all c n
             ∙ sym (ap (is_own c) (ap (λ (vs : List (Option (Used T))). numbered vs n) is ∙ numbered_apart views number n put some ne)))))
       ]
 
@@ -267,7 +253,7 @@ module _ {S T : Type 0} where
             entered c n ∙ (ap (λ b. b || (true && ((client == c) && (number == n)))) none ∙ (ap (λ b. (client == c) && b) (eq-eqb number n (sym same)) ∙ (and_true_same (client == c) ∙ (ap (λ m. m == c) (sym of)
             ∙ sym (ap (is_own c) (ap (numbered (views ++ Some used ∷ [])) (same ∙ next) ∙ numbered_end views (Some used)))))))
         | inr ne ↦
-            entered c n ∙ (ap (λ b. owns owned c n || (true && ((client == c) && b))) (ne_eqb number n (λ e. ne (sym e))) ∙ (none_added (owns owned c n) (client == c) true ∙ (all c n
+            entered c n ∙ (ap (λ b. owns owned c n || (true && ((client == c) && b))) (ne_eqb number n (λ e. ne (sym e))) ∙ (no_more (owns owned c n) (client == c) true ∙ (all c n
             ∙ sym (ap (is_own c) (numbered_longer views (Some used) n (λ e. ne (e ∙ sym next)))))))
       ]
     where

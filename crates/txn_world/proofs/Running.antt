@@ -122,14 +122,14 @@ and_not true r true = refl
 and_not true r false = refl
 and_not false r ends = refl
 
-keeps_other : (i b ends : Bool) → (i && not (ends && (b && false))) ≡ i
+pub keeps_other : (i b ends : Bool) → (i && not (ends && (b && false))) ≡ i
 keeps_other true true true = refl
 keeps_other true true false = refl
 keeps_other true false true = refl
 keeps_other true false false = refl
 keeps_other false b ends = refl
 
-no_more : (i b runs : Bool) → (i || (runs && (b && false))) ≡ i
+pub no_more : (i b runs : Bool) → (i || (runs && (b && false))) ≡ i
 no_more true b runs = refl
 no_more false true true = refl
 no_more false true false = refl

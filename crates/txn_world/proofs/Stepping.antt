@@ -50,9 +50,9 @@ use Rattle.txn_machine.specs.declared.doing.Doing.TheVariants as does
 use Rattle.txn_machine.specs.declared.doing.Operation.{Operation}
 use Rattle.txn_machine.specs.declared.doing.Ending.{Ending}
 use Rattle.txn_machine.specs.declared.doing.Ending.TheVariants as endings
-use Rattle.txn_machine.specs.Doing.{Next, asked, ended, refused, plain_next, view_next, turned, started, caches_left, answer_in, IsClaimReading, IsMadeSo, ReadsBack, FitsWord, MayLack}
+use Rattle.txn_machine.specs.Doing.{Next, asked, ended, refused, plain_next, view_next, turned, started, caches_left, answer_in, IsClaimReading, IsMadeSo, ReadsBack, FitsWord, MayLack, Turns}
 use Rattle.txn_machine_views.specs.Parts.{is_claim_call}
-use Rattle.txn_machine.specs.Machine.{State, seen_operation, seen_operations, seen_of, with_doing, answer_of, answered, acted, given_up, let_go, views_changed, views_after, views_taken, begun_as, view_now, FailsFirst, FailsAfter, GivesUp, Lands, Looks, Served, Begins}
+use Rattle.txn_machine.specs.Machine.{State, seen_operation, seen_operations, seen_of, with_doing, answer_of, answered, acted, given_up, let_go, views_changed, views_after, views_taken, begun_as, view_now, Acts, FailsFirst, FailsAfter, GivesUp, Lands, Looks, Served, Begins}
 use Rattle.txn_clients.specs.declared.operations.Usage.{Usage}
 use Rattle.txn_clients.specs.Operations.{request_of, loose_of, asked_of, asked_by, usage_of, TakesReply}
 use Rattle.txn_clients.specs.Views.{seen_with}
@@ -227,26 +227,52 @@ module _ {T : Type 0} where
   let_go_after views client (Some number) claims answer = refl
 
 module _ {T : Type 0} (encode : T → List ℕ) (decode : List ℕ → Option T) (get_epoch : T → ℕ) (set_epoch : T → ℕ → T) where
+  -- What an operation's turn leaves, where the growth for the ids of its answer may have been refused, as the step says it.
+  record Taken (old new : State T) (op : ℕ) (of : Usage) (ask : Ask) (reply : Option Reply) (said : Option (Ending T)) : Type 0 where
+    pub operation : Operation T
+    pub keeps : Caches
+    pub acts : Acts old op operation ask keeps
+    pub next : Next T
+    pub turns : Turns old.page encode decode get_epoch set_epoch operation.doing keeps reply next
+    pub answer : answered (length old.views) of.view said ≡ answered (length old.views) operation.view next.1
+    pub views : views_after old.views of.client of.view of.claims said ≡ views_after old.views operation.client operation.view operation.claims next.1
+    pub operations : new.operations ≡ with_doing old.operations op operation next.0
+    pub leaves : new.caches ≡ set old.caches (operation.client - 1) (caches_left operation.doing keeps next.1)
+
+  taken : (old new : State T) (op : ℕ) (of : Usage) (ask : Ask) (reply : Option Reply) (ending said : Option (Ending T)) → asked_by old.operations op ≡ Some ask → option_map usage_of (numbered old.operations op) ≡ Some of →
+      TurnsAmong old.page encode decode get_epoch set_epoch old.operations old.caches op reply new.operations new.caches ending → IsAfforded ending said → Taken old new op of ask reply said
+  taken old new op of ask reply ending said asks usage turn afforded =
+      let v = afforded_turn old.page encode decode get_epoch set_epoch old.operations old.caches op reply new.operations new.caches ending said turn afforded in
+      let t = v.turn in
+      let o = t.operation in
+      let same = same_usage old.operations op o of t.found usage in
+      record {
+        operation = o;
+        keeps = v.keeps;
+        acts = record { found = t.found; asks = sym (ap asked_of t.found) ∙ asks; kept = v.kept };
+        next = t.next;
+        turns = t.turns;
+        answer = answered_as (length old.views) o of said t.next.1 same t.ends;
+        views = after_as old.views o of said t.next.1 same t.ends;
+        operations = t.operations;
+        leaves = v.leaves ∙ ap (set old.caches (o.client - 1)) t.leaves;
+      }
+
   -- a look
   pub looked : (old new : State T) (op : ℕ) (of : Usage) (ending said : Option (Ending T)) (tells : Told T) → asked_by old.operations op ≡ Some Look → option_map usage_of (numbered old.operations op) ≡ Some of →
       TurnsAmong old.page encode decode get_epoch set_epoch old.operations old.caches op None new.operations new.caches ending → IsAfforded ending said → tells ≡ told_of (told.Went op) op (answered (length old.views) of.view said) →
       new.clients ≡ old.clients → new.page ≡ old.page → new.store ≡ old.store → new.views ≡ views_after old.views of.client of.view of.claims said → new.loose ≡ old.loose → new.failed ≡ old.failed → new.trace ≡ old.trace ++ answer_rows op (answered (length old.views) of.view said) →
       Looks encode decode get_epoch set_epoch old op tells new
   looked old new op of ending said tells asks usage turn afforded is a b c e f g h =
-      let v = afforded_turn old.page encode decode get_epoch set_epoch old.operations old.caches op None new.operations new.caches ending said turn afforded in
-      let t = v.turn in
-      let o = t.operation in
-      let same = same_usage old.operations op o of t.found usage in
-      let answer = answered_as (length old.views) o of said t.next.1 same t.ends in
-      let left : new.caches ≡ set old.caches (o.client - 1) (caches_left o.doing v.keeps t.next.1) = v.leaves ∙ ap (set old.caches (o.client - 1)) t.leaves in
+      let t = taken old new op of Look None ending said asks usage turn afforded in
       record {
-        operation = o;
-        caches = v.keeps;
-        acts = record { found = t.found; asks = sym (ap asked_of t.found) ∙ asks; kept = v.kept };
+        operation = t.operation;
+        caches = t.keeps;
+        acts = t.acts;
         next = t.next;
         turns = t.turns;
-        tells = is ∙ ap (told_of (told.Went op) op) answer;
-        state = same_state new (acted old op o t.next (caches_left o.doing v.keeps t.next.1)) a b c left t.operations (e ∙ after_as old.views o of said t.next.1 same t.ends) f g (h ∙ ap (λ a. old.trace ++ answer_rows op a) answer);
+        tells = is ∙ ap (told_of (told.Went op) op) t.answer;
+        state = same_state new (acted old op t.operation t.next (caches_left t.operation.doing t.keeps t.next.1)) a b c t.leaves t.operations (e ∙ t.views) f g (h ∙ ap (λ a. old.trace ++ answer_rows op a) t.answer);
       }
 
   -- a serve
@@ -255,27 +281,14 @@ module _ {T : Type 0} (encode : T → List ℕ) (decode : List ℕ → Option T)
       new.clients ≡ old.clients → new.page ≡ old.page → new.views ≡ views_after old.views of.client of.view of.claims said → new.loose ≡ old.loose → new.failed ≡ old.failed → new.trace ≡ (old.trace ++ effect_rows op (effect_of old.store.files request reply)) ++ answer_rows op (answered (length old.views) of.view said) →
       Served encode decode get_epoch set_epoch old op tells new
   served old new op of request reply ending said tells asks usage serves honest turn afforded is a b e f g h =
-      let v = afforded_turn old.page encode decode get_epoch set_epoch old.operations old.caches op (Some reply) new.operations new.caches ending said turn afforded in
-      let t = v.turn in
-      let o = t.operation in
-      let same = same_usage old.operations op o of t.found usage in
-      let answer = answered_as (length old.views) o of said t.next.1 same t.ends in
-      let left : new.caches ≡ set old.caches (o.client - 1) (caches_left o.doing v.keeps t.next.1) = v.leaves ∙ ap (set old.caches (o.client - 1)) t.leaves in
+      let t = taken old new op of (Store request) (Some reply) ending said asks usage turn afforded in
       record {
-        call = record {
-          operation = o;
-          request = request;
-          caches = v.keeps;
-          acts = record { found = t.found; asks = sym (ap asked_of t.found) ∙ asks; kept = v.kept };
-          reply = reply;
-          store = new.store;
-          reaches = record { serves = serves; honest = honest };
-        };
+        call = record { operation = t.operation; request = request; caches = t.keeps; acts = t.acts; reply = reply; store = new.store; reaches = record { serves = serves; honest = honest } };
         next = t.next;
         turns = t.turns;
-        tells = is ∙ ap (told_of (told.Went op) op) answer;
-        state = same_state new (acted (effected old op request reply new.store) op o t.next (caches_left o.doing v.keeps t.next.1)) a b refl left t.operations (e ∙ after_as old.views o of said t.next.1 same t.ends) f g
-            (h ∙ ap (λ a. (old.trace ++ effect_rows op (effect_of old.store.files request reply)) ++ answer_rows op a) answer);
+        tells = is ∙ ap (told_of (told.Went op) op) t.answer;
+        state = same_state new (acted (effected old op request reply new.store) op t.operation t.next (caches_left t.operation.doing t.keeps t.next.1)) a b refl t.leaves t.operations (e ∙ t.views) f g
+            (h ∙ ap (λ a. (old.trace ++ effect_rows op (effect_of old.store.files request reply)) ++ answer_rows op a) t.answer);
       }
 
   -- a begin, of an operation of this number, view and kind

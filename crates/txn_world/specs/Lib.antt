@@ -3,3 +3,4 @@ pub mod Owning
 pub mod Acting
 pub mod Answering
 pub mod Shown
+pub mod Reaching

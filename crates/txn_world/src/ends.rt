@@ -19,14 +19,14 @@ use txn_rows::trace::Trace;
 use txn_types::codec::ObjectCodec;
 use txn_types::epoch::EpochField;
 
-/// What the end of an operation, where it ends, leaves of its view and adds to the rows, and what is told.
+/// What the end of an operation, where it ends, leaves of its view and adds to the rows, and what is told: the answer, or
+/// that the operation went on.
 pub(crate) fn tell<T: Drop, C: ObjectCodec<T> + Drop, E: EpochField<T>>(
     trace: &mut Trace<T, C, E>,
     views: &mut Views<T>,
     op: u64,
     of: Usage,
     ending: Option<Ending<T>>,
-    otherwise: Told<T>,
 ) -> Told<T>
     requires room { vec_len trace.old.rows < vec_capacity trace.old.rows }
     requires spare { ForSome ending (λ e. ending_count e ≤ spare trace.old.told) }
@@ -37,13 +37,13 @@ pub(crate) fn tell<T: Drop, C: ObjectCodec<T> + Drop, E: EpochField<T>>(
     requires room_owned { 1 ≤ room_of views.old.owned.items of.client }
     ensures layout { trace.new.layout ≡ trace.old.layout }
     ensures field { trace.new.field ≡ trace.old.field }
-    ensures told { result ≡ told_of otherwise op (answered (length views.old.used.items) of.view ending) }
+    ensures told { result ≡ told_of (tolds.Went op) op (answered (length views.old.used.items) of.view ending) }
     ensures rows { trace.new.rows.items ≡ trace.old.rows.items ++ answer_rows op (answered (length views.old.used.items) of.view ending) }
     ensures views { views.new.used.items ≡ views_after views.old.used.items of.client of.view of.claims ending }
     ensures count { views.new.count ≡ views.old.count }
 {
     match views.settle(of, ending) {
-        None => otherwise,
+        None => Told::Went(op),
         Some((answer, copy)) => {
             trace.answer(op, answer);
             Told::Answered(op, copy)

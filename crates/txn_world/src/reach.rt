@@ -1,13 +1,17 @@
 //! Requests that reach the store.
-ghost use Rattle.std.specs.Prelude.{◌≡◌, false, ◌++◌, ◌<◌, ◌≤◌, None, IfOk, OnOk, OnErr, is_some, if◌then◌else◌, vec_len, vec_capacity};
+ghost use Rattle.std.specs.Prelude.{◌≡◌, false, ◌++◌, ◌<◌, ◌≤◌, None, IfOk, OnOk, OnErr, IsSome, is_some, if◌then◌else◌, vec_len, vec_capacity};
 ghost use Rattle.std.specs.HashSet.{spare};
 ghost use Rattle.txn_store.specs.Memory.{searched_state};
 ghost use Rattle.txn_store.specs.MemoryServes.{lacks_memory};
 ghost use Rattle.txn_store.specs.Requests.{Serves};
 ghost use Rattle.txn_history.specs.Added.{effect_rows};
 ghost use Rattle.txn_machine_inner.specs.Machine.{effect_of, took, may_change};
+ghost use Rattle.txn_clients.specs.Operations.{asked_by, request_of};
+ghost use Rattle.txn_world.specs.Reaching.{IsServed};
 
 use std::alloc::{AllocError, Global};
+use txn_clients::operations::{asked, request_of};
+use txn_machine::doing::Operation;
 use txn_rows::trace::Trace;
 use txn_store::in_memory::InMemory;
 use txn_store::request::{Reply, Request};
@@ -84,4 +88,30 @@ pub(crate) fn reach<T: Drop, C: ObjectCodec<T> + Drop, E: EpochField<T>>(
     let changed = effect.is_some();
     trace.effect(op, effect, epoch);
     Ok((reply, changed))
+}
+
+/// What an operation asks for reaches the store, as [`reach`] says: the reply.
+pub(crate) fn reach_asked<T: Drop, C: ObjectCodec<T> + Drop, E: EpochField<T>>(
+    alloc: Global,
+    operations: &[Operation<T>],
+    store: &mut InMemory,
+    trace: &mut Trace<T, C, E>,
+    op: u64,
+    taker: Taker,
+) -> Result<Reply, AllocError>
+    requires asks { IsSome (request_of (asked_by operations.now op)) }
+    ensures layout { trace.new.layout ≡ trace.old.layout }
+    ensures field { trace.new.field ≡ trace.old.field }
+    ensures served { IfOk result (λ reply. IsServed operations.now op (searched_state store.old) trace.old.rows.items reply (searched_state store.new) trace.new.rows.items) }
+    ensures answered { taker ≡ Taker.Nobody → IfOk result (λ reply. lacks_memory reply ≡ false) }
+    ensures room { OnOk result (vec_len trace.new.rows < vec_capacity trace.new.rows) }
+    ensures spare { OnOk result (1 ≤ spare trace.new.told) }
+    ensures err { OnErr result (store.new ≡ store.old) }
+    ensures err_rows { OnErr result (trace.new.rows.items ≡ trace.old.rows.items) }
+{
+    let Some(request) = request_of(asked(operations, op)) else {
+        unreachable!();
+    };
+    let (reply, _) = reach(alloc, store, trace, op, request, taker)?;
+    Ok(reply)
 }

@@ -3,13 +3,13 @@ ghost use Rattle.std.specs.Prelude.{◌≡◌};
 
 use crate::clients::{Clients, push_loose};
 use crate::ends::{refuse, tell, tell_begin};
-use crate::reach::{Taker, reach};
+use crate::reach::{Taker, reach, reach_asked};
 use crate::views::Views;
 use std::alloc::{AllocError, Global};
 use txn_caches::ask::Ask;
 use txn_clients::calls::view_used;
 use txn_clients::layout::world_layout;
-use txn_clients::operations::{Usage, asked, loose_copy, request_of};
+use txn_clients::operations::{Usage, asked, loose_copy};
 use txn_history::event::{Call, Event, EventFault, Failure, Told};
 use txn_history::trace::Row;
 use txn_machine::doing::{is_claim, start};
@@ -149,14 +149,7 @@ impl<T: Clone, C: ObjectCodec<T> + Drop, E: EpochField<T>> Tables<T, C, E> {
         self.trace.reserve()?;
         let ending = self.clients.turn(self.alloc, &self.trace.layout, &self.trace.field, op, None);
         let ending = self.trace.afford(ending);
-        Ok(tell(
-            &mut self.trace,
-            &mut self.views,
-            op,
-            of,
-            ending,
-            Told::Went(op),
-        ))
+        Ok(tell(&mut self.trace, &mut self.views, op, of, ending))
     }
 
     fn serve(&mut self, op: u64) -> Result<Told<T>, AllocError>
@@ -171,16 +164,12 @@ impl<T: Clone, C: ObjectCodec<T> + Drop, E: EpochField<T>> Tables<T, C, E> {
         let alloc = self.alloc;
         let of = self.clients.usage(op);
         self.views.reserve(of.client)?;
-        let clients = &self.clients;
-        let Some(request) = request_of(asked(&clients.operations, op)) else {
-            unreachable!();
-        };
-        let (reply, _) = reach(
+        let reply = reach_asked(
             alloc,
+            &self.clients.operations,
             &mut self.store,
             &mut self.trace,
             op,
-            request,
             Taker::Operation,
         )?;
         let ending = self.clients.turn(
@@ -191,14 +180,7 @@ impl<T: Clone, C: ObjectCodec<T> + Drop, E: EpochField<T>> Tables<T, C, E> {
             Some(reply),
         );
         let ending = self.trace.afford(ending);
-        Ok(tell(
-            &mut self.trace,
-            &mut self.views,
-            op,
-            of,
-            ending,
-            Told::Went(op),
-        ))
+        Ok(tell(&mut self.trace, &mut self.views, op, of, ending))
     }
 
     /// Tells an operation that its store call failed, where there is room for it.
@@ -263,16 +245,12 @@ impl<T: Clone, C: ObjectCodec<T> + Drop, E: EpochField<T>> Tables<T, C, E> {
     {
         self.failed.reserve(1)?;
         let alloc = self.alloc;
-        let clients = &self.clients;
-        let Some(request) = request_of(asked(&clients.operations, op)) else {
-            unreachable!();
-        };
-        let (reply, _) = reach(
+        let reply = reach_asked(
             alloc,
+            &self.clients.operations,
             &mut self.store,
             &mut self.trace,
             op,
-            request,
             Taker::Nobody,
         )?;
         // By a call: in place, the proof would follow each reply that may be dropped here.
