@@ -1,19 +1,19 @@
 //! A client that writes down what it did.
-ghost use Rattle.std.specs.Prelude.{◌≡◌, ◌<◌, ℕ, Option, IfOk, IfErr, OnOk, OnErr, vec_len, vec_capacity};
-ghost use Rattle.txn_types.specs.Clones.{IsExactClone};
-ghost use Rattle.txn_machine_inner.specs.Machine.{fault_met};
-ghost use Rattle.txn_journals.specs.Parts.{begin_fault};
-ghost use Rattle.txn_journals.specs.Journals.{Begins};
 ghost use Rattle.std.specs.Option.{ForSome};
-ghost use Rattle.txn_machine_inner.specs.Doing.{first_of};
-ghost use Rattle.txn_machine.specs.Doing.{refusal_in};
-ghost use Rattle.txn_machine.specs.Machine.{answered};
+ghost use Rattle.std.specs.Prelude.{◌≡◌, ◌<◌, ℕ, Option, IfOk, IfErr, OnOk, OnErr, vec_len, vec_capacity};
 ghost use Rattle.txn_diary.specs.Diaries.{IsReceiptFor, fault_if};
 ghost use Rattle.txn_diary.specs.Room.{HasRoom};
 ghost use Rattle.txn_diary.specs.Shown.{shown};
+ghost use Rattle.txn_journals.specs.Journals.{Begins};
+ghost use Rattle.txn_journals.specs.Parts.{begin_fault};
+ghost use Rattle.txn_machine.specs.Doing.{refusal_in};
+ghost use Rattle.txn_machine.specs.Machine.{answered};
+ghost use Rattle.txn_machine_inner.specs.Doing.{first_of};
+ghost use Rattle.txn_machine_inner.specs.Machine.{fault_met};
+ghost use Rattle.txn_types.specs.Clones.{IsExactClone};
 
 use crate::reading::{answers_of, receipts_of};
-use crate::step::{note, receipt_refusal};
+use crate::step::{note, note_act, receipt_refusal};
 use crate::tables::Tables;
 use std::alloc::{AllocError, Global};
 use std::marker::Model;
@@ -200,13 +200,7 @@ impl<T: Clone, C: ObjectCodec<T> + Drop, E: EpochField<T>> Diary<T, C, E> {
         }
         make_room(&mut self.tables, &mut self.rows)?;
         let answers = self.tables.turn(op, None);
-        Ok(note(
-            &mut self.rows,
-            Step::Act(op, Act::Look),
-            op,
-            Told::Went(op),
-            answers,
-        ))
+        Ok(note_act(&mut self.rows, op, Act::Look, answers))
     }
 
     /// An operation takes the store's reply to what it asked for, wherever the receipt comes from.
@@ -231,13 +225,7 @@ impl<T: Clone, C: ObjectCodec<T> + Drop, E: EpochField<T>> Diary<T, C, E> {
         };
         make_room(&mut self.tables, &mut self.rows)?;
         let answers = self.tables.turn(op, Some(reply));
-        Ok(note(
-            &mut self.rows,
-            Step::Act(op, Act::Receive(receipt)),
-            op,
-            Told::Went(op),
-            answers,
-        ))
+        Ok(note_act(&mut self.rows, op, Act::Receive(receipt), answers))
     }
 
     /// The store call of an operation failed, and nobody knows whether it took effect: the operation is answered with the
@@ -263,13 +251,7 @@ impl<T: Clone, C: ObjectCodec<T> + Drop, E: EpochField<T>> Diary<T, C, E> {
         };
         make_room(&mut self.tables, &mut self.rows)?;
         let answers = self.tables.refuse(op, 2);
-        Ok(note(
-            &mut self.rows,
-            Step::Act(op, Act::Fails(request)),
-            op,
-            Told::Went(op),
-            answers,
-        ))
+        Ok(note_act(&mut self.rows, op, Act::Fails(request), answers))
     }
 
     /// An operation is given up, and ends without an answer. A put or a delete that it asks for may still reach the store.
@@ -349,15 +331,13 @@ impl<T: Clone, C: ObjectCodec<T> + Drop, E: EpochField<T>> Diary<T, C, E> {
         };
         let served = serve_under(rt, self.tables.alloc, store, self.tables.client, request);
         match served {
-            Ok((receipt, reply)) => {
+            Ok((taken, reply)) => {
                 let answers = self.tables.turn(op, Some(reply));
-                let step = Step::Act(op, Act::Receive(receipt));
-                Ok(note(&mut self.rows, step, op, Told::Went(op), answers))
+                Ok(note_act(&mut self.rows, op, Act::Receive(taken), answers))
             }
             Err(_) => {
                 let answers = self.tables.refuse(op, 9);
-                let step = Step::Act(op, Act::Lacks);
-                Ok(note(&mut self.rows, step, op, Told::Went(op), answers))
+                Ok(note_act(&mut self.rows, op, Act::Lacks, answers))
             }
         }
     }

@@ -1,7 +1,9 @@
 //! What a client notes of a step, and what it is told.
 ghost use Rattle.std.specs.Prelude.{◌≡◌, ◌<◌, ◌++◌, ◌∷◌, [], Decides, vec_len, vec_capacity};
 ghost use Rattle.std.specs.Option.{ForSome};
+ghost use Rattle.txn_history.specs.declared.event.ToldOf.TheVariants as tolds;
 ghost use Rattle.txn_history.specs.Added.{told_of};
+ghost use Rattle.txn_journals.specs.declared.rows.Step.TheVariants as steps;
 ghost use Rattle.txn_machine_inner.specs.Doing.{asks_as, first_of};
 ghost use Rattle.txn_diary.specs.Diaries.{IsReceiptFault};
 ghost use Rattle.txn_logged.specs.Logged.{IsOfKind};
@@ -9,7 +11,7 @@ ghost use Rattle.txn_logged.specs.Logged.{IsOfKind};
 use txn_caches::ask::Ask;
 use txn_clients::views::Answers;
 use txn_history::event::{EventFault, Told};
-use txn_journals::rows::{JournalRow, Receipt, Step};
+use txn_journals::rows::{Act, JournalRow, Receipt, Step};
 use txn_journals::same::same_request;
 use txn_store::request::{Reply, Request};
 use txn_types::room::push_within;
@@ -73,4 +75,19 @@ pub(crate) fn note<T: Drop>(
             Told::Answered(op, copy)
         }
     }
+}
+
+/// Notes what an operation did, and tells its answer, or that it went on.
+pub(crate) fn note_act<T: Drop>(
+    rows: &mut Vec<JournalRow<T>>,
+    op: u64,
+    act: Act,
+    answers: Option<Answers<T>>,
+) -> Told<T>
+    requires room { vec_len rows.old < vec_capacity rows.old }
+    requires twice { ForSome answers (λ pair. pair.1 ≡ pair.0) }
+    ensures rows { rows.new.items ≡ rows.old.items ++ record { step = steps.Act op act; answer = first_of answers } ∷ [] }
+    ensures told { result ≡ told_of (tolds.Went op) op (first_of answers) }
+{
+    note(rows, Step::Act(op, act), op, Told::Went(op), answers)
 }

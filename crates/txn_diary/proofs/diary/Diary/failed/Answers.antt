@@ -10,7 +10,7 @@ use Rattle.txn_diary.specs.Diaries.{asked_in}
 use Rattle.txn_diary.specs.Shown.{shown}
 use Rattle.txn_diary.proofs.Acting.{fails_so}
 use Rattle.txn_diary.proofs.Stepping.{met_ask, stores_so, room_made, ready_sound, ready_asks, stepped, IsReady, IsStepped}
-use Rattle.txn_diary.proofs.diary.Diary.failed.Goals.{In_ok-make_room, After-note}
+use Rattle.txn_diary.proofs.diary.Diary.failed.Goals.{In_ok-make_room, After-note_act}
 use Rattle.txn_diary.proofs.diary.Diary.failed.Goals as goal
 
 pub returns-in-Some-clause-refused : goal.returns-in-Some-clause-refused
@@ -39,14 +39,14 @@ refuse-answers-requires-clause-sound g c = ready_sound (ready g (goal.at.refuse-
 pub refuse-answers-requires-clause-runs : goal.refuse-answers-requires-clause-runs
 refuse-answers-requires-clause-runs g c = ap (λ a. is_some a) (asks g (goal.at.refuse-answers-requires-clause-runs g c).In_ok-make_room).1
 
-call_failed : (g : _) (c : After-note g) → IsStepped c.args.self.now (steps.Act c.args.op (acts.Fails c.in-Ok.request)) (first_of c.refuse-answers.result) c.refuse-answers.new.self c.note.new.rows.items c.self.inside.alive
+call_failed : (g : _) (c : After-note_act g) → IsStepped c.args.self.now (steps.Act c.args.op (acts.Fails c.in-Ok.request)) (first_of c.refuse-answers.result) c.refuse-answers.new.self c.note_act.new.rows.items c.self.inside.alive
 call_failed g c =
-    let live = asks g (goal.at.After-note g c).In_ok-make_room in
+    let live = asks g (goal.at.After-note_act g c).In_ok-make_room in
     let fails = fails_so (g.E.EpochField.epoch_of c.make_room.new.tables.epochs) (shown c.make_room.new.tables) (shown c.refuse-answers.new.self) c.args.op c.in-Ok.request (first_of c.refuse-answers.result) live.1 c.refuse-answers.ensures.answer c.refuse-answers.ensures.shown in
-    stepped (ready g (goal.at.After-note g c).In_ok-make_room) c.note.new.rows.items live.0 live.0 c.note.ensures.rows fails c.refuse-answers.ensures.client c.refuse-answers.ensures.layout c.refuse-answers.ensures.epochs
+    stepped (ready g (goal.at.After-note_act g c).In_ok-make_room) c.note_act.new.rows.items live.0 live.0 c.note_act.ensures.rows fails c.refuse-answers.ensures.client c.refuse-answers.ensures.layout c.refuse-answers.ensures.epochs
 
 pub invariant_of-self-2 : goal.invariant_of-self-2
-invariant_of-self-2 g c = (call_failed g (goal.at.invariant_of-self-2 g c).After-note).kept
+invariant_of-self-2 g c = (call_failed g (goal.at.invariant_of-self-2 g c).After-note_act).kept
 
 pub returns-clause-ok : goal.returns-clause-ok
-returns-clause-ok g c = (c.in-Ok.request, record { answer = first_of c.refuse-answers.result; said_is = c.note.ensures.told; adds = (call_failed g (goal.at.returns-clause-ok g c).After-note).adds })
+returns-clause-ok g c = (c.in-Ok.request, record { answer = first_of c.refuse-answers.result; said_is = c.note_act.ensures.told; adds = (call_failed g (goal.at.returns-clause-ok g c).After-note_act).adds })

@@ -8,7 +8,7 @@ use Rattle.txn_journals.specs.declared.rows.Step.TheVariants as steps
 use Rattle.txn_diary.specs.Diaries.{asked_in}
 use Rattle.txn_diary.proofs.Acting.{takes_so}
 use Rattle.txn_diary.proofs.Stepping.{met_ask, looks_so, room_made, ready_sound, ready_asks, stepped, IsReady, IsStepped}
-use Rattle.txn_diary.proofs.diary.Diary.look.Goals.{In_ok-make_room, After-note}
+use Rattle.txn_diary.proofs.diary.Diary.look.Goals.{In_ok-make_room, After-note_act}
 use Rattle.txn_diary.proofs.diary.Diary.look.Goals as goal
 
 pub returns-in-Some-clause-refused : goal.returns-in-Some-clause-refused
@@ -30,13 +30,13 @@ turn-answers-requires-clause-takes g c =
     let at = (goal.at.turn-answers-requires-clause-takes g c).In_ok-make_room in
     takes_so c.make_room.new.tables.operations.items c.args.op Look None (ready_sound (ready g at)) (asks g at).1 tt
 
-looked : (g : _) (c : After-note g) → IsStepped c.args.self.now (steps.Act c.args.op acts.Look) (first_of c.turn-answers.result) c.turn-answers.new.self c.note.new.rows.items c.self.inside.alive
+looked : (g : _) (c : After-note_act g) → IsStepped c.args.self.now (steps.Act c.args.op acts.Look) (first_of c.turn-answers.result) c.turn-answers.new.self c.note_act.new.rows.items c.self.inside.alive
 looked g c =
-    let live = asks g (goal.at.After-note g c).In_ok-make_room in
-    stepped (ready g (goal.at.After-note g c).In_ok-make_room) c.note.new.rows.items live.0 live.0 c.note.ensures.rows (c.turn-answers.ensures.turned Look live.1) c.turn-answers.ensures.client c.turn-answers.ensures.layout c.turn-answers.ensures.epochs
+    let live = asks g (goal.at.After-note_act g c).In_ok-make_room in
+    stepped (ready g (goal.at.After-note_act g c).In_ok-make_room) c.note_act.new.rows.items live.0 live.0 c.note_act.ensures.rows (c.turn-answers.ensures.turned Look live.1) c.turn-answers.ensures.client c.turn-answers.ensures.layout c.turn-answers.ensures.epochs
 
 pub invariant_of-self-2 : goal.invariant_of-self-2
-invariant_of-self-2 g c = (looked g (goal.at.invariant_of-self-2 g c).After-note).kept
+invariant_of-self-2 g c = (looked g (goal.at.invariant_of-self-2 g c).After-note_act).kept
 
 pub returns-clause-ok : goal.returns-clause-ok
-returns-clause-ok g c = record { answer = first_of c.turn-answers.result; said_is = c.note.ensures.told; adds = (looked g (goal.at.returns-clause-ok g c).After-note).adds }
+returns-clause-ok g c = record { answer = first_of c.turn-answers.result; said_is = c.note_act.ensures.told; adds = (looked g (goal.at.returns-clause-ok g c).After-note_act).adds }

@@ -9,7 +9,7 @@ use Rattle.txn_logged.specs.Logged.{IsOfKind}
 use Rattle.txn_diary.specs.Diaries.{asked_in, IsReceiptFault}
 use Rattle.txn_diary.proofs.Acting.{takes_so}
 use Rattle.txn_diary.proofs.Stepping.{met_receipt, receives_so, room_made, ready_sound, ready_asks, stepped, IsReady, IsStepped}
-use Rattle.txn_diary.proofs.diary.Diary.receive.Goals.{In_ok-make_room, After-note}
+use Rattle.txn_diary.proofs.diary.Diary.receive.Goals.{In_ok-make_room, After-note_act}
 use Rattle.txn_diary.proofs.diary.Diary.receive.Goals as goal
 
 pub returns-in-Some-clause-refused : goal.returns-in-Some-clause-refused
@@ -34,13 +34,13 @@ turn-answers-requires-clause-takes g c =
     let at = (goal.at.turn-answers-requires-clause-takes g c).In_ok-make_room in
     takes_so c.make_room.new.tables.operations.items c.args.op (Store c.args.receipt.request) (Some c.in-Ok.reply) (ready_sound (ready g at)) (asks g at).1 (subst (λ (r : Reply). IsOfKind c.args.receipt.request r) (sym c.in-Ok.ensures) (receives g at).1)
 
-received : (g : _) (c : After-note g) → IsStepped c.args.self.now (steps.Act c.args.op (acts.Receive c.args.receipt)) (first_of c.turn-answers.result) c.turn-answers.new.self c.note.new.rows.items c.self.inside.alive
+received : (g : _) (c : After-note_act g) → IsStepped c.args.self.now (steps.Act c.args.op (acts.Receive c.args.receipt)) (first_of c.turn-answers.result) c.turn-answers.new.self c.note_act.new.rows.items c.self.inside.alive
 received g c =
-    let live = asks g (goal.at.After-note g c).In_ok-make_room in
-    stepped (ready g (goal.at.After-note g c).In_ok-make_room) c.note.new.rows.items live.0 live.0 c.note.ensures.rows (rw c.in-Ok.ensures at (c.turn-answers.ensures.turned (Store c.args.receipt.request) live.1)) c.turn-answers.ensures.client c.turn-answers.ensures.layout c.turn-answers.ensures.epochs
+    let live = asks g (goal.at.After-note_act g c).In_ok-make_room in
+    stepped (ready g (goal.at.After-note_act g c).In_ok-make_room) c.note_act.new.rows.items live.0 live.0 c.note_act.ensures.rows (rw c.in-Ok.ensures at (c.turn-answers.ensures.turned (Store c.args.receipt.request) live.1)) c.turn-answers.ensures.client c.turn-answers.ensures.layout c.turn-answers.ensures.epochs
 
 pub invariant_of-self-2 : goal.invariant_of-self-2
-invariant_of-self-2 g c = (received g (goal.at.invariant_of-self-2 g c).After-note).kept
+invariant_of-self-2 g c = (received g (goal.at.invariant_of-self-2 g c).After-note_act).kept
 
 pub returns-clause-ok : goal.returns-clause-ok
-returns-clause-ok g c = record { answer = first_of c.turn-answers.result; said_is = c.note.ensures.told; adds = (received g (goal.at.returns-clause-ok g c).After-note).adds }
+returns-clause-ok g c = record { answer = first_of c.turn-answers.result; said_is = c.note_act.ensures.told; adds = (received g (goal.at.returns-clause-ok g c).After-note_act).adds }
