@@ -53,8 +53,8 @@ returns-clause-left g c = λ h b stands version. (
     let left = c.in_ok-collect.ensures.needed stands_two.apart in
     let rest = c.in_ok-collect.ensures.rest stands_two.apart in
     leaves_pinned names id object c.args.payload zero.files one.files two.files three.files small
-    (created_others names names (id + 1) zero one refl (omega (arith, small)) c.checkpoint.ensures.creates)
-    (λ n fits differs. created_others names c.checkpoint.new.protocol.layout.names (middle + 1) one two names_one (omega (arith, small, middle_is)) c.set_payload.ensures.creates n fits (λ is. differs (is ∙ middle_is)))
+    (created_others names names (id + 1) zero one refl (omega (arith, small)) c.checkpoint.ensures.writes.creates)
+    (λ n fits differs. created_others names c.checkpoint.new.protocol.layout.names (middle + 1) one two names_one (omega (arith, small, middle_is)) c.set_payload.ensures.writes.creates n fits (λ is. differs (is ∙ middle_is)))
     newest c.collect.new.self.holder.delegate.object.pins newest_is (ap (λ m. m.pins) made_is)
     (subst (λ (nm : Names). LeavesNeeded nm newest c.collect.new.self.holder.delegate.object.pins two.files three.files) names_two left)
     (λ n lt unpinned. subst (λ (nm : Names). map.get three.files (version_path nm n) ≡ None) names_two (rest.gone n lt unpinned))
