@@ -9,7 +9,7 @@ ghost use Rattle.txn_store.specs.Paths.{is_plain_byte, is_dots, is_plain, all_pl
 ghost use Rattle.txn_store.specs.PathText.{lines_of, segments_in, IsKept};
 ghost use Rattle.txn_store.specs.declared.path.PathFault.TheVariants.{NoMemory};
 
-use std::alloc::{AllocError, AllocFailed, Global};
+use std::alloc::{AllocError, Global};
 use std::cmp::Ordering;
 use std::fmt;
 use std::marker::Model;
@@ -31,14 +31,6 @@ impl From<AllocError> for PathFault {
     ghost from_gives = { λ _ e. e ≡ NoMemory };
 
     fn from(_e: AllocError) -> PathFault {
-        PathFault::NoMemory
-    }
-}
-
-impl<T: Drop> From<AllocFailed<T>> for PathFault {
-    ghost from_gives = { λ _ e. e ≡ NoMemory };
-
-    fn from(_e: AllocFailed<T>) -> PathFault {
         PathFault::NoMemory
     }
 }

@@ -62,10 +62,8 @@ impl Got {
     pub fn try_clone(&self) -> Result<Got, AllocError>
         ensures { IfOk result (λ copy. copy ≡ self.now) }
     {
-        Ok(Got {
-            bytes: self.bytes.clone()?,
-            token: self.token,
-        })
+        let bytes = self.bytes.clone()?;
+        Ok(Got { bytes, ..*self })
     }
 }
 
@@ -82,11 +80,8 @@ impl ObjectMeta {
     pub fn try_clone(&self) -> Result<ObjectMeta, AllocError>
         ensures { IfOk result (λ copy. copy ≡ self.now) }
     {
-        Ok(ObjectMeta {
-            location: self.location.try_clone()?,
-            size: self.size,
-            token: self.token,
-        })
+        let location = self.location.try_clone()?;
+        Ok(ObjectMeta { location, ..*self })
     }
 }
 
