@@ -3,6 +3,7 @@ from __future__ import annotations
 
 import argparse
 import contextlib
+import fcntl
 import glob
 import os
 import re
@@ -267,6 +268,21 @@ def part_of(uses, names):
 
 
 @contextlib.contextmanager
+def alone_in(root):
+    """The repository itself, where no other whole run works: what one makes there, another would set aside."""
+    folder = os.open(root, os.O_RDONLY)
+    try:
+        try:
+            fcntl.flock(folder, fcntl.LOCK_EX | fcntl.LOCK_NB)
+        except BlockingIOError:
+            say("another run works in this checkout: this one waits for its end")
+            fcntl.flock(folder, fcntl.LOCK_EX)
+        yield root
+    finally:
+        os.close(folder)
+
+
+@contextlib.contextmanager
 def copied(root, names):
     """A copy of the repository with these crates alone, as they now stand, without what was made of them."""
     with tempfile.TemporaryDirectory(prefix="test-") as room:
@@ -318,7 +334,7 @@ def main(words, usage="", root=os.path.dirname(os.path.dirname(os.path.realpath(
         say(f"crates.txt names no crate {', '.join(unknown)}")
         say(f"0 passed, {len(unknown)} failed")
         return 2
-    with copied(root, part_of(uses, given.crates)) if given.crates else contextlib.nullcontext(root) as top:
+    with copied(root, part_of(uses, given.crates)) if given.crates else alone_in(root) as top:
         steps = list(steps_of(root, top, given))
     say("")
     for line in table(steps):

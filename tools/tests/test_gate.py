@@ -4,6 +4,8 @@ import io
 import os
 import sys
 import tempfile
+import threading
+import time
 import unittest
 from unittest import mock
 
@@ -211,6 +213,25 @@ class Steps(unittest.TestCase):
         self.assertIn("edits of --after-ci\n", said)
         self.assertRegex(said, "swept \\S+/out/txnworld_cli \\S+/out/txnworld_cli.by-rattle\n")
         self.assertEqual(said.count("/out/made"), 5)
+
+    def test_a_whole_run_waits_for_another(self):
+        came = []
+
+        def come():
+            with gate_steps.alone_in(self.room):
+                came.append("second")
+
+        said = io.StringIO()
+        second = threading.Thread(target=come)
+        with contextlib.redirect_stdout(said):
+            with gate_steps.alone_in(self.room):
+                second.start()
+                while not said.getvalue():
+                    time.sleep(0.01)
+                came.append("first")
+            second.join()
+        self.assertEqual(came, ["first", "second"])
+        self.assertEqual(said.getvalue(), "another run works in this checkout: this one waits for its end\n")
 
     def test_libraries_of_an_earlier_run_are_removed(self):
         for git in (".git", "its/own"):
