@@ -8,13 +8,12 @@ use Rattle.txn_caches.specs.declared.turned.Turned.TheVariants.{Goes, Done}
 use Rattle.txn_caches.specs.Steps.{lacks_memory}
 use Rattle.txn_caches.specs.Asking.{unless_lacking}
 use Rattle.txn_steps.specs.declared.read.ReadOp.{ReadOp}
-use Rattle.txn_steps.specs.declared.read.ReadOp.TheVariants as reads
 use Rattle.txn_steps.specs.Latest.{ReadAnswer}
 use Rattle.txn_steps.specs.Reads.{read_left}
 use Rattle.txn_view_steps.specs.declared.outcome.Outcome.{Outcome}
 use Rattle.txn_view_steps.specs.declared.claiming.Claiming.{Claiming}
 use Rattle.txn_view_steps.specs.declared.claiming.Claiming.TheVariants.{Ended}
-use Rattle.txn_view_steps.specs.Readings.{ended_where_done, said, OnAnswer}
+use Rattle.txn_view_steps.specs.Readings.{said, OnAnswer}
 use Rattle.txn_view_steps.specs.Attempts.{refreshed_turned, GoesAs}
 
 module _ {T : Type 0} where
@@ -33,27 +32,18 @@ module _ {T : Type 0} (names : Names) (path : Segments) (encode : T → List ℕ
   abbrev or_ended : Bool → Claiming T × Turned (Result (Outcome T) ℕ) → Claiming T × Turned (Result (Outcome T) ℕ)
   or_ended lacking next = unless_lacking lacking Ended next
 
-  told_of : (x y : ReadOp T × Turned (ReadAnswer T)) → x ≡ y → x.1 ≡ y.1
-  told_of x y e = ap (λ (p : ReadOp T × Turned (ReadAnswer T)). p.1) e
-
-  -- as its read does, where that lacks no memory
-  same_next : (x : ReadOp T × Turned (ReadAnswer T)) (after : ReadOp T) (told : Turned (ReadAnswer T)) → (after, told) ≡ ended_where_done x → next_of (after, told) ≡ next_of x
-  same_next (read, Goes) after told e = ap next_of e
-  same_next (read, Done (Ok found)) after told e = ap next_of e
-  same_next (read, Done (Err number)) after told e = ap next_of e
-
   ends_lacking : (lacking : Bool) (x : Claiming T × Turned (Result (Outcome T) ℕ)) → x ≡ or_ended lacking (Ended, Done (Err 9)) → x ≡ (Ended, Done (Err 9))
   ends_lacking true x e = e
   ends_lacking false x e = e
 
-  as_read : (lacking : Bool) (x : ReadOp T × Turned (ReadAnswer T)) (after : ReadOp T) (told : Turned (ReadAnswer T)) (new : Claiming T) (answer : Turned (Result (Outcome T) ℕ)) → (after, told) ≡ unless_lacking lacking reads.Ended (ended_where_done x) →
+  as_read : (lacking : Bool) (x : ReadOp T × Turned (ReadAnswer T)) (old after : ReadOp T) (told : Turned (ReadAnswer T)) (new : Claiming T) (answer : Turned (Result (Outcome T) ℕ)) → (after, told) ≡ unless_lacking lacking old x →
       (new, answer) ≡ or_ended (lacks_memory answer) (next_of (after, told)) → (new, answer) ≡ or_ended (lacks_memory answer) (next_of x)
-  as_read true x after told new answer e h =
+  as_read true x old after told new answer e h =
       let end = ends_lacking (lacks_memory answer) (new, answer) (h ∙ ap (λ (p : ReadOp T × Turned (ReadAnswer T)). or_ended (lacks_memory answer) (next_of p)) e) in
       let lacks : answer ≡ Done (Err 9) = ap (λ (p : Claiming T × Turned (Result (Outcome T) ℕ)). p.1) end in
       end ∙ sym (ap (λ (a : Turned (Result (Outcome T) ℕ)). or_ended (lacks_memory a) (next_of x)) lacks)
-  as_read false x after told new answer e h = h ∙ ap (or_ended (lacks_memory answer)) (same_next x after told e)
+  as_read false x old after told new answer e h = h ∙ ap (λ (p : ReadOp T × Turned (ReadAnswer T)). or_ended (lacks_memory answer) (next_of p)) e
 
-  pub goes_as_read : (x : ReadOp T × Turned (ReadAnswer T)) (after : ReadOp T) (told : Turned (ReadAnswer T)) (new : Claiming T) (answer : Turned (Result (Outcome T) ℕ)) → (after, told) ≡ unless_lacking (lacks_memory told) reads.Ended (ended_where_done x) →
+  pub goes_as_read : (x : ReadOp T × Turned (ReadAnswer T)) (old after : ReadOp T) (told : Turned (ReadAnswer T)) (new : Claiming T) (answer : Turned (Result (Outcome T) ℕ)) → (after, told) ≡ unless_lacking (lacks_memory told) old x →
       (new, answer) ≡ or_ended (lacks_memory answer) (next_of (after, told)) → (new, answer) ≡ or_ended (lacks_memory answer) (next_of x)
-  goes_as_read x after told new answer e h = as_read (lacks_memory told) x after told new answer e h
+  goes_as_read x old after told new answer e h = as_read (lacks_memory told) x old after told new answer e h

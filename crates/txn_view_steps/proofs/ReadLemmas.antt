@@ -16,7 +16,7 @@ use Rattle.txn_steps.specs.declared.read.ReadOp.{ReadOp}
 use Rattle.txn_steps.specs.declared.read.ReadOp.TheVariants as reads
 use Rattle.txn_steps.specs.Latest.{ReadAnswer, latest_listing, read_in_hand, answered, in_hand, found_turned}
 use Rattle.txn_steps.specs.Reads.{reads_turned, read_turned, read_left}
-use Rattle.txn_view_steps.specs.Readings.{ended_where_done, seen, said, OnAnswer}
+use Rattle.txn_view_steps.specs.Readings.{seen, said, OnAnswer}
 use Rattle.txn_view_steps.specs.declared.outcome.Outcome.{Outcome}
 use Rattle.txn_view_steps.specs.Lacking.{lacks, or_lacking}
 
@@ -63,41 +63,30 @@ module _ {T : Type 0} where
   lacking_ends false ended answer see e = ap (λ (a : Result (Outcome T) ℕ). (ended, Done a)) e
 
   module _ {O : Type 0} (wrap : ReadOp T → O) (see : Option (ℕ × T) → Result (Outcome T) ℕ) where
-    seen_as_read : (x : ReadOp T × Turned (ReadAnswer T)) (after : ReadOp T) (found : Option (ℕ × T)) (answer : Result (Outcome T) ℕ) → (after, Done (Ok found)) ≡ ended_where_done x → answer ≡ or_lacking (lacks answer) (see found) →
-        (wrap after, Done answer) ≡ unless_lacking (lacks answer) (wrap reads.Ended) (seen wrap see x)
-    seen_as_read (read, Goes) after found answer e h = let told = ap (λ (p : ReadOp T × Turned (ReadAnswer T)). p.1) e in absurd (cc told)
-    seen_as_read (read, Done (Err number)) after found answer e h = let told = ap (λ (p : ReadOp T × Turned (ReadAnswer T)). p.1) e in absurd (cc told)
-    seen_as_read (read, Done (Ok f)) after found answer e h =
-        let told : ◌≡◌ {A = Turned (ReadAnswer T)} (Done (Ok found)) (Done (Ok f)) = ap (λ (p : ReadOp T × Turned (ReadAnswer T)). p.1) e in
-        let same : found ≡ f = cc told in
-        let end : after ≡ reads.Ended = ap (λ (p : ReadOp T × Turned (ReadAnswer T)). p.0) e in
-        ap (λ (r : ReadOp T). (wrap r, Done answer)) end ∙ lacking_ends (lacks answer) (wrap reads.Ended) answer (see f) (subst (λ (o : Option (ℕ × T)). answer ≡ or_lacking (lacks answer) (see o)) same h)
+    seen_as_read : (x : ReadOp T × Turned (ReadAnswer T)) (after : ReadOp T) (found : Option (ℕ × T)) (answer : Result (Outcome T) ℕ) → (after, Done (Ok found)) ≡ x → answer ≡ or_lacking (lacks answer) (see found) →
+        (wrap reads.Ended, Done answer) ≡ unless_lacking (lacks answer) (wrap reads.Ended) (seen wrap see x)
+    seen_as_read x after found answer e h =
+        subst (λ (y : ReadOp T × Turned (ReadAnswer T)). (wrap reads.Ended, Done answer) ≡ unless_lacking (lacks answer) (wrap reads.Ended) (seen wrap see y)) e (lacking_ends (lacks answer) (wrap reads.Ended) answer (see found) h)
 
-    lacking_told : (lacking : Bool) (x : ReadOp T × Turned (ReadAnswer T)) (after : ReadOp T) (number : ℕ) → (after, Done (Err number)) ≡ unless_lacking lacking reads.Ended (ended_where_done x) →
-        (wrap after, Done (Err number)) ≡ unless_lacking lacking (wrap reads.Ended) (seen wrap see x)
-    lacking_told true x after number e =
+    lacking_told : (lacking : Bool) (x : ReadOp T × Turned (ReadAnswer T)) (old after : ReadOp T) (number : ℕ) → (after, Done (Err number)) ≡ unless_lacking lacking old x →
+        (wrap reads.Ended, Done (Err number)) ≡ unless_lacking lacking (wrap reads.Ended) (seen wrap see x)
+    lacking_told true x old after number e =
         let told : ◌≡◌ {A = Turned (ReadAnswer T)} (Done (Err number)) (Done (Err 9)) = ap (λ (p : ReadOp T × Turned (ReadAnswer T)). p.1) e in
         let same : number ≡ 9 = cc told in
-        let end : after ≡ reads.Ended = ap (λ (p : ReadOp T × Turned (ReadAnswer T)). p.0) e in
-        cc (same, end)
-    lacking_told false (read, Goes) after number e = let told = ap (λ (p : ReadOp T × Turned (ReadAnswer T)). p.1) e in absurd (cc told)
-    lacking_told false (read, Done (Ok f)) after number e = let told = ap (λ (p : ReadOp T × Turned (ReadAnswer T)). p.1) e in absurd (cc told)
-    lacking_told false (read, Done (Err n)) after number e =
-        let told : ◌≡◌ {A = Turned (ReadAnswer T)} (Done (Err number)) (Done (Err n)) = ap (λ (p : ReadOp T × Turned (ReadAnswer T)). p.1) e in
-        let same : number ≡ n = cc told in
-        let end : after ≡ reads.Ended = ap (λ (p : ReadOp T × Turned (ReadAnswer T)). p.0) e in
-        cc (same, end)
+        cc same
+    lacking_told false x old after number e =
+        subst (λ (y : ReadOp T × Turned (ReadAnswer T)). (wrap reads.Ended, Done (Err number)) ≡ seen wrap see y) e refl
 
     -- what it answers where its read was answered a version or none, and where it was answered an error
-    pub found_seen : (x : ReadOp T × Turned (ReadAnswer T)) (after : ReadOp T) (told : ReadAnswer T) (found : Option (ℕ × T)) (answer : Result (Outcome T) ℕ) → told ≡ Ok found →
-        (after, Done told) ≡ unless_lacking (lacks told) reads.Ended (ended_where_done x) → answer ≡ or_lacking (lacks answer) (see found) → (wrap after, Done answer) ≡ unless_lacking (lacks answer) (wrap reads.Ended) (seen wrap see x)
-    found_seen x after told found answer is e h =
-        seen_as_read x after found answer (subst (λ (t : ReadAnswer T). (after, Done t) ≡ unless_lacking (lacks t) reads.Ended (ended_where_done x)) is e) h
+    pub found_seen : (x : ReadOp T × Turned (ReadAnswer T)) (old after : ReadOp T) (told : ReadAnswer T) (found : Option (ℕ × T)) (answer : Result (Outcome T) ℕ) → told ≡ Ok found →
+        (after, Done told) ≡ unless_lacking (lacks told) old x → answer ≡ or_lacking (lacks answer) (see found) → (wrap reads.Ended, Done answer) ≡ unless_lacking (lacks answer) (wrap reads.Ended) (seen wrap see x)
+    found_seen x old after told found answer is e h =
+        seen_as_read x after found answer (subst (λ (t : ReadAnswer T). (after, Done t) ≡ unless_lacking (lacks t) old x) is e) h
 
-    pub error_seen : (x : ReadOp T × Turned (ReadAnswer T)) (after : ReadOp T) (told : ReadAnswer T) (number : ℕ) → told ≡ Err number →
-        (after, Done told) ≡ unless_lacking (lacks told) reads.Ended (ended_where_done x) → (wrap after, Done (Err number)) ≡ unless_lacking (number == 9) (wrap reads.Ended) (seen wrap see x)
-    error_seen x after told number is e =
-        lacking_told (number == 9) x after number (subst (λ (t : ReadAnswer T). (after, Done t) ≡ unless_lacking (lacks t) reads.Ended (ended_where_done x)) is e)
+    pub error_seen : (x : ReadOp T × Turned (ReadAnswer T)) (old after : ReadOp T) (told : ReadAnswer T) (number : ℕ) → told ≡ Err number →
+        (after, Done told) ≡ unless_lacking (lacks told) old x → (wrap reads.Ended, Done (Err number)) ≡ unless_lacking (number == 9) (wrap reads.Ended) (seen wrap see x)
+    error_seen x old after told number is e =
+        lacking_told (number == 9) x old after number (subst (λ (t : ReadAnswer T). (after, Done t) ≡ unless_lacking (lacks t) old x) is e)
 
 module _ {T : Type 0} (names : Names) (path : Segments) (page : ℕ) (decode : List ℕ → Option T) where
   hand_on : (boundary : BoundaryRead) (op : LatestOp T) (id : ℕ) (value : Option T) → Goes1 (reads_turned boundary (read_in_hand decode op id value))

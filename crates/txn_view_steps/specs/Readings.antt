@@ -8,11 +8,6 @@ use Rattle.txn_steps.specs.Latest.{ReadAnswer}
 use Rattle.txn_view_steps.specs.declared.outcome.Outcome.{Outcome}
 
 module _ {T : Type 0} where
-  -- an answer ends it
-  abbrev pub ended_where_done : ReadOp T × Turned (ReadAnswer T) → ReadOp T × Turned (ReadAnswer T)
-  ended_where_done (read, Goes) = (read, Goes)
-  ended_where_done (read, Done answer) = (Ended, Done answer)
-
   -- A call on a view is answered where its read is: with what it makes of the version that was found, or of none, or with the error of the read.
   abbrev pub seen : {O : Type 0} → (ReadOp T → O) → (Option (ℕ × T) → Result (Outcome T) ℕ) → ReadOp T × Turned (ReadAnswer T) → O × Turned (Result (Outcome T) ℕ)
   seen as_read see (read, Goes) = (as_read read, Goes)

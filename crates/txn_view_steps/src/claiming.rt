@@ -10,7 +10,6 @@ ghost use Rattle.txn_view_steps.specs.Shortages.{IsShort, LacksAsWrite};
 
 use crate::copies::Copies;
 use crate::outcome::{Outcome, ViewAnswer};
-use crate::reading::read_on;
 use std::alloc::Global;
 use std::mem;
 use txn_caches::ask::Ask;
@@ -257,7 +256,7 @@ impl<T: Clone> Claiming<T> {
                 self.after_write(layout, told)
             }
             Claiming::Reads(read) => {
-                let told = read_on(read, alloc, layout, caches, reply);
+                let told = read.take(alloc, layout, caches, reply);
                 self.after_read(alloc, layout, epochs, asked, told)
             }
             Claiming::Ended => unreachable!(),

@@ -24,5 +24,4 @@ pub mod counts;
 pub mod entry;
 pub mod op;
 pub mod outcome;
-mod reading;
 pub mod view_read;

@@ -10,8 +10,8 @@ ghost use Rattle.txn_view_steps.specs.ViewReads.{view_read_started, view_read_en
 
 use crate::copies::Copies;
 use crate::outcome::{Outcome, ViewAnswer};
-use crate::reading::read_on;
 use std::alloc::{AllocError, Global};
+use std::mem;
 use txn_caches::ask::Ask;
 use txn_caches::caches::Caches;
 use txn_caches::turned::Turned;
@@ -119,10 +119,16 @@ impl<T: Clone> ViewReadOp<T> {
         ensures caches { caches.new ≡ read_left self.old.read caches.old (said (turned_by_number result)) }
         ensures store_error { TellsErrorOf (reply_told reply) result }
     {
-        match read_on(&mut self.read, alloc, layout, caches, reply) {
+        match self.read.take(alloc, layout, caches, reply) {
             Turned::Goes => Turned::Goes,
-            Turned::Done(Ok(found)) => Turned::Done(shown(epochs, self.purpose, found)),
-            Turned::Done(Err(error)) => Turned::Done(Err(error)),
+            Turned::Done(told) => {
+                // (by a call: in place, the proof would follow each state that may be dropped)
+                drop(mem::replace(&mut self.read, ReadOp::Ended));
+                match told {
+                    Ok(found) => Turned::Done(shown(epochs, self.purpose, found)),
+                    Err(error) => Turned::Done(Err(error)),
+                }
+            }
         }
     }
 }
