@@ -1,12 +1,18 @@
--- A step that the walks of `src/count.rt` share: a value with no field is made of nothing. Assumes `Logic`.
+-- What the walks of `src/count.rt` share: a value with no field is made of nothing, and a function meets its contract where it walks. Assumes `Logic`.
 use Rattle.std.proofs.Common.{List, [], ◌∷◌, refl}
 use seplogic.Ra.Ura.{Ura}
+use mir.Syntax.{Fn}
 use mir.Val.{Val, vstruct, vnil}
+use prog.Wp.{Calls, Loops, WpFn, Tables}
+use sound.WpLaws.{WpFn-mono}
 use types.Logic.{Logic}
 use types.Kit.{Goal, Step, step, Item, ‵, ◌$◌, fjoin, fpack, feq_i}
 use denote.RattleType.{RattleType, Valss}
 use denote.Steps.{nothing}
 use denote.Struct.Struct.{Struct, within}
+use denote.Triple.Clauses.{Clauses, Ended, closing}
+use denote.Triple.Spec.{Meets}
+use denote.Triple.Walked.{Stays, AllGo, Walks, walk_Meets}
 
 abbrev pub none : Val
 none = vstruct vnil
@@ -18,3 +24,13 @@ pub none_made : {M : Type 1} {𝓤 : Ura M} {𝓛 : Logic 𝓤} {K : Type 0} {Γ
 none_made t = step (λ s.
     nothing t $ feq_i t (List Val) (none ∷ []) (none ∷ []) refl $ fjoin t $
     fpack t (Valss []) (within (record { name = []; args = []; types = []; fields = [] }) tt (none ∷ [])) tt $ s)
+
+-- a function that walks to an end that its contract names, whatever it is called with
+module _ {M : Type 1} {𝓤 : Ura M} (𝓛 : Logic 𝓤) (T : Ended) (hs : Stays T.signature.params T.kept) (c : Clauses 𝓤 T) (f : Fn) where
+  open 𝓛 use {H}
+
+  abbrev pub AllWalk : Type 2
+  AllWalk = (C : Calls 𝓤 H) (Λ : Loops 𝓤 H) → Walks 𝓛 T hs (WpFn 𝓤 H C Λ f) c
+
+  pub meets : AllGo 𝓛 T.signature.lifetimes T.signature.params T.kept hs → AllWalk → (𝓣 : Tables 𝓤 H) → Meets 𝓛 T.signature (WpFn 𝓤 H 𝓣.C 𝓣.Λ f) (closing 𝓛 T c)
+  meets go walks 𝓣 = walk_Meets 𝓛 T hs go c (WpFn 𝓤 H 𝓣.C 𝓣.Λ f) (WpFn-mono 𝓤 H 𝓛.laws 𝓣 f) (walks 𝓣.C 𝓣.Λ)
