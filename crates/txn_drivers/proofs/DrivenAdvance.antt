@@ -36,7 +36,7 @@ use Rattle.txn_drivers.proofs.DriveLemmas.{after_steps}
 use Rattle.txn_drivers.proofs.AdvanceLoop.{advance_step, advance_goes, advance_less, advance_ended}
 use Rattle.txn_drivers.proofs.CheckSteps.{refused_above, reached_by}
 use Rattle.txn_drivers.proofs.LatestTurns.{asked_look}
-use Rattle.txn_drivers.proofs.Refusals.{is_no_memory}
+use Rattle.txn_drivers.proofs.Refusals.{error_is}
 
 -- what an advance is, and what it told
 abbrev pair : AdvanceOp → Turned (Result (Unit {0}) ℕ) → AdvanceOp × Turned (Result (Unit {0}) ℕ)
@@ -131,7 +131,7 @@ module _ (path : Segments) (target : ℕ) (a : Scene AdvanceOp) (Pending : ℕ �
       by_told true (Done (Err error)) takes =
           let e = ap (λ p. p.1) takes in
           let nine : error_number error ≡ 9 = cc in
-          subst (λ e. After (n + 1) c c.op (Done (Err e))) (sym (is_no_memory error nine)) (lacked (refused_by target a.caches.boundary) refl c spent now, inr dropped)
+          subst (λ e. After (n + 1) c c.op (Done (Err e))) (sym (error_is kinds.NoMemory error tt nine)) (lacked (refused_by target a.caches.boundary) refl c spent now, inr dropped)
       by_told false Goes takes = let e = ap (λ p. p.1) takes in absurd (cc)
       by_told false (Done (Err error)) takes = let e = ap (λ p. p.1) takes in absurd (cc)
       by_told false (Done (Ok done)) takes = (inl (spent, now), dropped)
@@ -173,7 +173,7 @@ module _ (path : Segments) (target : ℕ) (a : Scene AdvanceOp) (is : refused_by
       by_told true (Done (Err error)) takes store boundary latest =
           let e = ap (λ p. p.1) takes in
           let nine : error_number error ≡ 9 = cc in
-          (inr (record { refused = ap Err (is_no_memory error nine); reached = is; same_store = store; same_boundary = boundary }), others_left target a.caches.latest c.caches.latest error latest)
+          (inr (record { refused = ap Err (error_is kinds.NoMemory error tt nine); reached = is; same_store = store; same_boundary = boundary }), others_left target a.caches.latest c.caches.latest error latest)
       by_told false (Done (Ok done)) takes store boundary latest = let e = ap (λ p. p.1) takes in absurd (cc)
       by_told false (Done (Err error)) takes store boundary latest = let e = ap (λ p. p.1) takes in absurd (cc)
       by_told false Goes takes store boundary latest =

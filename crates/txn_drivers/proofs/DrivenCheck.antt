@@ -33,7 +33,7 @@ use Rattle.txn_drivers.proofs.CheckSteps.{refused_above, reached_by, check_step,
 use Rattle.txn_drivers.proofs.DriveCounts.{check_within}
 use Rattle.txn_drivers.proofs.Frames.{kept-trans}
 use Rattle.txn_drivers.proofs.LatestTurns.{asked_look}
-use Rattle.txn_drivers.proofs.Refusals.{is_conflict}
+use Rattle.txn_drivers.proofs.Refusals.{error_is}
 
 -- what a check is, and what it told
 abbrev pair : CheckOp → Turned (Result (Unit {0}) ℕ) → CheckOp × Turned (Result (Unit {0}) ℕ)
@@ -84,7 +84,7 @@ module _ (path : Segments) (id : ℕ) (a : Scene CheckOp) (Pending : Scene Check
       let e = ap (λ p. p.1) takes in
       let five : error_number error ≡ 5 = cc in
       let boundary : c.caches.boundary ≡ b.caches.boundary = ap (λ (k : Caches). k.boundary) leaves in
-      subst (λ e. After c c.op (Done (Err e))) (sym (is_conflict error five)) (
+      subst (λ e. After c c.op (Done (Err e))) (sym (error_is kinds.ObjectVersionExists error tt five)) (
         subst (λ s. Checked path id a.store s a.caches.boundary c.caches.boundary (Err kinds.ObjectVersionExists)) (sym same)
             (subst (λ k. Checked path id a.store b.store a.caches.boundary k (Err kinds.ObjectVersionExists)) (sym boundary) refused),
         ap (λ (k : Caches). k.latest) leaves ∙ (ap (λ i. above i b.caches.latest) is ∙ ap (above id) latest),

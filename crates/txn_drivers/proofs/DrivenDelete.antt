@@ -25,7 +25,7 @@ use Rattle.txn_drivers.specs.DrivenDeletes.{kept_answer, DeleteKept, DeleteFence
 use Rattle.txn_drivers.proofs.DriveCounts.{delete_within}
 use Rattle.txn_drivers.proofs.DriveLemmas.{after_steps, delete_driven}
 use Rattle.txn_drivers.proofs.DrivenCheck.{check_driven}
-use Rattle.txn_drivers.proofs.Refusals.{is_invalid}
+use Rattle.txn_drivers.proofs.Refusals.{error_is}
 
 -- its check, and its removal
 abbrev checking : Scene DeleteOp → Scene CheckOp
@@ -98,7 +98,7 @@ module _ {T : Type 0} (names : Names) (decode : List ℕ → Option T) (path : S
           let check : c.op.check ≡ k = ap (λ p. p.0.check) takes in
           let e = ap (λ p. p.1) takes in
           let seven : error_number error ≡ 7 = cc in
-          kept (Ok tt) (Err error) (one (Done (Ok tt)) (ap (λ k. (k, Done (Ok tt))) check ∙ turned) tt) (ap Err (is_invalid error seven))
+          kept (Ok tt) (Err error) (one (Done (Ok tt)) (ap (λ k. (k, Done (Ok tt))) check ∙ turned) tt) (ap Err (error_is kinds.InvalidObjectState error tt seven))
       checks_by (k, Done (Err number)) told turned takes tells = refused_by k number (number == 5) refl told turned takes tells
 
     module _ (is : b.op.step ≡ steps.Removes) (at : At steps.Removes b) (served : Replies (delete_asked_at steps.Removes b.op) b.store reply c.store) (leaves : c.caches ≡ delete_caches_at steps.Removes b.op b.caches) (told : Turned (Result (Unit {0}) TransactionalObjectError)) (takes : (c.op, turned_by_number told) ≡ delete_turned_at steps.Removes b.op b.caches reply) (tells : TellsErrorOf (reply_told reply) told) where

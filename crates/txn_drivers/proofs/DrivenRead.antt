@@ -37,7 +37,7 @@ use Rattle.txn_drivers.proofs.DrivenCheck.{Between, check_driven, check_between}
 use Rattle.txn_drivers.proofs.DrivenLatest.{latest_driven}
 use Rattle.txn_drivers.proofs.DrivenPasses.{cause_of_check, check_reads_none, found_leaves, Began, Found, found, early_pass, ends_unchecked, check_fails, accepts, restarts}
 use Rattle.txn_drivers.proofs.LatestWindows.{every_if}
-use Rattle.txn_drivers.proofs.Refusals.{is_no_memory}
+use Rattle.txn_drivers.proofs.Refusals.{error_is}
 use Rattle.txn_drivers.proofs.Standings.{none_above}
 
 -- what a check is, and what it told
@@ -189,7 +189,7 @@ module _ {T : Type 0} (names : Names) (path : Segments) (page : ℕ) (room : 1 �
           (check_reads_none (Unbounded path at.m.caches.boundary at.m.store) at.m.store c.store error e.0.cause)
 
       lacks : (error : TransactionalObjectError) → error_number error ≡ 9 → ReadEnds names decode path page a c (Err error)
-      lacks error nine = subst (λ e. ReadEnds names decode path page a c (Err e)) (sym (is_no_memory error nine)) (check_fails names path page room decode a at.before at.s at.m id value at.found c between kinds.NoMemory tt (λ is. omega (arith, is)))
+      lacks error nine = subst (λ e. ReadEnds names decode path page a c (Err e)) (sym (error_is kinds.NoMemory error tt nine)) (check_fails names path page room decode a at.before at.s at.m id value at.found c between kinds.NoMemory tt (λ is. omega (arith, is)))
 
       abbrev ended_as : Bool → CheckOp → ℕ → ReadOp T × Turned (ReadAnswer T)
       ended_as t k number = if t then (read_started path, Goes) else (Checks id value k, Done (Err number))

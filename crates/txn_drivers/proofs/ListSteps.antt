@@ -35,7 +35,7 @@ use Rattle.txn_drivers.specs.ListRuns.{ListRuns, list_rank, IsListStep, ListEnds
 use Rattle.txn_drivers.proofs.Frames.{kept-trans}
 use Rattle.txn_drivers.proofs.ListIds.{are_stored}
 use Rattle.txn_drivers.proofs.NextPages.{next_page, page_within, page_last}
-use Rattle.txn_drivers.proofs.Refusals.{is_no_memory, goes, answers, tells_store}
+use Rattle.txn_drivers.proofs.Refusals.{error_is, goes, answers, tells_store}
 
 picked-append : (names : Names) (from to : Bound ℕ) (xs ys : List ObjectMeta) → picked names from to (xs ++ ys) ≡ picked names from to xs ++ picked names from to ys
 picked-append names from to [] ys = refl
@@ -45,7 +45,7 @@ picked-append names from to (x ∷ xs) ys = ap (λ (r : List Listed). picked_one
 lacks_is : {A : Type 0} (told : Turned (Result A TransactionalObjectError)) → lacks_memory (turned_by_number told) ≡ true → told ≡ Done (Err kinds.NoMemory)
 lacks_is Goes is = absurd (cc)
 lacks_is (Done (Ok x)) is = absurd (cc)
-lacks_is (Done (Err error)) is = ap (λ (k : TransactionalObjectError). Done (Err k)) (is_no_memory error (eqb-true _ 9 is))
+lacks_is (Done (Err error)) is = ap (λ (k : TransactionalObjectError). Done (Err k)) (error_is kinds.NoMemory error tt (eqb-true _ 9 is))
 
 -- what a listing's call leaves
 kept_by : (prefix : Segments) (after : Option Segments) (limit : ℕ) (old new : State) (answer : Result Page StoreError) → StoreLists prefix after limit old answer new → Kept old new

@@ -10,31 +10,27 @@ use Rattle.txn_caches.specs.declared.turned.Turned.{Turned}
 use Rattle.txn_caches.specs.declared.turned.Turned.TheVariants.{Goes, Done}
 use Rattle.txn_caches.specs.Steps.{turned_by_number, IsErrorOf, TellsErrorOf}
 
--- an error that is known by its number
+-- an error that holds nothing is known by its number
 
-pub is_missing : (error : TransactionalObjectError) → error_number error ≡ 4 → error ≡ kinds.LatestRecordMissing
-is_missing kinds.LatestRecordMissing is = refl
-is_missing error is = absurd (omega (arith, is))
+abbrev pub HoldsNothing : TransactionalObjectError → Type 0
+HoldsNothing (kinds.ObjectStoreError error) = ⊥
+HoldsNothing (kinds.ObjectUpdateTimeout timeout) = ⊥
+HoldsNothing (kinds.CallbackError error) = ⊥
+HoldsNothing error = Unit {0}
 
-pub is_conflict : (error : TransactionalObjectError) → error_number error ≡ 5 → error ≡ kinds.ObjectVersionExists
-is_conflict kinds.ObjectVersionExists is = refl
-is_conflict error is = absurd (omega (arith, is))
-
-pub is_fenced : (error : TransactionalObjectError) → error_number error ≡ 6 → error ≡ kinds.Fenced
-is_fenced kinds.Fenced is = refl
-is_fenced error is = absurd (omega (arith, is))
-
-pub is_invalid : (error : TransactionalObjectError) → error_number error ≡ 7 → error ≡ kinds.InvalidObjectState
-is_invalid kinds.InvalidObjectState is = refl
-is_invalid error is = absurd (omega (arith, is))
-
-pub is_no_memory : (error : TransactionalObjectError) → error_number error ≡ 9 → error ≡ kinds.NoMemory
-is_no_memory kinds.NoMemory is = refl
-is_no_memory error is = absurd (omega (arith, is))
-
-pub is_exhausted : (error : TransactionalObjectError) → error_number error ≡ 10 → error ≡ kinds.IdExhausted
-is_exhausted kinds.IdExhausted is = refl
-is_exhausted error is = absurd (omega (arith, is))
+pub error_is : (kind error : TransactionalObjectError) → HoldsNothing kind → error_number error ≡ error_number kind → error ≡ kind
+error_is kinds.IoError kinds.IoError bare is = refl
+error_is kinds.LatestRecordMissing kinds.LatestRecordMissing bare is = refl
+error_is kinds.ObjectVersionExists kinds.ObjectVersionExists bare is = refl
+error_is kinds.Fenced kinds.Fenced bare is = refl
+error_is kinds.InvalidObjectState kinds.InvalidObjectState bare is = refl
+error_is kinds.NoMemory kinds.NoMemory bare is = refl
+error_is kinds.IdExhausted kinds.IdExhausted bare is = refl
+error_is kinds.TurnsExhausted kinds.TurnsExhausted bare is = refl
+error_is (kinds.ObjectStoreError own) error bare is = absurd bare
+error_is (kinds.ObjectUpdateTimeout timeout) error bare is = absurd bare
+error_is (kinds.CallbackError own) error bare is = absurd bare
+error_is kind error bare is = absurd (omega (arith, is))
 
 is_stores : (e : StoreError) (error : TransactionalObjectError) → error_number error ≡ 2 → IsErrorOf (Some e) error → error ≡ kinds.ObjectStoreError e
 is_stores e (kinds.ObjectStoreError own) is told = ap kinds.ObjectStoreError (sym (same_Some e own told))
@@ -42,7 +38,7 @@ is_stores e error is told = absurd (omega (arith, is))
 
 -- an error that has the number of the store's error, and holds no other, is what that becomes
 is_told : (e : StoreError) (error : TransactionalObjectError) → error_number error ≡ store_error_number e → IsErrorOf (Some e) error → error ≡ error_of_store e
-is_told errors.NoMemory error is told = is_no_memory error is
+is_told errors.NoMemory error is told = error_is kinds.NoMemory error tt is
 is_told e error is told = is_stores e error is told
 
 module _ {A : Type 0} where

@@ -25,7 +25,7 @@ use Rattle.txn_steps.specs.Writes.{unchecked_asked, unchecked_turned, unchecked_
 use Rattle.txn_drivers.specs.Asked.{Replies}
 use Rattle.txn_drivers.specs.Calls.{Spends}
 use Rattle.txn_drivers.specs.WriteRuns.{Creates, WriteEnds, WriteRuns, write_rank, IsWriteStep}
-use Rattle.txn_drivers.proofs.Refusals.{is_conflict, goes, answers, refuses, tells_store}
+use Rattle.txn_drivers.proofs.Refusals.{error_is, goes, answers, refuses, tells_store}
 
 -- what it tells of the store's refusal of its put
 abbrev put_error : StoreError → TransactionalObjectError
@@ -85,7 +85,7 @@ WriteGoes path bytes id base old new latest latest' op op' (Done result) = Write
 
 -- the refusal that is told
 refusal_told : (op op' : WriteUncheckedOp) (e : StoreError) (told : Turned (Result ℕ TransactionalObjectError)) → (op', turned_by_number told) ≡ put_answered op (Err e) → TellsErrorOf (Some e) told → told ≡ Done (Err (put_error e))
-refusal_told op op' errors.AlreadyExists told turned own = let r = refuses told 5 (ap (λ p. p.1) turned) in r.1 ∙ ap (λ (k : TransactionalObjectError). Done (Err k)) (is_conflict r.0 r.2)
+refusal_told op op' errors.AlreadyExists told turned own = let r = refuses told 5 (ap (λ p. p.1) turned) in r.1 ∙ ap (λ (k : TransactionalObjectError). Done (Err k)) (error_is kinds.ObjectVersionExists r.0 tt r.2)
 refusal_told op op' errors.NotFound told turned own = tells_store told errors.NotFound (ap (λ p. p.1) turned) own
 refusal_told op op' errors.Precondition told turned own = tells_store told errors.Precondition (ap (λ p. p.1) turned) own
 refusal_told op op' errors.NotModified told turned own = tells_store told errors.NotModified (ap (λ p. p.1) turned) own

@@ -32,7 +32,7 @@ use Rattle.txn_drivers.proofs.DriveLemmas.{after_steps, Since, since_now, since_
 use Rattle.txn_drivers.proofs.DrivenRead.{read_driven}
 use Rattle.txn_drivers.proofs.DrivenWrite.{checked_write_driven}
 use Rattle.txn_drivers.proofs.PageCounts.{pages_written}
-use Rattle.txn_drivers.proofs.Refusals.{is_fenced, is_exhausted}
+use Rattle.txn_drivers.proofs.Refusals.{error_is}
 use Rattle.txn_drivers.proofs.Windows.{greatest_fits}
 use Rattle.txn_view_steps.specs.declared.claiming.Claiming.{Claiming}
 use Rattle.txn_view_steps.specs.declared.claiming.Claiming.TheVariants.{Writes, Reads, Ended}
@@ -338,10 +338,10 @@ module _ {T : Type 0} (names : Names) (path : Segments) (page : ℕ) (room : 1 �
     refused_as : (found : ℕ × T) (error blocked : TransactionalObjectError) → IsLatest h found.0 found.1 → claimed_epoch asked (epoch_of found.1) ≡ Err blocked → error_number error ≡ error_number blocked → (blocked ≡ kinds.Fenced) ⊎ (blocked ≡ kinds.IdExhausted) → HasCauseOfClaim names decode path epoch_of with_epoch asked h a.store c.store error
     refused_as found error blocked latest is same (inl fenced) =
         let six : error_number error ≡ 6 = same ∙ ap error_number fenced in
-        subst (HasCauseOfClaim names decode path epoch_of with_epoch asked h a.store c.store) (sym (is_fenced error six)) (found.1, latest_at h found.0 found.1 (at_latest h found.0 found.1 latest) latest.id_is, is ∙ ap Err fenced)
+        subst (HasCauseOfClaim names decode path epoch_of with_epoch asked h a.store c.store) (sym (error_is kinds.Fenced error tt six)) (found.1, latest_at h found.0 found.1 (at_latest h found.0 found.1 latest) latest.id_is, is ∙ ap Err fenced)
     refused_as found error blocked latest is same (inr exhausted) =
         let ten : error_number error ≡ 10 = same ∙ ap error_number exhausted in
-        subst (HasCauseOfClaim names decode path epoch_of with_epoch asked h a.store c.store) (sym (is_exhausted error ten)) (inl (found.1, latest_at h found.0 found.1 (at_latest h found.0 found.1 latest) latest.id_is, is ∙ ap Err exhausted))
+        subst (HasCauseOfClaim names decode path epoch_of with_epoch asked h a.store c.store) (sym (error_is kinds.IdExhausted error tt ten)) (inl (found.1, latest_at h found.0 found.1 (at_latest h found.0 found.1 latest) latest.id_is, is ∙ ap Err exhausted))
 
     refused_by : (found : ℕ × T) (error : TransactionalObjectError) (number : ℕ) → IsLatest h found.0 found.1 → error_number error ≡ number → NotBegun names path encode epoch_of with_epoch asked found.0 found.1 number → HasCauseOfClaim names decode path epoch_of with_epoch asked h a.store c.store error
     refused_by found error number latest is (inl blocked) = refused_as found error blocked.0 latest blocked.1 (is ∙ blocked.2) (claimed_error asked (epoch_of found.1) blocked.0 blocked.1)
@@ -349,7 +349,7 @@ module _ {T : Type 0} (names : Names) (path : Segments) (page : ℕ) (room : 1 �
         let ten : error_number error ≡ 10 = is ∙ full.1 in
         let last = full.0 in
         let newest = latest.id_is in
-        subst (HasCauseOfClaim names decode path epoch_of with_epoch asked h a.store c.store) (sym (is_exhausted error ten)) (inr (omega (arith, last, newest)))
+        subst (HasCauseOfClaim names decode path epoch_of with_epoch asked h a.store c.store) (sym (error_is kinds.IdExhausted error tt ten)) (inr (omega (arith, last, newest)))
 
     refused : (next : ReadOp T) (found : Option (ℕ × T)) (answer : Result (Outcome T) TransactionalObjectError) (number : ℕ) → ReadSteps names path page decode (part_of read x) (Done (Ok found)) (part_of next c) → IsNewest h found → attempted_again names path encode epoch_of with_epoch asked found ≡ Err number → by_number answer ≡ Err number → Ends c answer
     refused next None answer number step newest again is = let none : length h ≡ 0 = ap length newest in absurd (omega (arith, view, none))

@@ -19,7 +19,7 @@ use Rattle.txn_steps.specs.declared.write.WriteOp.{WriteOp}
 use Rattle.txn_steps.specs.Latest.{ReadAnswer}
 use Rattle.txn_steps.specs.Reads.{read_asked, read_turned, read_left}
 use Rattle.txn_steps.specs.Writes.{write_asked, write_turned, write_caches}
-use Rattle.txn_drivers.proofs.Refusals.{is_missing, is_invalid}
+use Rattle.txn_drivers.proofs.Refusals.{HoldsNothing, error_is}
 use Rattle.txn_view_steps.specs.declared.entry.EntryOp.{EntryOp}
 use Rattle.txn_view_steps.specs.declared.entry.EntryOp.TheVariants as entries
 use Rattle.txn_view_steps.specs.declared.outcome.Outcome.{Outcome}
@@ -44,9 +44,9 @@ module _ {B : Type 0} where
   settles_ok value (Ok other) is = let same : other ≡ value = cc in ap Ok same
   settles_ok value (Err error) is = absurd (cc)
 
-  settles_err : (number : ℕ) (kind : TransactionalObjectError) → ((error : TransactionalObjectError) → error_number error ≡ number → error ≡ kind) → (answer : Result B TransactionalObjectError) → by_number answer ≡ Err number → answer ≡ Err kind
-  settles_err number kind only (Ok value) is = absurd (cc)
-  settles_err number kind only (Err error) is = let same : error_number error ≡ number = cc in ap Err (only error same)
+  settles_err : (kind : TransactionalObjectError) → HoldsNothing kind → (answer : Result B TransactionalObjectError) → by_number answer ≡ Err (error_number kind) → answer ≡ Err kind
+  settles_err kind bare (Ok value) is = absurd (cc)
+  settles_err kind bare (Err error) is = let same : error_number error ≡ error_number kind = cc in ap Err (error_is kind error bare same)
 
 -- a call over a write
 
@@ -96,11 +96,11 @@ module _ {T : Type 0} (epoch_of : T → ℕ) where
 
   shown_settles : (purpose : Purpose) (found : Option (ℕ × T)) (answer : Result (Outcome T) TransactionalObjectError) → by_number answer ≡ by_number (view_read_seen epoch_of purpose found) → answer ≡ view_read_seen epoch_of purpose found
   shown_settles Load (Some found) answer is = settles_ok (Viewed found.0 found.1) answer is
-  shown_settles Load None answer is = settles_err 4 LatestRecordMissing is_missing answer is
+  shown_settles Load None answer is = settles_err LatestRecordMissing tt answer is
   shown_settles Refresh (Some found) answer is = settles_ok (Viewed found.0 found.1) answer is
-  shown_settles Refresh None answer is = settles_err 7 InvalidObjectState is_invalid answer is
+  shown_settles Refresh None answer is = settles_err InvalidObjectState tt answer is
   shown_settles (HolderRefresh local) (Some found) answer is = settles_ok (holder_viewed found (epoch_tested local (epoch_of found.1))) answer is
-  shown_settles (HolderRefresh local) None answer is = settles_err 7 InvalidObjectState is_invalid answer is
+  shown_settles (HolderRefresh local) None answer is = settles_err InvalidObjectState tt answer is
 
 module _ {T X : Type 0} where
   -- a call at a state of its read

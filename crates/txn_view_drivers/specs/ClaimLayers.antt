@@ -20,7 +20,7 @@ use Rattle.txn_steps.specs.Writes.{write_asked, write_turned, write_caches}
 use Rattle.txn_drivers.specs.Asked.{Replies}
 use Rattle.txn_drivers.specs.DriveRuns.{Scene}
 use Rattle.txn_drivers.specs.DriveSteps.{WriteSteps, ReadSteps}
-use Rattle.txn_drivers.proofs.Refusals.{is_no_memory}
+use Rattle.txn_drivers.proofs.Refusals.{error_is}
 use Rattle.txn_view_steps.specs.declared.claiming.Claiming.{Claiming}
 use Rattle.txn_view_steps.specs.declared.claiming.Claiming.TheVariants.{Writes, Reads, Ended}
 use Rattle.txn_view_steps.specs.declared.outcome.Outcome.{Outcome}
@@ -87,7 +87,7 @@ module _ {T : Type 0} (path : Segments) (write : WriteOp) (value : T) (epoch : �
   lacks : (next : WriteOp × Turned (Result ℕ ℕ)) (error : TransactionalObjectError) → error_number error ≡ 9 → next ≡ write_turned write a.caches reply → IsShort next.1 → TellsErrorOf {A = ℕ} (reply_told reply) (Done (Err error)) → AttemptLed path value epoch (part_of write a) (Done (Err error)) c
   lacks (next, Goes) error nine turned short tells = absurd short
   lacks (next, Done (Ok id)) error nine turned short tells = absurd short
-  lacks (next, Done (Err number)) error nine turned (inl five) tells = (next, Err ObjectVersionExists, overtaken next number five turned, inr (refl, ap Err (is_no_memory error nine)))
+  lacks (next, Done (Err number)) error nine turned (inl five) tells = (next, Err ObjectVersionExists, overtaken next number five turned, inr (refl, ap Err (error_is NoMemory error tt nine)))
   lacks (next, Done (Err number)) error nine turned (inr too) tells = (next, Err error, wrote next (Done (Err error)) (ap (λ (n : ℕ). (next, Done (Err n))) (nine ∙ sym too) ∙ turned) tells, inl (refl, λ five. let e : 9 ≡ 5 = sym nine ∙ five in cc))
 
   by_error : (lacking : Bool) (error : TransactionalObjectError) → (error_number error == 9) ≡ lacking → (lacking ≡ true → IsShort (write_turned write a.caches reply).1) → (c.op, Done (Err (error_number error))) ≡ unless_lacking lacking Ended (attempt_turned path value epoch (write_turned write a.caches reply)) → TellsErrorOf {A = ℕ} (reply_told reply) (Done (Err error)) → AttemptLed path value epoch (part_of write a) (Done (Err error)) c
