@@ -19,8 +19,8 @@ use Rattle.txn_view_drivers.specs.declared.with_epochs.WithEpochs.{WithEpochs}
 use Rattle.txn_view_drivers.specs.CallLayers.{entry_at}
 use Rattle.txn_view_drivers.specs.CallRuns.{EntrySteps, ViewReadSteps}
 use Rattle.txn_view_drivers.specs.Entering.{EntryDriven}
-use Rattle.txn_view_drivers.specs.Viewing.{LoadAnswers, RefreshAnswers, HolderAnswers, LoadDriven, RefreshDriven, HolderDriven}
-use Rattle.txn_view_drivers.proofs.ViewRuns.{entry_driven, view_driven, load_answers, refresh_answers, holder_answers}
+use Rattle.txn_view_drivers.specs.Viewing.{LoadDriven, RefreshDriven, HolderDriven}
+use Rattle.txn_view_drivers.proofs.ViewRuns.{entry_driven, view_driven}
 
 -- a call over a write
 
@@ -66,10 +66,10 @@ module _ {T X : Type 0} (names : Names) (path : Segments) (page : ℕ) (room : 1
   with_op op = record { op = op; epochs = a.op.epochs }
 
   pub load_driven : a.op.op ≡ view_read_started path Load → (steps : ℕ) (answer : Option (Result (Outcome T) TransactionalObjectError)) (b : Scene (WithEpochs (ViewReadOp T) X)) → Drives (ViewReadSteps names path page decode epoch_of) steps a answer b → LoadDriven names decode path page steps a answer b
-  load_driven starts = view_driven names path page room decode epoch_of Load a LoadAnswers load_answers ascending small (ap with_op starts)
+  load_driven starts = view_driven names path page room decode epoch_of Load a ascending small (ap with_op starts)
 
   pub refresh_driven : a.op.op ≡ view_read_started path Refresh → (steps : ℕ) (answer : Option (Result (Outcome T) TransactionalObjectError)) (b : Scene (WithEpochs (ViewReadOp T) X)) → Drives (ViewReadSteps names path page decode epoch_of) steps a answer b → RefreshDriven names decode path page steps a answer b
-  refresh_driven starts = view_driven names path page room decode epoch_of Refresh a RefreshAnswers refresh_answers ascending small (ap with_op starts)
+  refresh_driven starts = view_driven names path page room decode epoch_of Refresh a ascending small (ap with_op starts)
 
   pub holder_refresh_driven : (local : ℕ) → a.op.op ≡ view_read_started path (HolderRefresh local) → (steps : ℕ) (answer : Option (Result (Outcome T) TransactionalObjectError)) (b : Scene (WithEpochs (ViewReadOp T) X)) → Drives (ViewReadSteps names path page decode epoch_of) steps a answer b → HolderDriven names decode path page (epoch_of a.op.epochs) local steps a answer b
-  holder_refresh_driven local starts = view_driven names path page room decode epoch_of (HolderRefresh local) a (HolderAnswers (epoch_of a.op.epochs) local) (λ h old new. holder_answers h old new (epoch_of a.op.epochs) local) ascending small (ap with_op starts)
+  holder_refresh_driven local starts = view_driven names path page room decode epoch_of (HolderRefresh local) a ascending small (ap with_op starts)

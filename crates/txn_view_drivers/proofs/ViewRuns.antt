@@ -20,6 +20,7 @@ use Rattle.txn_view_steps.specs.declared.entry.EntryOp.{EntryOp}
 use Rattle.txn_view_steps.specs.declared.entry.EntryOp.TheVariants as entries
 use Rattle.txn_view_steps.specs.declared.outcome.Outcome.{Outcome}
 use Rattle.txn_view_steps.specs.declared.view_read.Purpose.{Purpose}
+use Rattle.txn_view_steps.specs.declared.view_read.Purpose.TheVariants.{Load, Refresh, HolderRefresh}
 use Rattle.txn_view_steps.specs.declared.view_read.ViewReadOp.{ViewReadOp}
 use Rattle.txn_view_steps.specs.Entries.{entry_asked, entry_caches}
 use Rattle.txn_view_steps.specs.Readings.{said}
@@ -32,7 +33,7 @@ use Rattle.txn_view_drivers.specs.Entering.{EntryStood, EntryDriven}
 use Rattle.txn_view_drivers.specs.Layers.{run_through, part_of}
 use Rattle.txn_view_drivers.specs.Viewing.{LoadAnswers, RefreshAnswers, HolderAnswers, ViewDriven}
 use Rattle.txn_view_drivers.proofs.EntryRuns.{write_answers, write_spends}
-use Rattle.txn_view_drivers.specs.Seen.{entry_seen, load_seen, refresh_seen, holder_seen, view_read_seen, seen_as}
+use Rattle.txn_view_drivers.specs.Seen.{entry_seen, view_read_seen, seen_as}
 
 -- a call over a write, which is based so and has an id
 
@@ -53,48 +54,42 @@ module _ {T : Type 0} (value : T) (names : Names) (decode : List ℕ → Option 
         stood = λ apart h n stood most. subst (λ answer. EntryStood names decode path h n (number_of base) value a.store b.store b.caches answer) (sym run.3) (write_answers names decode path base bytes value (part_of (write_started names path base bytes) a) (part_of run.0 b) last apart h n stood most run.1 write);
       }
 
--- what each call makes of a read, where all stood
+-- what a call makes of a read, where all stood, by what it is for
 
-module _ {T : Type 0} (h : List T) (old new : State) where
+module _ {T : Type 0} (epoch_of : T → ℕ) (h : List T) (old new : State) where
   abbrev Told : Result (Option (ℕ × T)) TransactionalObjectError → Type 0
   Told told = IfOk told (IsNewest h) × IfErr told (HasCause old new)
 
-  load_error : (error : TransactionalObjectError) → HasCause old new error → LoadAnswers h old new (Err error)
-  load_error kinds.LatestRecordMissing cause = absurd cause
-  load_error error cause = cause
+  abbrev AnswersFor : Purpose → Result (Outcome T) TransactionalObjectError → Type 0
+  AnswersFor Load = LoadAnswers h old new
+  AnswersFor Refresh = RefreshAnswers h old new
+  AnswersFor (HolderRefresh local) = HolderAnswers epoch_of local h old new
 
-  pub load_answers : (told : Result (Option (ℕ × T)) TransactionalObjectError) → Told told → LoadAnswers h old new (seen_as load_seen told)
-  load_answers (Ok None) is = is.0
-  load_answers (Ok (Some found)) is = is.0
-  load_answers (Err error) is = load_error error is.1
+  failed : (purpose : Purpose) (error : TransactionalObjectError) → HasCause old new error → AnswersFor purpose (Err error)
+  failed Load kinds.LatestRecordMissing cause = absurd cause
+  failed Load error cause = cause
+  failed Refresh kinds.InvalidObjectState cause = absurd cause
+  failed Refresh error cause = cause
+  failed (HolderRefresh local) kinds.InvalidObjectState cause = absurd cause
+  failed (HolderRefresh local) error cause = cause
 
-  refresh_error : (error : TransactionalObjectError) → HasCause old new error → RefreshAnswers h old new (Err error)
-  refresh_error kinds.InvalidObjectState cause = absurd cause
-  refresh_error error cause = cause
+  by_epoch : (local : ℕ) (found : ℕ × T) (tested : Result (Unit {0}) TransactionalObjectError) → IsNewest h (Some found) → epoch_tested local (epoch_of found.1) ≡ tested → HolderAnswers epoch_of local h old new (Ok (holder_viewed found tested))
+  by_epoch local found (Ok own) newest is = (newest, is)
+  by_epoch local found (Err error) newest is = (newest, is)
 
-  pub refresh_answers : (told : Result (Option (ℕ × T)) TransactionalObjectError) → Told told → RefreshAnswers h old new (seen_as refresh_seen told)
-  refresh_answers (Ok None) is = is.0
-  refresh_answers (Ok (Some found)) is = is.0
-  refresh_answers (Err error) is = refresh_error error is.1
+  answers : (purpose : Purpose) (told : Result (Option (ℕ × T)) TransactionalObjectError) → Told told → AnswersFor purpose (seen_as (view_read_seen epoch_of purpose) told)
+  answers Load (Ok None) is = is.0
+  answers Load (Ok (Some found)) is = is.0
+  answers Refresh (Ok None) is = is.0
+  answers Refresh (Ok (Some found)) is = is.0
+  answers (HolderRefresh local) (Ok None) is = is.0
+  answers (HolderRefresh local) (Ok (Some found)) is = by_epoch local found (epoch_tested local (epoch_of found.1)) is.0 refl
+  answers purpose (Err error) is = failed purpose error is.1
 
-  module _ (epoch_of : T → ℕ) (local : ℕ) where
-    holder_error : (error : TransactionalObjectError) → HasCause old new error → HolderAnswers epoch_of local h old new (Err error)
-    holder_error kinds.InvalidObjectState cause = absurd cause
-    holder_error error cause = cause
+-- a call over a read, for a purpose
 
-    by_epoch : (found : ℕ × T) (tested : Result (Unit {0}) TransactionalObjectError) → IsNewest h (Some found) → epoch_tested local (epoch_of found.1) ≡ tested → HolderAnswers epoch_of local h old new (Ok (holder_viewed found tested))
-    by_epoch found (Ok own) newest is = (newest, is)
-    by_epoch found (Err error) newest is = (newest, is)
-
-    pub holder_answers : (told : Result (Option (ℕ × T)) TransactionalObjectError) → Told told → HolderAnswers epoch_of local h old new (seen_as (holder_seen epoch_of local) told)
-    holder_answers (Ok None) is = is.0
-    holder_answers (Ok (Some found)) is = by_epoch found (epoch_tested local (epoch_of found.1)) is.0 refl
-    holder_answers (Err error) is = holder_error error is.1
-
--- a call over a read, for a purpose; `Answers` is what its answer says of a history
-
-module _ {T X : Type 0} (names : Names) (path : Segments) (page : ℕ) (room : 1 ≤ page) (decode : List ℕ → Option T) (epoch_of : X → T → ℕ) (purpose : Purpose) (a : Scene (WithEpochs (ViewReadOp T) X)) (Answers : List T → State → State → Result (Outcome T) TransactionalObjectError → Type 0) (answers : (h : List T) (old new : State) (told : Result (Option (ℕ × T)) TransactionalObjectError) → Told h old new told → Answers h old new (seen_as (view_read_seen (epoch_of a.op.epochs) purpose) told)) (ascending : Ascends a.caches.latest) (small : IfSome (greatest_held a.caches.latest) (λ version. version.id < 2 ^ 64)) (starts : a.op ≡ view_read_at purpose a.op.epochs (read_started path)) where
-  pub view_driven : (steps : ℕ) (answer : Option (Result (Outcome T) TransactionalObjectError)) (b : Scene (WithEpochs (ViewReadOp T) X)) → Drives (ViewReadSteps names path page decode epoch_of) steps a answer b → ViewDriven names decode path page (view_read_seen (epoch_of a.op.epochs) purpose) Answers steps a answer b
+module _ {T X : Type 0} (names : Names) (path : Segments) (page : ℕ) (room : 1 ≤ page) (decode : List ℕ → Option T) (epoch_of : X → T → ℕ) (purpose : Purpose) (a : Scene (WithEpochs (ViewReadOp T) X)) (ascending : Ascends a.caches.latest) (small : IfSome (greatest_held a.caches.latest) (λ version. version.id < 2 ^ 64)) (starts : a.op ≡ view_read_at purpose a.op.epochs (read_started path)) where
+  pub view_driven : (steps : ℕ) (answer : Option (Result (Outcome T) TransactionalObjectError)) (b : Scene (WithEpochs (ViewReadOp T) X)) → Drives (ViewReadSteps names path page decode epoch_of) steps a answer b → ViewDriven names decode path page (view_read_seen (epoch_of a.op.epochs) purpose) (λ h old new. AnswersFor (epoch_of a.op.epochs) h old new purpose) steps a answer b
   view_driven steps None b on =
       let run = run_through true read_asked (read_turned names path page decode) read_left view_read_gone (λ call. view_read_asked call.op) (view_read_call_turned names path page decode epoch_of) (λ call caches told. read_left call.op.read caches (said told)) (view_read_at purpose a.op.epochs) (view_read_at purpose a.op.epochs reads.Ended) (view_read_seen (epoch_of a.op.epochs) purpose) (view_read_layer names path page decode epoch_of purpose a.op.epochs) (read_started path) a starts steps None b on in
       read_driven names path page room decode (part_of (read_started path) a) refl ascending small steps None (part_of run.0 b) run.1
@@ -106,5 +101,5 @@ module _ {T X : Type 0} (names : Names) (path : Segments) (page : ℕ) (room : 1
         told = run.1;
         read = read;
         shows = run.3;
-        stood = λ h n stood. let newest = read.stands h n stood in record { stands = newest.stands; answer = subst (λ answer. Answers h a.store b.store answer) (sym run.3) (answers h a.store b.store run.1 (newest.answer, newest.cause)); calls = newest.calls };
+        stood = λ h n stood. let newest = read.stands h n stood in record { stands = newest.stands; answer = subst (AnswersFor (epoch_of a.op.epochs) h a.store b.store purpose) (sym run.3) (answers (epoch_of a.op.epochs) h a.store b.store purpose run.1 (newest.answer, newest.cause)); calls = newest.calls };
       }
