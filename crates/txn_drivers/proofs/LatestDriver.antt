@@ -24,7 +24,7 @@ use Rattle.txn_drivers.specs.Calls.{one_if, SpendsTurns, HasStoreCause, HasCause
 use Rattle.txn_drivers.specs.Standing.{FilesStand, WindowFits}
 use Rattle.txn_drivers.specs.LatestReads.{HasPages, HasGrown, IsRefused, HasToList, IsAnswer, AnswersOf, Ended as ReadEnded}
 use Rattle.txn_drivers.specs.PageCount.{files_below}
-use Rattle.txn_drivers.specs.LatestRuns.{is_listing, steps_left, calls_left, IsFormed, Pays, IsStep, Listing, Holds, HasSpent, Running}
+use Rattle.txn_drivers.specs.LatestRuns.{is_listing, steps_left, calls_left, Pays, IsStep, Listing, Holds, HasSpent, Running}
 use Rattle.txn_drivers.proofs.LatestWindows.{grown_none, grown_kept, grown_every}
 use Rattle.txn_drivers.proofs.LatestSteps.{Leaves}
 use Rattle.txn_drivers.proofs.LatestTurns.{NumberCause, calls_of, Fails}
@@ -87,17 +87,6 @@ spent_fewer names page files spent pages (inl none) has = (let some = has.0 in o
 spent_fewer names page files spent pages (inr full) has = fewer page (length (files_below names files)) spent pages full has.1
 
 module _ {T : Type 0} (names : Names) (page : ℕ) (room : 1 ≤ page) (decode : List ℕ → Option T) where
-  pub formed : (files : Files) (first : List Cached) (spent calls : ℕ) (paged : Bool) (latest : List Cached) (op : LatestOp T) → Holds names page decode files first spent calls paged latest op → IsFormed names page op
-  formed files first spent calls paged latest Looks at = tt
-  formed files first spent calls paged latest (Probes hand found next request) at = (at.2, at.5)
-  formed files first spent calls paged latest (Finds successor found) at = at.2
-  formed files first spent calls paged latest (Lists found request) at = let l = at.1 in (l.after, l.asks)
-  formed files first spent calls paged latest (Chooses greatest) at = tt
-  formed files first spent calls paged latest (Gets id request) at = at.2
-  formed files first spent calls paged latest (Keeps version value) at = tt
-  formed files first spent calls paged latest (Drops id) at = absurd at
-  formed files first spent calls paged latest Ended at = absurd at
-
   -- what it leaves of the held versions where it lacks memory
   err_held : (files : Files) (first : List Cached) (spent calls : ℕ) (paged : Bool) (latest : List Cached) (op : LatestOp T) → Holds names page decode files first spent calls paged latest op → HasGrown names files first latest → HasGrown names files first (latest_left op latest (Done (Err 9)))
   err_held files first spent calls paged latest Looks at every = every

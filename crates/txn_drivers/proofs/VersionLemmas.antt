@@ -28,7 +28,7 @@ use Rattle.txn_drivers.specs.Asked.{Replies}
 use Rattle.txn_drivers.specs.Calls.{Spends, HasCauseOfRead, HasCauseOfGet}
 use Rattle.txn_drivers.specs.Standing.{FilesStand, WindowFits}
 use Rattle.txn_drivers.specs.LatestReads.{IsStored, HasGrown, IsRefused}
-use Rattle.txn_drivers.specs.VersionReads.{IsValueOf, AreRefused, VersionRead, IsSeen, SeenRead, IsSeenStep, IsSeenFormed, HasGot, HoldsSeen, RunningSeen, seen_steps}
+use Rattle.txn_drivers.specs.VersionReads.{IsValueOf, AreRefused, VersionRead, IsSeen, SeenRead, IsSeenStep, HasGot, HoldsSeen, RunningSeen, seen_steps}
 use Rattle.txn_drivers.proofs.Windows.{held_fits}
 use Rattle.txn_drivers.proofs.LatestWindows.{one_held, grown_none, grown_kept, grown_every}
 use Rattle.txn_drivers.proofs.LatestTurns.{Reads, look_reads, get_reads, NumberCause, get_failed, gone_in, asked_get, asked_look}
@@ -192,12 +192,6 @@ module _ {T : Type 0} (names : Names) (decode : List ℕ → Option T) where
       rw (window, look.0) (record { kept_all = g'.kept; rise = omega (arith, c); most = omega (arith, c); failures = g'.failures; grown = grown_kept names old.files first version first (got_stored old new id version value small g') (grown_none names old.files first) }, kept_seen old new first id version value none g', (inr (inr refl), λ e. absurd (omega (arith, e))))
   seen_move old mid new first latest id Ended reply small at replied = absurd at
 
-  pub seen_formed : (old mid : State) (first latest : List Cached) (id : ℕ) (op : ReadSeenOp T) → HoldsSeen names decode old mid first latest id op → IsSeenFormed names op
-  seen_formed old mid first latest id (Looks sought) at = tt
-  seen_formed old mid first latest id (Gets sought request) at = at.4 ∙ ap (version_got names) (sym at.0)
-  seen_formed old mid first latest id (Keeps version value) at = tt
-  seen_formed old mid first latest id Ended at = absurd at
-
   lifted : {X A : Type 0} (P : X × Turned (Result A ℕ) → Type 0) (lacks : Bool) (old : X) (x : X × Turned (Result A ℕ)) → P (old, Done (Err 9)) → P x → P (unless_lacking lacks old x)
   lifted P true old x err told = err
   lifted P false old x err told = told
@@ -229,9 +223,6 @@ module _ {T : Type 0} (names : Names) (decode : List ℕ → Option T) where
 
     pub seen_goes : IsSeenStep names decode mid new latest latest' op op' Goes → RunningSeen names decode old new first latest' id op'
     seen_goes s = record { small = r.small; holds = (leaves Goes s).0 }
-
-    pub seen_less : IsSeenStep names decode mid new latest latest' op op' Goes → seen_steps op' < seen_steps op
-    seen_less s = (leaves Goes s).1
 
     files_on : (result : Result (Option T) TransactionalObjectError) (s : IsSeenStep names decode mid new latest latest' op op' (Done result)) (h : List T) (b : ℕ) → FilesStand names decode old.files h b → FilesStand names decode new.files h b
     files_on result s h b stand = subst (λ f. FilesStand names decode f h b) (sym (move (Done result) s).0.kept_all.files) stand

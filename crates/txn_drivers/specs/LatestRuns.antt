@@ -59,18 +59,6 @@ module _ {T : Type 0} where
   calls_left listed (Drops id) = 0
   calls_left listed Ended = 0
 
-  -- its request is of its kind, and it finds at most four
-  abbrev pub IsFormed : Names → ℕ → LatestOp T → Type 0
-  IsFormed names page (Probes hand found next request) = (found < 4) × (request ≡ version_got names next)
-  IsFormed names page (Finds successor found) = found ≤ 4
-  IsFormed names page (Lists found request) = (after : Option Segments) × (request ≡ version_page names after page)
-  IsFormed names page (Gets id request) = request ≡ version_got names id
-  IsFormed names page Looks = Unit {0}
-  IsFormed names page (Chooses greatest) = Unit {0}
-  IsFormed names page (Keeps version value) = Unit {0}
-  IsFormed names page (Drops id) = Unit {0}
-  IsFormed names page Ended = ⊥
-
 -- a turn is spent before each page after the first, and none is where none is left
 abbrev pub Pays : Bool → Bool → Bool → ℕ → ℕ → Bool → Type 0
 Pays asks listed listed' turns turns' true = (turns ≡ turns' + one_if (asks && listed)) × (listed' ≡ (asks || listed))

@@ -97,10 +97,3 @@ module _ {T : Type 0} where
   seen_steps (Gets id request) = 2
   seen_steps (Keeps version value) = 1
   seen_steps Ended = 0
-
-  -- its request is the get of its version
-  abbrev pub IsSeenFormed : Names → ReadSeenOp T → Type 0
-  IsSeenFormed names (Looks id) = Unit {0}
-  IsSeenFormed names (Gets id request) = request ≡ version_got names id
-  IsSeenFormed names (Keeps version value) = Unit {0}
-  IsSeenFormed names Ended = ⊥

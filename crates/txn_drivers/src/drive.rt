@@ -19,8 +19,7 @@ ghost use Rattle.txn_drivers.specs.RemovalRuns.{CanRemove};
 ghost use Rattle.txn_drivers.specs.WriteRuns.{CanWrite};
 
 use crate::listing::list_step;
-use crate::removal::removal_step;
-use crate::writing::write_step;
+use crate::replies::reply_to;
 use std::alloc::Global;
 use txn_caches::caches::Caches;
 use txn_caches::turned::Turned;
@@ -34,7 +33,9 @@ use txn_types::layout::Layout;
 /// Where an operation runs: what it grows with, and the layout of its object.
 #[derive(Drop)]
 pub struct At<'a, C> {
+    /// The memory that it grows with.
     pub alloc: Global,
+    /// The layout of its object.
     pub layout: &'a Layout<C>,
 }
 
@@ -97,7 +98,7 @@ impl<C, S: ObjectStore> Drive<C, S> for WriteUncheckedOp {
     ghost asks_again = { λ layout a b can step. write_unchecked_asks a b can step };
 
     fn step(&mut self, at: &At<C>, store: &mut S, caches: &mut Caches) -> Turned<WriteAnswer> {
-        write_step(at.alloc, &mut caches.latest, store, self)
+        self.take(&mut caches.latest, reply_to(at.alloc, store, self.ask()))
     }
 }
 
@@ -112,7 +113,7 @@ impl<C, S: ObjectStore> Drive<C, S> for DeleteUncheckedOp {
     ghost asks_again = { λ layout a b can step. delete_unchecked_asks a b can step };
 
     fn step(&mut self, at: &At<C>, store: &mut S, caches: &mut Caches) -> Turned<DeleteAnswer> {
-        removal_step(at.alloc, &mut caches.latest, store, self)
+        self.take(&mut caches.latest, reply_to(at.alloc, store, self.ask()))
     }
 }
 

@@ -3,7 +3,7 @@ ghost use Rattle.std.specs.Prelude.{◌≡◌, ◌^◌, ◌<◌, ◌≤◌, IfSo
 ghost use Rattle.txn_caches.specs.Windows.{Ascends, greatest_held};
 ghost use Rattle.txn_steps.specs.Latest.{latest_begun};
 ghost use Rattle.txn_drivers.specs.LatestReads.{Ended};
-ghost use Rattle.txn_drivers.specs.LatestRuns.{is_listing, IsFormed, IsStep, Pays};
+ghost use Rattle.txn_drivers.specs.LatestRuns.{is_listing, Pays};
 
 use crate::replies::reply_to;
 use crate::turns::Turns;
@@ -15,22 +15,6 @@ use txn_store::store::ObjectStore;
 use txn_types::codec::ObjectCodec;
 use txn_types::error::TransactionalObjectError;
 use txn_types::layout::Layout;
-
-/// One look or one store call.
-fn step<T: Drop, C: ObjectCodec<T>, S: ObjectStore>(
-    alloc: Global,
-    layout: &Layout<C>,
-    latest: &mut Window,
-    store: &mut S,
-    op: &mut LatestOp<T>,
-) -> Turned<ReadAnswer<T>>
-    requires page { 1 ≤ layout.now.page }
-    requires formed { IsFormed layout.now.names layout.now.page op.old }
-    ensures { IsStep layout.now.names layout.now.page (C.decoded layout.now.codec) (S.state store.old) (S.state store.new) latest.old latest.new op.old op.new result }
-{
-    let reply = reply_to(alloc, store, op.ask());
-    op.take(alloc, layout, latest, reply)
-}
 
 /// Whether it asks for a page.
 fn is_listing<T>(op: &LatestOp<T>) -> bool
@@ -84,7 +68,7 @@ fn run<T: Drop, C: ObjectCodec<T>, S: ObjectStore>(
         if !pay(is_listing(op), &mut listed, turns) {
             return Err(TransactionalObjectError::TurnsExhausted);
         }
-        match step(alloc, layout, latest, store, op) {
+        match op.take(alloc, layout, latest, reply_to(alloc, store, op.ask())) {
             Turned::Goes => {}
             Turned::Done(answer) => return answer,
         }

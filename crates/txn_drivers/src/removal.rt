@@ -1,5 +1,5 @@
 //! A delete of a version, driven to its end.
-ghost use Rattle.txn_drivers.specs.RemovalRuns.{CanRemove, IsRemovalStep, Deleted};
+ghost use Rattle.txn_drivers.specs.RemovalRuns.{Deleted};
 
 use crate::replies::reply_to;
 use std::alloc::Global;
@@ -10,20 +10,6 @@ use txn_store::store::ObjectStore;
 use txn_types::codec::ObjectCodec;
 use txn_types::id::MonotonicId;
 use txn_types::layout::Layout;
-
-/// One look or one store call of a delete.
-pub(crate) fn removal_step<S: ObjectStore>(
-    alloc: Global,
-    latest: &mut Window,
-    store: &mut S,
-    op: &mut DeleteUncheckedOp,
-) -> Turned<DeleteAnswer>
-    requires { CanRemove op.old.step op.old.request }
-    ensures { IsRemovalStep (S.state store.old) (S.state store.new) latest.old latest.new op.old op.new result }
-{
-    let reply = reply_to(alloc, store, op.ask());
-    op.take(latest, reply)
-}
 
 /// Removes the version of this id, whether it is stored or not, and drops the held version of that id alone. No boundary
 /// is read: the caller knows that the id is at or below it. It makes one store call at most, and takes no token.
@@ -41,7 +27,7 @@ pub fn delete_version<T, C: ObjectCodec<T>, S: ObjectStore>(
 {
     let mut op = DeleteUncheckedOp::start(alloc, layout, id)?;
     'steps: loop {
-        match removal_step(alloc, latest, store, &mut op) {
+        match op.take(latest, reply_to(alloc, store, op.ask())) {
             Turned::Goes => {}
             Turned::Done(answer) => return answer,
         }

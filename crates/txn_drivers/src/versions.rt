@@ -1,6 +1,6 @@
 //! Reads of one version, driven to their end.
 ghost use Rattle.std.specs.Prelude.{◌≡◌, ◌^◌, ◌<◌};
-ghost use Rattle.txn_drivers.specs.VersionReads.{IsSeenFormed, IsSeenStep, SeenRead, VersionRead};
+ghost use Rattle.txn_drivers.specs.VersionReads.{SeenRead, VersionRead};
 
 use crate::replies::reply_to;
 use std::alloc::Global;
@@ -39,21 +39,6 @@ pub fn read_version<T: Drop, C: ObjectCodec<T>, S: ObjectStore>(
     }
 }
 
-/// One look or one store call.
-fn step<T: Drop, C: ObjectCodec<T>, S: ObjectStore>(
-    alloc: Global,
-    layout: &Layout<C>,
-    latest: &mut Window,
-    store: &mut S,
-    op: &mut ReadSeenOp<T>,
-) -> Turned<ValueAnswer<T>>
-    requires { IsSeenFormed layout.now.names op.old }
-    ensures { IsSeenStep layout.now.names (C.decoded layout.now.codec) (S.state store.old) (S.state store.new) latest.old latest.new op.old op.new result }
-{
-    let reply = reply_to(alloc, store, op.ask());
-    op.take(alloc, layout, latest, reply)
-}
-
 /// Reads the version of this id, where it is held with no call of the store, and else by one. A version that is stored
 /// is put in the window: where that is full, in place of the smallest id that it holds, if its own is above that. It
 /// answers its value, or `None` where it is neither held nor stored. `CallbackError` comes where the codec refuses its
@@ -71,7 +56,7 @@ pub fn read_seen<T: Drop, C: ObjectCodec<T>, S: ObjectStore>(
     number_fits(id);
     let mut op = ReadSeenOp::start(id);
     'steps: loop {
-        match step(alloc, layout, latest, store, &mut op) {
+        match op.take(alloc, layout, latest, reply_to(alloc, store, op.ask())) {
             Turned::Goes => {}
             Turned::Done(answer) => return answer,
         }

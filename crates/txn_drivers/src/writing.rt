@@ -1,5 +1,5 @@
 //! A write of a version, driven to its end.
-ghost use Rattle.txn_drivers.specs.WriteRuns.{CanWrite, IsWriteStep, Written};
+ghost use Rattle.txn_drivers.specs.WriteRuns.{Written};
 
 use crate::replies::reply_to;
 use std::alloc::Global;
@@ -10,20 +10,6 @@ use txn_store::store::ObjectStore;
 use txn_types::codec::ObjectCodec;
 use txn_types::id::MonotonicId;
 use txn_types::layout::Layout;
-
-/// One look or one store call of a write.
-pub(crate) fn write_step<S: ObjectStore>(
-    alloc: Global,
-    latest: &mut Window,
-    store: &mut S,
-    op: &mut WriteUncheckedOp,
-) -> Turned<WriteAnswer>
-    requires { CanWrite op.old }
-    ensures { IsWriteStep (S.state store.old) (S.state store.new) latest.old latest.new op.old op.new result }
-{
-    let reply = reply_to(alloc, store, op.ask());
-    op.take(latest, reply)
-}
 
 /// Creates the version directly after a base, or the first version where there is none, as the bytes that the codec writes
 /// of the value, and answers its id. No boundary is read: the caller checks the id. It makes one store call at most, and
@@ -46,7 +32,7 @@ pub fn write_version<T, C: ObjectCodec<T>, S: ObjectStore>(
 {
     let mut op = WriteUncheckedOp::start(alloc, layout, base, value)?;
     'steps: loop {
-        match write_step(alloc, latest, store, &mut op) {
+        match op.take(latest, reply_to(alloc, store, op.ask())) {
             Turned::Goes => {}
             Turned::Done(answer) => return answer,
         }
