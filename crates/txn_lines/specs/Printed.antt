@@ -8,6 +8,8 @@ use Rattle.txn_history.specs.Views.{View}
 use Rattle.txn_history.specs.declared.event.EventFault.{EventFault}
 use Rattle.txn_history.specs.declared.event.EventFault.TheVariants as faults
 use Rattle.txn_history.specs.Allowed.{fault_number}
+use Rattle.txn_lines.specs.declared.printed.IdsLine.{IdsLine}
+use Rattle.txn_lines.specs.declared.printed.IdsLine.TheVariants as ids_lines
 use Rattle.txn_lines.specs.declared.stop.Stop.{Stop}
 use Rattle.txn_lines.specs.declared.stop.Stop.TheVariants as stops
 
@@ -114,6 +116,10 @@ erased_text ids = codes "erased" ++ listed_text ids
 -- the line of the ids that the newest value pins
 abbrev pub pinned_text : List ℕ → List ℕ
 pinned_text ids = codes "pinned" ++ listed_text ids
+
+abbrev pub ids_line_text : IdsLine → List ℕ
+ids_line_text (ids_lines.Erased ids) = erased_text ids.items
+ids_line_text (ids_lines.Pinned ids) = pinned_text ids.items
 
 -- the line of a script that stops
 abbrev pub stop_text : Stop → List ℕ

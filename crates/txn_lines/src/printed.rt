@@ -1,7 +1,7 @@
 //! The printed lines.
 
 ghost use Rattle.std.specs.Prelude.{◌≡◌, Some};
-ghost use Rattle.txn_lines.specs.Printed.{refusal_name, plain_answer_text, answered_text, answer_text, entry_text, boundary_text, erased_text, pinned_text, stands_text, listed_text, fault_name, fault_text, named_fault_text};
+ghost use Rattle.txn_lines.specs.Printed.{refusal_name, plain_answer_text, answered_text, answer_text, entry_text, boundary_text, ids_line_text, stands_text, listed_text, fault_name, fault_text, named_fault_text};
 
 use crate::text_form::LineValue;
 use std::fmt;
@@ -140,29 +140,23 @@ impl fmt::Display for BoundaryLine {
     }
 }
 
-/// The line of the erased ids.
+/// A line of ids.
 #[derive(Debug, Drop)]
-pub struct ErasedLine(pub Vec<u64>);
-
-impl fmt::Display for ErasedLine {
-    ghost output = { λ line. Some (erased_text line.0.items) };
-
-    fn fmt<W: fmt::Write>(&self, f: &mut fmt::Formatter<W>) -> fmt::Result {
-        let listed = Listed(&self.0);
-        write!(f, "erased{listed}")
-    }
+pub enum IdsLine {
+    /// Of the erased ones.
+    Erased(Vec<u64>),
+    /// Of those that the newest value pins.
+    Pinned(Vec<u64>),
 }
 
-/// The line of the ids that the newest value pins.
-#[derive(Debug, Drop)]
-pub struct PinnedLine(pub Vec<u64>);
-
-impl fmt::Display for PinnedLine {
-    ghost output = { λ line. Some (pinned_text line.0.items) };
+impl fmt::Display for IdsLine {
+    ghost output = { λ line. Some (ids_line_text line) };
 
     fn fmt<W: fmt::Write>(&self, f: &mut fmt::Formatter<W>) -> fmt::Result {
-        let listed = Listed(&self.0);
-        write!(f, "pinned{listed}")
+        match self {
+            IdsLine::Erased(ids) => write!(f, "erased{}", Listed(ids)),
+            IdsLine::Pinned(ids) => write!(f, "pinned{}", Listed(ids)),
+        }
     }
 }
 

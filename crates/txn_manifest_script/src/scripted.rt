@@ -9,7 +9,7 @@ use crate::call::{ManifestCall, as_manifests, event_of};
 use std::alloc::{AllocError, Global};
 use txn_history::event::{EventFault, EventOf};
 use txn_history::view::View;
-use txn_lines::printed::{FaultLine, PinnedLine, fault_name as world_fault_name};
+use txn_lines::printed::{FaultLine, fault_name as world_fault_name};
 use txn_manifest::event::ManifestFault;
 use txn_manifest::manifest::Manifest;
 use txn_manifest::world::ManifestWorld;
@@ -79,11 +79,11 @@ impl ScriptWorld<Manifest, ManifestCall> for Scripted {
         self.world.world().erased(alloc)
     }
 
-    fn pinned(&self, alloc: Global) -> Result<Option<PinnedLine>, AllocError> {
+    fn pinned(&self, alloc: Global) -> Result<Option<Vec<u64>>, AllocError> {
         let pins = self.world.pinned(alloc)?;
         let mut ids = Vec::new(alloc);
         ids.extend_from_slice(pins.as_slice())?;
-        Ok(Some(PinnedLine(ids)))
+        Ok(Some(ids))
     }
 
     fn views(&self) -> u64 {

@@ -11,7 +11,7 @@ ghost use Rattle.txn_script.specs.Running.{CameOf};
 use std::alloc::{AllocError, Global};
 use txn_history::event::{EventOf, Told};
 use txn_history::view::View;
-use txn_lines::printed::{FaultLine, PinnedLine};
+use txn_lines::printed::FaultLine;
 
 /// What came of an event.
 #[derive(Debug, Drop)]
@@ -58,9 +58,9 @@ pub trait ScriptWorld<T, C>: Drop {
     fn erased(&self, alloc: Global) -> Result<Vec<u64>, AllocError>
         ensures { IfOk result (λ ids. AreErased (state self.now).trace ids.items) };
 
-    /// The line of the ids that the newest value pins, where values pin some. The only error is want of memory.
-    fn pinned(&self, alloc: Global) -> Result<Option<PinnedLine>, AllocError>
-        ensures { IfOk result (λ pins. rules.pins (state self.now) (option_map (λ line. line.0.items) pins)) };
+    /// The ids that the newest value pins, where values pin some. The only error is want of memory.
+    fn pinned(&self, alloc: Global) -> Result<Option<Vec<u64>>, AllocError>
+        ensures { IfOk result (λ pins. rules.pins (state self.now) (option_map (λ ids. ids.items) pins)) };
 
     /// How many views were made. It takes no memory.
     fn views(&self) -> u64

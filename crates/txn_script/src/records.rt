@@ -8,7 +8,7 @@ use crate::kind::{Came, ScriptWorld};
 use std::alloc::{AllocError, Global};
 use txn_history::event::{Call, Event, EventFault};
 use txn_history::view::View;
-use txn_lines::printed::{FaultLine, PinnedLine};
+use txn_lines::printed::FaultLine;
 use txn_lines::record::{Record, RecordCodec, RecordEpoch};
 use txn_world::world::World;
 
@@ -53,7 +53,7 @@ impl ScriptWorld<Record, Call<Record>> for World<Record, RecordCodec, RecordEpoc
         World::erased(self, alloc)
     }
 
-    fn pinned(&self, _alloc: Global) -> Result<Option<PinnedLine>, AllocError> {
+    fn pinned(&self, _alloc: Global) -> Result<Option<Vec<u64>>, AllocError> {
         Ok(None)
     }
 

@@ -22,9 +22,7 @@ use std::mem;
 use txn_history::event::{Call, EventOf, Told};
 use txn_lines::line::Line;
 use txn_lines::lines::Lines;
-use txn_lines::printed::{
-    AnswerLine, Answered, BoundaryLine, EntryLine, ErasedLine, PinnedLine, ViewLine,
-};
+use txn_lines::printed::{AnswerLine, Answered, BoundaryLine, EntryLine, IdsLine, ViewLine};
 use txn_lines::record::{Record, RecordCodec, RecordEpoch};
 use txn_lines::stop::Stop;
 use txn_lines::text_form::{LineValue, TextForm};
@@ -209,15 +207,15 @@ fn print_views<T: LineValue, C: TextForm, K: ScriptWorld<T, C>, W: Write>(
 }
 
 /// Prints the line of what is pinned, where values pin some.
-fn print_pinned(pinned: Option<PinnedLine>, printer: &mut Printer) -> Result<(), Stop>
-    ensures ok { OnOk result (Gathers printer.old printer.new (pinned_line (option_map (λ line. line.0.items) pinned))) }
+fn print_pinned(pinned: Option<Vec<u64>>, printer: &mut Printer) -> Result<(), Stop>
+    ensures ok { OnOk result (Gathers printer.old printer.new (pinned_line (option_map (λ ids. ids.items) pinned))) }
     ensures err { IfErr result
         (λ stop. (stop ≡ Stop.NoMemory) × IsUnchanged printer.old printer.new) }
 {
-    let Some(line) = pinned else {
+    let Some(ids) = pinned else {
         return Ok(());
     };
-    printer.print_line(line)
+    printer.print_line(IdsLine::Pinned(ids))
 }
 
 /// Prints what is left at the end.
@@ -243,7 +241,7 @@ fn print_end<T: LineValue, C: TextForm, K: ScriptWorld<T, C>, W: Write>(
     };
     print_entries(&entries, printer, out)?;
     printer.print_line(BoundaryLine(world.boundary()))?;
-    printer.print_line(ErasedLine(erased))?;
+    printer.print_line(IdsLine::Erased(erased))?;
     print_pinned(pinned, printer)?;
     print_views::<T, C, K, W>(world, printer, out)
 }

@@ -10,7 +10,7 @@ use txn_history::event::{Call, Event};
 use txn_history::trace::Row;
 use txn_history::view::View;
 use txn_lines::line::Line;
-use txn_lines::printed::{BoundaryLine, EntryLine, ErasedLine, ViewLine};
+use txn_lines::printed::{BoundaryLine, EntryLine, IdsLine, ViewLine};
 use txn_lines::record::Record;
 use txn_lines::text_form::TextForm;
 use txn_store::request::Request;
@@ -158,7 +158,7 @@ fn add_entries(alloc: Global, kept: &Records, text: &mut String) -> Result<(), A
 fn add_end(alloc: Global, kept: &Records, text: &mut String) -> Result<(), AllocError> {
     add_entries(alloc, kept, text)?;
     let boundary = BoundaryLine(kept.world().boundary());
-    let erased = ErasedLine(kept.world().erased(alloc)?);
+    let erased = IdsLine::Erased(kept.world().erased(alloc)?);
     let lines = format!(in alloc; "{boundary}\n  {erased}")?;
     add(alloc, text, lines.as_str())?;
     add_views(alloc, kept, text)
