@@ -10,3 +10,4 @@ pub mod printed;
 pub mod record;
 pub mod stop;
 pub mod text_form;
+pub mod words;

@@ -5,7 +5,7 @@ ghost use Rattle.std.specs.IoError.{error_kind};
 ghost use Rattle.txn_lines.specs.Printed.{stop_text, status_of};
 ghost use Rattle.txn_lines.specs.Reading.{OnBadLine};
 
-use std::io::ErrorKind;
+use std::io::{ErrorKind, Write};
 use std::{fmt, io};
 
 /// Why a script stops before its end.
@@ -30,6 +30,15 @@ impl Stop {
             Stop::BadLine(_) => 2,
             _ => 1,
         }
+    }
+
+    /// Says it on `err`, and gives the exit status.
+    pub fn tell<E: Write>(self, err: &mut E) -> u8
+        ensures { result ≡ status_of self }
+    {
+        // Nothing is left to tell a failure to.
+        let _ = err.writeln(self);
+        self.status()
     }
 
     /// Why a script stops at a failed read.

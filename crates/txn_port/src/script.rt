@@ -72,11 +72,7 @@ fn print_script<R: Read + Drop, W: Write>(
 fn status_of<E: Write>(ended: Result<(), Stop>, err: &mut E) -> u8 {
     match ended {
         Ok(()) => 0,
-        Err(stop) => {
-            // Nothing is left to tell a failure to.
-            let _ = err.writeln(stop);
-            stop.status()
-        }
+        Err(stop) => stop.tell(err),
     }
 }
 

@@ -341,11 +341,7 @@ pub fn exit_status<E: Write>(ended: Result<(), Stop>, err: &mut E) -> u8
 {
     match ended {
         Ok(()) => 0,
-        Err(stop) => {
-            // Nothing is left to tell a failure to.
-            let _ = err.writeln(stop);
-            stop.status()
-        }
+        Err(stop) => stop.tell(err),
     }
 }
 

@@ -1,7 +1,7 @@
 //! Plays a script of calls on the port, and prints what each says.
 #![tactic(auto)]
 
-use std::io::{self, BufWriter, Write};
+use std::io::{self, BufWriter};
 use std::process::ExitCode;
 use txn_lines::stop::Stop;
 use txn_port::script::run_script;
@@ -9,8 +9,7 @@ use txn_port::script::run_script;
 fn main(rt: HostRuntime) -> ExitCode {
     let mut err = rt.stderr();
     let Ok(mut out) = BufWriter::new(rt.alloc(), io::writer(&rt)) else {
-        let _ = err.writeln(Stop::NoMemory);
-        return ExitCode::from(Stop::NoMemory.status());
+        return ExitCode::from(Stop::NoMemory.tell(&mut err));
     };
     ExitCode::from(run_script(rt.alloc(), rt.reader(), &mut out, &mut err))
 }
