@@ -20,16 +20,28 @@ pub enum Workload {
 }
 
 impl Workload {
+    /// Its name, how many versions stand before its first call, how many stores a round has, and how many calls.
+    fn row(self) -> (&'static str, u64, u64, u64)
+        ensures name { result.0.now ≡ workload_name self }
+        ensures versions { result.1 ≡ versions_before self }
+        ensures stores { result.2 ≡ stores_of_round self }
+        ensures calls { result.3 ≡ calls_of_round self }
+        ensures some { 1 ≤ result.2 × 1 ≤ result.3 }
+    {
+        match self {
+            Workload::Update => ("update", 0, 1, 10_000),
+            Workload::ReadWarm => ("read_warm", 1, 1, 20_000),
+            Workload::LoadCold100 => ("load_cold_100", 100, 1, 1000),
+            Workload::List10000 => ("list_10000", 10_000, 1, 20),
+            Workload::LoadClaimFresh => ("load_claim_fresh", 1, 1000, 1000),
+        }
+    }
+
     /// How many versions stand before its first call.
     pub fn versions(&self) -> u64
         ensures { result ≡ versions_before self.now }
     {
-        match self {
-            Workload::Update => 0,
-            Workload::ReadWarm | Workload::LoadClaimFresh => 1,
-            Workload::LoadCold100 => 100,
-            Workload::List10000 => 10_000,
-        }
+        self.row().1
     }
 
     /// How many stores a round has, one after another. Each has as many of its calls.
@@ -37,10 +49,7 @@ impl Workload {
         ensures exact { result ≡ stores_of_round self.now }
         ensures some { 1 ≤ result }
     {
-        match self {
-            Workload::LoadClaimFresh => 1000,
-            _ => 1,
-        }
+        self.row().2
     }
 
     /// How many calls a round makes.
@@ -48,12 +57,7 @@ impl Workload {
         ensures exact { result ≡ calls_of_round self.now }
         ensures some { 1 ≤ result }
     {
-        match self {
-            Workload::Update => 10_000,
-            Workload::ReadWarm => 20_000,
-            Workload::LoadCold100 | Workload::LoadClaimFresh => 1000,
-            Workload::List10000 => 20,
-        }
+        self.row().3
     }
 }
 
@@ -62,12 +66,6 @@ impl fmt::Display for Workload {
     ghost output = { λ workload. Some (workload_name workload) };
 
     fn fmt<W: fmt::Write>(&self, f: &mut fmt::Formatter<W>) -> fmt::Result {
-        match self {
-            Workload::Update => write!(f, "update"),
-            Workload::ReadWarm => write!(f, "read_warm"),
-            Workload::LoadCold100 => write!(f, "load_cold_100"),
-            Workload::List10000 => write!(f, "list_10000"),
-            Workload::LoadClaimFresh => write!(f, "load_claim_fresh"),
-        }
+        f.write_str(self.row().0)
     }
 }
