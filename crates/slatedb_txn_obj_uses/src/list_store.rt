@@ -3,6 +3,8 @@ ghost use Rattle.std.specs.Prelude.{◌≡◌, ◌≤◌, IsOk, OnOk, OnErr};
 ghost use Rattle.std.specs.Option.{option_copied};
 ghost use Rattle.std.specs.FinMap as finmap;
 ghost use Rattle.txn_store.specs.Store.{put_fault, listing, page_of};
+ghost use Rattle.txn_store.specs.Memory.{Memory, memory_code};
+ghost use Rattle.slatedb_txn_obj_uses.specs.ListFields.{list_view, IsList};
 
 use crate::listed::Listed;
 use bytes::Bytes;
@@ -27,13 +29,9 @@ pub struct ListStore {
 }
 
 impl Model for ListStore {
-    ghost use Rattle.txn_store.specs.Memory.{Memory, memory_code};
-
     ghost Value = { Memory };
 
     ghost coded = { memory_code };
-
-    ghost use Rattle.slatedb_txn_obj_uses.specs.ListFields.{list_view, IsList};
 
     ghost view = { list_view };
 
