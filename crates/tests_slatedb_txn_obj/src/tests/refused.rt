@@ -1,11 +1,11 @@
 //! Growths that are refused while views and holders are at work.
 use crate::tests::swept::{
     A_FENCED_VERSION_AT_HAND, A_STALE_EPOCH, AN_EPOCH, AN_UPDATE, AN_UPDATE_BEHIND_THE_BOUNDARY,
-    HOLDERS, Outcome, Swept, end_of,
+    HOLDERS, Outcome, end_of,
 };
 use std::alloc::{AllocError, Global};
 
-const ALL: &[(&str, &[Swept])] = &[
+const ALL: &[(&str, &str)] = &[
     ("an update", AN_UPDATE),
     (
         "an update behind the boundary",
@@ -18,7 +18,7 @@ const ALL: &[(&str, &[Swept])] = &[
 ];
 
 /// What comes of lines over a store that never fails.
-fn outcome_of(alloc: Global, rows: &[Swept]) -> Result<Outcome, AllocError> {
+fn outcome_of(alloc: Global, rows: &str) -> Result<Outcome, AllocError> {
     end_of(alloc, "fail 0 before", rows, "refused 9 NoMemory")
 }
 

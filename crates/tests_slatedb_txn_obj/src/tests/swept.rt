@@ -4,94 +4,57 @@ use txn_lines::numerals::read_decimal;
 use txn_lines::record::{Record, read_record};
 use txn_port::player::Player;
 
-/// A line, the look at its object, what the line says, and what a read says after it.
-pub(crate) type Swept = (&'static str, &'static str, &'static str, &'static str);
+// Tables: a row is a line, the look at its object, what the line says, and what a read says after it, divided by ` | `.
 
 /// A view is made, and updated.
-pub(crate) const AN_UPDATE: &[Swept] = &[
-    ("1 init 0:1", "show 1", "view 1 at 1 0:1", "read 1 0:1"),
-    ("1 update 1 0:2", "show 1", "view 1 at 2 0:2", "read 2 0:2"),
-    ("1 read", "show 1", "read 2 0:2", "read 2 0:2"),
-];
+pub(crate) const AN_UPDATE: &str = "\
+1 init 0:1 | show 1 | view 1 at 1 0:1 | read 1 0:1
+1 update 1 0:2 | show 1 | view 1 at 2 0:2 | read 2 0:2
+1 read | show 1 | read 2 0:2 | read 2 0:2";
 
 /// A stale view is updated by a mutator behind the boundary: the first attempt creates a removed version again, and the
 /// second enters the next one.
-pub(crate) const AN_UPDATE_BEHIND_THE_BOUNDARY: &[Swept] = &[
-    ("1 init 0:1", "show 1", "view 1 at 1 0:1", "read 1 0:1"),
-    ("2 write 1 0:2", "show 1", "wrote 2", "read 2 0:2"),
-    ("2 write 2 0:3", "show 1", "wrote 3", "read 3 0:3"),
-    ("1 advance 2", "show 1", "done", "read 3 0:3"),
-    ("1 delete 2", "show 1", "done", "read 3 0:3"),
-    ("1 apply 1", "show 1", "view 1 at 4 0:2", "read 4 0:2"),
-    ("1 list - -", "show 1", "ids 1 2 3 4", "read 4 0:2"),
-];
+pub(crate) const AN_UPDATE_BEHIND_THE_BOUNDARY: &str = "\
+1 init 0:1 | show 1 | view 1 at 1 0:1 | read 1 0:1
+2 write 1 0:2 | show 1 | wrote 2 | read 2 0:2
+2 write 2 0:3 | show 1 | wrote 3 | read 3 0:3
+1 advance 2 | show 1 | done | read 3 0:3
+1 delete 2 | show 1 | done | read 3 0:3
+1 apply 1 | show 1 | view 1 at 4 0:2 | read 4 0:2
+1 list - - | show 1 | ids 1 2 3 4 | read 4 0:2";
 
 /// A protocol has read a version that others overtook, fenced and removed.
-pub(crate) const A_FENCED_VERSION_AT_HAND: &[Swept] = &[
-    ("2 write - 0:1", "show 1", "wrote 1", "read 1 0:1"),
-    ("1 read", "show 1", "read 1 0:1", "read 1 0:1"),
-    ("2 write 1 0:2", "show 1", "wrote 2", "read 2 0:2"),
-    ("2 write 2 0:3", "show 1", "wrote 3", "read 3 0:3"),
-    ("2 advance 2", "show 1", "done", "read 3 0:3"),
-    ("2 delete 2", "show 1", "done", "read 3 0:3"),
-    ("1 read", "show 1", "read 3 0:3", "read 3 0:3"),
-];
+pub(crate) const A_FENCED_VERSION_AT_HAND: &str = "\
+2 write - 0:1 | show 1 | wrote 1 | read 1 0:1
+1 read | show 1 | read 1 0:1 | read 1 0:1
+2 write 1 0:2 | show 1 | wrote 2 | read 2 0:2
+2 write 2 0:3 | show 1 | wrote 3 | read 3 0:3
+2 advance 2 | show 1 | done | read 3 0:3
+2 delete 2 | show 1 | done | read 3 0:3
+1 read | show 1 | read 3 0:3 | read 3 0:3";
 
 /// An older holder is fenced.
-pub(crate) const HOLDERS: &[Swept] = &[
-    ("1 init 0:0", "show 1", "view 1 at 1 0:0", "read 1 0:0"),
-    ("copy 1", "show 2", "view 2 at 1 0:0", "read 1 0:0"),
-    (
-        "1 claim 2",
-        "show 2",
-        "holder 2 at 2 1:0 epoch 1",
-        "read 2 1:0",
-    ),
-    ("1 load", "show 3", "view 3 at 2 1:0", "read 2 1:0"),
-    (
-        "1 claim 3",
-        "show 3",
-        "holder 3 at 3 2:0 epoch 2",
-        "read 3 2:0",
-    ),
-    (
-        "1 holder_refresh 2",
-        "show 3",
-        "refused 6 Fenced",
-        "read 3 2:0",
-    ),
-    (
-        "show 2",
-        "show 2",
-        "holder 2 at 3 2:0 epoch 1",
-        "read 3 2:0",
-    ),
-    ("candidate 2", "show 2", "refused 6 Fenced", "read 3 2:0"),
-    (
-        "1 holder_refresh 3",
-        "show 3",
-        "view 3 at 3 2:0",
-        "read 3 2:0",
-    ),
-    ("candidate 3", "show 3", "read 3 2:0", "read 3 2:0"),
-];
+pub(crate) const HOLDERS: &str = "\
+1 init 0:0 | show 1 | view 1 at 1 0:0 | read 1 0:0
+copy 1 | show 2 | view 2 at 1 0:0 | read 1 0:0
+1 claim 2 | show 2 | holder 2 at 2 1:0 epoch 1 | read 2 1:0
+1 load | show 3 | view 3 at 2 1:0 | read 2 1:0
+1 claim 3 | show 3 | holder 3 at 3 2:0 epoch 2 | read 3 2:0
+1 holder_refresh 2 | show 3 | refused 6 Fenced | read 3 2:0
+show 2 | show 2 | holder 2 at 3 2:0 epoch 1 | read 3 2:0
+candidate 2 | show 2 | refused 6 Fenced | read 3 2:0
+1 holder_refresh 3 | show 3 | view 3 at 3 2:0 | read 3 2:0
+candidate 3 | show 3 | read 3 2:0 | read 3 2:0";
 
 /// An epoch is claimed that is not above the version's.
-pub(crate) const A_STALE_EPOCH: &[Swept] = &[
-    ("1 init 3:0", "show 1", "view 1 at 1 3:0", "read 1 3:0"),
-    ("1 claim_at 1 3", "show 1", "refused 6 Fenced", "read 1 3:0"),
-];
+pub(crate) const A_STALE_EPOCH: &str = "\
+1 init 3:0 | show 1 | view 1 at 1 3:0 | read 1 3:0
+1 claim_at 1 3 | show 1 | refused 6 Fenced | read 1 3:0";
 
 /// An epoch is claimed that is asked for.
-pub(crate) const AN_EPOCH: &[Swept] = &[
-    ("1 init 0:0", "show 1", "view 1 at 1 0:0", "read 1 0:0"),
-    (
-        "1 claim_at 1 7",
-        "show 1",
-        "holder 1 at 2 7:0 epoch 7",
-        "read 2 7:0",
-    ),
-];
+pub(crate) const AN_EPOCH: &str = "\
+1 init 0:0 | show 1 | view 1 at 1 0:0 | read 1 0:0
+1 claim_at 1 7 | show 1 | holder 1 at 2 7:0 epoch 7 | read 2 7:0";
 
 /// What comes of lines.
 #[derive(Clone, Copy, Debug, PartialEq, Eq)]
@@ -112,13 +75,21 @@ fn say(alloc: Global, player: &mut Player, line: &str) -> Result<String, AllocEr
     }
 }
 
+/// The four parts of a row.
+fn parts_of(row: &str) -> Option<(&str, &str, &str, &str)> {
+    let (line, rest) = row.split_once(" | ")?;
+    let (show, rest) = rest.split_once(" | ")?;
+    let (told, newest) = rest.split_once(" | ")?;
+    Some((line, show, told, newest))
+}
+
 /// What a read says after so many lines.
-fn newest_after(rows: &[Swept], count: usize) -> &'static str {
+fn newest_after(rows: &str, count: usize) -> &str {
     let Some(last) = count.checked_sub(1) else {
         return "read none";
     };
-    match rows.get(last) {
-        Some((_, _, _, newest)) => *newest,
+    match rows.lines().nth(last).and_then(parts_of) {
+        Some((_, _, _, newest)) => newest,
         None => "read none",
     }
 }
@@ -147,12 +118,15 @@ fn may_leave(line: &str, before: &str, after: &str, newest: &str) -> bool {
 fn first_other(
     alloc: Global,
     player: &mut Player,
-    rows: &[Swept],
+    rows: &str,
 ) -> Result<Option<(usize, String, bool)>, AllocError> {
-    for (at, (line, show, told, _)) in rows.iter().enumerate() {
+    for (at, row) in rows.lines().enumerate() {
+        let Some((line, show, told, _)) = parts_of(row) else {
+            return Ok(Some((at, String::from_str(alloc, "no row")?, false)));
+        };
         let before = say(alloc, player, show)?;
         let said = say(alloc, player, line)?;
-        if said.as_str() != *told {
+        if said.as_str() != told {
             let after = say(alloc, player, show)?;
             let newest = newest_after(rows, at);
             let is_left = may_leave(line, before.as_str(), after.as_str(), newest);
@@ -207,7 +181,7 @@ fn goes_on(
 pub(crate) fn end_of(
     alloc: Global,
     failure: &str,
-    rows: &[Swept],
+    rows: &str,
     error: &str,
 ) -> Result<Outcome, AllocError> {
     let mut player = Player::new(alloc)?;
