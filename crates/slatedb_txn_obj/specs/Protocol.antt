@@ -11,6 +11,7 @@ use Rattle.txn_types.specs.declared.error.TransactionalObjectError.{Transactiona
 use Rattle.txn_types.specs.declared.error.TransactionalObjectError.TheVariants.{ObjectVersionExists, InvalidObjectState, CallbackError, IdExhausted, TurnsExhausted}
 use Rattle.txn_drivers.specs.Calls.{HasCause, Spends}
 use Rattle.txn_drivers.specs.LatestReads.{IsLatest}
+use Rattle.slatedb_txn_obj.specs.Leaves.{SameFiles}
 
 -- the number of a base, 0 for none
 abbrev pub base_number : {Id : Type 0} → (Id → ℕ) → Option Id → ℕ
@@ -33,6 +34,13 @@ module _ {T : Type 0} where
   -- nothing moved
   abbrev pub Stays : (before after : List T → ℕ → Type 0) → Type 0
   Stays before after = (h : List T) (b : ℕ) → before h b → after h b
+
+  -- nothing moved, and the place, the pages and the files are as they were
+  pub record LeavesAll {Place : Type 0} (before after : List T → ℕ → Type 0) (old_place new_place : Place) (old_pages new_pages : ℕ) (old new : State) : Type 0 where
+    pub kept : Stays before after
+    pub placed : new_place ≡ old_place
+    pub paged : (h : List T) (b : ℕ) → before h b → new_pages ≡ old_pages
+    pub files : SameFiles old new
 
   -- the base was newest, and the value is now the newest entry, under the number above it
   pub record Appended (before after : List T → ℕ → Type 0) (base : ℕ) (value : T) (id : ℕ) : Type 0 where

@@ -3,8 +3,8 @@ ghost use Rattle.std.specs.Prelude.{ℕ, List, length, true, false, ◌≡◌, �
 ghost use Rattle.txn_types.specs.Callbacks.{OnRefusal};
 ghost use Rattle.txn_types.specs.Clones.{IsExactClone};
 ghost use Rattle.txn_drivers.specs.Calls.{Spends, SpendsTurns};
-ghost use Rattle.slatedb_txn_obj.specs.Leaves.{SameFiles, MayCreate};
-ghost use Rattle.slatedb_txn_obj.specs.Protocol.{Appended, Overtaken, MayAppend, Unheld, UnheldAt, HasCauseOfWrite, HasCauseOfLatest, Stays};
+ghost use Rattle.slatedb_txn_obj.specs.Leaves.{MayCreate};
+ghost use Rattle.slatedb_txn_obj.specs.Protocol.{Appended, Overtaken, MayAppend, Unheld, UnheldAt, HasCauseOfWrite, HasCauseOfLatest, Stays, LeavesAll};
 ghost use Rattle.slatedb_txn_obj.specs.Views.{IsRefusal, IsVersion, Updated, ShowsLatest, IsEmpty, Tested, IsTestFailure, HasCauseOfUpdate, HasCauseOfLoad};
 
 use crate::object::TransactionalObject;
@@ -64,14 +64,11 @@ impl<T: Drop, Id: Drop, I> SimpleTransactionalObject<T, Id, I> {
     ) -> Result<Option<SimpleTransactionalObject<T, Id, I>>, TransactionalObjectError>
         ensures held { IfOk result (λ read. IfSome read (λ view. P.at_hand protocol.new (P.number view.id))) }
         ensures shown { IfOk result (λ read. MatchOption read (IsEmpty (P.stands protocol.old store.old)) (λ view. ShowsLatest (P.stands protocol.old store.old) (P.number view.id) view.object × (view.invariants.items ≡ []))) }
-        ensures kept { Stays (P.stands protocol.old store.old) (P.stands protocol.new store.new) }
         ensures few { (h : List T) (b : ℕ) → P.stands protocol.old store.old h b → turns.old ≤ turns.new + 2 * P.pages protocol.old store.old }
         ensures enough { (h : List T) (b : ℕ) → P.stands protocol.old store.old h b → 2 * P.pages protocol.old store.old ≤ turns.old → IsErrOf result TransactionalObjectError.TurnsExhausted → ⊥ }
         ensures spends { SpendsTurns 7 0 0 turns.old turns.new (S.state store.old) (S.state store.new) }
         ensures cause { IfErr result (HasCauseOfLatest (Unheld (P.stands protocol.old store.old)) turns.new (S.state store.old) (S.state store.new)) }
-        ensures placed { P.place protocol.new ≡ P.place protocol.old }
-        ensures files { SameFiles (S.state store.old) (S.state store.new) }
-        ensures paged { (h : List T) (b : ℕ) → P.stands protocol.old store.old h b → P.pages protocol.new store.new ≡ P.pages protocol.old store.old }
+        ensures left { LeavesAll (P.stands protocol.old store.old) (P.stands protocol.new store.new) (P.place protocol.old) (P.place protocol.new) (P.pages protocol.old store.old) (P.pages protocol.new store.new) (S.state store.old) (S.state store.new) }
     {
         match protocol.try_read_latest(store, turns)? {
             None => Ok(None),
@@ -93,14 +90,11 @@ impl<T: Drop, Id: Drop, I> SimpleTransactionalObject<T, Id, I> {
         ensures held { IfOk result (λ view. P.at_hand protocol.new (P.number view.id)) }
         ensures shown { IfOk result (λ view. ShowsLatest (P.stands protocol.old store.old) (P.number view.id) view.object × (view.invariants.items ≡ [])) }
         ensures missing { IsErrOf result TransactionalObjectError.LatestRecordMissing → IsEmpty (P.stands protocol.old store.old) }
-        ensures kept { Stays (P.stands protocol.old store.old) (P.stands protocol.new store.new) }
         ensures few { (h : List T) (b : ℕ) → P.stands protocol.old store.old h b → turns.old ≤ turns.new + 2 * P.pages protocol.old store.old }
         ensures enough { (h : List T) (b : ℕ) → P.stands protocol.old store.old h b → 2 * P.pages protocol.old store.old ≤ turns.old → IsErrOf result TransactionalObjectError.TurnsExhausted → ⊥ }
         ensures spends { SpendsTurns 7 0 0 turns.old turns.new (S.state store.old) (S.state store.new) }
         ensures cause { IfErr result (HasCauseOfLoad (Unheld (P.stands protocol.old store.old)) turns.new (S.state store.old) (S.state store.new)) }
-        ensures placed { P.place protocol.new ≡ P.place protocol.old }
-        ensures files { SameFiles (S.state store.old) (S.state store.new) }
-        ensures paged { (h : List T) (b : ℕ) → P.stands protocol.old store.old h b → P.pages protocol.new store.new ≡ P.pages protocol.old store.old }
+        ensures left { LeavesAll (P.stands protocol.old store.old) (P.stands protocol.new store.new) (P.place protocol.old) (P.place protocol.new) (P.pages protocol.old store.old) (P.pages protocol.new store.new) (S.state store.old) (S.state store.new) }
     {
         match SimpleTransactionalObject::try_load(alloc, protocol, store, turns)? {
             Some(view) => Ok(view),

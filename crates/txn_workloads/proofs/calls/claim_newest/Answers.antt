@@ -10,6 +10,6 @@ pub returns-then-saturating_sub-newest-clause-right :
 returns-then-saturating_sub-newest-clause-right g c wrong b stands =
     let h = numbers_to c.args.newest in
     let shown = c.in_ok-view.ensures.shown.0 h b stands in
-    let claimed = c.in_ok-holder.ensures.claimed h b (c.load.ensures.kept h b stands) (version-of_latest shown) in
+    let claimed = c.in_ok-holder.ensures.claimed h b (c.load.ensures.left.kept h b stands) (version-of_latest shown) in
     let value = last_is c.args.newest _ claimed.newest claimed.latest in
     c.if-saturating_sub-newest.true (omega (arith, c.saturating_sub.ensures, c.local_epoch.ensures, claimed.next, value))
