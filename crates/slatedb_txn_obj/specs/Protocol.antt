@@ -1,6 +1,6 @@
 -- What the calls of a protocol answer and change, over a history of values and a boundary.
 -- `before` and `after` say for which histories and boundaries the protocol and its store stand, before a call and after it.
-use Rattle.std.specs.Prelude.{◌≡◌, ◌⊎◌, ℕ, ◌+◌, ◌-◌, ◌^◌, ◌<◌, ◌≤◌, ◌==◌, Bool, true, List, [], ◌∷◌, ◌++◌, length, slice_get, Option, Some, None, Result, IfOk}
+use Rattle.std.specs.Prelude.{◌≡◌, ◌⊎◌, ℕ, ◌+◌, ◌-◌, ◌^◌, ◌<◌, ◌≤◌, ◌==◌, Bool, true, List, [], ◌∷◌, ◌++◌, length, slice_get, Option, Some, None, Result, IfOk, IfErr}
 use Rattle.std.specs.List.{list_any}
 use Rattle.std.specs.List.Sorted.{IsStrictlySortedBy}
 use Rattle.std.specs.Ordering.{nat_cmp}
@@ -104,6 +104,15 @@ HasCauseOfLatestUnchecked unheld left old new error = HasCause old new error
 abbrev pub HasCauseOfVersion : Type 0 → State → State → TransactionalObjectError → Type 0
 HasCauseOfVersion unheld old new (CallbackError error) = unheld
 HasCauseOfVersion unheld old new error = HasCause old new error
+
+-- a version was read by one call of the store at most, or there is a cause why not; nothing moved, and the place, the pages and the files are as they were
+pub record ReadsVersion {T Place : Type 0} (before after : List T → ℕ → Type 0) (old_place new_place : Place) (old_pages new_pages : ℕ) (old new : State) (result : Result (Option T) TransactionalObjectError) : Type 0 where
+  pub kept : Stays before after
+  pub spends : Spends 1 0 old new
+  pub paged : new_pages ≡ old_pages
+  pub cause : IfErr result (HasCauseOfVersion (Unheld before) old new)
+  pub placed : new_place ≡ old_place
+  pub files : SameFiles old new
 
 -- turns that were spent, a codec that refused, a boundary file that says no boundary where none stood, or a failure with its cause
 abbrev pub HasCauseOfLatest : Type 0 → ℕ → State → State → TransactionalObjectError → Type 0

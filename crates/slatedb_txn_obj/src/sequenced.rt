@@ -28,7 +28,7 @@ pub trait SequencedStorageProtocol<T, S: ObjectStore>: BoundaryObject<S> {
     ghost use Rattle.txn_drivers.specs.Calls.{HasCause, HasCauseOfPut, Spends, SpendsTurns};
     ghost use Rattle.slatedb_txn_obj.specs.Checked.{CheckedDelete};
     ghost use Rattle.slatedb_txn_obj.specs.Leaves.{SameFiles, MayCreate, MayRemove, SameOwn};
-    ghost use Rattle.slatedb_txn_obj.specs.Protocol.{base_number, LatestOrFenced, IsEntry, AreListed, Entered, Overtaken, MayAppend, Stays, IsWarmRead, Unheld, HasCauseOfLatestUnchecked, HasCauseOfVersion, HasCauseOfDelete};
+    ghost use Rattle.slatedb_txn_obj.specs.Protocol.{base_number, LatestOrFenced, IsEntry, AreListed, Entered, Overtaken, MayAppend, Stays, IsWarmRead, Unheld, HasCauseOfLatestUnchecked, ReadsVersion, HasCauseOfDelete};
 
     /// This protocol and a store stand for a history and a boundary.
     ghost stands: { Self → S → List T → ℕ → Type 0 };
@@ -129,12 +129,7 @@ pub trait SequencedStorageProtocol<T, S: ObjectStore>: BoundaryObject<S> {
     ) -> Result<Option<T>, TransactionalObjectError>
         ensures found { IfOk result (λ r. (h : List T) (b : ℕ) → stands self.old store.old h b → IsEntry h b id r) }
         ensures absent { lacks self.old store.old id → IfOk result (λ r. r ≡ None) }
-        ensures kept { Stays (stands self.old store.old) (stands self.new store.new) }
-        ensures spends { Spends 1 0 (S.state store.old) (S.state store.new) }
-        ensures paged { pages self.new store.new ≡ pages self.old store.old }
-        ensures cause { IfErr result (HasCauseOfVersion (Unheld (stands self.old store.old)) (S.state store.old) (S.state store.new)) }
-        ensures placed { place self.new ≡ place self.old }
-        ensures files { SameFiles (S.state store.old) (S.state store.new) };
+        ensures read { ReadsVersion (stands self.old store.old) (stands self.new store.new) (place self.old) (place self.new) (pages self.old store.old) (pages self.new store.new) (S.state store.old) (S.state store.new) result };
 
     /// The same, with the same errors, and without a call of the store where the version is held.
     fn try_read_seen(
@@ -143,12 +138,7 @@ pub trait SequencedStorageProtocol<T, S: ObjectStore>: BoundaryObject<S> {
         id: MonotonicId,
     ) -> Result<Option<T>, TransactionalObjectError>
         ensures found { IfOk result (λ r. (h : List T) (b : ℕ) → stands self.old store.old h b → IsEntry h b id r) }
-        ensures kept { Stays (stands self.old store.old) (stands self.new store.new) }
-        ensures spends { Spends 1 0 (S.state store.old) (S.state store.new) }
-        ensures paged { pages self.new store.new ≡ pages self.old store.old }
-        ensures cause { IfErr result (HasCauseOfVersion (Unheld (stands self.old store.old)) (S.state store.old) (S.state store.new)) }
-        ensures placed { place self.new ≡ place self.old }
-        ensures files { SameFiles (S.state store.old) (S.state store.new) };
+        ensures read { ReadsVersion (stands self.old store.old) (stands self.new store.new) (place self.old) (place self.new) (pages self.old store.old) (pages self.new store.new) (S.state store.old) (S.state store.new) result };
 
     /// The versions whose ids are within the bounds, in ascending ids, with what the store tells of their files. It makes at
     /// most one call of the store a page, and is lent no turns. Its errors are `ObjectStoreError` and `NoMemory`; what it

@@ -222,7 +222,7 @@ impl<T: Drop, S: ObjectStore, C: ObjectCodec<T>, B: BoundaryObject<S>> Sequenced
     ghost use Rattle.txn_drivers.specs.PageCount.{pages_below};
     ghost use Rattle.slatedb_txn_obj.specs.Leaves.{SameFiles, MayCreate, MayRemove};
     ghost use Rattle.slatedb_txn_obj.specs.Whole.{Whole, StandsFor, IsGreatestHeld, IsMissing, Laid, Owned, laid, probe_calls};
-    ghost use Rattle.slatedb_txn_obj.specs.Protocol.{base_number, LatestOrFenced, IsEntry, AreListed, Entered, Overtaken, MayAppend, Stays, IsWarmRead, Unheld, HasCauseOfLatestUnchecked, HasCauseOfVersion};
+    ghost use Rattle.slatedb_txn_obj.specs.Protocol.{base_number, LatestOrFenced, IsEntry, AreListed, Entered, Overtaken, MayAppend, Stays, IsWarmRead, Unheld, HasCauseOfLatestUnchecked, ReadsVersion};
     ghost use Rattle.slatedb_txn_obj.specs.WholeLaws.{whole-checked, whole-advanced, whole-frame, refused-fresh, pages-checked, laid-same, probe_few};
     ghost use Rattle.std.proofs.Common.{refl, sym, subst, inl, inr};
     ghost use Rattle.txn_store.specs.VersionName.{version_path};
@@ -356,14 +356,9 @@ impl<T: Drop, S: ObjectStore, C: ObjectCodec<T>, B: BoundaryObject<S>> Sequenced
     ) -> Result<Option<T>, TransactionalObjectError>
         ensures found { IfOk result (λ r. (h : List T) (b : ℕ) → (StandsFor (B.bounds self.old.boundary store.old) (B.file self.old.boundary) C.decoded self.old (S.state store.old).files) h b → IsEntry h b id r) }
         ensures absent { IsMissing self.old.layout.names (S.state store.old).files id → IfOk result (λ r. r ≡ None) }
-        ensures kept { Stays (StandsFor (B.bounds self.old.boundary store.old) (B.file self.old.boundary) C.decoded self.old (S.state store.old).files) (StandsFor (B.bounds self.new.boundary store.new) (B.file self.new.boundary) C.decoded self.new (S.state store.new).files) }
-        ensures spends { Spends 1 0 (S.state store.old) (S.state store.new) }
-        ensures paged { pages_below self.new.layout.names self.new.layout.page (S.state store.new).files ≡ pages_below self.old.layout.names self.old.layout.page (S.state store.old).files }
-        ensures cause { IfErr result (HasCauseOfVersion (Unheld (StandsFor (B.bounds self.old.boundary store.old) (B.file self.old.boundary) C.decoded self.old (S.state store.old).files)) (S.state store.old) (S.state store.new)) }
+        ensures read { ReadsVersion (StandsFor (B.bounds self.old.boundary store.old) (B.file self.old.boundary) C.decoded self.old (S.state store.old).files) (StandsFor (B.bounds self.new.boundary store.new) (B.file self.new.boundary) C.decoded self.new (S.state store.new).files) (laid self.old (B.file self.old.boundary)) (laid self.new (B.file self.new.boundary)) (pages_below self.old.layout.names self.old.layout.page (S.state store.old).files) (pages_below self.new.layout.names self.new.layout.page (S.state store.new).files) (S.state store.old) (S.state store.new) result }
         ensures exact { VersionRead self.old.layout.names (C.decoded self.old.layout.codec) (S.state store.old) (S.state store.new) id result }
         ensures same { self.new ≡ self.old }
-        ensures placed { laid self.new (B.file self.new.boundary) ≡ laid self.old (B.file self.old.boundary) }
-        ensures files { SameFiles (S.state store.old) (S.state store.new) }
     {
         number_fits(id);
         read_version(self.alloc, &self.layout, store, id)
@@ -377,14 +372,9 @@ impl<T: Drop, S: ObjectStore, C: ObjectCodec<T>, B: BoundaryObject<S>> Sequenced
         id: MonotonicId,
     ) -> Result<Option<T>, TransactionalObjectError>
         ensures found { IfOk result (λ r. (h : List T) (b : ℕ) → (StandsFor (B.bounds self.old.boundary store.old) (B.file self.old.boundary) C.decoded self.old (S.state store.old).files) h b → IsEntry h b id r) }
-        ensures kept { Stays (StandsFor (B.bounds self.old.boundary store.old) (B.file self.old.boundary) C.decoded self.old (S.state store.old).files) (StandsFor (B.bounds self.new.boundary store.new) (B.file self.new.boundary) C.decoded self.new (S.state store.new).files) }
-        ensures spends { Spends 1 0 (S.state store.old) (S.state store.new) }
-        ensures paged { pages_below self.new.layout.names self.new.layout.page (S.state store.new).files ≡ pages_below self.old.layout.names self.old.layout.page (S.state store.old).files }
-        ensures cause { IfErr result (HasCauseOfVersion (Unheld (StandsFor (B.bounds self.old.boundary store.old) (B.file self.old.boundary) C.decoded self.old (S.state store.old).files)) (S.state store.old) (S.state store.new)) }
+        ensures read { ReadsVersion (StandsFor (B.bounds self.old.boundary store.old) (B.file self.old.boundary) C.decoded self.old (S.state store.old).files) (StandsFor (B.bounds self.new.boundary store.new) (B.file self.new.boundary) C.decoded self.new (S.state store.new).files) (laid self.old (B.file self.old.boundary)) (laid self.new (B.file self.new.boundary)) (pages_below self.old.layout.names self.old.layout.page (S.state store.old).files) (pages_below self.new.layout.names self.new.layout.page (S.state store.new).files) (S.state store.old) (S.state store.new) result }
         ensures exact { SeenRead self.old.layout.names (C.decoded self.old.layout.codec) (S.state store.old) (S.state store.new) self.old.latest self.new.latest id result }
         ensures unmoved { self.new ≡ record { layout = self.old.layout; latest = self.new.latest; boundary = self.old.boundary } }
-        ensures placed { laid self.new (B.file self.new.boundary) ≡ laid self.old (B.file self.old.boundary) }
-        ensures files { SameFiles (S.state store.old) (S.state store.new) }
     {
         read_seen(self.alloc, &self.layout, &mut self.latest, store, id)
     }
