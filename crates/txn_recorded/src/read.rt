@@ -6,7 +6,7 @@ use crate::row::Row;
 use crate::written::{ask_row, begin_row, client_row, failed_row, give_up_row, reply_row};
 use bytes::Bytes;
 use hex::FromHexError;
-use std::alloc::{AllocError, AllocFailed, Global};
+use std::alloc::{AllocError, Global};
 use txn_history::event::Call;
 use txn_lines::numerals::read_decimal;
 use txn_lines::text_form::{LineValue, TextForm};
@@ -14,6 +14,7 @@ use txn_store::page::{Listing, Page};
 use txn_store::path::{Path, PathFault};
 use txn_store::request::{Reply, Request};
 use txn_store::store::{Got, ObjectMeta, PutMode, StoreError, Token};
+use txn_types::room::push_within;
 
 /// Why a text is not read as a row.
 #[derive(Clone, Copy, Debug, PartialEq, Eq)]
@@ -30,30 +31,6 @@ impl From<AllocError> for TextFault {
     }
 }
 
-impl<T: Drop> From<AllocFailed<T>> for TextFault {
-    fn from(_e: AllocFailed<T>) -> TextFault {
-        TextFault::NoMemory
-    }
-}
-
-impl From<PathFault> for TextFault {
-    fn from(fault: PathFault) -> TextFault {
-        match fault {
-            PathFault::BadSegment => TextFault::BadRow,
-            PathFault::NoMemory => TextFault::NoMemory,
-        }
-    }
-}
-
-impl From<FromHexError> for TextFault {
-    fn from(fault: FromHexError) -> TextFault {
-        match fault {
-            FromHexError::OutOfMemory => TextFault::NoMemory,
-            _ => TextFault::BadRow,
-        }
-    }
-}
-
 /// What stands before the first space, and what stands after it.
 pub(crate) fn cut(text: &str) -> Result<(&str, &str), TextFault> {
     text.split_once(' ').ok_or(TextFault::BadRow)
@@ -64,15 +41,27 @@ pub(crate) fn number(text: &str) -> Result<u64, TextFault> {
     read_decimal(text).ok_or(TextFault::BadRow)
 }
 
+/// A path.
+fn path(alloc: Global, text: &str) -> Result<Path, TextFault> {
+    match Path::from_text(alloc, text) {
+        Ok(path) => Ok(path),
+        Err(PathFault::BadSegment) => Err(TextFault::BadRow),
+        Err(PathFault::NoMemory) => Err(TextFault::NoMemory),
+    }
+}
+
 /// Bytes, as hex digits.
 fn hex_bytes(alloc: Global, text: &str) -> Result<Bytes, TextFault> {
-    let bytes = hex::decode(alloc, text)?;
-    Ok(Bytes::from_vec(bytes)?)
+    match hex::decode(alloc, text) {
+        Ok(bytes) => Bytes::from_vec(bytes).map_err(|_| TextFault::NoMemory),
+        Err(FromHexError::OutOfMemory) => Err(TextFault::NoMemory),
+        Err(_) => Err(TextFault::BadRow),
+    }
 }
 
 /// A put of this mode, of a path and of bytes as hex digits.
-fn put_of(alloc: Global, path: &str, hex: &str, mode: PutMode) -> Result<Request, TextFault> {
-    let path = Path::from_text(alloc, path)?;
+fn put_of(alloc: Global, name: &str, hex: &str, mode: PutMode) -> Result<Request, TextFault> {
+    let path = path(alloc, name)?;
     let bytes = hex_bytes(alloc, hex)?;
     Ok(Request::Put { path, bytes, mode })
 }
@@ -93,14 +82,14 @@ fn read_update(alloc: Global, text: &str) -> Result<Request, TextFault> {
 
 /// A get: its path, and the token that is known.
 fn read_get(alloc: Global, text: &str) -> Result<Request, TextFault> {
-    let (path, known) = cut(text)?;
+    let (name, known) = cut(text)?;
     let if_none_match = if known == "-" {
         None
     } else {
         Some(Token::new(number(known)?))
     };
     Ok(Request::Get {
-        path: Path::from_text(alloc, path)?,
+        path: path(alloc, name)?,
         if_none_match,
     })
 }
@@ -109,11 +98,11 @@ fn read_get(alloc: Global, text: &str) -> Result<Request, TextFault> {
 fn read_list(alloc: Global, text: &str) -> Result<Request, TextFault> {
     let (prefix, rest) = cut(text)?;
     let (limit, after) = match rest.split_once(' ') {
-        Some((limit, after)) => (limit, Some(Path::from_text(alloc, after)?)),
+        Some((limit, after)) => (limit, Some(path(alloc, after)?)),
         None => (rest, None),
     };
     Ok(Request::List {
-        prefix: Path::from_text(alloc, prefix)?,
+        prefix: path(alloc, prefix)?,
         after,
         limit: number(limit)?,
     })
@@ -129,7 +118,7 @@ fn read_request(alloc: Global, text: &str) -> Result<Request, TextFault> {
         "get" => read_get(alloc, rest),
         "list" => read_list(alloc, rest),
         "delete" => Ok(Request::Delete {
-            path: Path::from_text(alloc, rest)?,
+            path: path(alloc, rest)?,
         }),
         _ => Err(TextFault::BadRow),
     }
@@ -174,7 +163,7 @@ fn read_meta(alloc: Global, text: &str) -> Result<ObjectMeta, TextFault> {
     let (location, rest) = text.split_once(':').ok_or(TextFault::BadRow)?;
     let (token, size) = rest.split_once(':').ok_or(TextFault::BadRow)?;
     Ok(ObjectMeta {
-        location: Path::from_text(alloc, location)?,
+        location: path(alloc, location)?,
         size: number(size)?,
         token: Token::new(number(token)?),
     })
@@ -184,7 +173,8 @@ fn read_meta(alloc: Global, text: &str) -> Result<ObjectMeta, TextFault> {
 fn read_metas(alloc: Global, text: &str) -> Result<Vec<ObjectMeta>, TextFault> {
     let mut metas = Vec::new(alloc);
     for word in text.split(' ') {
-        metas.push(read_meta(alloc, word)?)?;
+        metas.reserve(1)?;
+        push_within(&mut metas, read_meta(alloc, word)?);
     }
     Ok(metas)
 }
