@@ -348,47 +348,35 @@ fn argument<'a>(alloc: Global, row: &Argument) -> Arg<'a> {
     arg.default_value(default)
 }
 
-fn with_argument<'a>(
-    alloc: Global,
-    words: Words<'a>,
-    row: &Argument,
-) -> Result<Words<'a>, AllocError> {
-    words.arg(argument(alloc, row))
+/// A row of a table, which says what is added to words.
+trait Added {
+    fn add_to<'a>(&self, alloc: Global, words: Words<'a>) -> Result<Words<'a>, AllocError>;
 }
 
-fn with_arguments<'a>(
+fn with_each<'a, X: Added>(
     alloc: Global,
     words: Words<'a>,
-    rows: &[Argument],
+    rows: &[X],
 ) -> Result<Words<'a>, AllocError> {
     let mut words = words;
     for row in rows {
-        words = with_argument(alloc, words, row)?;
+        words = row.add_to(alloc, words)?;
     }
     Ok(words)
 }
 
-fn subcommand<'a>(alloc: Global, row: &Row) -> Result<Words<'a>, AllocError> {
-    let (name, about, example, arguments) = *row;
-    let words = Words::new(alloc, name).about(about).after_help(example);
-    with_arguments(alloc, words, arguments)
-}
-
-fn with_command<'a>(alloc: Global, words: Words<'a>, row: &Row) -> Result<Words<'a>, AllocError> {
-    let command = subcommand(alloc, row)?;
-    words.subcommand(command)
-}
-
-fn with_commands<'a>(
-    alloc: Global,
-    words: Words<'a>,
-    rows: &[Row],
-) -> Result<Words<'a>, AllocError> {
-    let mut words = words;
-    for row in rows {
-        words = with_command(alloc, words, row)?;
+impl Added for Argument {
+    fn add_to<'a>(&self, alloc: Global, words: Words<'a>) -> Result<Words<'a>, AllocError> {
+        words.arg(argument(alloc, self))
     }
-    Ok(words)
+}
+
+impl Added for Row {
+    fn add_to<'a>(&self, alloc: Global, words: Words<'a>) -> Result<Words<'a>, AllocError> {
+        let (name, about, example, arguments) = *self;
+        let command = Words::new(alloc, name).about(about).after_help(example);
+        words.subcommand(with_each(alloc, command, arguments)?)
+    }
 }
 
 fn words_of<'a>(alloc: Global) -> Result<Words<'a>, AllocError> {
@@ -398,8 +386,8 @@ fn words_of<'a>(alloc: Global) -> Result<Words<'a>, AllocError> {
         )
         .after_help(STATUSES)
         .subcommand_required(true);
-    let words = with_arguments(alloc, words, OPTIONS)?;
-    with_commands(alloc, words, COMMANDS)
+    let words = with_each(alloc, words, OPTIONS)?;
+    with_each(alloc, words, COMMANDS)
 }
 
 /// Where a value comes from that an argument names.
