@@ -1,5 +1,5 @@
 -- What an examination of a folder found.
-use Rattle.std.specs.Prelude.{Bool, Option, Some, None, is_some, if◌then◌else◌}
+use Rattle.std.specs.Prelude.{Option, Some, None, is_some, if◌then◌else◌}
 use Rattle.txn_files.specs.declared.fault.Fault.{Fault}
 use Rattle.txn_files.specs.declared.doctor.Check.{Check}
 use Rattle.txn_files.specs.declared.doctor.Check.TheVariants.{Keeps, Links, RefusesTakenNames, Replaces, Locks, Syncs, Removes}

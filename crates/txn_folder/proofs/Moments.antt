@@ -1,10 +1,10 @@
 -- Three scans that are settled tell what stood at one moment.
-use Rattle.std.proofs.Common.{◌≡◌, ℕ, zero, suc, ◌<◌, ◌≤◌, ◌+◌, ◌-◌, ◌==◌, Bool, true, false, cond, List, [], ◌∷◌, ◌++◌, length, refl, ap, sym, subst, ◌∙◌, ◌⊎◌, inl, inr, arith, ◌↔◌}
+use Rattle.std.proofs.Common.{◌≡◌, ℕ, zero, suc, ◌<◌, ◌≤◌, ◌+◌, ◌-◌, ◌==◌, Bool, true, false, cond, List, [], ◌∷◌, ◌++◌, length, refl, sym, subst, ◌⊎◌, inl, inr, arith, ◌↔◌}
 use Rattle.std.specs.Prelude.{nat_lt, Contains}
 use Rattle.std.specs.List.Sorted.{IsStrictlyIncreasing}
 use Rattle.std.proofs.lemmas.Bool.{ltb-true, ltb-false, eqb-true, eqb-false}
-use Rattle.txn_folder.specs.Scans.{BeginsAbove, IsSameUpTo, followed, AreSettled}
-use Rattle.txn_folder.specs.Moments.{Grows, IsScan, AreScans, StoodAtAMoment}
+use Rattle.txn_folder.specs.Scans.{BeginsAbove, followed, AreSettled}
+use Rattle.txn_folder.specs.Moments.{Grows, AreScans, StoodAtAMoment}
 
 -- what a list has
 contains_cons : (x : ℕ) (xs : List ℕ) (id : ℕ) → Contains (x ∷ xs) id → (x ≡ id) ⊎ Contains xs id

@@ -1,14 +1,14 @@
 -- Lemmas on scans.
-use Rattle.std.proofs.Common.{◌≡◌, ◌≢◌, ℕ, zero, suc, ◌<◌, ◌≤◌, ◌+◌, ◌==◌, Bool, true, false, cond, List, [], ◌∷◌, ◌++◌, length, get_or, take, drop, Option, Some, None, Result, Ok, Err, refl, ap, sym, ◌∙◌, arith, take-append-drop}
-use Rattle.std.specs.Prelude.{nat_eq, nat_lt, slice_get, slice_index, Contains, Decides, is_ok}
+use Rattle.std.proofs.Common.{◌≡◌, ℕ, ◌<◌, ◌≤◌, ◌+◌, ◌==◌, Bool, true, false, cond, List, [], ◌∷◌, ◌++◌, length, get_or, take, drop, Result, Ok, Err, refl, ap, sym, ◌∙◌, arith, take-append-drop}
+use Rattle.std.specs.Prelude.{nat_eq, nat_lt, slice_index, Contains, Decides, is_ok}
 use Rattle.std.specs.List.Sorted.{IsStrictlyIncreasing}
 use Rattle.std.specs.Result.{MatchResult}
 use Rattle.std.specs.Cmp.Lexicographic.{pointwise, same_text, other_text}
-use Rattle.std.proofs.lemmas.Bool.{ltb-true, ltb-false, eqb-true, eqb-false}
+use Rattle.std.proofs.lemmas.Bool.{ltb-true, ltb-false}
 use Rattle.std.proofs.lemmas.List.{get_or_default, drop_more, drop_all}
 use Rattle.std.proofs.lemmas.List.Kept.{AllPairs-from_increasing}
 use Rattle.std.proofs.Math.Seq.{take-append_seam}
-use Rattle.txn_folder.specs.Scans.{BeginsAbove, IsSameUpTo, followed, AreAmong, AreSettled}
+use Rattle.txn_folder.specs.Scans.{BeginsAbove, IsSameUpTo, followed}
 
 pub not_front : (these those : List ℕ) (last : ℕ) → pointwise nat_eq (take (length these) those) these ≡ false → ¬ (IsSameUpTo last these those)
 not_front these those last h (rest, is, above) = other_text (take (length these) those) these (sym h) (ap (take (length these)) is ∙ take-append_seam these rest)

@@ -1,5 +1,5 @@
 -- Tokens, by the place that a path names.
-use Rattle.std.proofs.Common.{◌≡◌, ℕ, ◌<◌, List, Option, Some, None, refl, ap, sym, ◌∙◌}
+use Rattle.std.proofs.Common.{◌≡◌, ℕ, ◌<◌, List, Option, Some, ap, sym, ◌∙◌}
 use Rattle.std.specs.Prelude.{unwrap_or}
 use Rattle.txn_store.specs.Paths.{Segments}
 use Rattle.txn_store.specs.VersionName.{Names}

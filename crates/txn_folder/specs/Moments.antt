@@ -1,7 +1,6 @@
 -- What stood in a folder, moment by moment, and what a scan of it tells.
-use Rattle.std.specs.Prelude.{◌≡◌, ◌↔◌, ℕ, ◌+◌, ◌<◌, ◌≤◌, Bool, true, List, ◌++◌, All, Contains}
+use Rattle.std.specs.Prelude.{◌≡◌, ◌↔◌, ℕ, ◌+◌, ◌<◌, ◌≤◌, Bool, true, List, Contains}
 use Rattle.std.specs.List.Sorted.{IsStrictlyIncreasing}
-use Rattle.txn_folder.specs.Scans.{AreSettled}
 
 -- Of a folder in which nothing is removed, whether a version stands at a moment. Above the last id each version stands only beside the one before it, and comes after it.
 pub record Grows (last : ℕ) (stood : ℕ → ℕ → Bool) : Type 0 where

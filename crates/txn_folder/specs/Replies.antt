@@ -1,5 +1,5 @@
 -- Which replies a folder gives to which requests.
-use Rattle.std.specs.Prelude.{Bool, true, false, ℕ, Option, Some, None, Result, Ok, Err, IfErr}
+use Rattle.std.specs.Prelude.{Bool, true, false, ℕ, Option, Some, Result, Ok, Err, IfErr}
 use Rattle.txn_store.specs.declared.store.StoreError.{StoreError}
 use Rattle.txn_store.specs.declared.store.StoreError.TheVariants as errors
 use Rattle.txn_store.specs.declared.store.PutMode.{PutMode}

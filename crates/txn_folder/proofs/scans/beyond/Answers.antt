@@ -1,4 +1,4 @@
-use Rattle.txn_folder.proofs.ScanLemmas.{front, not_front, other_rest}
+use Rattle.txn_folder.proofs.ScanLemmas.{front, not_front}
 use Rattle.txn_folder.proofs.scans.beyond.Goals as goal
 
 pub returns-in_err-rest : goal.returns-in_err-rest
