@@ -1,1 +1,2 @@
+mod HistoryEnding
 mod Receiving

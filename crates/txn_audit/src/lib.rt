@@ -5,5 +5,6 @@
 #![tactic(auto)]
 
 pub mod audit;
+pub mod ending;
 mod landings;
 mod receipts;

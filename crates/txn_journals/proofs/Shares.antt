@@ -38,7 +38,7 @@ module _ {T : Type 0} where
   receipt_reverse client (steps.Act op (acts.Fails request)) log = append-nil (reverse log)
   receipt_reverse client (steps.Killed lefts) log = append-nil (reverse log)
 
-  receipts_reverse : (m : Merged T) → log_of (reverse m) ≡ reverse (log_of m)
+  pub receipts_reverse : (m : Merged T) → log_of (reverse m) ≡ reverse (log_of m)
   receipts_reverse [] = refl
   receipts_reverse (Did client row ∷ m) =
       ap log_of (reverse-append (Did client row ∷ []) m) ∙ (receipts_append (reverse m) (Did client row ∷ []) ∙ (ap (λ (log : List LogRow). log ++ log_of (Did client row ∷ [])) (receipts_reverse m) ∙ receipt_reverse client row.step (log_of m)))

@@ -2,6 +2,6 @@
 #![tactic(auto)]
 
 pub mod entries;
-mod requests;
+pub mod requests;
 pub mod sets;
 pub mod trace;

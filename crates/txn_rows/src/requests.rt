@@ -36,8 +36,8 @@ pub(crate) fn created_version<'a>(
     }
 }
 
-/// The id of the version that a request creates.
-pub(crate) fn created_id(names: &VersionNames, request: &Request) -> Option<u64>
+/// The id of the version that a request creates. It takes no memory.
+pub fn created_id(names: &VersionNames, request: &Request) -> Option<u64>
     requires { names.now ≡ world_names }
     ensures { result ≡ option_map (λ version. version.0) (created request.now) }
 {
@@ -58,8 +58,9 @@ pub(crate) fn removed_id(names: &VersionNames, request: &Request) -> Option<u64>
     }
 }
 
-/// The boundary after a request that changed the store: what the boundary's file says then.
-pub(crate) fn boundary_after(file: &Path, before: u64, request: &Request) -> u64
+/// The boundary after a request that changed the store: what the boundary's file says then, 0 where it is missing or says no
+/// number. It takes no memory.
+pub fn boundary_after(file: &Path, before: u64, request: &Request) -> u64
     requires { file.now ≡ world_boundary }
     ensures { result ≡ boundary_after before request.now }
 {

@@ -3,22 +3,17 @@
 use crate::ending::{Halt, NOT_ONE_HISTORY, bytes_in};
 use std::alloc::{AllocError, Global};
 use std::str;
-use txn_clients::layout::world_layout;
+use txn_audit::ending::{HistoryEnd, end_of_history};
 use txn_effects::clock::Clock;
 use txn_entries::entry::{Entry, EntryCodec, EntryEpoch};
 use txn_journals::audited::Logged;
 use txn_journals::fault::AuditFault;
-use txn_journals::rows::LogRow;
 use txn_ordered::order::CallPlace;
 use txn_recorded::read::{TextFault, read_row};
 use txn_recorded::row::Row;
 use txn_recorded::source::{Source, read_source};
 use txn_replayed::audit::{OneHistory, audit_recordings};
 use txn_replayed::refusal::Refusal;
-use txn_store::request::{Reply, Request};
-use txn_store::version_names::VersionNames;
-use txn_types::boundary::read_boundary;
-use txn_types::layout::Layout;
 
 /// The nanoseconds of a millisecond.
 const MILLISECOND: u64 = 1_000_000;
@@ -414,50 +409,11 @@ fn say_rows(
     }
 }
 
-/// What a log leaves: the greatest version that was made, and the boundary.
-#[derive(Clone, Copy)]
-struct Left {
-    entries: u64,
-    boundary: u64,
-}
-
-/// What a row of the log adds.
-fn with_row(left: Left, names: &VersionNames, row: &LogRow) -> Left {
-    let (Request::Put { path, bytes, .. }, Reply::Put(Ok(_))) = (&row.request, &row.reply) else {
-        return left;
-    };
-    match names.parse_id(path) {
-        Some(id) => Left {
-            entries: left.entries.max(id),
-            boundary: left.boundary,
-        },
-        None => Left {
-            entries: left.entries,
-            boundary: read_boundary(bytes.as_slice()).unwrap_or(left.boundary),
-        },
-    }
-}
-
-/// What a log leaves.
-fn left_by(alloc: Global, log: &[LogRow]) -> Result<Left, AllocError> {
-    let layout: Layout<EntryCodec> = world_layout(alloc, EntryCodec, 1)?;
-    let mut left = Left {
-        entries: 0,
-        boundary: 0,
-    };
-    for row in log {
-        left = with_row(left, &layout.names, row);
-    }
-    Ok(left)
-}
-
 fn one_history(
     rt: &HostRuntime,
     found: &OneHistory<Entry, EntryCodec, EntryEpoch>,
 ) -> Result<u8, Halt> {
-    let left = left_by(rt.alloc(), found.log.log())?;
-    let entries = left.entries;
-    let boundary = left.boundary;
+    let HistoryEnd { entries, boundary } = end_of_history::<Entry, _>(rt.alloc(), &found.log)?;
     let clients = found.diaries.len();
     let calls = found.log.log().len();
     println!(rt;

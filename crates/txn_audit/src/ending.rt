@@ -1,0 +1,91 @@
+//! How the history of clients that shared only a store ends.
+ghost use Rattle.std.specs.Prelude.{◌≡◌, ℕ, ◌+◌, ◌||◌, nat_eq, if◌then◌else◌, IfOk, OnOk};
+ghost use Rattle.std.specs.Option.{option_map};
+ghost use Rattle.std.specs.HashSet.{contains, hash_set_len};
+ghost use Rattle.txn_history.specs.Names.{world_names, world_boundary};
+ghost use Rattle.txn_history.specs.History.{is_id};
+ghost use Rattle.txn_machine_inner.specs.Machine.{took};
+ghost use Rattle.txn_rows.specs.Beside.{is_among};
+ghost use Rattle.txn_audit.specs.HistoryEnds.{HistoriesEndAt, created_by, boundary_by};
+
+use std::alloc::{AllocError, Global};
+use std::collections::HashSet;
+use txn_clients::layout::world_layout;
+use txn_journals::audited::Logged;
+use txn_journals::rows::LogRow;
+use txn_rows::requests::{boundary_after, created_id};
+use txn_store::path::Path;
+use txn_store::request::{Reply, Request};
+use txn_store::version_names::VersionNames;
+
+/// How a history ends.
+#[derive(Clone, Copy, Debug, PartialEq, Eq)]
+pub struct HistoryEnd {
+    /// How many entries it has, which is the id of the newest.
+    pub entries: u64,
+    /// Where its boundary stands, 0 where none was put.
+    pub boundary: u64,
+}
+
+/// Whether a reply says that a put or a removal was done.
+fn took(reply: &Reply) -> bool
+    ensures { result ≡ took reply.now }
+{
+    matches!(reply, Reply::Put(Ok(_)) | Reply::Delete(Ok(_)))
+}
+
+/// The id of the version that a row of a log creates.
+fn id_created(names: &VersionNames, row: &LogRow) -> Option<u64>
+    requires { names.now ≡ world_names }
+    ensures { result ≡ option_map (λ version. version.0) (created_by row.now) }
+{
+    if took(&row.reply) {
+        created_id(names, &row.request)
+    } else {
+        None
+    }
+}
+
+/// The boundary after a row of a log.
+fn boundary_by(file: &Path, before: u64, row: &LogRow) -> u64
+    requires { file.now ≡ world_boundary }
+    ensures { result ≡ boundary_by before row.now.request row.now.reply }
+{
+    match (&row.request, &row.reply) {
+        (Request::Put { .. }, Reply::Put(Ok(_))) => boundary_after(file, before, &row.request),
+        (Request::Delete { .. }, Reply::Delete(Ok(_))) => boundary_after(
+            file,
+            before,
+            &row.request,
+        ),
+        _ => before,
+    }
+}
+
+/// Enters an id, where there is one.
+fn enter(created: &mut HashSet<u64>, id: Option<u64>) -> Result<(), AllocError>
+    ensures has { OnOk result ((n : ℕ) → contains nat_eq created.new n ≡ (contains nat_eq created.old n || is_id n id)) }
+    ensures len { OnOk result (hash_set_len created.new ≡ hash_set_len created.old + (if is_among (contains nat_eq created.old) id then 0 else 1)) }
+{
+    if let Some(id) = id {
+        let _ = created.insert(id)?;
+    }
+    Ok(())
+}
+
+/// How the history ends of clients of these values that shared only the store that this is the log of, as an audit that agrees
+/// says of them. It keeps the ids of all versions while it counts; the only error is want of memory.
+pub fn end_of_history<T, L: Logged>(alloc: Global, log: &L) -> Result<HistoryEnd, AllocError>
+    ensures { IfOk result (λ end. HistoriesEndAt T (L.logged log.now) end.entries end.boundary) }
+{
+    let layout = world_layout(alloc, (), 1)?;
+    let mut created = HashSet::new(alloc);
+    let mut boundary = 0u64;
+    let rows = log.log();
+    for row in rows {
+        enter(&mut created, id_created(&layout.names, row))?;
+        boundary = boundary_by(&layout.boundary, boundary, row);
+    }
+    let entries = created.len() as u64;
+    Ok(HistoryEnd { entries, boundary })
+}
