@@ -1,19 +1,15 @@
 //! A check of an id against the boundary, and an advance of the boundary.
-ghost use Rattle.std.specs.Prelude.{ℕ, ◌≡◌, ◌+◌, Some, true, false};
+ghost use Rattle.std.specs.Prelude.{ℕ, ◌≡◌, ◌+◌, true, false};
 ghost use Rattle.std.specs.Bool.{OnTrue, OnFalse};
-ghost use Rattle.std.specs.Fmt.{decimal};
-ghost use Rattle.txn_store.specs.Paths.{Segments};
-ghost use Rattle.txn_types.specs.BoundaryText.{boundary_read};
 ghost use Rattle.txn_caches.specs.Boundaries.{refused_by};
 ghost use Rattle.txn_caches.specs.BoundaryAdvances.{asks_put};
 ghost use Rattle.txn_drivers.specs.Calls.{one_if};
-ghost use Rattle.txn_drivers.specs.BoundaryRuns.{CheckFormed, IsCheckStep};
 ghost use Rattle.txn_drivers.specs.Checking.{Checked};
-ghost use Rattle.txn_drivers.specs.AdvanceRuns.{AdvanceFormed, IsAdvanceStep};
 ghost use Rattle.txn_drivers.specs.Advancing.{Advanced};
 
 use crate::replies::reply_to;
 use crate::turns::Turns;
+use crate::versions::number_fits;
 use std::alloc::Global;
 use txn_caches::advance::BoundaryAdvance;
 use txn_caches::caches::CachedBoundary;
@@ -32,20 +28,6 @@ fn is_reached(id: MonotonicId, cached: &Option<CachedBoundary>) -> bool
         Some(known) => id.id() <= known.number,
         None => false,
     }
-}
-
-/// One look or one call of the store, of a check of some id against the file of some path.
-fn check_step<S: ObjectStore>(
-    alloc: Global,
-    cached: &mut Option<CachedBoundary>,
-    store: &mut S,
-    op: &mut BoundaryCheck,
-) -> Turned<Result<(), TransactionalObjectError>>
-    requires { (path : Segments) × (id : ℕ) × CheckFormed path cached.old id op.old }
-    ensures { (path : Segments) (id : ℕ) → CheckFormed path cached.old id op.old → IsCheckStep path id (S.state store.old) (S.state store.new) cached.old cached.new op.old op.new result }
-{
-    let reply = reply_to(alloc, store, op.ask());
-    op.take(cached, reply)
 }
 
 /// Checks that an id is above the boundary that the file of this path says, 0 where it is missing. A cached boundary at or
@@ -69,7 +51,7 @@ pub fn check_boundary<S: ObjectStore>(
     }
     let mut op = BoundaryCheck::asking(path, id, cached)?;
     'steps: loop {
-        match check_step(alloc, cached, store, &mut op) {
+        match op.take(cached, reply_to(alloc, store, op.ask())) {
             Turned::Goes => {}
             // (by a call: in place, the proof would follow each state that may be dropped)
             Turned::Done(answer) => {
@@ -80,34 +62,12 @@ pub fn check_boundary<S: ObjectStore>(
     }
 }
 
-/// The law that a boundary's text says it.
-fn reads_back(target: u64)
-    ensures { boundary_read (decimal target) ≡ Some target }
-{}
-
 /// Spends the turn of a put. It answers false, and changes nothing, where one is due and none is left.
 fn pay(op: &BoundaryAdvance, turns: &mut Turns) -> bool
     ensures paid { OnTrue result (turns.old ≡ turns.new + one_if (asks_put op.now)) }
     ensures lacks { OnFalse result ((asks_put op.now ≡ true) × (turns.old ≡ 0) × (turns.new ≡ 0)) }
 {
     !matches!(op, BoundaryAdvance::Puts(..)) || turns.spend()
-}
-
-/// One look or one call of the store, of an advance to this target.
-fn advance_step<S: ObjectStore>(
-    alloc: Global,
-    path: &Path,
-    target: MonotonicId,
-    cached: &mut Option<CachedBoundary>,
-    store: &mut S,
-    op: &mut BoundaryAdvance,
-) -> Turned<Result<(), TransactionalObjectError>>
-    requires { AdvanceFormed path.now target cached.old (S.state store.old) op.old }
-    ensures { IsAdvanceStep path.now target (S.state store.old) (S.state store.new) cached.old cached.new op.old op.new result }
-{
-    reads_back(target.id());
-    let reply = reply_to(alloc, store, op.ask());
-    op.take(alloc, path, cached, reply)
 }
 
 /// Runs an advance that has not begun, to a target above the cached boundary, to its end.
@@ -124,11 +84,12 @@ fn run_advance<S: ObjectStore>(
     requires looks { op.old ≡ BoundaryAdvance.Looks target }
     ensures { Advanced path.now target (S.state store.old) (S.state store.new) turns.old turns.new cached.old cached.new result }
 {
+    number_fits(target);
     'steps: loop {
         if !pay(op, turns) {
             return Err(TransactionalObjectError::TurnsExhausted);
         }
-        match advance_step(alloc, path, target, cached, store, op) {
+        match op.take(alloc, path, cached, reply_to(alloc, store, op.ask())) {
             Turned::Goes => {}
             Turned::Done(answer) => return answer,
         }

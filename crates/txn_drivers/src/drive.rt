@@ -18,7 +18,6 @@ ghost use Rattle.txn_drivers.specs.ListRuns.{CanList};
 ghost use Rattle.txn_drivers.specs.RemovalRuns.{CanRemove};
 ghost use Rattle.txn_drivers.specs.WriteRuns.{CanWrite};
 
-use crate::listing::list_step;
 use crate::replies::reply_to;
 use std::alloc::Global;
 use txn_caches::caches::Caches;
@@ -128,7 +127,7 @@ impl<C, S: ObjectStore> Drive<C, S> for ListOp {
     ghost asks_again = { λ layout a b can step. (list_asks layout.names layout.page can.1 a b can.0 step, can.1) };
 
     fn step(&mut self, at: &At<C>, store: &mut S, _caches: &mut Caches) -> Turned<ListAnswer> {
-        list_step(at.alloc, at.layout, store, self)
+        self.take(at.alloc, at.layout, reply_to(at.alloc, store, self.ask()))
     }
 }
 

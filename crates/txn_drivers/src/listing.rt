@@ -1,6 +1,6 @@
 //! A listing of versions, driven to its end.
 ghost use Rattle.std.specs.Prelude.{◌≡◌, ◌≤◌};
-ghost use Rattle.txn_drivers.specs.ListRuns.{CanList, IsListStep, VersionsListed};
+ghost use Rattle.txn_drivers.specs.ListRuns.{VersionsListed};
 
 use crate::replies::reply_to;
 use std::alloc::Global;
@@ -23,20 +23,6 @@ fn number_of(bound: Bound<MonotonicId>) -> Bound<u64>
     }
 }
 
-/// One store call of a listing.
-pub(crate) fn list_step<C, S: ObjectStore>(
-    alloc: Global,
-    layout: &Layout<C>,
-    store: &mut S,
-    op: &mut ListOp,
-) -> Turned<ListAnswer>
-    requires { CanList op.old.request }
-    ensures { IsListStep layout.now.names layout.now.page (S.state store.old) (S.state store.new) op.old op.new result }
-{
-    let reply = reply_to(alloc, store, op.ask());
-    op.take(alloc, layout, reply)
-}
-
 /// The versions that are stored within bounds, in ascending ids, each once, with what the listing tells of their files. It
 /// lists page by page, and takes no token; where nothing fails it makes one store call a page, and never more. It changes no
 /// file, and reads no cache.
@@ -55,7 +41,7 @@ pub fn list_versions<T, C: ObjectCodec<T>, S: ObjectStore>(
 {
     let mut op = ListOp::start(alloc, layout, number_of(from), number_of(to))?;
     'steps: loop {
-        match list_step(alloc, layout, store, &mut op) {
+        match op.take(alloc, layout, reply_to(alloc, store, op.ask())) {
             Turned::Goes => {}
             // (by a call: in place, the proof would follow each state that may be dropped)
             Turned::Done(answer) => {
