@@ -92,14 +92,14 @@ module _ {T : Type 0} (decode : List ℕ → Option T) (get_epoch : T → ℕ) (
   failed_joins (any.Plain call) inner m loose loosed =
       let h = m.opened in
       end_joins_with decode get_epoch set_epoch past s op operation (any.Plain call) inner left h (endings.Answers (plain_answers.Refused 2)) (layer.refused 2) Keeps (λ count. refl) refl (λ e client. refl)
-      (tell_stands decode get_epoch set_epoch h.l (turned h.l op (as_laid operation.client (any.Plain call) inner) (Ends (layer.refused 2) Keeps)) (record { op = op; client = operation.client; call = call; inner = inner; runs = h.rest.runs; answer = plain_answers.Refused 2; fits = m.owes.0; new = refl }))
+      (tell_stands decode get_epoch set_epoch h.l (turned h.l op (as_laid operation.client (any.Plain call) inner) (Ends (layer.refused 2) Keeps)) (record { of = record { op = op; client = operation.client; call = call; inner = inner; runs = h.rest.runs }; answer = plain_answers.Refused 2; fits = m.owes.0; new = refl }))
       m.owes.1 h.core.seen loose loosed
   failed_joins (any.View call) inner m loose loosed =
       let h = m.opened in
       let laid = as_laid operation.client (any.View call) inner in
       let change : Change T = let_go (is_claim_call (any.View call)) in
       let t = take_stands decode get_epoch set_epoch h.l (turned h.l op laid (refusing (any.View call) 2)) h.over
-      (record { op = op; client = operation.client; call = call; inner = inner; runs = h.rest.runs; answer = failed_inside; fits = m.owes.0; next = refusing (any.View call) 2; makes = inl (failure_is get_epoch set_epoch call (local_of (look_up h.l.views (view_used (any.View call)))) inner m.does.first); has = refusing_epoch get_epoch call 2; new = refl }) in
+      (record { of = record { op = op; client = operation.client; call = call; inner = inner; runs = h.rest.runs }; answer = failed_inside; fits = m.owes.0; next = refusing (any.View call) 2; makes = inl (failure_is get_epoch set_epoch call (local_of (look_up h.l.views (view_used (any.View call)))) inner m.does.first); has = refusing_epoch get_epoch call 2; new = refl }) in
       let stands = subst (λ (n : Next T). layer_stands.NextStands decode get_epoch set_epoch h.l.failed h.l.rows h.l.views h.l.count op laid n) (refusing_is call 2) t in
       end_joins_with decode get_epoch set_epoch past s op operation (any.View call) inner left h (endings.Answers (plain_answers.Refused 2)) (layer.refused 2) change (λ count. refl) refl (λ e client. refl) stands
       (λ test e. let clash : false ≡ true = e in cc) (left_told h.fine.trace h.l.views (view_used (any.View call)) (is_claim_call (any.View call)) h.core.seen) loose loosed

@@ -121,10 +121,10 @@ module _ {T : Type 0} (decode : List ℕ → Option T) (get_epoch : T → ℕ) (
       let called : IsCall l.rows op (any.Plain (calls.Advance to)) = subst (IsCall l.rows op) is d.own in
       inr (inr (inr (inr (inl (record {
         op = op;
-        to = to;
+        number = to;
         request = request;
-        puts = e;
-        raises = subst (λ (o : ℕ). Raises any.Plain l.rows o to) own (raises_too owner fine l.rows alike n to (subst (λ (o : ℕ). IsCall l.rows o (any.Plain (calls.Advance to))) (sym own) called) up);
+        has = e;
+        allows = subst (λ (o : ℕ). Raises any.Plain l.rows o to) own (raises_too owner fine l.rows alike n to (subst (λ (o : ℕ). IsCall l.rows o (any.Plain (calls.Advance to))) (sym own) called) up);
         new = refl;
       })))))
 
@@ -135,10 +135,10 @@ module _ {T : Type 0} (decode : List ℕ → Option T) (get_epoch : T → ℕ) (
       let called : IsCall l.rows op (any.Plain (calls.Delete id)) = subst (IsCall l.rows op) is d.own in
       inr (inr (inr (inr (inr (inl (record {
         op = op;
-        id = id;
+        number = id;
         request = request;
-        removes = e;
-        erases = subst (λ (o : ℕ). Erases any.Plain l.rows o id) own (erases_too owner fine l.rows alike n id (subst (λ (o : ℕ). IsCall l.rows o (any.Plain (calls.Delete id))) (sym own) called) gone);
+        has = e;
+        allows = subst (λ (o : ℕ). Erases any.Plain l.rows o id) own (erases_too owner fine l.rows alike n id (subst (λ (o : ℕ). IsCall l.rows o (any.Plain (calls.Delete id))) (sym own) called) gone);
         new = refl;
       }))))))
 

@@ -122,7 +122,7 @@ module _ {T : Type 0} (encode : T → List ℕ) (decode : List ℕ → Option T)
   tells_joins call inner fine_doing answer m =
       let h = m.opened in
       end_joins decode get_epoch set_epoch past s op operation (any.Plain call) inner left h (endings.Answers answer) (answers.Plain answer) Keeps (λ count. refl) refl (λ e client. refl)
-      (tell_stands decode get_epoch set_epoch h.l (turned h.l op (as_laid operation.client (any.Plain call) inner) (Ends (answers.Plain answer) Keeps)) (record { op = op; client = operation.client; call = call; inner = inner; runs = h.rest.runs; answer = answer; fits = m.owes.0; new = refl }))
+      (tell_stands decode get_epoch set_epoch h.l (turned h.l op (as_laid operation.client (any.Plain call) inner) (Ends (answers.Plain answer) Keeps)) (record { of = record { op = op; client = operation.client; call = call; inner = inner; runs = h.rest.runs }; answer = answer; fits = m.owes.0; new = refl }))
       m.owes.1 h.core.seen
 
   -- a call on a view goes on as the layer says
@@ -170,6 +170,6 @@ module _ {T : Type 0} (encode : T → List ℕ) (decode : List ℕ → Option T)
       let h = m.opened in
       let local = local_of (look_up h.l.views (view_used (any.View call))) in
       let t = take_stands decode get_epoch set_epoch h.l (turned h.l op (as_laid operation.client (any.View call) inner) a.0) h.over
-      (record { op = op; client = operation.client; call = call; inner = inner; runs = h.rest.runs; answer = inside answer; fits = m.owes.0; next = a.0; makes = a.2; has = a.3; new = refl }) in
+      (record { of = record { op = op; client = operation.client; call = call; inner = inner; runs = h.rest.runs }; answer = inside answer; fits = m.owes.0; next = a.0; makes = a.2; has = a.3; new = refl }) in
       let only = lacking_only (IsTold h.fine.trace) (any.View call) (parts.taken get_epoch set_epoch (any.View call) local inner (inside answer)) a.0 a.2 (taken_only (IsTold h.fine.trace) get_epoch set_epoch call local inner (inside answer) (inside_told get_epoch set_epoch h.fine.trace answer m.owes.1)) in
       next_joins call inner h a.0 next t only a.4

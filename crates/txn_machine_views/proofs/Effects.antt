@@ -128,9 +128,9 @@ module _ {T : Type 0} (decode : List ℕ → Option T) (get_epoch : T → ℕ) (
   pub advance_keeps : (s after : Layer T) → Stands decode get_epoch set_epoch s → Advances s after → Stands decode get_epoch set_epoch after
   advance_keeps s after st a =
       subst (Stands decode get_epoch set_epoch) (sym a.new)
-      (effect_keeps s a.op a.request st (inr (inl (subst (BoundaryPut any.Plain s.rows a.op) (sym a.puts) a.raises))) (λ o e none. makes_none a.op a.op a.request (raised_creates a.request a.to a.puts)))
+      (effect_keeps s a.op a.request st (inr (inl (subst (BoundaryPut any.Plain s.rows a.op) (sym a.has) a.allows))) (λ o e none. makes_none a.op a.op a.request (raised_creates a.request a.number a.has)))
 
   pub remove_keeps : (s after : Layer T) → Stands decode get_epoch set_epoch s → Removes s after → Stands decode get_epoch set_epoch after
   remove_keeps s after st r =
       subst (Stands decode get_epoch set_epoch) (sym r.new)
-      (effect_keeps s r.op r.request st (inr (inr (subst (VersionRemoved any.Plain s.rows r.op) (sym r.removes) r.erases))) (λ o e none. makes_none r.op r.op r.request (removed_creates r.request r.id r.removes)))
+      (effect_keeps s r.op r.request st (inr (inr (subst (VersionRemoved any.Plain s.rows r.op) (sym r.has) r.allows))) (λ o e none. makes_none r.op r.op r.request (removed_creates r.request r.number r.has)))

@@ -51,11 +51,7 @@ module _ {T : Type 0} (decode : List ℕ → Option T) (get_epoch : T → ℕ) (
   step_three : Takes decode get_epoch set_epoch two three
   step_three =
       record {
-        op = 1;
-        client = 1;
-        call = view_calls.Init v;
-        inner = write;
-        runs = refl;
+        of = record { op = 1; client = 1; call = view_calls.Init v; inner = write; runs = refl };
         answer = Wrote 1;
         fits = (refl, record { place = 1; request = m.first; bytes = m.bytes; effect = refl; creates = m.creates; begun = refl; first = refl; reads = m.reads });
         next = Opens 1 v;
@@ -83,11 +79,7 @@ module _ {T : Type 0} (decode : List ℕ → Option T) (get_epoch : T → ℕ) (
   step_six : Takes decode get_epoch set_epoch five six
   step_six =
       record {
-        op = 2;
-        client = 1;
-        call = view_calls.Claim 1;
-        inner = attempt;
-        runs = refl;
+        of = record { op = 2; client = 1; call = view_calls.Claim 1; inner = attempt; runs = refl };
         answer = Wrote 2;
         fits = (refl, record { place = 4; request = m.second; bytes = m.more; effect = refl; creates = m.creates_more; begun = refl; first = rw m.creates refl; reads = m.reads_more });
         next = entered claim 2 (set_epoch v epoch) epoch;

@@ -2,15 +2,13 @@
 use Rattle.std.proofs.Common.{◌≡◌, ◌≢◌, ℕ, ◌+◌, ◌≤◌, List, Bool, true, false, if◌then◌else◌, ◌==◌, Option, Some, None, inl, inr, refl, sym, ◌∙◌, ap, subst, arith}
 use Rattle.std.specs.Option.{option_map}
 use Rattle.std.proofs.lemmas.Bool.{cases_Bool, eqb-true}
-use Rattle.txn_history.specs.declared.event.Call.TheVariants as any
 use Rattle.txn_history.specs.declared.event.Answer.TheVariants as answers
 use Rattle.txn_history.specs.Calls.{view_used}
 use Rattle.txn_machine_views.specs.Layer.{Used, Operation, Layer, Change, Keeps, Puts, Makes, Closes, Next, Goes, Ends, Opens, look_up, with_busy, changed, new_view, starting, set_used, turned, opened}
 use Rattle.txn_machine_views.specs.Parts.{is_claim_call}
-use Rattle.txn_machine_views.specs.Steps.{view_without, Steps, GoesOn}
+use Rattle.txn_machine_views.specs.Steps.{view_without, Steps, GoesOn, operation_of}
 use Rattle.txn_machine_views.proofs.Stands.{IsUp, Stands, NextStands}
 use Rattle.txn_machine_views.proofs.Tables.{set_other}
-use Rattle.txn_machine_views.proofs.Shows.{op_as}
 use Rattle.txn_machine_views.proofs.Begins.{begin_stands}
 use Rattle.txn_machine_views.proofs.Takes.{take_stands}
 use Rattle.txn_machine_views.proofs.Runs.{tell_stands}
@@ -86,11 +84,11 @@ module _ {T : Type 0} (decode : List ℕ → Option T) (get_epoch : T → ℕ) (
       (after_goes (s.views number) (now.views number) ((turned now s.next (starting b.client b.call) b.next).views number) (opened_goes s.views s.next (view_used b.call) number)
       (turned_goes now s.next (starting b.client b.call) b.next (begin_stands decode get_epoch set_epoch s after st b) number le))
   step_goes s after st (inr (inl t)) number le =
-      let o = op_as t.client (any.View t.call) t.inner in
-      same_views s after (turned s t.op o t.next).views number (ap (λ (l : Layer T). l.views) t.new) (turned_goes s t.op o t.next (take_stands decode get_epoch set_epoch s after st t) number le)
+      let o = operation_of t.of in
+      same_views s after (turned s t.of.op o t.next).views number (ap (λ (l : Layer T). l.views) t.new) (turned_goes s t.of.op o t.next (take_stands decode get_epoch set_epoch s after st t) number le)
   step_goes s after st (inr (inr (inl t))) number le =
-      let o = op_as t.client (any.Plain t.call) t.inner in
-      same_views s after (turned s t.op o (Ends (answers.Plain t.answer) Keeps)).views number (ap (λ (l : Layer T). l.views) t.new) (turned_goes s t.op o (Ends (answers.Plain t.answer) Keeps) (tell_stands decode get_epoch set_epoch s after t) number le)
+      let o = operation_of t.of in
+      same_views s after (turned s t.of.op o (Ends (answers.Plain t.answer) Keeps)).views number (ap (λ (l : Layer T). l.views) t.new) (turned_goes s t.of.op o (Ends (answers.Plain t.answer) Keeps) (tell_stands decode get_epoch set_epoch s after t) number le)
   step_goes s after st (inr (inr (inr (inl c)))) number le = same_views s after s.views number (ap (λ (l : Layer T). l.views) c.new) (same_goes (s.views number))
   step_goes s after st (inr (inr (inr (inr (inl a))))) number le = same_views s after s.views number (ap (λ (l : Layer T). l.views) a.new) (same_goes (s.views number))
   step_goes s after st (inr (inr (inr (inr (inr (inl r)))))) number le = same_views s after s.views number (ap (λ (l : Layer T). l.views) r.new) (same_goes (s.views number))

@@ -1,12 +1,10 @@
 -- Every run keeps what stands of the layer.
 use Rattle.std.proofs.Common.{◌≡◌, ℕ, zero, suc, List, Option, Some, None, inl, inr, refl, sym, subst, arith}
-use Rattle.txn_history.specs.declared.event.Call.TheVariants as any
 use Rattle.txn_history.specs.declared.event.Answer.TheVariants as answers
 use Rattle.txn_machine_views.specs.Layer.{Layer, Keeps, Ends, opening}
-use Rattle.txn_machine_views.specs.Steps.{Tells, Steps, Runs}
+use Rattle.txn_machine_views.specs.Steps.{Tells, Steps, Runs, operation_of}
 use Rattle.txn_machine_views.proofs.Stands.{Stands, EndStands}
 use Rattle.txn_machine_views.proofs.Turns.{turn_keeps}
-use Rattle.txn_machine_views.proofs.Shows.{op_as}
 use Rattle.txn_machine_views.proofs.Begins.{begin_keeps}
 use Rattle.txn_machine_views.proofs.Takes.{take_keeps}
 use Rattle.txn_machine_views.proofs.Effects.{create_keeps, advance_keeps, remove_keeps}
@@ -15,11 +13,11 @@ use Rattle.txn_machine_views.proofs.Failed.{fail_keeps}
 
 module _ {T : Type 0} (decode : List ℕ → Option T) (get_epoch : T → ℕ) (set_epoch : T → ℕ → T) where
   -- the answer of a call without a view
-  pub tell_stands : (s after : Layer T) (t : Tells decode get_epoch set_epoch s after) → EndStands decode get_epoch set_epoch s.failed s.rows s.views s.count t.op (op_as t.client (any.Plain t.call) t.inner) (answers.Plain t.answer) Keeps
+  pub tell_stands : (s after : Layer T) (t : Tells decode get_epoch set_epoch s after) → EndStands decode get_epoch set_epoch s.failed s.rows s.views s.count t.of.op (operation_of t.of) (answers.Plain t.answer) Keeps
   tell_stands s after t = record { fits = t.fits; known = omega arith; quiet = λ number ne. (refl, refl); own = λ number e. absurd (let clash : None ≡ Some number = e in cc); rises = λ number used e there. tt }
 
   pub tell_keeps : (s after : Layer T) → Stands decode get_epoch set_epoch s → Tells decode get_epoch set_epoch s after → Stands decode get_epoch set_epoch after
-  tell_keeps s after st t = subst (Stands decode get_epoch set_epoch) (sym t.new) (turn_keeps decode get_epoch set_epoch s t.op (op_as t.client (any.Plain t.call) t.inner) (Ends (answers.Plain t.answer) Keeps) st t.runs (tell_stands s after t))
+  tell_keeps s after st t = subst (Stands decode get_epoch set_epoch) (sym t.new) (turn_keeps decode get_epoch set_epoch s t.of.op (operation_of t.of) (Ends (answers.Plain t.answer) Keeps) st t.of.runs (tell_stands s after t))
 
   pub opening_stands : Stands decode get_epoch set_epoch opening
   opening_stands =

@@ -14,7 +14,7 @@ use Rattle.txn_history.specs.Views.{view_at, view_count}
 use Rattle.txn_history.specs.OneHistory.{Shows, ClaimRefused, AnswerFits}
 use Rattle.txn_machine_views.specs.Layer.{Inner, Writes, Reads, Layer, Next, Goes, look_up, local_of, refused}
 use Rattle.txn_machine_views.specs.Parts.{Inside, Wrote, Found, Nothing, Refused, InsideFits, refusing, entered, denied, missed, viewed, found, taken, HasEpoch, OrLacking}
-use Rattle.txn_machine_views.specs.Steps.{Takes}
+use Rattle.txn_machine_views.specs.Steps.{Takes, operation_of}
 use Rattle.txn_machine_views.proofs.History.{entry_within, entered_now, newest_now, was_newest}
 use Rattle.txn_machine_views.proofs.Stands.{MayRead, UsesView, OpStands, Stands, NextStands}
 use Rattle.txn_machine_views.proofs.Tables.{view_of, op_of}
@@ -207,8 +207,8 @@ module _ {T : Type 0} (decode : List ℕ → Option T) (get_epoch : T → ℕ) (
 
 module _ {T : Type 0} (decode : List ℕ → Option T) (get_epoch : T → ℕ) (set_epoch : T → ℕ → T) where
   -- what an operation does next stands
-  pub take_stands : (s after : Layer T) → Stands decode get_epoch set_epoch s → (t : Takes decode get_epoch set_epoch s after) → NextStands decode get_epoch set_epoch s.failed s.rows s.views s.count t.op (op_as t.client (any.View t.call) t.inner) t.next
-  take_stands s after st t = next_stands decode get_epoch set_epoch s st t.op t.client t.call t.inner (op_of decode get_epoch set_epoch s st t.op (op_as t.client (any.View t.call) t.inner) t.runs) t.answer t.fits t.next t.makes t.has
+  pub take_stands : (s after : Layer T) → Stands decode get_epoch set_epoch s → (t : Takes decode get_epoch set_epoch s after) → NextStands decode get_epoch set_epoch s.failed s.rows s.views s.count t.of.op (operation_of t.of) t.next
+  take_stands s after st t = next_stands decode get_epoch set_epoch s st t.of.op t.of.client t.of.call t.of.inner (op_of decode get_epoch set_epoch s st t.of.op (operation_of t.of) t.of.runs) t.answer t.fits t.next t.makes t.has
 
   pub take_keeps : (s after : Layer T) → Stands decode get_epoch set_epoch s → Takes decode get_epoch set_epoch s after → Stands decode get_epoch set_epoch after
-  take_keeps s after st t = subst (Stands decode get_epoch set_epoch) (sym t.new) (turn_keeps decode get_epoch set_epoch s t.op (op_as t.client (any.View t.call) t.inner) t.next st t.runs (take_stands s after st t))
+  take_keeps s after st t = subst (Stands decode get_epoch set_epoch) (sym t.new) (turn_keeps decode get_epoch set_epoch s t.of.op (operation_of t.of) t.next st t.of.runs (take_stands s after st t))

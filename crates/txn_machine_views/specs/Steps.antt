@@ -1,12 +1,10 @@
 -- The steps of the layer, and its runs.
 use Rattle.std.specs.Prelude.{◌≡◌, ℕ, zero, suc, ◌+◌, ◌≤◌, ◌==◌, ◌⊎◌, if◌then◌else◌, List, [], ◌∷◌, ◌++◌, true, false, Option, Some, None, is_some}
 use Rattle.txn_store.specs.declared.request.Request.{Request}
-use Rattle.txn_history.specs.declared.event.PlainCall.{PlainCall}
 use Rattle.txn_history.specs.declared.event.PlainAnswer.{PlainAnswer}
 use Rattle.txn_history.specs.declared.trace.RowOf.TheVariants.{Effect}
 use Rattle.txn_history.specs.History.{created, raised, removed, has_id, versions_of, newest, boundary, was_erased}
 use Rattle.txn_history.specs.Facts.{greatest}
-use Rattle.txn_history.specs.declared.event.ViewCall.{ViewCall}
 use Rattle.txn_history.specs.declared.event.Call.{Call}
 use Rattle.txn_history.specs.declared.event.Call.TheVariants as any
 use Rattle.txn_history.specs.declared.event.Answer.TheVariants as answers
@@ -47,6 +45,17 @@ module _ {T : Type 0} where
     pub erased : was_erased rows id ≡ true
     pub below : id ≤ boundary rows
 
+  -- an operation that runs, of a call of this kind
+  pub record Running {C : Type 0} (kind : C → Call T) (s : Layer T) : Type 0 where
+    pub op : ℕ
+    pub client : ℕ
+    pub call : C
+    pub inner : Inner T
+    pub runs : s.ops op ≡ Some (record { client = client; call = kind call; inner = inner })
+
+  abbrev pub operation_of : {C : Type 0} {kind : C → Call T} {s : Layer T} → Running kind s → Operation T
+  operation_of {C} {kind} of = record { client = of.client; call = kind of.call; inner = of.inner }
+
 module _ {T : Type 0} (decode : List ℕ → Option T) (get_epoch : T → ℕ) (set_epoch : T → ℕ → T) where
   -- an operation begins, and does first what its call does
   pub record Begins (s after : Layer T) : Type 0 where
@@ -61,28 +70,20 @@ module _ {T : Type 0} (decode : List ℕ → Option T) (get_epoch : T → ℕ) (
 
   -- the write or the read of a call on views is answered, and the call goes on
   pub record Takes (s after : Layer T) : Type 0 where
-    pub op : ℕ
-    pub client : ℕ
-    pub call : ViewCall T
-    pub inner : Inner T
-    pub runs : s.ops op ≡ Some (record { client = client; call = any.View call; inner = inner })
+    pub of : Running any.View s
     pub answer : Inside T
-    pub fits : InsideFits decode get_epoch s.failed s.rows op inner answer
+    pub fits : InsideFits decode get_epoch s.failed s.rows of.op of.inner answer
     pub next : Next T
-    pub makes : OrLacking (any.View call) (taken get_epoch set_epoch (any.View call) (local_of (look_up s.views (view_used (any.View call)))) inner answer) next
+    pub makes : OrLacking (any.View of.call) (taken get_epoch set_epoch (any.View of.call) (local_of (look_up s.views (view_used (any.View of.call)))) of.inner answer) next
     pub has : HasEpoch get_epoch next
-    pub new : after ≡ turned s op (record { client = client; call = any.View call; inner = inner }) next
+    pub new : after ≡ turned s of.op (operation_of of) next
 
   -- a call without a view is answered
   pub record Tells (s after : Layer T) : Type 0 where
-    pub op : ℕ
-    pub client : ℕ
-    pub call : PlainCall T
-    pub inner : Inner T
-    pub runs : s.ops op ≡ Some (record { client = client; call = any.Plain call; inner = inner })
+    pub of : Running any.Plain s
     pub answer : PlainAnswer T
-    pub fits : AnswerFits decode get_epoch s.failed s.rows op (any.Plain call) (answers.Plain answer)
-    pub new : after ≡ turned s op (record { client = client; call = any.Plain call; inner = inner }) (Ends (answers.Plain answer) Keeps)
+    pub fits : AnswerFits decode get_epoch s.failed s.rows of.op (any.Plain of.call) (answers.Plain answer)
+    pub new : after ≡ turned s of.op (operation_of of) (Ends (answers.Plain answer) Keeps)
 
   -- a write takes effect: it is due, and it makes the next entry, or creates again what was removed
   pub record Creates (s after : Layer T) : Type 0 where
@@ -97,23 +98,22 @@ module _ {T : Type 0} (decode : List ℕ → Option T) (get_epoch : T → ℕ) (
     pub new : after ≡ with_row s (Effect write.op request)
 
 module _ {T : Type 0} where
-  -- the boundary goes up
-  pub record Advances (s after : Layer T) : Type 0 where
+  -- a request that has a number so takes effect: the rows allow its operation that number
+  pub record Affects (number_in : Request → Option ℕ) (Allows : List (Row T) → ℕ → ℕ → Type 0) (s after : Layer T) : Type 0 where
     pub op : ℕ
-    pub to : ℕ
+    pub number : ℕ
     pub request : Request
-    pub puts : raised request ≡ Some to
-    pub raises : Raises any.Plain s.rows op to
+    pub has : number_in request ≡ Some number
+    pub allows : Allows s.rows op number
     pub new : after ≡ with_row s (Effect op request)
 
+  -- the boundary goes up
+  abbrev pub Advances : Layer T → Layer T → Type 0
+  Advances = Affects raised (Raises any.Plain)
+
   -- a version goes
-  pub record Removes (s after : Layer T) : Type 0 where
-    pub op : ℕ
-    pub id : ℕ
-    pub request : Request
-    pub removes : removed request ≡ Some id
-    pub erases : Erases any.Plain s.rows op id
-    pub new : after ≡ with_row s (Effect op request)
+  abbrev pub Removes : Layer T → Layer T → Type 0
+  Removes = Affects removed (Erases any.Plain)
 
   -- a give-up frees the view, or ends that of a claim
   pub record GivesUp (s after : Layer T) : Type 0 where
