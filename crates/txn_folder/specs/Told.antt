@@ -1,5 +1,5 @@
 -- What a folder tells in a reply that is no error.
-use Rattle.std.specs.Prelude.{◌≡◌, ℕ, List, Option, IfOk, option_map}
+use Rattle.std.specs.Prelude.{◌≡◌, ℕ, Option, IfOk, option_map}
 use Rattle.txn_store.specs.Paths.{Segments}
 use Rattle.txn_store.specs.VersionName.{Names, version_path}
 use Rattle.txn_store.specs.declared.page.Page.{Page}
