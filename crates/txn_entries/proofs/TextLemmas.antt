@@ -1,9 +1,8 @@
 -- The text of an entry.
-use Rattle.std.proofs.Common.{◌≡◌, ℕ, ◌<◌, ◌^◌, true, false, List, ◌∷◌, ◌++◌, length, get_or, Option, Some, None, refl, ap, sym, ◌∙◌, lit<, ◌↔◌, All}
+use Rattle.std.proofs.Common.{◌≡◌, ℕ, ◌<◌, ◌^◌, true, false, List, Option, Some, None, refl, ap, sym, ◌∙◌, lit<, ◌↔◌, All}
 use Rattle.std.specs.Option.{MatchOption}
 use Rattle.std.specs.Fmt.{decimal}
 use Rattle.std.proofs.lemmas.Str.Pattern.{IsSplitOnceResult, split_after}
-use Rattle.percent_encoding.specs.AsciiSet.{contains}
 use Rattle.percent_encoding.specs.Percent.{percent_encode, percent_decode}
 use Rattle.percent_encoding.proofs.PercentLemmas.{round_trip}
 use denote.Ref.{Bor}
