@@ -1,15 +1,16 @@
 -- How the history of clients that shared only a store ends: how many entries it has, and where its boundary stands.
-use Rattle.std.specs.Prelude.{◌≡◌, ◌≤◌, ℕ, List, [], ◌∷◌, reverse, if◌then◌else◌, Option, None, Ok}
+use Rattle.std.specs.Prelude.{◌≡◌, ◌≤◌, ℕ, List, [], ◌∷◌, ◌+◌, ◌||◌, nat_eq, reverse, if◌then◌else◌, Option, None, Ok}
+use Rattle.std.specs.HashSet.{HashSet, contains, hash_set_len}
 use Rattle.txn_store.specs.Store.{State as StoreState}
 use Rattle.txn_store.specs.declared.request.Request.{Request}
 use Rattle.txn_store.specs.declared.request.Request.TheVariants as requests
 use Rattle.txn_store.specs.declared.request.Reply.{Reply}
 use Rattle.txn_store.specs.declared.request.Reply.TheVariants as replies
 use Rattle.txn_history.specs.History as history
-use Rattle.txn_history.specs.History.{Version, created, with_version}
+use Rattle.txn_history.specs.History.{Version, is_id, created, with_version}
 use Rattle.txn_history.specs.Trace.{Row}
 use Rattle.txn_machine_inner.specs.Machine.{took}
-use Rattle.txn_rows.specs.Beside.{boundary_after}
+use Rattle.txn_rows.specs.Beside.{boundary_after, is_among}
 use Rattle.txn_journals.specs.declared.rows.LogRow.{LogRow}
 use Rattle.txn_journals.specs.Logs.{IsLog}
 use Rattle.txn_journals.specs.Merged.{Merged}
@@ -30,6 +31,11 @@ HistoriesEndAt T log entries boundary =
     (m : Merged T) → Merges log ds m → EndsAt (trace_of (reverse m)) entries boundary
 
 -- Words of private contracts. Here the newest row of a log stands first.
+
+-- An id, where there is one, is among those of a set, whose length is their number.
+pub record IsEntered {S : Type 0} (old new : HashSet ℕ S) (id : Option ℕ) : Type 0 where
+  pub has : (n : ℕ) → contains nat_eq new n ≡ (contains nat_eq old n || is_id n id)
+  pub counted : hash_set_len new ≡ hash_set_len old + (if is_among (contains nat_eq old) id then 0 else 1)
 
 -- the version that a row creates
 abbrev pub created_by : LogRow → Option Version

@@ -1,12 +1,9 @@
 //! How the history of clients that shared only a store ends.
-ghost use Rattle.std.specs.Prelude.{◌≡◌, ℕ, ◌+◌, ◌||◌, nat_eq, if◌then◌else◌, IfOk, OnOk};
+ghost use Rattle.std.specs.Prelude.{◌≡◌, IfOk, OnOk};
 ghost use Rattle.std.specs.Option.{option_map};
-ghost use Rattle.std.specs.HashSet.{contains, hash_set_len};
 ghost use Rattle.txn_history.specs.Names.{world_names, world_boundary};
-ghost use Rattle.txn_history.specs.History.{is_id};
 ghost use Rattle.txn_machine_inner.specs.Machine.{took};
-ghost use Rattle.txn_rows.specs.Beside.{is_among};
-ghost use Rattle.txn_audit.specs.HistoryEnds.{HistoriesEndAt, created_by, boundary_by};
+ghost use Rattle.txn_audit.specs.HistoryEnds.{HistoriesEndAt, IsEntered, created_by, boundary_by};
 
 use std::alloc::{AllocError, Global};
 use std::collections::HashSet;
@@ -64,8 +61,7 @@ fn boundary_by(file: &Path, before: u64, row: &LogRow) -> u64
 
 /// Enters an id, where there is one.
 fn enter(created: &mut HashSet<u64>, id: Option<u64>) -> Result<(), AllocError>
-    ensures has { OnOk result ((n : ℕ) → contains nat_eq created.new n ≡ (contains nat_eq created.old n || is_id n id)) }
-    ensures len { OnOk result (hash_set_len created.new ≡ hash_set_len created.old + (if is_among (contains nat_eq created.old) id then 0 else 1)) }
+    ensures { OnOk result (IsEntered created.old created.new id) }
 {
     if let Some(id) = id {
         let _ = created.insert(id)?;

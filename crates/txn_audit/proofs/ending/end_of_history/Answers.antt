@@ -12,7 +12,7 @@ loop-row-preserved g c =
     let so_far = c.loop-row.invariant in
     record {
       has = id_entered rows k row c.loop-row-test.true c.row-item.is (contains nat_eq c.loop-row.created) (contains nat_eq c.enter.new.created) c.id_created.result c.id_created.ensures so_far.has c.in_ok-enter.ensures.has;
-      len = id_counted rows k row c.loop-row-test.true c.row-item.is (contains nat_eq c.loop-row.created) _ _ c.id_created.result c.id_created.ensures so_far.has so_far.len c.in_ok-enter.ensures.len;
+      len = id_counted rows k row c.loop-row-test.true c.row-item.is (contains nat_eq c.loop-row.created) _ _ c.id_created.result c.id_created.ensures so_far.has so_far.len c.in_ok-enter.ensures.counted;
       stands = boundary_followed rows k row c.loop-row-test.true c.row-item.is _ _ so_far.stands c.boundary_by-boundary.ensures;
     }
 
