@@ -58,7 +58,7 @@ pub struct Got {
 }
 
 impl Got {
-    /// The same bytes, shared, and the same token.
+    /// The same bytes, shared, and the same token. The only error is want of memory.
     pub fn try_clone(&self) -> Result<Got, AllocError>
         ensures { IfOk result (λ copy. copy ≡ self.now) }
     {
@@ -77,6 +77,7 @@ pub struct ObjectMeta {
 }
 
 impl ObjectMeta {
+    /// The same, with the same path. The only error is want of memory.
     pub fn try_clone(&self) -> Result<ObjectMeta, AllocError>
         ensures { IfOk result (λ copy. copy ≡ self.now) }
     {
