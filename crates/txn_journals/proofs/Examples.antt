@@ -16,7 +16,10 @@ use Rattle.txn_history.specs.Seen.{Ask, Store, Look}
 use Rattle.txn_machine_inner.specs.Machine.{empty_store}
 use Rattle.txn_history.specs.declared.event.Call.{Call}
 use Rattle.txn_history.specs.declared.event.Call.TheVariants as any
+use Rattle.txn_machine.specs.declared.doing.Doing.{Doing}
+use Rattle.txn_machine.specs.declared.doing.Doing.TheVariants as does
 use Rattle.txn_machine.specs.declared.doing.Operation.{Operation}
+use Rattle.txn_caches.specs.declared.caches.Caches.{Caches}
 use Rattle.txn_machine.specs.Doing.{Next, ended, refused, asked, started, turned, ReadsBack, FitsWord, IsMadeSo, Turns}
 use Rattle.txn_machine.specs.Machine.{seen_view, used_by, answered}
 use Rattle.txn_history.specs.Calls.{view_used}
@@ -167,16 +170,11 @@ grown s store after client step answer new h follows log lives =
       landings = h.landings;
     }
 
--- a call begins
-abbrev begins : ℕ → Call ℕ → Scene → Scene
-begins client call s =
-    let part = s.parts client in
-    grow client (steps.Begin call) (answered (length part.views) (view_used call) (start part call).1) (diary.begun get_epoch client part call (start part call)) s
-
-begun : (s : Scene) (store : StoreState) (client : ℕ) (call : Call ℕ) → Holds s store → begin_fault get_epoch client (s.parts client) call ≡ None → ReadsBack encode decode call → FitsWord call → IsMadeSo encode decode get_epoch (start (s.parts client) call).0 → Lives (part_of client s.list) → Holds (begins client call s) store
-begun s store client call h permits reads word made lives =
-    let part = s.parts client in
-    grown s store store client (steps.Begin call) (answered (length part.views) (view_used call) (start part call).1) (diary.begun get_epoch client part call (start part call)) h (record { permits = permits; reads_back = reads; word = word; next = start part call; starts = refl; made = made; tells = refl; part = refl }) h.log lives
+-- what a client does next: it begins a call, or an operation of its looks, or has a reply of the store, which is so then
+pub data Move : Type 0 where
+  Calls : ℕ → Call ℕ → Move
+  Looks : ℕ → ℕ → Move
+  Receives : ℕ → ℕ → ℕ → Request → Reply → StoreState → Move
 
 -- an operation takes its turn
 abbrev takes : ℕ → ℕ → Act → Option Reply → Scene → Scene
@@ -184,24 +182,59 @@ takes client op act reply s =
     let part = s.parts client in
     grow client (steps.Act op act) (answer_in part (operation part op) (turn part op reply)) (diary.turned get_epoch part op (operation part op) (turn part op reply)) s
 
--- an operation that asks for this is there, and has the memory that its turn wants
-record Asks (part : Part ℕ) (op : ℕ) (ask : Ask) (reply : Option Reply) : Type 0 where
-  found : numbered part.operations op ≡ Some (operation part op)
-  asks : asked (operation part op).doing ≡ Some ask
-  turns : Turns 1000 encode decode get_epoch set_epoch (operation part op).doing part.caches reply (turn part op reply)
-
-looked : (s : Scene) (store : StoreState) (client op : ℕ) → Holds s store → Asks (s.parts client) op Look None → Lives (part_of client s.list) → Holds (takes client op acts.Look None s) store
-looked s store client op h asks lives =
+abbrev moved : Move → Scene → Scene
+moved (Calls client call) s =
     let part = s.parts client in
-    grown s store store client (steps.Act op acts.Look) (answer_in part (operation part op) (turn part op None)) (diary.turned get_epoch part op (operation part op) (turn part op None)) h (record { operation = operation part op; found = asks.found; asks = asks.asks; next = turn part op None; turns = asks.turns; tells = refl; part = refl }) h.log lives
+    grow client (steps.Begin call) (answered (length part.views) (view_used call) (start part call).1) (diary.begun get_epoch client part call (start part call)) s
+moved (Looks client op) s = takes client op acts.Look None s
+moved (Receives client op place request reply after) s = takes client op (acts.Receive (record { place = place; request = request; reply = reply })) (Some reply) s
 
-abbrev receives : ℕ → ℕ → ℕ → Request → Reply → Scene → Scene
-receives client op place request reply s = takes client op (acts.Receive (record { place = place; request = request; reply = reply })) (Some reply) s
+abbrev store_after : Move → StoreState → StoreState
+store_after (Receives client op place request reply after) store = after
+store_after move store = store
 
-received : (s : Scene) (store after : StoreState) (client op place : ℕ) (request : Request) (reply : Reply) → Holds s store → Asks (s.parts client) op (Store request) (Some reply) → Serves request store reply after → after.failures ≡ 0 → Lives (part_of client s.list) → Holds (receives client op place request reply s) after
-received s store after client op place request reply h asks serves fails lives =
+abbrev IsPlain : Doing ℕ → Type 0
+IsPlain (does.Plain doing) = Unit {0}
+IsPlain (does.View op) = ⊥
+
+turns : (doing : Doing ℕ) (caches : Caches) (reply : Option Reply) → IsPlain doing → Turns 1000 encode decode get_epoch set_epoch doing caches reply (turned 1000 encode decode get_epoch set_epoch false doing caches reply)
+turns (does.Plain doing) caches reply plain = record { refused = false; turns = refl; may = tt; made = λ h. absurd h }
+turns (does.View op) caches reply plain = absurd plain
+
+-- an operation on no view is there, and asks for this
+abbrev Asks : Part ℕ → ℕ → Ask → Type 0
+Asks part op ask = (numbered part.operations op ≡ Some (operation part op)) × (asked (operation part op).doing ≡ Some ask) × IsPlain (operation part op).doing
+
+-- when a client can do so
+abbrev May : Move → Scene → StoreState → Type 0
+May (Calls client call) s store = (begin_fault get_epoch client (s.parts client) call ≡ None) × ReadsBack encode decode call × FitsWord call × IsMadeSo encode decode get_epoch (start (s.parts client) call).0 × Lives (part_of client s.list)
+May (Looks client op) s store = Asks (s.parts client) op Look × Lives (part_of client s.list)
+May (Receives client op place request reply after) s store = Asks (s.parts client) op (Store request) × Serves request store reply after × (after.failures ≡ 0) × Lives (part_of client s.list)
+
+move : (m : Move) (s : Scene) (store : StoreState) → Holds s store → May m s store → Holds (moved m s) (store_after m store)
+move (Calls client call) s store h (permits, reads, word, made, lives) =
+    grown s store store client (steps.Begin call) _ _ h (record { permits = permits; reads_back = reads; word = word; next = start (s.parts client) call; starts = refl; made = made; tells = refl; part = refl }) h.log lives
+move (Looks client op) s store h ((found, asks, plain), lives) =
     let part = s.parts client in
-    grown s store after client (steps.Act op (acts.Receive (record { place = place; request = request; reply = reply }))) (answer_in part (operation part op) (turn part op (Some reply))) (diary.turned get_epoch part op (operation part op) (turn part op (Some reply))) h (record { operation = operation part op; found = asks.found; asks = asks.asks; next = turn part op (Some reply); turns = asks.turns; tells = refl; part = refl }) (store, h.log, serves, fails) lives
+    grown s store store client (steps.Act op acts.Look) _ _ h (record { operation = operation part op; found = found; asks = asks; next = turn part op None; turns = turns (operation part op).doing part.caches None plain; tells = refl; part = refl }) h.log lives
+move (Receives client op place request reply after) s store h ((found, asks, plain), serves, fails, lives) =
+    let part = s.parts client in
+    grown s store after client (steps.Act op (acts.Receive (record { place = place; request = request; reply = reply }))) _ _ h (record { operation = operation part op; found = found; asks = asks; next = turn part op (Some reply); turns = turns (operation part op).doing part.caches (Some reply) plain; tells = refl; part = refl }) (store, h.log, serves, fails) lives
+
+-- moves one after another
+
+abbrev played : List Move → Scene → Scene
+played [] s = s
+played (m ∷ moves) s = played moves (moved m s)
+
+-- it holds after these moves, where each may be made
+abbrev Given : List Move → Scene → StoreState → Type 0
+Given [] s store = Holds s store
+Given (m ∷ moves) s store = May m s store → Given moves (moved m s) (store_after m store)
+
+plays : (moves : List Move) (s : Scene) (store : StoreState) → Holds s store → Given moves s store
+plays [] s store h = h
+plays (m ∷ moves) s store h = λ may. plays moves (moved m s) (store_after m store) (move m s store h may)
 
 -- a landing more
 abbrev lands : Landing → Scene → Scene
@@ -227,89 +260,23 @@ write_first = any.Plain (calls.Write None 7)
 abbrev put_asked : Request
 put_asked = requests.Put path (encode 7) Create
 
-abbrev s1 : Scene
-s1 = begins 2 read_first s0
+abbrev moves : List Move
+moves =
+    Calls 2 read_first ∷ Calls 1 write_first ∷ Receives 1 1 0 put_asked reply_put (stored 1) ∷ Receives 2 1 1 (requests.Get path None) reply_got (stored 2) ∷
+    Looks 1 1 ∷ Looks 1 1 ∷ Looks 1 1 ∷ Receives 1 1 2 (requests.Get world_boundary None) reply_none (stored 3) ∷
+    Calls 1 (any.Plain calls.Read) ∷ Looks 1 2 ∷ Receives 1 2 3 (requests.Get (version_path world_names 2) None) reply_none (stored 4) ∷
+    Looks 1 2 ∷ Looks 1 2 ∷ Receives 1 2 4 (requests.Get world_boundary None) reply_none (stored 5) ∷ []
 
-h1 : Holds s1 empty_store
-h1 = begun s0 empty_store 2 read_first h0 refl tt (omega arith) tt tt
+abbrev whole : Scene
+whole = played moves s0
 
-abbrev s2 : Scene
-s2 = begins 1 write_first s1
-
-h2 : Holds s2 empty_store
-h2 = begun s1 empty_store 1 write_first h1 refl (λ e. refl) tt tt tt
-
-abbrev s3 : Scene
-s3 = receives 1 1 0 put_asked reply_put s2
-
-h3 : Holds s3 (stored 1)
-h3 = received s2 empty_store (stored 1) 1 1 0 put_asked reply_put h2 (record { found = refl; asks = refl; turns = record { refused = false; turns = refl; may = tt; made = λ h. absurd h } }) puts refl refl
-
-abbrev s4 : Scene
-s4 = receives 2 1 1 (requests.Get path None) reply_got s3
-
-h4 : Holds s4 (stored 2)
-h4 = received s3 (stored 1) (stored 2) 2 1 1 (requests.Get path None) reply_got h3 (record { found = refl; asks = refl; turns = record { refused = false; turns = refl; may = tt; made = λ h. absurd h } }) (gets 1) refl refl
-
-abbrev s5 : Scene
-s5 = takes 1 1 acts.Look None s4
-
-h5 : Holds s5 (stored 2)
-h5 = looked s4 (stored 2) 1 1 h4 (record { found = refl; asks = refl; turns = record { refused = false; turns = refl; may = tt; made = λ h. absurd h } }) refl
-
-abbrev s6 : Scene
-s6 = takes 1 1 acts.Look None s5
-
-h6 : Holds s6 (stored 2)
-h6 = looked s5 (stored 2) 1 1 h5 (record { found = refl; asks = refl; turns = record { refused = false; turns = refl; may = tt; made = λ h. absurd h } }) refl
-
-abbrev s7 : Scene
-s7 = takes 1 1 acts.Look None s6
-
-h7 : Holds s7 (stored 2)
-h7 = looked s6 (stored 2) 1 1 h6 (record { found = refl; asks = refl; turns = record { refused = false; turns = refl; may = tt; made = λ h. absurd h } }) refl
-
-abbrev s8 : Scene
-s8 = receives 1 1 2 (requests.Get world_boundary None) reply_none s7
-
-h8 : Holds s8 (stored 3)
-h8 = received s7 (stored 2) (stored 3) 1 1 2 (requests.Get world_boundary None) reply_none h7 (record { found = refl; asks = refl; turns = record { refused = false; turns = refl; may = tt; made = λ h. absurd h } }) (misses world_boundary (apart 1) 2) refl refl
-
-abbrev s9 : Scene
-s9 = begins 1 (any.Plain calls.Read) s8
-
-h9 : Holds s9 (stored 3)
-h9 = begun s8 (stored 3) 1 (any.Plain calls.Read) h8 refl tt tt tt refl
-
-abbrev s10 : Scene
-s10 = takes 1 2 acts.Look None s9
-
-h10 : Holds s10 (stored 3)
-h10 = looked s9 (stored 3) 1 2 h9 (record { found = refl; asks = refl; turns = record { refused = false; turns = refl; may = tt; made = λ h. absurd h } }) refl
-
-abbrev s11 : Scene
-s11 = receives 1 2 3 (requests.Get (version_path world_names 2) None) reply_none s10
-
-h11 : Holds s11 (stored 4)
-h11 = received s10 (stored 3) (stored 4) 1 2 3 (requests.Get (version_path world_names 2) None) reply_none h10 (record { found = refl; asks = refl; turns = record { refused = false; turns = refl; may = tt; made = λ h. absurd h } }) (misses (version_path world_names 2) second 3) refl refl
-
-abbrev s12 : Scene
-s12 = takes 1 2 acts.Look None s11
-
-h12 : Holds s12 (stored 4)
-h12 = looked s11 (stored 4) 1 2 h11 (record { found = refl; asks = refl; turns = record { refused = false; turns = refl; may = tt; made = λ h. absurd h } }) refl
-
-abbrev s13 : Scene
-s13 = takes 1 2 acts.Look None s12
-
-h13 : Holds s13 (stored 4)
-h13 = looked s12 (stored 4) 1 2 h12 (record { found = refl; asks = refl; turns = record { refused = false; turns = refl; may = tt; made = λ h. absurd h } }) refl
-
-abbrev s14 : Scene
-s14 = receives 1 2 4 (requests.Get world_boundary None) reply_none s13
-
-h14 : Holds s14 (stored 5)
-h14 = received s13 (stored 4) (stored 5) 1 2 4 (requests.Get world_boundary None) reply_none h13 (record { found = refl; asks = refl; turns = record { refused = false; turns = refl; may = tt; made = λ h. absurd h } }) (misses world_boundary (apart 1) 4) refl refl
+holds : Holds whole (stored 5)
+holds =
+    plays moves s0 empty_store h0
+    (refl, tt, omega arith, tt, tt) (refl, (λ e. refl), tt, tt, tt) ((refl, refl, tt), puts, refl, refl) ((refl, refl, tt), gets 1, refl, refl)
+    ((refl, refl, tt), refl) ((refl, refl, tt), refl) ((refl, refl, tt), refl) ((refl, refl, tt), misses world_boundary (apart 1) 2, refl, refl)
+    (refl, tt, tt, tt, refl) ((refl, refl, tt), refl) ((refl, refl, tt), misses (version_path world_names 2) second 3, refl, refl)
+    ((refl, refl, tt), refl) ((refl, refl, tt), refl) ((refl, refl, tt), misses world_boundary (apart 1) 4, refl, refl)
 
 -- the answers
 
@@ -322,24 +289,24 @@ answers_in (Effect op request ∷ rows) = answers_in rows
 abbrev plain : ℕ → Rattle.txn_history.specs.declared.event.PlainAnswer.PlainAnswer ℕ → Row ℕ
 plain op answer = Answered op (answers.Plain answer)
 
-pub found : answers_in (trace_of s14.list) ≡ plain 1 (plain_answers.Value (Some 7)) ∷ plain 2 (plain_answers.Wrote 1) ∷ plain 3 (plain_answers.Read (Some (1, 7))) ∷ []
+pub found : answers_in (trace_of whole.list) ≡ plain 1 (plain_answers.Value (Some 7)) ∷ plain 2 (plain_answers.Wrote 1) ∷ plain 3 (plain_answers.Read (Some (1, 7))) ∷ []
 found = refl
 
 -- what client 1 was told
-pub told : (s14.parts 1).told ≡ (1, 0) ∷ (1, 0) ∷ []
+pub told : (whole.parts 1).told ≡ (1, 0) ∷ (1, 0) ∷ []
 told = refl
 
 -- the list is a run of a world of two clients
-pub runs : IsRun 1000 encode decode get_epoch set_epoch 2 s14.list s14.parts (stored 5)
-runs = merged_runs 1000 encode decode get_epoch set_epoch 2 s14.list s14.parts (stored 5) (omega arith) (omega arith) h14
+pub runs : IsRun 1000 encode decode get_epoch set_epoch 2 whole.list whole.parts (stored 5)
+runs = merged_runs 1000 encode decode get_epoch set_epoch 2 whole.list whole.parts (stored 5) (omega arith) (omega arith) holds
 
 -- the audit
 
 abbrev log : List LogRow
-log = reverse (log_of s14.list)
+log = reverse (log_of whole.list)
 
 abbrev diary_of : ℕ → Diary ℕ
-diary_of client = record { client = client; rows = reverse (part_of client s14.list); part = s14.parts client }
+diary_of client = record { client = client; rows = reverse (part_of client whole.list); part = whole.parts client }
 
 other : (client d : ℕ) → client ≢ d → HasClient {T = ℕ} (diary_of d ∷ []) client → ⊥
 other client d ne h = elim h [ inl e ↦ ne (sym e) | inr none ↦ none ]
@@ -373,10 +340,10 @@ found_merged = refl
 -- A put of client 1 fails, and lands while client 2 reads, who finds it.
 
 abbrev k1 : Scene
-k1 = begins 1 write_first s0
+k1 = moved (Calls 1 write_first) s0
 
 e1 : Holds k1 empty_store
-e1 = begun s0 empty_store 1 write_first h0 refl (λ e. refl) tt tt tt
+e1 = move (Calls 1 write_first) s0 empty_store h0 (refl, (λ e. refl), tt, tt, tt)
 
 abbrev q1 : Part ℕ
 q1 = k1.parts 1
@@ -391,10 +358,10 @@ e2 : Holds k2 empty_store
 e2 = grown k1 empty_store empty_store 1 (steps.Act 1 (acts.Fails put_asked)) (answer_in q1 (operation q1 1) (refused 2)) failed e1 (record { operation = operation q1 1; found = refl; asks = refl; tells = refl; part = refl }) e1.log refl
 
 abbrev k3 : Scene
-k3 = begins 2 read_first k2
+k3 = moved (Calls 2 read_first) k2
 
 e3 : Holds k3 empty_store
-e3 = begun k2 empty_store 2 read_first e2 refl tt (omega arith) tt tt
+e3 = move (Calls 2 read_first) k2 empty_store e2 (refl, tt, omega arith, tt, tt)
 
 abbrev landing : Landing
 landing = record { client = 1; op = 1; request = put_asked; reply = reply_put }
@@ -406,10 +373,10 @@ e4 : Holds k4 (stored 1)
 e4 = landed_more k3 empty_store (stored 1) landing e3 (refl, refl) (empty_store, e3.log, puts, refl)
 
 abbrev k5 : Scene
-k5 = receives 2 1 1 (requests.Get path None) reply_got k4
+k5 = moved (Receives 2 1 1 (requests.Get path None) reply_got (stored 2)) k4
 
 e5 : Holds k5 (stored 2)
-e5 = received k4 (stored 1) (stored 2) 2 1 1 (requests.Get path None) reply_got e4 (record { found = refl; asks = refl; turns = record { refused = false; turns = refl; may = tt; made = λ h. absurd h } }) (gets 1) refl refl
+e5 = move (Receives 2 1 1 (requests.Get path None) reply_got (stored 2)) k4 (stored 1) e4 ((refl, refl, tt), gets 1, refl, refl)
 
 pub found_landed : answers_in (trace_of k5.list) ≡ plain 1 (plain_answers.Refused 2) ∷ plain 2 (plain_answers.Value (Some 7)) ∷ []
 found_landed = refl
