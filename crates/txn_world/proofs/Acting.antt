@@ -1,6 +1,6 @@
 -- How an operation takes its turn: an answer ends it, and nothing else does.
 use Rattle.std.proofs.Common.{◌≡◌, ℕ, zero, suc, nat_eq, ◌-◌, ◌≤◌, ◌==◌, ◌&&◌, List, [], ◌∷◌, ◌++◌, length, map, cond, inl, inr, set, get_or, not, Bool, true, false, is_some, Option, Some, None, Result, Ok, Err, refl, sym, ◌∙◌, ap, subst}
-use Rattle.std.specs.BTreeSet.{BTreeSet}
+use Rattle.std.specs.HashSet.{HashSet}
 use Rattle.std.specs.Option.{option_map}
 use Rattle.txn_store.specs.declared.request.Reply.{Reply}
 use Rattle.txn_caches.specs.declared.caches.Caches.{Caches}
@@ -33,7 +33,8 @@ use Rattle.txn_clients.specs.declared.operations.Usage.{Usage}
 use Rattle.txn_clients.specs.Operations.{asked_of, asked_by, usage_of, TakesReply, Ends, TakesTurn}
 use Rattle.txn_clients.specs.Views.{IsFromOne}
 use Rattle.txn_clients.proofs.Acting.{held_at}
-use Rattle.txn_world.specs.Running.{is_in, runs_for, ended_where}
+use Rattle.txn_world.specs.Running.{runs_for, ended_where}
+use Rattle.txn_world.specs.Owning.{owns}
 use Rattle.txn_world.specs.Acting.{EndsAmong, TurnsAmong}
 use Rattle.std.proofs.lemmas.Bool.{eq-eqb, ne_eqb}
 use Rattle.std.proofs.lemmas.Option.{same_Some}
@@ -136,8 +137,8 @@ module _ {T : Type 0} (page : ℕ) (encode : T → List ℕ) (decode : List ℕ 
   turns_over old caches reply next kind t = subst IsOver (sym t.turns) (turned_over t.refused old caches reply kind)
 
   -- those that run after a turn
-  pub turn_running : (running new : List (BTreeSet ℕ)) (operations after : List (Operation T)) (caches left : Caches) (op : ℕ) (reply : Option Reply) (ending : Option (Ending T)) (of : Usage) (ends : Bool) → AreRunning running operations → option_map usage_of (numbered operations op) ≡ Some of →
-      TakesReply operations op reply → TakesTurn page encode decode get_epoch set_epoch operations caches op reply after left ending → ends ≡ is_some ending → ((c n : ℕ) → is_in new c n ≡ (is_in running c n && not (ends && ((of.client == c) && (op == n))))) → AreRunning new after
+  pub turn_running : {S : Type 0} (running new : List (HashSet ℕ S)) (operations after : List (Operation T)) (caches left : Caches) (op : ℕ) (reply : Option Reply) (ending : Option (Ending T)) (of : Usage) (ends : Bool) → AreRunning running operations → option_map usage_of (numbered operations op) ≡ Some of →
+      TakesReply operations op reply → TakesTurn page encode decode get_epoch set_epoch operations caches op reply after left ending → ends ≡ is_some ending → ((c n : ℕ) → owns new c n ≡ (owns running c n && not (ends && ((of.client == c) && (op == n))))) → AreRunning new after
   turn_running running new operations after caches left op reply ending of ends all usage takes v over gone =
       let o = v.operation in
       let same : takes.operation ≡ o = same_Some takes.operation o (sym takes.found ∙ v.found) in
@@ -145,7 +146,7 @@ module _ {T : Type 0} (page : ℕ) (encode : T → List ℕ) (decode : List ℕ 
       let client : of.client ≡ o.client = ap (λ (u : Usage). u.client) (same_usage operations op o of v.found usage) in
       let next : is_some (asked v.next.0) ≡ not ends = turns_over o.doing caches reply v.next kind v.turns ∙ ap not (sym (over ∙ ap is_some v.ends)) in
       subst (λ (os : List (Operation T)). AreRunning new os) (sym v.operations)
-      (running_with running new operations op o v.next.0 ends all v.found (reply_runs o.doing reply kind) next (λ c n. gone c n ∙ ap (λ (m : ℕ). is_in running c n && not (ends && ((m == c) && (op == n)))) client))
+      (running_with running new operations op o v.next.0 ends all v.found (reply_runs o.doing reply kind) next (λ c n. gone c n ∙ ap (λ (m : ℕ). owns running c n && not (ends && ((m == c) && (op == n)))) client))
 
   -- a turn among the caches of all clients
   pub turns_among : (operations after : List (Operation T)) (caches : List Caches) (op : ℕ) (reply : Option Reply) (ending : Option (Ending T)) (of : Usage) (keeps rest : Caches) → option_map usage_of (numbered operations op) ≡ Some of → 1 ≤ of.client → of.client ≤ length caches → keeps ≡ get_or caches (of.client - 1) keeps →
@@ -162,12 +163,12 @@ module _ {T : Type 0} (page : ℕ) (encode : T → List ℕ) (decode : List ℕ 
 
 module _ {T : Type 0} where
   -- those that run after an end
-  pub end_running : (running new : List (BTreeSet ℕ)) (operations after : List (Operation T)) (op : ℕ) (of : Usage) → AreRunning running operations → option_map usage_of (numbered operations op) ≡ Some of → is_some (asked_by operations op) ≡ true → Ends operations op after →
-      ((c n : ℕ) → is_in new c n ≡ (is_in running c n && not (true && ((of.client == c) && (op == n))))) → AreRunning new after
+  pub end_running : {S : Type 0} (running new : List (HashSet ℕ S)) (operations after : List (Operation T)) (op : ℕ) (of : Usage) → AreRunning running operations → option_map usage_of (numbered operations op) ≡ Some of → is_some (asked_by operations op) ≡ true → Ends operations op after →
+      ((c n : ℕ) → owns new c n ≡ (owns running c n && not (true && ((of.client == c) && (op == n))))) → AreRunning new after
   end_running running new operations after op of all usage asks v gone =
       let client : of.client ≡ v.operation.client = ap (λ (u : Usage). u.client) (same_usage operations op v.operation of v.found usage) in
       subst (λ (os : List (Operation T)). AreRunning new os) (sym v.operations)
-      (running_with running new operations op v.operation ended true all v.found (asks_runs operations op v.operation asks v.found) refl (λ c n. gone c n ∙ ap (λ (m : ℕ). is_in running c n && not (true && ((m == c) && (op == n)))) client))
+      (running_with running new operations op v.operation ended true all v.found (asks_runs operations op v.operation asks v.found) refl (λ c n. gone c n ∙ ap (λ (m : ℕ). owns running c n && not (true && ((m == c) && (op == n)))) client))
 
   -- an end among the caches of all clients
   pub ends_among : (operations after : List (Operation T)) (caches : List Caches) (op : ℕ) (of : Usage) → option_map usage_of (numbered operations op) ≡ Some of → 1 ≤ of.client → of.client ≤ length caches → Ends operations op after → EndsAmong operations caches op after

@@ -1,12 +1,12 @@
 -- The views of a table, and whose they are.
-use Rattle.std.proofs.Common.{◌≡◌, ◌≢◌, ℕ, zero, suc, ◌+◌, ◌-◌, ◌≤◌, ◌==◌, ◌&&◌, ◌||◌, nat_eq, List, [], ◌∷◌, ◌++◌, length, map, set, slice_get, get_or, not, Bool, true, false, cond, is_some, Option, Some, None, inl, inr, refl, sym, ◌∙◌, ap, subst, arith}
+use Rattle.std.proofs.Common.{◌≡◌, ◌≢◌, ℕ, zero, suc, ◌+◌, ◌-◌, ◌≤◌, ◌==◌, ◌&&◌, ◌||◌, nat_eq, List, [], ◌∷◌, ◌++◌, length, map, set, slice_get, not, Bool, true, false, cond, is_some, Option, Some, None, inl, inr, refl, sym, ◌∙◌, ap, subst, arith}
 use Rattle.std.proofs.lemmas.List.{append-nil}
 use Rattle.std.proofs.lemmas.Bool.{eq-eqb, ne_eqb, eqb-true, both_ways}
-use Rattle.std.proofs.lemmas.Option.{same_Some, slice_get_within}
+use Rattle.std.proofs.lemmas.Option.{same_Some}
 use Rattle.std.proofs.Math.Bool.{or-false}
 use Rattle.std.specs.Option.{option_map, ForSome}
 use Rattle.std.specs.List.{list_any}
-use Rattle.std.specs.HashSet.{HashSet, contains}
+use Rattle.std.specs.HashSet.{HashSet}
 use Rattle.txn_history.specs.Lists.{numbered}
 use Rattle.txn_history.specs.History.{is_id}
 use Rattle.txn_history.specs.Seen.{view_in}
@@ -17,9 +17,9 @@ use Rattle.txn_machine.specs.declared.doing.Ending.{Ending}
 use Rattle.txn_machine.specs.declared.doing.Ending.TheVariants as endings
 use Rattle.txn_machine.specs.Machine.{seen_view, seen_views, used_in, used_by, with_used, made_by, views_changed, views_taken}
 use Rattle.txn_clients.specs.Views.{as_made, IsFromOne}
-use Rattle.txn_clients.proofs.Acting.{held_at, numbered_past}
-use Rattle.txn_world.specs.Owning.{is_in_set, owns, is_own, stands_for, owner_of, emptied_where}
-use Rattle.txn_world.proofs.Running.{eq_cases, keeps_other, no_more, numbered_end, numbered_longer, numbered_mapped, same_numbered}
+use Rattle.txn_clients.proofs.Acting.{numbered_past}
+use Rattle.txn_world.specs.Owning.{owns, is_own, stands_for, owner_of, emptied_where}
+use Rattle.txn_world.proofs.Running.{owner_there, eq_cases, keeps_other, no_more, numbered_end, numbered_longer, numbered_mapped, same_numbered}
 
 -- what a place holds where this is put into it
 abbrev pub put_where : {A : Type 0} → A → Option A → Option A
@@ -85,28 +85,6 @@ cut false true true h g = let clash : true ≡ false = g refl in cc
 cut false true false h g = refl
 cut false false true h g = refl
 cut false false false h g = refl
-
-module _ {S : Type 0} where
-  -- a client that has a number is there
-  pub owner_there : (owned : List (HashSet ℕ S)) (client n : ℕ) → owns owned client n ≡ true → (1 ≤ client) × (client ≤ length owned)
-  owner_there owned zero n h = cc
-  owner_there owned (suc client) n h = (omega arith, within (slice_get owned client) refl h)
-    where
-      within : (found : Option (HashSet ℕ S)) → slice_get owned client ≡ found → is_in_set found n ≡ true → suc client ≤ length owned
-      within None e h = cc
-      within (Some found) e h = let lt = slice_get_within owned client found e in omega (arith, lt)
-
-  -- the set of a client
-  pub set_of : (owned : List (HashSet ℕ S)) (client n : ℕ) (found : HashSet ℕ S) → 1 ≤ client → client ≤ length owned → found ≡ get_or owned (client - 1) found → owns owned client n ≡ contains nat_eq found n
-  set_of owned client n found some within e = ap (λ (s : Option (HashSet ℕ S)). is_in_set s n) (held_at owned client found some within e)
-
-  -- one empty set more
-  pub more_empty : (sets : List (HashSet ℕ S)) (found : HashSet ℕ S) → ((c n : ℕ) → owns sets c n ≡ false) → found.keys ≡ [] → (c n : ℕ) → owns (sets ++ found ∷ []) c n ≡ false
-  more_empty sets found all none c n =
-      elim (eq_cases c (length sets + 1)) [
-        | inl same ↦ ap (λ (s : Option (HashSet ℕ S)). is_in_set s n) (ap (numbered (sets ++ found ∷ [])) same ∙ numbered_end sets found) ∙ ap (list_any (nat_eq n)) none
-        | inr ne ↦ ap (λ (s : Option (HashSet ℕ S)). is_in_set s n) (numbered_longer sets found c ne) ∙ all c n
-      ]
 
 module _ {T : Type 0} where
   -- a view keeps its client, or ends

@@ -9,8 +9,7 @@ use Rattle.std.specs.List.{list_any, AllByRecursion}
 use Rattle.std.specs.List.Sorted.{IsStrictlySortedBy}
 use Rattle.std.specs.Ordering.{nat_cmp}
 use Rattle.std.specs.declared.cmp.Ordering.TheVariants.{Less, Equal, Greater}
-use Rattle.std.specs.BTreeSet.{BTreeSet, contains}
-use Rattle.std.specs.BTreeMap.{is_at}
+use Rattle.std.specs.HashSet.{HashSet, contains}
 use Rattle.std.proofs.Math.Bool.{or-false}
 use Rattle.txn_store.specs.declared.request.Request.{Request}
 use Rattle.txn_history.specs.Lists.{numbered, AreAscending}
@@ -28,7 +27,8 @@ use Rattle.txn_history.proofs.Lists.{numbered_last}
 use Rattle.txn_machine_inner.proofs.Lists.{numbered_here, numbered_other}
 use Rattle.txn_clients.specs.Operations.{asked_of, asked_by, loose_of}
 use Rattle.txn_clients.proofs.Acting.{held_at, numbered_past}
-use Rattle.txn_world.specs.Running.{is_in_set, is_in, runs_as, runs_for, left_of, ended_where}
+use Rattle.txn_world.specs.Running.{runs_as, runs_for, left_of, ended_where}
+use Rattle.txn_world.specs.Owning.{is_in_set, owns}
 
 -- what is left loose, operation by operation
 
@@ -147,32 +147,48 @@ and_true true true h = (refl, refl)
 and_true true false h = cc
 and_true false b h = cc
 
-in_range : (running : List (BTreeSet ℕ)) (client op : ℕ) → is_in running client op ≡ true → (1 ≤ client) × (client ≤ length running)
-in_range running zero op h = cc
-in_range running (suc client) op h = (omega arith, within (slice_get running client) refl h)
-  where
-    within : (set : Option (BTreeSet ℕ)) → slice_get running client ≡ set → is_in_set set op ≡ true → suc client ≤ length running
-    within None e h = cc
-    within (Some found) e h = let lt = slice_get_within running client found e in omega (arith, lt)
+-- sets of numbers, by client
+
+module _ {S : Type 0} where
+  -- a client that has a number is there
+  pub owner_there : (owned : List (HashSet ℕ S)) (client n : ℕ) → owns owned client n ≡ true → (1 ≤ client) × (client ≤ length owned)
+  owner_there owned zero n h = cc
+  owner_there owned (suc client) n h = (omega arith, within (slice_get owned client) refl h)
+    where
+      within : (found : Option (HashSet ℕ S)) → slice_get owned client ≡ found → is_in_set found n ≡ true → suc client ≤ length owned
+      within None e h = cc
+      within (Some found) e h = let lt = slice_get_within owned client found e in omega (arith, lt)
+
+  -- the set of a client
+  pub set_of : (owned : List (HashSet ℕ S)) (client n : ℕ) (found : HashSet ℕ S) → 1 ≤ client → client ≤ length owned → found ≡ get_or owned (client - 1) found → owns owned client n ≡ contains nat_eq found n
+  set_of owned client n found some within e = ap (λ (s : Option (HashSet ℕ S)). is_in_set s n) (held_at owned client found some within e)
+
+  -- one empty set more
+  pub more_empty : (sets : List (HashSet ℕ S)) (found : HashSet ℕ S) → ((c n : ℕ) → owns sets c n ≡ false) → found.keys ≡ [] → (c n : ℕ) → owns (sets ++ found ∷ []) c n ≡ false
+  more_empty sets found all none c n =
+      elim (eq_cases c (length sets + 1)) [
+        | inl same ↦ ap (λ (s : Option (HashSet ℕ S)). is_in_set s n) (ap (numbered (sets ++ found ∷ [])) same ∙ numbered_end sets found) ∙ ap (list_any (nat_eq n)) none
+        | inr ne ↦ ap (λ (s : Option (HashSet ℕ S)). is_in_set s n) (numbered_longer sets found c ne) ∙ all c n
+      ]
 
 module _ {T : Type 0} where
   -- the sets of those that run
-  abbrev pub AreRunning : List (BTreeSet ℕ) → List (Operation T) → Type 0
-  AreRunning running operations = (client op : ℕ) → is_in running client op ≡ runs_for operations client op
+  abbrev pub AreRunning : {S : Type 0} → List (HashSet ℕ S) → List (Operation T) → Type 0
+  AreRunning running operations = (client op : ℕ) → owns running client op ≡ runs_for operations client op
 
   runs_here : (operations : List (Operation T)) (op : ℕ) (o : Operation T) (client : ℕ) → numbered operations op ≡ Some o → runs_for operations client op ≡ (o.client == client && is_some (asked o.doing))
   runs_here operations op o client found = ap (runs_as client) found
 
   -- the client of an operation that runs is there
-  pub client_there : (running : List (BTreeSet ℕ)) (operations : List (Operation T)) (op : ℕ) (o : Operation T) → AreRunning running operations → numbered operations op ≡ Some o → is_some (asked o.doing) ≡ true → (1 ≤ o.client) × (o.client ≤ length running)
+  pub client_there : {S : Type 0} (running : List (HashSet ℕ S)) (operations : List (Operation T)) (op : ℕ) (o : Operation T) → AreRunning running operations → numbered operations op ≡ Some o → is_some (asked o.doing) ≡ true → (1 ≤ o.client) × (o.client ≤ length running)
   client_there running operations op o all found runs =
-      in_range running o.client op (all o.client op ∙ (runs_here operations op o o.client found ∙ (ap (λ b. b && is_some (asked o.doing)) (eq-eqb o.client o.client refl) ∙ runs)))
+      owner_there running o.client op (all o.client op ∙ (runs_here operations op o o.client found ∙ (ap (λ b. b && is_some (asked o.doing)) (eq-eqb o.client o.client refl) ∙ runs)))
 
-  running_here : (running new : List (BTreeSet ℕ)) (operations : List (Operation T)) (op : ℕ) (o : Operation T) (doing : Doing T) (ends : Bool) → AreRunning running operations → numbered operations op ≡ Some o → is_some (asked o.doing) ≡ true → is_some (asked doing) ≡ not ends →
-      ((c n : ℕ) → is_in new c n ≡ (is_in running c n && not (ends && ((o.client == c) && (op == n))))) → (c : ℕ) → is_in new c op ≡ runs_for (with_doing operations op o doing) c op
+  running_here : {S : Type 0} (running new : List (HashSet ℕ S)) (operations : List (Operation T)) (op : ℕ) (o : Operation T) (doing : Doing T) (ends : Bool) → AreRunning running operations → numbered operations op ≡ Some o → is_some (asked o.doing) ≡ true → is_some (asked doing) ≡ not ends →
+      ((c n : ℕ) → owns new c n ≡ (owns running c n && not (ends && ((o.client == c) && (op == n))))) → (c : ℕ) → owns new c op ≡ runs_for (with_doing operations op o doing) c op
   running_here running new operations op o doing ends all found runs after left c =
       let itself : (op == op) ≡ true = eq-eqb op op refl in
-      let was : is_in running c op ≡ (o.client == c) = all c op ∙ (runs_here operations op o c found ∙ (ap (λ b. (o.client == c) && b) runs ∙ and_same (o.client == c))) in
+      let was : owns running c op ≡ (o.client == c) = all c op ∙ (runs_here operations op o c found ∙ (ap (λ b. (o.client == c) && b) runs ∙ and_same (o.client == c))) in
       left c op ∙ (ap (λ b. b && not (ends && ((o.client == c) && (op == op)))) was ∙ (ap (λ b. (o.client == c) && not (ends && ((o.client == c) && b))) itself ∙ (and_not (o.client == c) true ends
       ∙ (ap (λ b. (o.client == c) && b) (sym after) ∙ sym (ap (runs_as c) (numbered_here operations op (doing_next o doing) o found))))))
     where
@@ -180,39 +196,39 @@ module _ {T : Type 0} where
       and_same true = refl
       and_same false = refl
 
-  running_other : (running new : List (BTreeSet ℕ)) (operations : List (Operation T)) (op : ℕ) (o : Operation T) (doing : Doing T) (ends : Bool) → AreRunning running operations → 0 < op →
-      ((c n : ℕ) → is_in new c n ≡ (is_in running c n && not (ends && ((o.client == c) && (op == n))))) → (c n : ℕ) → n ≢ op → is_in new c n ≡ runs_for (with_doing operations op o doing) c n
+  running_other : {S : Type 0} (running new : List (HashSet ℕ S)) (operations : List (Operation T)) (op : ℕ) (o : Operation T) (doing : Doing T) (ends : Bool) → AreRunning running operations → 0 < op →
+      ((c n : ℕ) → owns new c n ≡ (owns running c n && not (ends && ((o.client == c) && (op == n))))) → (c n : ℕ) → n ≢ op → owns new c n ≡ runs_for (with_doing operations op o doing) c n
   running_other running new operations op o doing ends all some left c n ne =
       let apart : (op == n) ≡ false = ne_eqb op n (λ e. ne (sym e)) in
-      left c n ∙ (ap (λ b. is_in running c n && not (ends && ((o.client == c) && b))) apart ∙ (keeps_other (is_in running c n) (o.client == c) ends ∙ (all c n ∙ sym (ap (runs_as c) (numbered_other operations op n (doing_next o doing) some ne)))))
+      left c n ∙ (ap (λ b. owns running c n && not (ends && ((o.client == c) && b))) apart ∙ (keeps_other (owns running c n) (o.client == c) ends ∙ (all c n ∙ sym (ap (runs_as c) (numbered_other operations op n (doing_next o doing) some ne)))))
 
   found_some : (operations : List (Operation T)) (op : ℕ) (o : Operation T) → numbered operations op ≡ Some o → 0 < op
   found_some operations zero o found = cc
   found_some operations (suc op) o found = omega arith
 
   -- an operation does something else, or has ended
-  pub running_with : (running new : List (BTreeSet ℕ)) (operations : List (Operation T)) (op : ℕ) (o : Operation T) (doing : Doing T) (ends : Bool) → AreRunning running operations → numbered operations op ≡ Some o → is_some (asked o.doing) ≡ true → is_some (asked doing) ≡ not ends →
-      ((c n : ℕ) → is_in new c n ≡ (is_in running c n && not (ends && ((o.client == c) && (op == n))))) → AreRunning new (with_doing operations op o doing)
+  pub running_with : {S : Type 0} (running new : List (HashSet ℕ S)) (operations : List (Operation T)) (op : ℕ) (o : Operation T) (doing : Doing T) (ends : Bool) → AreRunning running operations → numbered operations op ≡ Some o → is_some (asked o.doing) ≡ true → is_some (asked doing) ≡ not ends →
+      ((c n : ℕ) → owns new c n ≡ (owns running c n && not (ends && ((o.client == c) && (op == n))))) → AreRunning new (with_doing operations op o doing)
   running_with running new operations op o doing ends all found runs after left c n =
       elim (eq_cases n op) [
-        | inl same ↦ subst (λ (m : ℕ). is_in new c m ≡ runs_for (with_doing operations op o doing) c m) (sym same) (running_here running new operations op o doing ends all found runs after left c)
+        | inl same ↦ subst (λ (m : ℕ). owns new c m ≡ runs_for (with_doing operations op o doing) c m) (sym same) (running_here running new operations op o doing ends all found runs after left c)
         | inr ne ↦ running_other running new operations op o doing ends all (found_some operations op o found) left c n ne
       ]
 
   -- one operation more
-  pub running_more : (running new : List (BTreeSet ℕ)) (operations : List (Operation T)) (op : ℕ) (o : Operation T) → AreRunning running operations → op ≡ length operations + 1 →
-      ((c n : ℕ) → is_in new c n ≡ (is_in running c n || (is_some (asked o.doing) && ((o.client == c) && (op == n))))) → AreRunning new (operations ++ o ∷ [])
+  pub running_more : {S : Type 0} (running new : List (HashSet ℕ S)) (operations : List (Operation T)) (op : ℕ) (o : Operation T) → AreRunning running operations → op ≡ length operations + 1 →
+      ((c n : ℕ) → owns new c n ≡ (owns running c n || (is_some (asked o.doing) && ((o.client == c) && (op == n))))) → AreRunning new (operations ++ o ∷ [])
   running_more running new operations op o all is entered c n =
       elim (eq_cases n op) [
         | inl same ↦
             let at : n ≡ length operations + 1 = same ∙ is in
             let itself : (op == n) ≡ true = eq-eqb op n (sym same) in
-            let none : is_in running c n ≡ false = all c n ∙ ap (runs_as c) (numbered_past operations n (omega (arith, at))) in
+            let none : owns running c n ≡ false = all c n ∙ ap (runs_as c) (numbered_past operations n (omega (arith, at))) in
             let there : numbered (operations ++ o ∷ []) n ≡ Some o = ap (numbered (operations ++ o ∷ [])) at ∙ numbered_end operations o in
-            entered c n ∙ (ap (λ b. is_in running c n || (is_some (asked o.doing) && ((o.client == c) && b))) itself ∙ (ap (λ b. b || (is_some (asked o.doing) && ((o.client == c) && true))) none ∙ (enters (o.client == c) (is_some (asked o.doing)) ∙ sym (ap (runs_as c) there))))
+            entered c n ∙ (ap (λ b. owns running c n || (is_some (asked o.doing) && ((o.client == c) && b))) itself ∙ (ap (λ b. b || (is_some (asked o.doing) && ((o.client == c) && true))) none ∙ (enters (o.client == c) (is_some (asked o.doing)) ∙ sym (ap (runs_as c) there))))
         | inr ne ↦
             let apart : (op == n) ≡ false = ne_eqb op n (λ e. ne (sym e)) in
-            entered c n ∙ (ap (λ b. is_in running c n || (is_some (asked o.doing) && ((o.client == c) && b))) apart ∙ (no_more (is_in running c n) (o.client == c) (is_some (asked o.doing)) ∙ (all c n ∙ sym (ap (runs_as c) (numbered_longer operations o n (λ e. ne (e ∙ sym is)))))))
+            entered c n ∙ (ap (λ b. owns running c n || (is_some (asked o.doing) && ((o.client == c) && b))) apart ∙ (no_more (owns running c n) (o.client == c) (is_some (asked o.doing)) ∙ (all c n ∙ sym (ap (runs_as c) (numbered_longer operations o n (λ e. ne (e ∙ sym is)))))))
       ]
 
 -- a crash
@@ -358,7 +374,7 @@ module _ {T : Type 0} where
           ∙ sym (ap (λ (ls : List (ℕ × Request)). ls ++ all_left_loose client (first + 1) (seen_operations rest)) (running_left first (asked o.doing) (o.client == client) (sym (ap (runs_as client) here) ∙ runs)))))
 
   -- what the operations of a client leave loose
-  pub crash_leaves : (running : List (BTreeSet ℕ)) (operations : List (Operation T)) (client : ℕ) (keys : List ℕ) → AreRunning running operations → IsStrictlySortedBy nat_cmp keys → ((n : ℕ) → list_any (nat_eq n) keys ≡ is_in running client n) → left_of operations keys ≡ all_left_loose client 1 (seen_operations operations)
+  pub crash_leaves : {S : Type 0} (running : List (HashSet ℕ S)) (operations : List (Operation T)) (client : ℕ) (keys : List ℕ) → AreRunning running operations → IsStrictlySortedBy nat_cmp keys → ((n : ℕ) → list_any (nat_eq n) keys ≡ owns running client n) → left_of operations keys ≡ all_left_loose client 1 (seen_operations operations)
   crash_leaves running operations client keys all sorted has = left_from operations client 1 operations keys at_first sorted from_first
     where
       at_first : AreFrom operations 1 operations
@@ -373,16 +389,16 @@ module _ {T : Type 0} where
   ends_running client c o false e = stays (o.client == client) (is_some (asked o.doing)) (client == c) (o.client == c) e (λ same. ap (λ m. o.client == m) (sym (eqb-true client c same)))
 
   -- those that run after a crash
-  pub crash_running : (running new : List (BTreeSet ℕ)) (operations ended : List (Operation T)) (client : ℕ) (keys : List ℕ) → AreRunning running operations → ((n : ℕ) → list_any (nat_eq n) keys ≡ is_in running client n) → ((n : ℕ) → numbered ended n ≡ ended_where (list_any (nat_eq n) keys) (numbered operations n)) →
-      ((c n : ℕ) → is_in new c n ≡ (is_in running c n && not (client == c))) → AreRunning new ended
+  pub crash_running : {S : Type 0} (running new : List (HashSet ℕ S)) (operations ended : List (Operation T)) (client : ℕ) (keys : List ℕ) → AreRunning running operations → ((n : ℕ) → list_any (nat_eq n) keys ≡ owns running client n) → ((n : ℕ) → numbered ended n ≡ ended_where (list_any (nat_eq n) keys) (numbered operations n)) →
+      ((c n : ℕ) → owns new c n ≡ (owns running c n && not (client == c))) → AreRunning new ended
   crash_running running new operations ended client keys all has ends left c n = by (numbered operations n) refl
     where
-      by : (found : Option (Operation T)) → numbered operations n ≡ found → is_in new c n ≡ runs_for ended c n
+      by : (found : Option (Operation T)) → numbered operations n ≡ found → owns new c n ≡ runs_for ended c n
       by None e =
-          let none : is_in running c n ≡ false = all c n ∙ ap (runs_as c) e in
+          let none : owns running c n ≡ false = all c n ∙ ap (runs_as c) e in
           left c n ∙ (ap (λ b. b && not (client == c)) none ∙ sym (ap (runs_as c) (ends n ∙ ap (ended_where (list_any (nat_eq n) keys)) e)))
       by (Some o) e =
-          let was : is_in running c n ≡ (o.client == c && is_some (asked o.doing)) = all c n ∙ ap (runs_as c) e in
+          let was : owns running c n ≡ (o.client == c && is_some (asked o.doing)) = all c n ∙ ap (runs_as c) e in
           let test : (o.client == client && is_some (asked o.doing)) ≡ list_any (nat_eq n) keys = sym (has n ∙ (all client n ∙ ap (runs_as client) e)) in
           left c n ∙ (ap (λ b. b && not (client == c)) was ∙ (ends_running client c o (list_any (nat_eq n) keys) test ∙ sym (ap (runs_as c) (ends n ∙ ap (ended_where (list_any (nat_eq n) keys)) e))))
 
@@ -392,7 +408,7 @@ module _ {T : Type 0} where
   ends_all client o false r e h = ap (λ b. Some (cond b (doing_next o ended) o)) (sym e)
 
   -- the operations after a crash
-  pub crash_operations : (running : List (BTreeSet ℕ)) (operations ended : List (Operation T)) (client : ℕ) (keys : List ℕ) → AreRunning running operations → ((n : ℕ) → list_any (nat_eq n) keys ≡ is_in running client n) → ((n : ℕ) → numbered ended n ≡ ended_where (list_any (nat_eq n) keys) (numbered operations n)) →
+  pub crash_operations : {S : Type 0} (running : List (HashSet ℕ S)) (operations ended : List (Operation T)) (client : ℕ) (keys : List ℕ) → AreRunning running operations → ((n : ℕ) → list_any (nat_eq n) keys ≡ owns running client n) → ((n : ℕ) → numbered ended n ≡ ended_where (list_any (nat_eq n) keys) (numbered operations n)) →
       ended ≡ map (ended_by client) operations
   crash_operations running operations ended client keys all has ends = same_numbered ended (map (ended_by client) operations) (λ n. by n (numbered operations n) refl)
     where
@@ -403,37 +419,22 @@ module _ {T : Type 0} where
           ends n ∙ (ap (ended_where (list_any (nat_eq n) keys)) e ∙ (ap (λ b. ended_where b (Some o)) test ∙ (ends_all client o (o.client == client) (is_some (asked o.doing)) refl refl ∙ sym (numbered_mapped (ended_by client) operations n ∙ ap (option_map (ended_by client)) e))))
 
   -- those that run are there
-  pub running_found : (running : List (BTreeSet ℕ)) (operations : List (Operation T)) (client n : ℕ) → AreRunning running operations → is_in running client n ≡ true → is_some (numbered operations n) ≡ true
+  pub running_found : {S : Type 0} (running : List (HashSet ℕ S)) (operations : List (Operation T)) (client n : ℕ) → AreRunning running operations → owns running client n ≡ true → is_some (numbered operations n) ≡ true
   running_found running operations client n all h = by (numbered operations n) refl
     where
       by : (found : Option (Operation T)) → numbered operations n ≡ found → is_some found ≡ true
-      by None e = absurd (both_ways (is_in running client n) (all client n ∙ ap (runs_as client) e) h)
+      by None e = absurd (both_ways (owns running client n) (all client n ∙ ap (runs_as client) e) h)
       by (Some o) e = refl
-
--- the set of a client
-pub set_of : (running : List (BTreeSet ℕ)) (client n : ℕ) (found : BTreeSet ℕ) → 1 ≤ client → client ≤ length running → found ≡ get_or running (client - 1) found → is_in running client n ≡ contains nat_cmp found n
-set_of running client n found some within e = ap (λ (s : Option (BTreeSet ℕ)). is_in_set s n) (held_at running client found some within e)
-
--- one empty set more
-pub more_empty : (sets : List (BTreeSet ℕ)) (found : BTreeSet ℕ) → ((c n : ℕ) → is_in sets c n ≡ false) → found.keys ≡ [] → (c n : ℕ) → is_in (sets ++ found ∷ []) c n ≡ false
-more_empty sets found all none c n =
-    elim (eq_cases c (length sets + 1)) [
-      | inl same ↦ ap (λ (s : Option (BTreeSet ℕ)). is_in_set s n) (ap (numbered (sets ++ found ∷ [])) same ∙ numbered_end sets found) ∙ no_key found.keys none
-      | inr ne ↦ ap (λ (s : Option (BTreeSet ℕ)). is_in_set s n) (numbered_longer sets found c ne) ∙ all c n
-    ]
-  where
-    no_key : (keys : List ℕ) → keys ≡ [] → list_any (is_at (nat_cmp n)) keys ≡ false
-    no_key keys e = ap (list_any (is_at (nat_cmp n))) e
 
 module _ {T : Type 0} where
   -- one operation more, where room was made
-  pub running_entered : (running new : List (BTreeSet ℕ)) (operations kept after : List (Operation T)) (o : Operation T) (runs made : Bool) (next : ℕ) → AreRunning running operations → next ≡ length operations + 1 → runs ≡ is_some (asked o.doing) → kept ≡ operations → after ≡ cond made (kept ++ o ∷ []) kept →
-      ((c n : ℕ) → is_in new c n ≡ (is_in running c n || ((made && runs) && ((o.client == c) && (next == n))))) → AreRunning new after
+  pub running_entered : {S : Type 0} (running new : List (HashSet ℕ S)) (operations kept after : List (Operation T)) (o : Operation T) (runs made : Bool) (next : ℕ) → AreRunning running operations → next ≡ length operations + 1 → runs ≡ is_some (asked o.doing) → kept ≡ operations → after ≡ cond made (kept ++ o ∷ []) kept →
+      ((c n : ℕ) → owns new c n ≡ (owns running c n || ((made && runs) && ((o.client == c) && (next == n))))) → AreRunning new after
   running_entered running new operations kept after o runs true next all at is same more entered =
       subst (λ (os : List (Operation T)). AreRunning new os) (sym (more ∙ ap (λ (os : List (Operation T)). os ++ o ∷ []) same))
-      (running_more running new operations next o all at (λ c n. entered c n ∙ ap (λ (b : Bool). is_in running c n || (b && ((o.client == c) && (next == n)))) is))
-  running_entered running new operations kept after o runs false next all at is same more entered = λ c n. entered c n ∙ (or-false (is_in running c n) ∙ (all c n ∙ ap (λ (os : List (Operation T)). runs_for os c n) (sym (more ∙ same))))
+      (running_more running new operations next o all at (λ c n. entered c n ∙ ap (λ (b : Bool). owns running c n || (b && ((o.client == c) && (next == n)))) is))
+  running_entered running new operations kept after o runs false next all at is same more entered = λ c n. entered c n ∙ (or-false (owns running c n) ∙ (all c n ∙ ap (λ (os : List (Operation T)). runs_for os c n) (sym (more ∙ same))))
 
 -- the numbers of a client's set, listed
-pub has_all : (running : List (BTreeSet ℕ)) (client : ℕ) (found : BTreeSet ℕ) (listed keys : List ℕ) → 1 ≤ client → client ≤ length running → found ≡ get_or running (client - 1) found → AreAscending (contains nat_cmp found) listed → keys ≡ listed → (n : ℕ) → list_any (nat_eq n) keys ≡ is_in running client n
+pub has_all : {S : Type 0} (running : List (HashSet ℕ S)) (client : ℕ) (found : HashSet ℕ S) (listed keys : List ℕ) → 1 ≤ client → client ≤ length running → found ≡ get_or running (client - 1) found → AreAscending (contains nat_eq found) listed → keys ≡ listed → (n : ℕ) → list_any (nat_eq n) keys ≡ owns running client n
 has_all running client found listed keys some within e all is n = ap (list_any (nat_eq n)) is ∙ (all.all n ∙ sym (set_of running client n found some within e))

@@ -1,4 +1,4 @@
--- Which views stand, by client, and how a table of views changes.
+-- Sets of numbers, by client; which views stand, by client, and how a table of views changes.
 use Rattle.std.specs.Prelude.{◌==◌, ℕ, nat_eq, List, Bool, false, if◌then◌else◌, Option, Some, None}
 use Rattle.std.specs.HashSet.{HashSet, contains, spare}
 use Rattle.txn_history.specs.Lists.{numbered}

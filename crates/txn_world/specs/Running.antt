@@ -1,7 +1,5 @@
 -- Which operations run, by client.
 use Rattle.std.specs.Prelude.{ℕ, List, [], ◌∷◌, ◌++◌, ◌==◌, ◌&&◌, Bool, false, if◌then◌else◌, Option, Some, None, is_some}
-use Rattle.std.specs.Ordering.{nat_cmp}
-use Rattle.std.specs.BTreeSet.{BTreeSet, contains}
 use Rattle.txn_store.specs.declared.request.Request.{Request}
 use Rattle.txn_history.specs.Lists.{numbered}
 use Rattle.txn_history.specs.GoesOn.{left_loose}
@@ -9,15 +7,6 @@ use Rattle.txn_machine.specs.declared.doing.Operation.{Operation}
 use Rattle.txn_machine.specs.Doing.{asked, ended}
 use Rattle.txn_machine.specs.Machine.{doing_next}
 use Rattle.txn_clients.specs.Operations.{asked_by}
-
--- a set, where there is one, has the number
-abbrev pub is_in_set : Option (BTreeSet ℕ) → ℕ → Bool
-is_in_set None n = false
-is_in_set (Some set) n = contains nat_cmp set n
-
--- the set of this client has the number
-abbrev pub is_in : List (BTreeSet ℕ) → ℕ → ℕ → Bool
-is_in sets client n = is_in_set (numbered sets client) n
 
 module _ {T : Type 0} where
   -- it is there, is this client's, and has not ended

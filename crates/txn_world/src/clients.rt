@@ -6,14 +6,16 @@ ghost use Rattle.txn_machine_inner.specs.Machine.{no_caches};
 ghost use Rattle.txn_machine.specs.declared.doing.Operation.{Operation};
 ghost use Rattle.txn_history.specs.Lists.{numbered};
 ghost use Rattle.txn_clients.specs.Views.{IsFromOne};
-ghost use Rattle.txn_world.specs.Running.{is_in, runs_for, left_of, ended_where};
+ghost use Rattle.txn_world.specs.Owning.{owns};
+ghost use Rattle.txn_world.specs.Running.{runs_for, left_of, ended_where};
 
+use crate::numbers::{clear, new_sets};
 use std::alloc::{AllocError, Global};
-use std::collections::BTreeSet;
+use std::collections::HashSet;
 use txn_caches::caches::Caches;
 use txn_clients::operations::{self, Usage, asked, loose_copy, runs};
 use txn_machine::doing::{Doing, Ending, Operation};
-use txn_rows::sets::numbers_of;
+use txn_rows::sets::ascending;
 use txn_store::request::{Reply, Request};
 use txn_types::codec::ObjectCodec;
 use txn_types::epoch::EpochField;
@@ -67,14 +69,14 @@ fn end_all<T: Drop>(operations: &mut Vec<Operation<T>>, ops: &[u64])
 
 /// Enters an operation with its client's, where it runs.
 fn enlist(
-    running: &mut Vec<BTreeSet<u64>>,
+    running: &mut Vec<HashSet<u64>>,
     client: u64,
     op: u64,
     runs: bool,
 ) -> Result<(), AllocError>
     requires some { 1 ≤ client }
     requires within { client ≤ vec_len running.old }
-    ensures entered { (c n : ℕ) → is_in running.new.items c n ≡ (is_in running.old.items c n || ((is_ok result && runs) && ((client == c) && (op == n)))) }
+    ensures entered { (c n : ℕ) → owns running.new.items c n ≡ (owns running.old.items c n || ((is_ok result && runs) && ((client == c) && (op == n)))) }
     ensures len { vec_len running.new ≡ vec_len running.old }
 {
     if runs {
@@ -86,7 +88,7 @@ fn enlist(
 /// Makes room for an operation, and enters it with its client's, where it runs.
 fn enter<T: Drop>(
     operations: &mut Vec<Operation<T>>,
-    running: &mut Vec<BTreeSet<u64>>,
+    running: &mut Vec<HashSet<u64>>,
     client: u64,
     runs: bool,
 ) -> Result<(), AllocError>
@@ -95,7 +97,7 @@ fn enter<T: Drop>(
     ensures operations { operations.new.items ≡ operations.old.items }
     ensures operations_len { vec_len operations.new ≡ vec_len operations.old }
     ensures room { OnOk result (vec_len operations.new < vec_capacity operations.new) }
-    ensures entered { (c n : ℕ) → is_in running.new.items c n ≡ (is_in running.old.items c n || ((is_ok result && runs) && ((client == c) && (vec_len operations.old + 1 == n)))) }
+    ensures entered { (c n : ℕ) → owns running.new.items c n ≡ (owns running.old.items c n || ((is_ok result && runs) && ((client == c) && (vec_len operations.old + 1 == n)))) }
     ensures len { vec_len running.new ≡ vec_len running.old }
 {
     operations.reserve(1)?;
@@ -118,25 +120,15 @@ fn push_where<T: Drop>(
 }
 
 /// Takes an operation from its client's, where it ends.
-fn delist(running: &mut Vec<BTreeSet<u64>>, client: u64, op: u64, ends: bool)
+fn delist(running: &mut Vec<HashSet<u64>>, client: u64, op: u64, ends: bool)
     requires some { 1 ≤ client }
     requires within { client ≤ vec_len running.old }
-    ensures left { (c n : ℕ) → is_in running.new.items c n ≡ (is_in running.old.items c n && not (ends && ((client == c) && (op == n)))) }
+    ensures left { (c n : ℕ) → owns running.new.items c n ≡ (owns running.old.items c n && not (ends && ((client == c) && (op == n)))) }
     ensures len { vec_len running.new ≡ vec_len running.old }
 {
     if ends {
         running[(client - 1) as usize].remove(&op);
     }
-}
-
-/// Takes all operations from a client's.
-fn clear(running: &mut Vec<BTreeSet<u64>>, client: u64)
-    requires some { 1 ≤ client }
-    requires within { client ≤ vec_len running.old }
-    ensures left { (c n : ℕ) → is_in running.new.items c n ≡ (is_in running.old.items c n && not (client == c)) }
-    ensures len { vec_len running.new ≡ vec_len running.old }
-{
-    running[(client - 1) as usize].clear();
 }
 
 /// The caches of so many clients, all empty. The only error is want of memory.
@@ -150,18 +142,6 @@ fn new_caches(alloc: Global, count: u64) -> Result<Vec<Caches>, AllocError>
     Ok(caches)
 }
 
-/// So many empty sets. The only error is want of memory.
-fn new_sets(alloc: Global, count: u64) -> Result<Vec<BTreeSet<u64>>, AllocError>
-    ensures empty { IfOk result (λ sets. (client n : ℕ) → is_in sets.items client n ≡ false) }
-    ensures len { IfOk result (λ sets. vec_len sets ≡ count) }
-{
-    let mut sets = Vec::new(alloc);
-    for _ in 0..count {
-        sets.push(BTreeSet::new(alloc))?;
-    }
-    Ok(sets)
-}
-
 /// The clients, numbered from 1.
 #[derive(Drop)]
 pub(crate) struct Clients<T> {
@@ -171,10 +151,10 @@ pub(crate) struct Clients<T> {
     /// The operations of all clients, numbered from 1.
     pub operations: Vec<Operation<T>>,
     /// The numbers of each client's operations that have not ended.
-    running: Vec<BTreeSet<u64>>,
+    running: Vec<HashSet<u64>>,
     ghost wide: { vec_len caches ≡ count },
     ghost each: { vec_len running ≡ count },
-    ghost all_running: { (client op : ℕ) → is_in running.items client op ≡ runs_for operations.items client op },
+    ghost all_running: { (client op : ℕ) → owns running.items client op ≡ runs_for operations.items client op },
     ghost from_one: { (op : ℕ) (o : Operation T) → numbered operations.items op ≡ Some o → IsFromOne o.view },
 }
 
@@ -301,7 +281,7 @@ impl<T: Clone> Clients<T> {
         ensures err_caches { OnErr result (self.new.caches.items ≡ self.old.caches.items) }
         ensures err_loose { OnErr result (loose.new.items ≡ loose.old.items) }
     {
-        let ops = numbers_of(alloc, &self.running[(client - 1) as usize])?;
+        let ops = ascending(alloc, &self.running[(client - 1) as usize])?;
         let mut left = left_of(alloc, &self.operations, &ops)?;
         loose.append(&mut left)?;
         end_all(&mut self.operations, &ops);

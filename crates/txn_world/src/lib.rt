@@ -3,6 +3,7 @@
 
 mod clients;
 mod ends;
+mod numbers;
 mod reach;
 mod refusals;
 mod tables;

@@ -7,6 +7,7 @@ ghost use Rattle.txn_history.specs.History.{is_id};
 ghost use Rattle.txn_machine.specs.Machine.{used_by};
 ghost use Rattle.txn_world.specs.Owning.{owns, owner_of, room_of, stands_for, emptied_where};
 
+use crate::numbers::{clear, new_sets};
 use std::alloc::{AllocError, Global};
 use std::collections::HashSet;
 use txn_clients::operations::Usage;
@@ -69,16 +70,6 @@ fn own(owned: &mut Vec<HashSet<u64>>, client: u64, number: u64, made: bool)
     }
 }
 
-/// Takes all numbers from those of a client.
-fn disown_all(owned: &mut Vec<HashSet<u64>>, client: u64)
-    requires some { 1 ≤ client }
-    requires within { client ≤ vec_len owned.old }
-    ensures left { (c n : ℕ) → owns owned.new.items c n ≡ (owns owned.old.items c n && not (client == c)) }
-    ensures len { vec_len owned.new ≡ vec_len owned.old }
-{
-    owned[(client - 1) as usize].clear();
-}
-
 /// Ends the views of these numbers, which are there.
 fn end_views<T: Drop>(used: &mut Vec<Option<Used<T>>>, numbers: &HashSet<u64>)
     requires { (n : ℕ) → contains nat_eq numbers.now n ≡ true → IsSome (numbered used.old.items n) }
@@ -87,18 +78,6 @@ fn end_views<T: Drop>(used: &mut Vec<Option<Used<T>>>, numbers: &HashSet<u64>)
     for number in numbers {
         views::put(used, *number, None);
     }
-}
-
-/// So many empty sets. The only error is want of memory.
-fn new_sets(alloc: Global, count: u64) -> Result<Vec<HashSet<u64>>, AllocError>
-    ensures empty { IfOk result (λ sets. (client n : ℕ) → owns sets.items client n ≡ false) }
-    ensures len { IfOk result (λ sets. vec_len sets ≡ count) }
-{
-    let mut sets = Vec::new(alloc);
-    for _ in 0..count {
-        sets.push(HashSet::new(alloc))?;
-    }
-    Ok(sets)
 }
 
 /// The views of all clients, numbered from 1. One that has ended is none.
@@ -261,6 +240,6 @@ impl<T: Drop> Views<T> {
         ensures used { self.new.used.items ≡ map (view_without client) self.old.used.items }
     {
         end_views(&mut self.used, &self.owned[(client - 1) as usize]);
-        disown_all(&mut self.owned, client);
+        clear(&mut self.owned, client);
     }
 }

@@ -19,7 +19,7 @@ invariant_of-self g c =
     record {
       wide = t.wide;
       each = c.clear.ensures.len ∙ t.each;
-      all_running = crash_running t.running.items c.clear.new.running.items t.operations.items c.end_all.new.operations.items c.args.client c.deref-3.result.now t.all_running has c.end_all.ensures c.clear.ensures.left;
+      all_running = crash_running t.running.items c.clear.new.sets.items t.operations.items c.end_all.new.operations.items c.args.client c.deref-3.result.now t.all_running has c.end_all.ensures c.clear.ensures.left;
       from_one = from_ended t.operations.items c.end_all.new.operations.items c.args.client t.from_one (crash_operations t.running.items t.operations.items c.end_all.new.operations.items c.args.client c.deref-3.result.now t.all_running has c.end_all.ensures);
     }
 

@@ -1,7 +1,8 @@
 use Rattle.std.proofs.Common.{◌∙◌, ◌≤◌, length, ap, sym, arith}
 use Rattle.txn_history.specs.Lists.{numbered}
 use Rattle.txn_world.specs.Owning.{emptied_where}
-use Rattle.txn_world.proofs.Owning.{set_of, owned_found, owned_crashed, crashed_views}
+use Rattle.txn_world.proofs.Running.{set_of}
+use Rattle.txn_world.proofs.Owning.{owned_found, owned_crashed, crashed_views}
 use Rattle.txn_world.proofs.views.Views.crash.Goals as goal
 
 pub end_views-requires : goal.end_views-requires
@@ -14,8 +15,8 @@ invariant_of-self g c =
     let t = c.args.self.now in
     let within : c.args.client ≤ length t.owned.items = omega (arith, c.requires.within, t.each, t.owned.ok.0) in
     record {
-      each = c.disown_all.ensures.len ∙ t.each;
-      all_owned = owned_crashed t.owned.items c.disown_all.new.owned.items t.used.items c.end_views.new.used.items c.args.client t.all_owned c.disown_all.ensures.left (λ n. c.end_views.ensures n ∙ ap (λ b. emptied_where b (numbered t.used.items n)) (sym (set_of t.owned.items c.args.client n c.index.result.now c.requires.some within c.index.ensures)));
+      each = c.clear.ensures.len ∙ t.each;
+      all_owned = owned_crashed t.owned.items c.clear.new.sets.items t.used.items c.end_views.new.used.items c.args.client t.all_owned c.clear.ensures.left (λ n. c.end_views.ensures n ∙ ap (λ b. emptied_where b (numbered t.used.items n)) (sym (set_of t.owned.items c.args.client n c.index.result.now c.requires.some within c.index.ensures)));
     }
 
 pub returns-clause-used : goal.returns-clause-used

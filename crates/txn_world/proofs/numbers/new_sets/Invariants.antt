@@ -1,6 +1,6 @@
 use Rattle.std.proofs.Common.{◌≡◌, ℕ, false, vec_len}
 use Rattle.txn_world.specs.Owning.{owns}
-use Rattle.txn_world.proofs.views.new_sets.Given as goal
+use Rattle.txn_world.proofs.numbers.new_sets.Given as goal
 
 -- so many so far, all empty
 abbrev pub invariant-loop : goal.invariant-loop

@@ -1,6 +1,6 @@
 use Rattle.std.proofs.Common.{ap, ◌+◌, ◌∙◌}
 use Rattle.txn_world.proofs.Running.{more_empty}
-use Rattle.txn_world.proofs.clients.new_sets.Goals as goal
+use Rattle.txn_world.proofs.numbers.new_sets.Goals as goal
 
 pub loop-preserved : goal.loop-preserved
 loop-preserved c = record {
