@@ -1,5 +1,5 @@
 -- Diaries of a run, as an audit reads them.
-use Rattle.std.proofs.Common.{◌≡◌, ℕ, zero, suc, ◌+◌, ◌<◌, ◌≤◌, List, [], ◌∷◌, length, map, take, get_or, reverse, slice_get, Option, Some, max, refl, sym, ◌∙◌, ap, subst, arith}
+use Rattle.std.proofs.Common.{◌≡◌, ℕ, zero, suc, ◌+◌, ◌<◌, ◌≤◌, List, [], ◌∷◌, length, map, take, get_or, reverse, slice_get, Some, refl, sym, ◌∙◌, ap, subst, arith}
 use Rattle.std.specs.Option.{option_map}
 use Rattle.std.proofs.lemmas.List.{length-map}
 use Rattle.std.proofs.lemmas.Option.{slice_get-map, slice_get-get_or, slice_get_within, same_Some}
@@ -10,6 +10,7 @@ use Rattle.txn_journals.specs.Journals.{Replays}
 use Rattle.txn_journals.specs.Verdict.{Diary, clients_in}
 use Rattle.txn_journals.specs.Shares.{AreDiaries}
 use Rattle.txn_commands.specs.Audits.{RecordDiary, as_diary, AreClients}
+use Rattle.txn_commands.proofs.Sharing.{mapped_from}
 
 one_further : (diaries : List RecordDiary) (k : ℕ) (diary : RecordDiary) → k < length diaries → diary ≡ get_or diaries k diary → AreDiaries 1000 record_text record_read record_epoch record_with (map as_diary (take k diaries))
     → Replays 1000 record_text record_read record_epoch record_with diary.client (reverse diary.rows) diary.part → AreDiaries 1000 record_text record_read record_epoch record_with (map as_diary (take (suc k) diaries))
@@ -42,15 +43,10 @@ few_clients : (workers : ℕ) (ds : List (Diary Record)) → ((k : ℕ) (d : Dia
 few_clients workers [] few = omega arith
 few_clients workers (d ∷ ds) few = omega (arith, few zero d refl, few_clients workers ds (λ k. few (suc k)))
 
-mapped_from : {X Y : Type 0} (f : X → Y) (xs : List X) (k : ℕ) (y : Y) → slice_get (map f xs) k ≡ Some y → (x : X) × (slice_get xs k ≡ Some x) × (f x ≡ y)
-mapped_from f [] k y is = cc
-mapped_from f (x ∷ xs) zero y is = (x, refl, same_Some _ _ is)
-mapped_from f (x ∷ xs) (suc k) y is = mapped_from f xs k y is
-
 pub clients_few : (workers : ℕ) (diaries : List RecordDiary) → AreClients workers diaries → clients_in (map as_diary diaries) ≤ workers
 clients_few workers diaries are =
     few_clients workers (map as_diary diaries) (λ k d at.
-    let from = mapped_from as_diary diaries k d at in
+    let from = mapped_from as_diary (slice_get diaries k) d (sym (slice_get-map as_diary diaries k) ∙ at) in
     let client = client_at workers diaries k from.0 are from.1 in
     let same : from.0.client ≡ d.client = ap (λ (it : Diary Record). it.client) from.2 in
     omega (arith, client.0, client.2, same))

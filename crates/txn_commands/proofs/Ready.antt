@@ -1,40 +1,17 @@
--- Clients of a run, before and after it.
-use Rattle.std.proofs.Common.{◌≡◌, ℕ, zero, suc, ◌+◌, ◌<◌, ◌≤◌, List, [], ◌∷◌, ◌++◌, length, map, slice_get, Option, Some, ◌⊎◌, inl, inr, refl, sym, ◌∙◌, ap, subst, arith, length-append}
-use Rattle.std.specs.List.{find}
+-- Who makes the calls of a run, before and after it: shares and clients are numbered from 1 on, and clients stay clients.
+use Rattle.std.proofs.Common.{◌≡◌, ℕ, zero, suc, ◌+◌, List, [], ◌∷◌, ◌++◌, length, map, slice_get, Some, inl, inr, refl, sym, ◌∙◌, ap, subst, arith, length-append}
 use Rattle.std.specs.Option.{option_map}
 use Rattle.std.proofs.lemmas.List.{length-map, map-append}
-use Rattle.std.proofs.lemmas.Option.{slice_get-map, slice_get_within}
-use Rattle.txn_lines.specs.declared.record.Record.{Record}
-use Rattle.txn_lines.specs.declared.record.RecordCodec.{RecordCodec}
-use Rattle.txn_lines.specs.declared.record.RecordEpoch.{RecordEpoch}
-use Rattle.txn_threads.specs.declared.gate.FreeGate.{FreeGate}
-use Rattle.txn_threads.specs.declared.jobs.Job.{Job}
-use Rattle.txn_threads.specs.declared.diaries.DiaryWorker.{DiaryWorker}
-use Rattle.txn_threads.specs.declared.diaries.WorkedDiary.{WorkedDiary}
-use Rattle.txn_threads.specs.Clients.{EachLengthens}
+use Rattle.std.proofs.lemmas.Option.{slice_get-map, slice_get_within, same_Some}
+use Rattle.txn_threads.specs.declared.kept.Share.{Share}
+use Rattle.txn_threads.specs.Kept.{AreFirst}
+use Rattle.txn_threads.specs.GoesOn.{Lengthens}
 use Rattle.txn_threads.specs.Lists.{AreEach}
-use Rattle.txn_commands.specs.Threads.{is_stopped, job_list}
 use Rattle.txn_commands.specs.Audits.{RecordDiary, AreClients}
-use Rattle.txn_commands.specs.Clients.{AreReady, client_stopped, diary_list}
+use Rattle.txn_commands.specs.Workers.{AreNumbered, AreAfter}
 use Rattle.txn_threads.proofs.Shares.{near}
-use Rattle.txn_commands.proofs.Sharing.{found_at, mapped_from}
-
-has_at : {X : Type 0} (xs : List X) (k : ℕ) → k < length xs → (x : X) × (slice_get xs k ≡ Some x)
-has_at [] k below = absurd (omega (arith, below))
-has_at (x ∷ xs) zero below = (x, refl)
-has_at (x ∷ xs) (suc k) below = has_at xs k (omega (arith, below))
-
-abbrev Held : Type 0
-Held = ℕ × ℕ × List (Job Record)
-
-abbrev Ready : Type 0
-Ready = DiaryWorker Record RecordCodec RecordEpoch FreeGate
-
-abbrev Left : Type 0
-Left = WorkedDiary Record RecordCodec RecordEpoch
-
-abbrev held_by : Ready → Held
-held_by one = (one.diary.client, one.diary.page, one.jobs.items)
+use Rattle.txn_commands.proofs.Auditing.{client_at}
+use Rattle.txn_commands.proofs.Sharing.{has_at}
 
 at_more : {X : Type 0} (xs : List X) (x : X) (k : ℕ) (y : X) → slice_get xs k ≡ Some y → slice_get (xs ++ x ∷ []) k ≡ Some y
 at_more [] x k y is = cc
@@ -56,44 +33,32 @@ each_more f n xs x are is = record {
   ];
 }
 
--- the clients so far and one more
-pub ready_more : (n : ℕ) (ready items : List Ready) (one : Ready) → AreReady n ready → items ≡ ready ++ one ∷ [] → held_by one ≡ (n + 1, 1000, job_list (n + 1)) → AreReady (n + 1) items
-ready_more n ready items one are is held =
-    subst (λ (them : List Ready). AreReady (n + 1) them) (sym is) (subst (λ (them : List Held). AreEach (λ k. (k + 1, 1000, job_list (k + 1))) (n + 1) them) (sym (map-append held_by ready (one ∷ [])))
-    (each_more (λ k. (k + 1, 1000, job_list (k + 1))) n (map held_by ready) (held_by one) are held))
-
--- the client at a place is still that client
-left_at : (workers : ℕ) (ready : List Ready) (left : List Left) → AreReady workers ready → length left ≡ length ready → EachLengthens ready left → (k : ℕ) (one : Left) → slice_get left k ≡ Some one → (one.diary.client ≡ k + 1) × (one.diary.page ≡ 1000) × (k < workers)
-left_at workers ready left are as_many lengthens k one at =
-    let below : k < workers = omega (arith, slice_get_within left k one at, as_many, length-map ready held_by, are.all) in
-    let was = mapped_from held_by (slice_get ready k) _ (sym (slice_get-map held_by ready k) ∙ are.each k below) in
-    let went = lengthens k was.0 one was.1 at in
-    (went.client ∙ ap (λ (held : Held). held.0) was.2, went.page ∙ ap (λ (held : Held). held.1) was.2, below)
-
-abbrev diary_of : Left → RecordDiary
-diary_of one = one.diary
-
 abbrev pair_of : RecordDiary → ℕ × ℕ
 pair_of diary = (diary.client, diary.page)
 
-pub are_clients : (workers : ℕ) (ready : List Ready) (left : List Left) → AreReady workers ready → length left ≡ length ready → EachLengthens ready left → AreClients workers (diary_list left)
-are_clients workers ready left are as_many lengthens =
-    let lengths : length left ≡ workers = omega (arith, as_many, length-map ready held_by, are.all) in
+-- the clients so far and one more
+pub clients_more : (n : ℕ) (clients items : List RecordDiary) (one : RecordDiary) → AreClients n clients → items ≡ clients ++ one ∷ [] → pair_of one ≡ (n + 1, 1000) → AreClients (n + 1) items
+clients_more n clients items one are is new =
+    subst (λ (them : List RecordDiary). AreClients (n + 1) them) (sym is) (subst (λ (them : List (ℕ × ℕ)). AreEach (λ k. (k + 1, 1000)) (n + 1) them) (sym (map-append pair_of clients (one ∷ [])))
+    (each_more (λ k. (k + 1, 1000)) n (map pair_of clients) (pair_of one) are new))
+
+pub clients_numbered : (workers : ℕ) (clients : List RecordDiary) → AreClients workers clients → AreNumbered (λ (diary : RecordDiary). diary.client) clients
+clients_numbered workers clients are k client at = (client_at workers clients k client are at).0
+
+pub are_clients : (workers : ℕ) (before after : List RecordDiary) → AreClients workers before → AreAfter Lengthens before after → AreClients workers after
+are_clients workers before after are went =
+    let lengths : length after ≡ workers = omega (arith, went.all, length-map before pair_of, are.all) in
     record {
-      all = length-map (map diary_of left) pair_of ∙ (length-map left diary_of ∙ lengths);
+      all = length-map after pair_of ∙ lengths;
       each = λ k below.
-          let one = has_at left k (omega (arith, below, lengths)) in
-          let is = left_at workers ready left are as_many lengthens k one.0 one.1 in
-          let diary_is : slice_get (map diary_of left) k ≡ Some (diary_of one.0) = slice_get-map diary_of left k ∙ ap (option_map diary_of) one.1 in
-          let pair_is : slice_get (map pair_of (map diary_of left)) k ≡ Some (one.0.diary.client, one.0.diary.page) = slice_get-map pair_of (map diary_of left) k ∙ ap (option_map pair_of) diary_is in
-          pair_is ∙ (ap (λ n. Some (n, one.0.diary.page)) is.0 ∙ ap (λ n. Some (k + 1, n)) is.1);
+          let one = has_at after k (omega (arith, below, lengths)) in
+          let was = went.each k one.0 one.1 in
+          let is = client_at workers before k was.0 are was.1 in
+          let pair_is : slice_get (map pair_of after) k ≡ Some (one.0.client, one.0.page) = slice_get-map pair_of after k ∙ ap (option_map pair_of) one.1 in
+          pair_is ∙ (ap (λ n. Some (n, one.0.page)) (was.3.client ∙ is.0) ∙ ap (λ n. Some (k + 1, n)) (was.3.page ∙ is.1));
     }
 
--- a client that stopped is one of the run
-pub stopped_is_client : (workers : ℕ) (ready : List Ready) (left : List Left) (number : ℕ) → AreReady workers ready → length left ≡ length ready → EachLengthens ready left → client_stopped left ≡ Some number → (1 ≤ number) × (number ≤ workers)
-stopped_is_client workers ready left number are as_many lengthens stopped =
-    let one = mapped_from (λ (one : Left). one.diary.client) (find (λ one. is_stopped one.end) left) number stopped in
-    let at = found_at (λ (one : Left). is_stopped one.end) left one.0 one.1 in
-    let is = left_at workers ready left are as_many lengthens at.0 one.0 at.1 in
-    let number_is : number ≡ at.0 + 1 = sym one.2 ∙ is.0 in
-    (omega (arith, number_is), omega (arith, number_is, is.2))
+pub shares_numbered : (workers : ℕ) (shares : List Share) → AreFirst workers shares → AreNumbered (λ (share : Share). share.worker) shares
+shares_numbered workers shares first k share at =
+    let is : record { worker = k + 1; count = 0 } ≡ share = same_Some _ _ (sym (first.each k (omega (arith, slice_get_within shares k share at, first.all))) ∙ at) in
+    ap (λ (it : Share). it.worker) (sym is)

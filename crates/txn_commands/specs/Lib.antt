@@ -1,6 +1,6 @@
 pub mod Threads
 pub mod Tallies
 pub mod Audits
-pub mod Clients
+pub mod Workers
 pub mod Reports
 pub mod Commands

@@ -1,6 +1,5 @@
 -- What a run of workers does and prints.
-use Rattle.std.specs.Prelude.{◌≡◌, ℕ, ◌+◌, ◌*◌, List, [], ◌∷◌, ◌++◌, Bool, true, false, ◌&&◌, Option, None, Result, Ok, Err, is_ok, codes, count_by, decimal, find, map}
-use Rattle.std.specs.Option.{option_map}
+use Rattle.std.specs.Prelude.{ℕ, ◌+◌, ◌*◌, List, [], ◌∷◌, ◌++◌, Bool, true, false, ◌&&◌, None, Result, Ok, Err, is_ok, codes, count_by, decimal}
 use Rattle.txn_lines.specs.declared.record.Record.{Record}
 use Rattle.txn_history.specs.declared.event.PlainCall.TheVariants as calls
 use Rattle.txn_history.specs.declared.event.Call.TheVariants as any
@@ -8,10 +7,6 @@ use Rattle.txn_threads.specs.declared.jobs.Job.{Job}
 use Rattle.txn_threads.specs.declared.jobs.Job.TheVariants as jobs
 use Rattle.txn_threads.specs.declared.jobs.End.{End}
 use Rattle.txn_threads.specs.declared.jobs.End.TheVariants as ends
-use Rattle.txn_threads.specs.declared.work.Worked.{Worked}
-use Rattle.txn_threads.specs.declared.work.Worker.{Worker}
-use Rattle.txn_threads.specs.declared.gate.FreeGate.{FreeGate}
-use Rattle.txn_threads.specs.declared.kept.Share.{Share}
 use Rattle.txn_history.specs.Trace.{Row}
 use Rattle.txn_history.specs.declared.trace.RowOf.TheVariants.{Effect, Begun, Answered}
 use Rattle.txn_journals.specs.declared.fault.AuditFault.{AuditFault}
@@ -71,13 +66,6 @@ is_stopped ends.GateSpent = true
 is_stopped ends.LimitSpent = true
 is_stopped (ends.Refused fault) = true
 
--- the first of them
-abbrev pub stopped_worker : List Worked → Option ℕ
-stopped_worker worked = option_map (λ one. one.share.worker) (find (λ one. is_stopped one.end) worked)
-
-abbrev pub share_list : List Worked → List Share
-share_list worked = map (λ one. one.share) worked
-
 abbrev pub says_begun : Row Record → Bool
 says_begun (Begun op call) = true
 says_begun (Answered op answer) = false
@@ -94,7 +82,3 @@ begun_count rows = count_by says_begun rows
 
 abbrev pub answered_count : List (Row Record) → ℕ
 answered_count rows = count_by says_answered rows
-
--- each worker has its share and its jobs
-abbrev pub IsCrew : List Share → List (Worker Record FreeGate) → Type 0
-IsCrew shares crew = map {B = Share × List (Job Record)} (λ worker. (worker.share, worker.jobs.items)) crew ≡ map {B = Share × List (Job Record)} (λ share. (share, job_list share.worker)) shares

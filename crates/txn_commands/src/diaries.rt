@@ -6,10 +6,9 @@ ghost use Rattle.txn_script.specs.Records.{record_epoch, record_with};
 ghost use Rattle.txn_journals.specs.Shares.{AreDiaries};
 ghost use Rattle.txn_commands.specs.Tallies.{IsHaltOf};
 ghost use Rattle.txn_commands.specs.Audits.{as_diary, AreClients, IsAudited};
-ghost use Rattle.txn_commands.specs.Clients.{AreReady, client_stopped, diary_list};
 
 use crate::halt::Halt;
-use crate::jobs::jobs_of;
+use crate::workers::work_off;
 use std::alloc::{AllocError, Global};
 use std::sync::{Mutex, Wait};
 use std::thread::Threads;
@@ -20,53 +19,20 @@ use txn_journals::fault::AuditFault;
 use txn_journals::laws::clients_share_only_the_store;
 use txn_lines::record::{Record, RecordCodec, RecordEpoch};
 use txn_logged::logged::LoggedStore;
-use txn_threads::diaries::{DiaryWorker, WorkedDiary, work_diaries};
-use txn_threads::gate::FreeGate;
-use txn_threads::jobs::End;
 use txn_types::layout::PAGE;
 
 type Records = Diary<Record, RecordCodec, RecordEpoch>;
 
-type Ready = DiaryWorker<Record, RecordCodec, RecordEpoch, FreeGate>;
-
-type Left = WorkedDiary<Record, RecordCodec, RecordEpoch>;
-
-/// Clients of the numbers from 1 on that have done nothing, each with its jobs.
-fn clients(alloc: Global, workers: u64) -> Result<Vec<Ready>, AllocError>
-    requires { workers ≤ 64 }
-    ensures { IfOk result (λ ready. AreReady workers ready.items) }
+/// Clients of the numbers from 1 on that have done nothing.
+fn clients(alloc: Global, workers: u64) -> Result<Vec<Records>, AllocError>
+    ensures { IfOk result (λ clients. AreClients workers clients.items) }
 {
-    let mut ready = Vec::new(alloc);
+    let mut clients = Vec::new(alloc);
     for before in 0..workers {
-        let client = before + 1;
-        let diary = Diary::new(alloc, client, RecordCodec, RecordEpoch, PAGE)?;
-        let jobs = jobs_of(alloc, client)?;
-        ready.push(DiaryWorker {
-            diary,
-            gate: FreeGate,
-            jobs,
-        })?;
+        let client = Diary::new(alloc, before + 1, RecordCodec, RecordEpoch, PAGE)?;
+        clients.push(client)?;
     }
-    Ok(ready)
-}
-
-/// The first client that left a job undone, where there is one.
-fn first_stopped(left: &[Left]) -> Option<u64>
-    ensures { result ≡ client_stopped left.now }
-{
-    let stopped = left.iter().find(|one| !matches!(one.end, End::Done))?;
-    Some(stopped.diary.client())
-}
-
-/// The diaries of clients whose workers ended.
-fn diaries_of(alloc: Global, left: Vec<Left>) -> Result<Vec<Records>, AllocError>
-    ensures { IfOk result (λ diaries. diaries.items ≡ diary_list left.items) }
-{
-    let mut diaries = Vec::new(alloc);
-    for one in left {
-        diaries.push(one.diary)?;
-    }
-    Ok(diaries)
+    Ok(clients)
 }
 
 /// Each diary keeps what its journal leads to, as its type says of it.
@@ -103,10 +69,6 @@ pub(crate) fn run_diaries<R: Threads + Wait + Sync>(
     ensures halt { IfErr result (IsHaltOf workers) }
 {
     let store = Mutex::new(LoggedStore::new(alloc));
-    let left = work_diaries(rt, &store, clients(alloc, workers)?)?;
-    if let Some(client) = first_stopped(&left) {
-        return Err(Halt::Worker(client));
-    }
-    let diaries = diaries_of(alloc, left)?;
+    let diaries = work_off(rt, alloc, &store, clients(alloc, workers)?)?;
     Ok(audited(&store.into_inner(), workers, &diaries))
 }

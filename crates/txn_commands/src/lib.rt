@@ -7,3 +7,4 @@ mod diaries;
 pub mod halt;
 mod jobs;
 pub mod threads;
+mod workers;

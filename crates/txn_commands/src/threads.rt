@@ -1,16 +1,16 @@
 //! A run of workers on threads, round one world and then with diaries round one store, and what it prints.
 
-ghost use Rattle.std.specs.Prelude.{◌≡◌, ◌≤◌, ◌⊎◌, All, Some, Bool, IfOk, IfErr};
+ghost use Rattle.std.specs.Prelude.{◌≡◌, ◌≤◌, ◌⊎◌, Some, Bool, IfOk, IfErr};
 ghost use Rattle.std.specs.Io.KnownBytes.{Appends};
 ghost use Rattle.txn_lines.specs.declared.stop.Stop.TheVariants as stops;
-ghost use Rattle.txn_commands.specs.Threads.{tally_text, audit_text, report_text, says_begun, says_answered, begun_count, answered_count, stopped_worker, share_list, IsCrew};
+ghost use Rattle.txn_commands.specs.Threads.{tally_text, audit_text, report_text, says_begun, says_answered, begun_count, answered_count};
 ghost use Rattle.txn_commands.specs.Tallies.{AgreeAs, Tallies, IsTally, IsHaltOf};
 ghost use Rattle.txn_commands.specs.Reports.{IsReport, PrintsReport, Halts, NamesHalt};
 
 use crate::diaries::run_diaries;
 use crate::halt::Halt;
-use crate::jobs::jobs_of;
-use std::alloc::{AllocError, Global};
+use crate::workers::work_off;
+use std::alloc::Global;
 use std::io::Write;
 use std::sync::{Mutex, Wait};
 use std::thread::Threads;
@@ -21,10 +21,7 @@ use txn_lines::record::{Record, RecordCodec, RecordEpoch};
 use txn_lines::stop::Stop;
 use txn_script::printer::Printer;
 use txn_threads::finish::finish;
-use txn_threads::gate::FreeGate;
-use txn_threads::jobs::End;
 use txn_threads::kept::{Kept, Share};
-use txn_threads::work::{Worked, Worker, work_all};
 use txn_types::layout::PAGE;
 use txn_world::world::World;
 
@@ -109,42 +106,6 @@ impl fmt::Display for Report {
     }
 }
 
-/// The workers that hold these shares, each with its jobs.
-fn crew(alloc: Global, shares: Vec<Share>) -> Result<Vec<Worker<Record, FreeGate>>, AllocError>
-    requires { All (λ share. share.worker ≤ 64) shares.items }
-    ensures { IfOk result (λ crew. IsCrew shares.items crew.items) }
-{
-    let mut crew = Vec::new(alloc);
-    for share in shares {
-        let jobs = jobs_of(alloc, share.worker())?;
-        crew.push(Worker {
-            share,
-            gate: FreeGate,
-            jobs,
-        })?;
-    }
-    Ok(crew)
-}
-
-/// The first worker that left a job undone, where there is one.
-fn first_stopped(worked: &[Worked]) -> Option<u64>
-    ensures { result ≡ stopped_worker worked.now }
-{
-    let stopped = worked.iter().find(|one| !matches!(one.end, End::Done))?;
-    Some(stopped.share.worker())
-}
-
-/// The shares of workers that ended.
-fn shares_of(alloc: Global, worked: Vec<Worked>) -> Result<Vec<Share>, AllocError>
-    ensures { IfOk result (λ shares. shares.items ≡ share_list worked.items) }
-{
-    let mut shares = Vec::new(alloc);
-    for one in worked {
-        shares.push(one.share)?;
-    }
-    Ok(shares)
-}
-
 /// Whether a row says that a call began.
 fn says_begun(row: &Row<Record>) -> bool
     ensures { result ≡ says_begun row.now }
@@ -220,11 +181,7 @@ fn run_workers<R: Threads + Wait + Sync>(rt: &R, alloc: Global, workers: u64) ->
     let world = World::new(alloc, RecordCodec, RecordEpoch, workers, PAGE)?;
     let (kept, shares) = Kept::new(alloc, world, workers)?;
     let kept = Mutex::new(kept);
-    let worked = work_all(rt, &kept, crew(alloc, shares)?)?;
-    if let Some(worker) = first_stopped(&worked) {
-        return Err(Halt::Worker(worker));
-    }
-    let shares = shares_of(alloc, worked)?;
+    let shares = work_off(rt, alloc, &kept, shares)?;
     Ok(tally_of(alloc, workers, kept.into_inner(), shares)?)
 }
 

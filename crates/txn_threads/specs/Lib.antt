@@ -3,7 +3,5 @@ pub mod Kept
 pub mod KeptLends
 pub mod Finish
 pub mod Work
+pub mod GoesOn
 pub mod Crew
-pub mod Lengthens
-pub mod Clients
-pub mod CallerLaws

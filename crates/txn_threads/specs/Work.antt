@@ -1,11 +1,10 @@
--- What a worker hears of its events, and how far its share may grow.
-use Rattle.std.specs.Prelude.{ℕ, ◌≡◌, ◌+◌, ◌≤◌, Option, Some, None}
+-- What a worker hears of its events.
+use Rattle.std.specs.Prelude.{ℕ, Option, Some, None}
 use Rattle.txn_history.specs.declared.event.PlainAnswer.TheVariants as plain
 use Rattle.txn_history.specs.declared.event.Answer.{Answer}
 use Rattle.txn_history.specs.declared.event.Answer.TheVariants as answers
 use Rattle.txn_history.specs.Trace.{Told}
 use Rattle.txn_history.specs.declared.event.ToldOf.TheVariants as told
-use Rattle.txn_threads.specs.declared.kept.Share.{Share}
 use Rattle.txn_threads.specs.declared.caller.Heard.{Heard}
 use Rattle.txn_threads.specs.declared.caller.Heard.TheVariants.{Goes, Ended}
 
@@ -31,9 +30,3 @@ module _ {T : Type 0} where
   heard_of (told.GaveUp op) = Ended None
   heard_of (told.Landed k changed) = Ended None
   heard_of (told.Crashed client) = Ended None
-
--- the same worker's share, after so many more events at most
-pub record Grows (old : Share) (most : ℕ) (new : Share) : Type 0 where
-  pub worker : new.worker ≡ old.worker
-  pub from : old.count ≤ new.count
-  pub to : new.count ≤ old.count + most

@@ -5,8 +5,17 @@ ghost use Rattle.txn_threads.specs.Work.{base_read, heard_of};
 use std::sync::Wait;
 use txn_history::event::{Answer, Call, EventFault, PlainAnswer, Told};
 
+/// What a worker's next event is to do.
+#[derive(Drop)]
+pub enum Next<T> {
+    /// It begins a call.
+    Begin(Call<T>),
+    /// It gives the operation of this number what it asks for: a look at its client's caches, or one call of the store.
+    Step(u64),
+}
+
 /// What a worker hears of its event.
-pub(crate) enum Heard {
+pub enum Heard {
     /// The operation of this number goes on.
     Goes(u64),
     /// The call was answered. A read gives the base for a write: the id that it found, or that it found
@@ -37,34 +46,33 @@ pub(crate) fn hear<T>(told: &Told<T>) -> Heard
     }
 }
 
+/// Who has a number among those that make calls.
+pub trait Numbered {
+    ghost use Rattle.std.specs.Prelude.{◌≡◌, ℕ};
+
+    /// The number.
+    ghost numbered: { Self → ℕ };
+
+    /// The number, by which a gate knows it.
+    fn number(&self) -> u64
+        ensures { result ≡ numbered self.now };
+}
+
 /// Who makes calls, an event at a time, beside others with whom it shares a place: a worker's share of a
 /// kept world, or a client with its diary, which shares a store.
-pub(crate) trait Caller<T: Clone, P> {
-    ghost use Rattle.std.specs.Prelude.{◌≤◌, ◌+◌, ℕ};
+pub trait Caller<T: Clone, P>: Numbered {
+    ghost use Rattle.std.specs.Prelude.{ℕ};
     ghost use Rattle.txn_types.specs.Clones.{IsExactClone};
+    ghost use Rattle.txn_threads.specs.GoesOn.{GoesOn};
 
     /// It is the same caller, after so many more events at most.
     ghost goes: { Self → ℕ → Self → Type 0 };
 
-    /// The number by which its gate knows it.
-    fn number(&self) -> u64;
-
-    /// Begins a call.
-    fn begin<R: Wait>(&mut self, rt: &R, place: &P, call: Call<T>) -> Result<Heard, EventFault>
+    /// Takes its next event, and hears what it told.
+    fn take<R: Wait>(&mut self, rt: &R, place: &P, next: Next<T>) -> Result<Heard, EventFault>
         requires { IsExactClone T.is_clone }
         ensures { goes self.old 1 self.new };
 
-    /// Gives an operation what it asks for: a look at its client's caches, or one call of the store.
-    fn step<R: Wait>(&mut self, rt: &R, place: &P, op: u64) -> Result<Heard, EventFault>
-        requires { IsExactClone T.is_clone }
-        ensures { goes self.old 1 self.new };
-
-    /// It is itself after no event.
-    ghost goes_none: { (x : Self) (most : ℕ) → goes x most x };
-
-    /// What is at most so many is at most more.
-    ghost goes_fewer: { (x y : Self) (m most : ℕ) → goes x m y → m ≤ most → goes x most y };
-
-    /// Events after events are as many as both.
-    ghost goes_further: { (x y z : Self) (m n most : ℕ) → goes x m y → goes y n z → m + n ≤ most → goes x most z };
+    /// It is itself after no event, more events follow on others, and it keeps its number.
+    ghost laws: { GoesOn Self.numbered goes };
 }

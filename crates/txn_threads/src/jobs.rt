@@ -2,7 +2,7 @@
 ghost use Rattle.std.specs.Prelude.{◌≡◌, ◌*◌, length};
 ghost use Rattle.txn_types.specs.Clones.{IsExactClone};
 
-use crate::caller::{Caller, Heard};
+use crate::caller::{Caller, Heard, Next};
 use crate::gate::Gate;
 use std::sync::Wait;
 use txn_history::event::{Call, EventFault, PlainCall};
@@ -43,42 +43,24 @@ fn pass<G: Gate>(gate: &mut G, number: u64, turns: &mut u64) -> Result<(), End> 
 }
 
 /// A worker at work: who makes its calls, and how many turns it asked its gate for.
-struct Turns<X> {
-    caller: X,
-    turns: u64,
+pub(crate) struct Turns<X> {
+    pub(crate) caller: X,
+    pub(crate) turns: u64,
 }
 
-/// Begins the call, where the gate lets it.
-fn begin<R: Wait, T: Clone, P, X: Caller<T, P>, G: Gate>(
+/// Takes the next event, where the gate lets it.
+fn take<R: Wait, T: Clone, P, X: Caller<T, P>, G: Gate>(
     rt: &R,
     place: &P,
     worker: &mut Turns<X>,
     gate: &mut G,
-    call: Call<T>,
+    next: Next<T>,
 ) -> Result<Heard, End>
     requires { IsExactClone T.is_clone }
     ensures { X.goes worker.old.caller 1 worker.new.caller }
 {
     pass(gate, worker.caller.number(), &mut worker.turns)?;
-    match worker.caller.begin(rt, place, call) {
-        Ok(heard) => Ok(heard),
-        Err(fault) => Err(End::Refused(fault)),
-    }
-}
-
-/// Gives the operation what it asks for, where the gate lets it.
-fn step<R: Wait, T: Clone, P, X: Caller<T, P>, G: Gate>(
-    rt: &R,
-    place: &P,
-    worker: &mut Turns<X>,
-    gate: &mut G,
-    op: u64,
-) -> Result<Heard, End>
-    requires { IsExactClone T.is_clone }
-    ensures { X.goes worker.old.caller 1 worker.new.caller }
-{
-    pass(gate, worker.caller.number(), &mut worker.turns)?;
-    match worker.caller.step(rt, place, op) {
+    match worker.caller.take(rt, place, next) {
         Ok(heard) => Ok(heard),
         Err(fault) => Err(End::Refused(fault)),
     }
@@ -95,13 +77,10 @@ fn call<R: Wait, T: Clone, P, X: Caller<T, P>, G: Gate>(
     requires { IsExactClone T.is_clone }
     ensures { X.goes worker.old.caller 200 worker.new.caller }
 {
-    let op = match begin(rt, place, worker, gate, call)? {
-        Heard::Goes(op) => op,
-        Heard::Ended(base) => return Ok(base),
-    };
-    for _ in 1..EVENTS_OF_A_CALL {
-        match step(rt, place, worker, gate, op)? {
-            Heard::Goes(_) => {}
+    let mut next = Next::Begin(call);
+    for _ in 0..EVENTS_OF_A_CALL {
+        match take(rt, place, worker, gate, next)? {
+            Heard::Goes(op) => next = Next::Step(op),
             Heard::Ended(base) => return Ok(base),
         }
     }
@@ -155,7 +134,7 @@ fn do_job<R: Wait, T: Clone, P, X: Caller<T, P>, G: Gate>(
 }
 
 /// Does the jobs in order, and says how it came to its end.
-fn end_of<R: Wait, T: Clone, P, X: Caller<T, P>, G: Gate>(
+pub(crate) fn end_of<R: Wait, T: Clone, P, X: Caller<T, P>, G: Gate>(
     rt: &R,
     place: &P,
     worker: &mut Turns<X>,
@@ -171,25 +150,4 @@ fn end_of<R: Wait, T: Clone, P, X: Caller<T, P>, G: Gate>(
         }
     }
     End::Done
-}
-
-/// Does the jobs in order, each event after the gate was asked, and says how it came to its end. It goes on past a call that
-/// is answered with a refusal, and ends at the first job that could not be done.
-pub(crate) fn do_jobs<R: Wait, T: Clone, P, X: Caller<T, P>, G: Gate>(
-    rt: &R,
-    place: &P,
-    caller: X,
-    gate: &mut G,
-    jobs: &[Job<T>],
-) -> (X, End)
-    requires { IsExactClone T.is_clone }
-    ensures { X.goes caller (400 * length jobs.now) result.0 }
-{
-    let mut worker = Turns { caller, turns: 0 };
-    let end = end_of(rt, place, &mut worker, gate, jobs);
-    let Turns {
-        caller,
-        turns: _turns,
-    } = worker;
-    (caller, end)
 }

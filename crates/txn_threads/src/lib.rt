@@ -2,10 +2,11 @@
 //! with a diary, round one store.
 #![tactic(auto)]
 
-mod caller;
-pub mod diaries;
+pub mod caller;
+mod diaries;
 pub mod finish;
 pub mod gate;
 pub mod jobs;
 pub mod kept;
+mod share;
 pub mod work;

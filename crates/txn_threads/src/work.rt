@@ -1,132 +1,76 @@
-//! Workers on threads of their own, round one world under a lock.
+//! Workers on threads of their own, round one place.
 ghost use Rattle.std.specs.Prelude.{◌≡◌, ◌*◌, IfOk, length, vec_len};
 ghost use Rattle.txn_types.specs.Clones.{IsExactClone};
-ghost use Rattle.txn_threads.specs.Work.{Grows};
-ghost use Rattle.txn_threads.specs.Crew.{EachGrows};
+ghost use Rattle.txn_threads.specs.Crew.{EachGoes};
 
-use crate::caller::{Caller, Heard, hear};
+use crate::caller::Caller;
 use crate::gate::Gate;
-use crate::jobs::{End, Job, do_jobs};
-use crate::kept::{Kept, Share};
+use crate::jobs::{End, Job, Turns, end_of};
 use std::alloc::AllocError;
-use std::sync::{Mutex, Wait};
+use std::sync::Wait;
 use std::thread;
 use std::thread::Threads;
-use txn_history::event::{Call, Event, EventFault};
-use txn_types::codec::ObjectCodec;
-use txn_types::epoch::EpochField;
 
-/// A worker's share, and how the worker came to its end.
+/// Who made a worker's calls, and how the worker came to its end.
 #[derive(Debug, Drop, PartialEq, Eq)]
-pub struct Worked {
-    pub share: Share,
+pub struct Worked<X> {
+    pub caller: X,
     pub end: End,
 }
 
-/// A worker makes its calls as the client of its number, each event under one lock.
-impl<T: Clone, C: ObjectCodec<T> + Drop, E: EpochField<T>> Caller<T, Mutex<Kept<T, C, E>>>
-    for Share {
-    ghost use Rattle.txn_types.specs.Clones.{IsExactClone};
-    ghost use Rattle.txn_threads.specs.Work.{Grows};
-    ghost use Rattle.txn_threads.specs.CallerLaws.{grows_none, grows_fewer, grows_further};
-
-    ghost goes = { Grows };
-
-    fn number(&self) -> u64 {
-        self.worker()
-    }
-
-    fn begin<R: Wait>(
-        &mut self,
-        rt: &R,
-        place: &Mutex<Kept<T, C, E>>,
-        call: Call<T>,
-    ) -> Result<Heard, EventFault>
-        requires { IsExactClone T.is_clone }
-        ensures { Grows self.old 1 self.new }
-    {
-        let begin = Event::Begin(self.worker(), call);
-        match place.lock(rt).take(self, begin) {
-            Ok(told) => Ok(hear(told)),
-            Err(fault) => Err(fault),
-        }
-    }
-
-    fn step<R: Wait>(
-        &mut self,
-        rt: &R,
-        place: &Mutex<Kept<T, C, E>>,
-        op: u64,
-    ) -> Result<Heard, EventFault> {
-        match place.lock(rt).take_next(self, op) {
-            Ok(told) => Ok(hear(told)),
-            Err(fault) => Err(fault),
-        }
-    }
-
-    ghost goes_none = { grows_none };
-
-    ghost goes_fewer = { grows_fewer };
-
-    ghost goes_further = { grows_further };
-}
-
-/// Does the jobs in order, as the client of the share's number. Each event is taken under one lock, after
-/// the gate was asked. It goes on past a call that is answered with a refusal, and ends at the first job
-/// that could not be done.
-pub fn work<R: Wait, T: Clone, C: ObjectCodec<T> + Drop, E: EpochField<T>, G: Gate>(
+/// Does the jobs in order, each event after the gate was asked, and gives the caller back. It goes on past a call that is
+/// answered with a refusal, and ends at the first job that could not be done.
+pub fn work<R: Wait, T: Clone, P, X: Caller<T, P>, G: Gate>(
     rt: &R,
-    kept: &Mutex<Kept<T, C, E>>,
-    share: Share,
+    place: &P,
+    caller: X,
     gate: &mut G,
     jobs: &[Job<T>],
-) -> Worked
+) -> Worked<X>
     requires { IsExactClone T.is_clone }
-    ensures { Grows share (400 * length jobs.now) result.share }
+    ensures { X.goes caller (400 * length jobs.now) result.caller }
 {
-    let (share, end) = do_jobs(rt, kept, share, gate, jobs);
-    Worked { share, end }
+    let mut worker = Turns { caller, turns: 0 };
+    let end = end_of(rt, place, &mut worker, gate, jobs);
+    let Turns { caller, turns: _ } = worker;
+    Worked { caller, end }
 }
 
-/// What a thread takes along: a share, the gate of its worker, and its jobs.
+/// What a thread takes along: who makes a worker's calls, its gate, and its jobs.
 #[derive(Drop)]
-pub struct Worker<T, G> {
-    pub share: Share,
+pub struct Worker<X, T, G> {
+    pub caller: X,
     pub gate: G,
     pub jobs: Vec<Job<T>>,
 }
 
 /// Lets each worker work on a thread of its own, where one can be made, and waits until all have ended.
-/// The answers stand in the workers' order. The only error is want of memory, and then the shares are
-/// gone; the world under the lock stands as the workers left it.
+/// The answers stand in the workers' order. The only error is want of memory, and then the callers are
+/// gone; the place stands as the workers left it.
 pub fn work_all<
     R: Threads + Wait + Sync,
-    T: Clone + Send + Sync,
-    C: ObjectCodec<T> + Drop + Send,
-    E: EpochField<T> + Send,
+    T: Clone + Send,
+    P: Sync,
+    X: Caller<T, P> + Drop + Send,
     G: Gate + Drop + Send,
->(
-    rt: &R,
-    kept: &Mutex<Kept<T, C, E>>,
-    workers: Vec<Worker<T, G>>,
-) -> Result<Vec<Worked>, AllocError>
+>(rt: &R, place: &P, workers: Vec<Worker<X, T, G>>) -> Result<Vec<Worked<X>>, AllocError>
     requires { IsExactClone T.is_clone }
     ensures all { IfOk result (λ worked. vec_len worked ≡ vec_len workers) }
-    ensures each { IfOk result (λ worked. EachGrows workers.items worked.items) }
+    ensures each { IfOk result (λ worked. EachGoes X.goes workers.items worked.items) }
 {
     thread::map_vec(
         rt,
         workers,
-        &|worker: Worker<T, G>| -> Worked
+        &|worker: Worker<X, T, G>| -> Worked<X>
             requires { IsExactClone T.is_clone }
-            ensures { Grows worker.share (400 * vec_len worker.jobs) result.share }
+            ensures { X.goes worker.caller (400 * vec_len worker.jobs) result.caller }
         {
             let Worker {
-                share,
+                caller,
                 mut gate,
                 jobs,
             } = worker;
-            work(rt, kept, share, &mut gate, &jobs)
+            work(rt, place, caller, &mut gate, &jobs)
         },
     )
 }

@@ -11,9 +11,9 @@ use txn_lines::record::{Record, RecordCodec, RecordEpoch};
 use txn_logged::logged::{LoggedStore, serve_shared};
 use txn_store::path::Path;
 use txn_store::request::Request;
-use txn_threads::diaries::work_diary;
 use txn_threads::gate::FreeGate;
 use txn_threads::jobs::Job;
+use txn_threads::work::work;
 use txn_types::layout::PAGE;
 
 pub(crate) type Records = Diary<Record, RecordCodec, RecordEpoch>;
@@ -42,7 +42,7 @@ fn worked(
     requires { 1 ≤ number }
 {
     let diary = client(rt.alloc(), number)?;
-    Ok(work_diary(rt, store, diary, &mut FreeGate, &[Job::WriteOnRead(ONE)]).diary)
+    Ok(work(rt, store, diary, &mut FreeGate, &[Job::WriteOnRead(ONE)]).caller)
 }
 
 /// The diaries of a new client 3, of clients 1 and 2, each of which read and wrote once, and of a new client 1.

@@ -80,14 +80,14 @@ fn worked(
     kept: &Mutex<Records>,
     share: Option<Share>,
     jobs: &[Job<Record>],
-) -> Option<Worked> {
+) -> Option<Worked<Share>> {
     Some(work(rt, kept, share?, &mut FreeGate, jobs))
 }
 
 /// Puts a share among others, and says how its worker ended.
-fn end_of(shares: &mut Vec<Share>, worked: Option<Worked>) -> Option<End> {
-    let Worked { share, end } = worked?;
-    shares.push(share).is_ok().then_some(end)
+fn end_of(shares: &mut Vec<Share>, worked: Option<Worked<Share>>) -> Option<End> {
+    let Worked { caller, end } = worked?;
+    shares.push(caller).is_ok().then_some(end)
 }
 
 /// How many rows a kept world has, and its entries.
@@ -146,11 +146,11 @@ impl<R: Wait> Gate for Fencing<'_, R> {
         let worked = work(
             self.rt,
             self.kept,
-            wrote.share,
+            wrote.caller,
             &mut FreeGate,
             from_ref(&advance),
         );
-        self.share = Some(worked.share);
+        self.share = Some(worked.caller);
         self.newest = self.newest.saturating_add(1);
         Ok(())
     }
@@ -166,7 +166,7 @@ fn fenced(rt: &impl Wait, kept: &Mutex<Records>, shares: &mut Vec<Share>) -> Opt
     };
     let read = Job::Call(Call::Plain(PlainCall::Read));
     let worked = work(rt, kept, shares.pop()?, &mut gate, from_ref(&read));
-    Some((worked.end, worked.share.count()))
+    Some((worked.end, worked.caller.count()))
 }
 
 /// The same, in a world of its own.

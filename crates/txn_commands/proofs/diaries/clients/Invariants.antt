@@ -1,6 +1,6 @@
-use Rattle.txn_commands.specs.Clients.{AreReady}
+use Rattle.txn_commands.specs.Audits.{AreClients}
 use Rattle.txn_commands.proofs.diaries.clients.Given as goal
 
 -- the clients so far
 abbrev pub invariant-loop-before : goal.invariant-loop-before
-invariant-loop-before l = AreReady l.before l.ready.items
+invariant-loop-before l = AreClients l.before l.clients.items

@@ -1,8 +1,7 @@
 use Rattle.std.proofs.Common.{rules, ◌≡◌, ◌*◌, ◌∙◌, sym, subst, vec_len, slice_index_or}
 use Rattle.std.proofs.lemmas.Option.{get_or_from_slice_get, slice_get_within}
 use Rattle.std.proofs.lemmas.Result.{IfOk-weaker}
-use Rattle.txn_threads.specs.Lengthens.{Lengthens}
-use Rattle.txn_threads.proofs.diaries.work_diaries.Goals as goal
+use Rattle.txn_threads.proofs.work.work_all.Goals as goal
 
 pub returns-clause-each : goal.returns-clause-each
 returns-clause-each g c =
@@ -10,5 +9,5 @@ returns-clause-each g c =
     let job = (gives k left (slice_get_within c.args.workers.items k worker at)).1 in
     let worker_is : job.job ≡ worker = sym (job.job_is worker) ∙ get_or_from_slice_get c.args.workers.items k worker worker at in
     let left_is : slice_index_or v.items k left ≡ left = get_or_from_slice_get v.items k left left was in
-    subst (λ w. Lengthens w.diary (400 * vec_len w.jobs) left.diary) worker_is
-    (subst (λ l. Lengthens job.job.diary (400 * vec_len job.job.jobs) l.diary) left_is (search rules))) c.map_vec.ensures.each
+    subst (λ w. g.X.Caller.goes w.caller (400 * vec_len w.jobs) left.caller) worker_is
+    (subst (λ l. g.X.Caller.goes job.job.caller (400 * vec_len job.job.jobs) l.caller) left_is (search rules))) c.map_vec.ensures.each

@@ -1,0 +1,47 @@
+//! A worker's share of a kept world makes calls, as the client of its number.
+ghost use Rattle.std.specs.Prelude.{◌≡◌};
+ghost use Rattle.txn_types.specs.Clones.{IsExactClone};
+
+use crate::caller::{Caller, Heard, Next, Numbered, hear};
+use crate::kept::{Kept, Share};
+use std::sync::{Mutex, Wait};
+use txn_history::event::{Event, EventFault};
+use txn_types::codec::ObjectCodec;
+use txn_types::epoch::EpochField;
+
+impl Numbered for Share {
+    ghost numbered = { λ share. share.worker };
+
+    fn number(&self) -> u64 {
+        self.worker()
+    }
+}
+
+/// Each event is taken under one lock.
+impl<T: Clone, C: ObjectCodec<T> + Drop, E: EpochField<T>> Caller<T, Mutex<Kept<T, C, E>>>
+    for Share {
+    ghost use Rattle.txn_types.specs.Clones.{IsExactClone};
+    ghost use Rattle.txn_threads.specs.GoesOn.{Grows, grows_on};
+
+    ghost goes = { Grows };
+
+    fn take<R: Wait>(
+        &mut self,
+        rt: &R,
+        place: &Mutex<Kept<T, C, E>>,
+        next: Next<T>,
+    ) -> Result<Heard, EventFault>
+        requires { IsExactClone T.is_clone }
+        ensures { Grows self.old 1 self.new }
+    {
+        match next {
+            Next::Begin(call) => {
+                let begin = Event::Begin(self.worker(), call);
+                Ok(hear(place.lock(rt).take(self, begin)?))
+            }
+            Next::Step(op) => Ok(hear(place.lock(rt).take_next(self, op)?)),
+        }
+    }
+
+    ghost laws = { grows_on };
+}
