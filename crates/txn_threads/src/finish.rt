@@ -2,7 +2,7 @@
 ghost use Rattle.std.specs.Prelude.{◌≡◌, ◌≢◌, ◌↔◌, IsTrue, IfOk, IfErr, length};
 ghost use Rattle.txn_threads.specs.declared.finish.FinishFault.TheVariants as faults;
 ghost use Rattle.txn_threads.specs.Kept.{CameOnce, AreAmong, AreCounted, shares_of};
-ghost use Rattle.txn_threads.specs.Finish.{Finished, IsDue};
+ghost use Rattle.txn_threads.specs.Finish.{Finished, IsDue, fault_number};
 
 use crate::kept::{Kept, Share};
 use txn_types::codec::ObjectCodec;
@@ -21,9 +21,6 @@ pub enum FinishFault {
 }
 
 impl FinishFault {
-    ghost use Rattle.std.specs.Prelude.{◌≡◌};
-    ghost use Rattle.txn_threads.specs.Finish.{fault_number};
-
     /// The number that names the fault: 1, 2 or 3.
     pub fn number(&self) -> u8
         ensures { result ≡ fault_number self.now }
