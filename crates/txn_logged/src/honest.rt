@@ -1,5 +1,8 @@
 //! The log of any honest store, made row by row.
-ghost use Rattle.std.specs.Prelude.{◌≡◌};
+ghost use Rattle.std.specs.Prelude.{◌≡◌, List};
+ghost use Rattle.std.specs.Coded.{codes};
+ghost use Rattle.txn_journals.specs.declared.rows.LogRow.{LogRow};
+ghost use Rattle.txn_logged.specs.Replayed.{IsKept};
 
 use crate::fault::LogFault;
 use crate::replayed::Replayed;
@@ -20,11 +23,6 @@ pub struct HonestLog {
 }
 
 impl Model for HonestLog {
-    ghost use Rattle.std.specs.Prelude.{List};
-    ghost use Rattle.std.specs.Coded.{codes};
-    ghost use Rattle.txn_journals.specs.declared.rows.LogRow.{LogRow};
-    ghost use Rattle.txn_logged.specs.Replayed.{IsKept};
-
     ghost Value = { List LogRow };
 
     ghost coded = { Prim.hlevel codes };
