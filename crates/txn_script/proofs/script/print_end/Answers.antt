@@ -13,7 +13,7 @@ use Rattle.txn_script.proofs.script.print_end.Goals.{After-deref, In_ok-print_li
 use Rattle.txn_script.proofs.script.print_end.Goals as goal
 
 -- what is printed, but for the views
-are : (g : _) (c : After-deref g) → Ended (rules_of g.C.TextForm.text g.C.TextForm.fits g.T.TextForm.text g.K.ScriptWorld.rules) (g.K.ScriptWorld.state c.args.world.now) c.deref.result.now c.in-Ok-erased.erased.items (option_map (λ (ids : Vec ℕ). ids.items) c.in-Ok-pinned.pinned)
+are : (g : _) (c : After-deref g) → Ended (rules_of g.C.TextForm.text g.C.TextForm.fits g.T.TextForm.text g.K.ScriptWorld.rules) (g.K.ScriptWorld.state c.args.world.now) c.deref.result.now c.in-Ok-erased.erased.items (option_map (λ (ids : Vec ℕ _). ids.items) c.in-Ok-pinned.pinned)
 are g c = record { entries = ap (λ (values : List g.row.T.Denot). map Some values) c.deref.ensures.value ∙ c.in-Ok.ensures; erased = c.in-Ok-erased.ensures; pinned = c.in-Ok-pinned.ensures }
 
 -- the line of the boundary was printed
@@ -40,7 +40,7 @@ returns-in_err-print_entries-clause-err g c =
     let s = g.K.ScriptWorld.state c.args.world.now in
     let held = append_known (g.W.Write.contents c.args.out.now) c.args.printer.now.text.items in
     let now = append_known (g.W.Write.contents c.print_entries.new.out) c.print_entries.new.printer.text.items in
-    let after = with_feed (boundary_text (boundary s.trace)) ++ (with_feed (erased_text c.in-Ok-erased.erased.items) ++ (pinned_line (option_map (λ (ids : Vec ℕ). ids.items) c.in-Ok-pinned.pinned) ++ views_text g.T.TextForm.text 1 (seen_views s.views))) in
+    let after = with_feed (boundary_text (boundary s.trace)) ++ (with_feed (erased_text c.in-Ok-erased.erased.items) ++ (pinned_line (option_map (λ (ids : Vec ℕ _). ids.items) c.in-Ok-pinned.pinned) ++ views_text g.T.TextForm.text 1 (seen_views s.views))) in
     let p = err_from_is_err_and c.from_residual.result c.from_residual.ensures.1 in
     rw (p.1, p.2) (part_front ended c.in_err-print_entries.field-0.0 held held now [] (entries_text g.T.TextForm.text 1 c.deref.result.now) after refl (appends_nothing held) c.in_err-print_entries.ensures.err)
 
