@@ -44,12 +44,14 @@ module _ {T : Type 0} (page : ℕ) (encode : T → List ℕ) (decode : List ℕ 
   land_takes = record {
     allowed = ap (λ (found : Option (ℕ × Request)). if is_some found then None else Some faults.UnknownNumber) land_there;
     step = record {
-      op = land_n;
-      request = landing.request;
-      found = land_there;
-      reply = landing.reply;
-      store = after;
-      reaches = record { serves = subst (λ (old : StoreState). Serves landing.request old landing.reply after) (sym g.store_is) serves; honest = honest };
+      loose = record {
+        op = land_n;
+        request = landing.request;
+        found = land_there;
+        reply = landing.reply;
+        store = after;
+        reaches = record { serves = subst (λ (old : StoreState). Serves landing.request old landing.reply after) (sym g.store_is) serves; honest = honest };
+      };
       answered = lands.1;
       tells = ap land_told (sym land_files);
       state = refl;

@@ -55,7 +55,7 @@ module _ {T : Type 0} where
 
   land_adds : (old : State T) (k : ℕ) (said : Told T) (new : State T) → Lands old k said new → AllGiven old.store → AddsRows (seen_calls old) old.trace old.store.files (events.Land k) said new.trace new.store.files
   land_adds old k said new v given =
-      adds_landing (seen_calls old) k v.op v.request v.reply old.store v.store old.trace new.trace new.store.files said v.found given v.reaches.serves v.reaches.honest (ap (λ (s : State T). s.store.files) v.state) v.tells (ap (λ (s : State T). s.trace) v.state)
+      adds_landing (seen_calls old) k v.loose.op v.loose.request v.loose.reply old.store v.loose.store old.trace new.trace new.store.files said v.loose.found given v.loose.reaches.serves v.loose.reaches.honest (ap (λ (s : State T). s.store.files) v.state) v.tells (ap (λ (s : State T). s.trace) v.state)
 
 none_more : (operations rows more : ℕ) → operations ≡ rows → more ≡ 0 → operations ≡ rows + more
 none_more operations rows more e none = omega arith
@@ -177,7 +177,7 @@ module _ {T : Type 0} (encode : T → List ℕ) (decode : List ℕ → Option T)
       let middle = loosened old op v.ask in
       subst Counted (sym v.state) (given_up_counted middle op v.operation (kept old middle h refl refl refl))
       )
-  takes_counted old (events.Land k) said new h t = (let v = t.step in subst Counted (sym v.state) (effected_counted old v.op v.request v.reply v.store v.reaches h))
+  takes_counted old (events.Land k) said new h t = (let v = t.step in subst Counted (sym v.state) (effected_counted old v.loose.op v.loose.request v.loose.reply v.loose.store v.loose.reaches h))
   takes_counted old (events.Crash client) said new h t = subst Counted (sym t.step.state) (crashed_counted old client h)
 
   pub reached_counts : (s : State T) → IsReached encode decode get_epoch set_epoch s → Counted s

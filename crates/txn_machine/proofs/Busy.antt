@@ -337,7 +337,7 @@ module _ {T : Type 0} (encode : T → List ℕ) (decode : List ℕ → Option T)
   takes_busied old (events.Serve op) said new h t = elim t.step [ inl v ↦ served_busied old op said new h v | inr v ↦ lacks_busied old op said new h v ]
   takes_busied old (events.Fail op failure) said new h t = fails_busied failure old op said new h t.step
   takes_busied old (events.GiveUp op) said new h t = subst Busied (sym t.step.state) (given_up_busied (loosened old op t.step.ask) op t.step.operation h t.step.found (ap is_some t.step.asks))
-  takes_busied old (events.Land k) said new h t = subst Busied (sym t.step.state) (effected_busied old t.step.op t.step.request t.step.reply t.step.store h)
+  takes_busied old (events.Land k) said new h t = subst Busied (sym t.step.state) (effected_busied old t.step.loose.op t.step.loose.request t.step.loose.reply t.step.loose.store h)
   takes_busied old (events.Crash client) said new h t = subst Busied (sym t.step.state) (busies_crashes old.operations old.views old.trace h client)
 
   -- every reached state

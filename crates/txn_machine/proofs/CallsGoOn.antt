@@ -132,5 +132,5 @@ module _ {T : Type 0} (encode : T → List ℕ) (decode : List ℕ → Option T)
   calls_go_on old (events.Serve op) said new t = elim t.step [ inl v ↦ serve_goes old op said new v | inr v ↦ lacks_goes old op said new v ]
   calls_go_on old (events.Fail op failure) said new t = fail_goes failure old op said new t.step
   calls_go_on old (events.GiveUp op) said new t = give_up_goes old op said new t.step
-  calls_go_on old (events.Land k) said new t = (let v = t.step in land_goes seen_operation old k v.op v.request v.reply v.store said new v.tells v.state)
+  calls_go_on old (events.Land k) said new t = (let v = t.step in land_goes seen_operation old k v.loose.op v.loose.request v.loose.reply v.loose.store said new v.tells v.state)
   calls_go_on old (events.Crash client) said new t = crash_goes old client said new t.step

@@ -155,15 +155,16 @@ module _ {T : Type 0} (encode : T → List ℕ) (decode : List ℕ → Option T)
   -- a landing
   pub land_joins : (k : ℕ) (said : Told T) (new : State T) → Lands s k said new → Joined decode get_epoch set_epoch past new
   land_joins k said new v =
-      let op = v.op in
-      let loose = j.rest.loose k op v.request v.found in
+      let lands = v.loose in
+      let op = lands.op in
+      let loose = j.rest.loose k op lands.request lands.found in
       let n = loose.n in
-      let serves : Serves v.request j.fine.store v.reply v.store = subst (λ (st : StoreState). Serves v.request st v.reply v.store) (sym j.tie.store) v.reaches.serves in
-      let effect = machine.effect_of s.store.files v.request v.reply in
-      let fine = machine.effected j.fine n v.request v.reply v.store in
-      let fine' = record j.fine { store = v.store; trace = j.fine.trace ++ effect_rows n effect } in
-      let stood = land_keeps decode get_epoch j.fine loose.place (told.Landed loose.place (is_some (machine.effect_of j.fine.store.files v.request v.reply))) fine (record { op = n; request = v.request; found = loose.there; reply = v.reply; store = v.store; reaches = record { serves = serves; honest = v.reaches.honest }; tells = refl; state = refl }) j.stands in
-      let stands : machine_stands.Stands decode get_epoch fine' = subst (λ (st : StoreState). machine_stands.Stands decode get_epoch (record j.fine { store = v.store; trace = j.fine.trace ++ effect_rows n (machine.effect_of st.files v.request v.reply) })) j.tie.store stood in
+      let serves : Serves lands.request j.fine.store lands.reply lands.store = subst (λ (st : StoreState). Serves lands.request st lands.reply lands.store) (sym j.tie.store) lands.reaches.serves in
+      let effect = machine.effect_of s.store.files lands.request lands.reply in
+      let fine = machine.effected j.fine n lands.request lands.reply lands.store in
+      let fine' = record j.fine { store = lands.store; trace = j.fine.trace ++ effect_rows n effect } in
+      let stood = land_keeps decode get_epoch j.fine loose.place (told.Landed loose.place (is_some (machine.effect_of j.fine.store.files lands.request lands.reply))) fine (record { loose = record { op = n; request = lands.request; found = loose.there; reply = lands.reply; store = lands.store; reaches = record { serves = serves; honest = lands.reaches.honest } }; tells = refl; state = refl }) j.stands in
+      let stands : machine_stands.Stands decode get_epoch fine' = subst (λ (st : StoreState). machine_stands.Stands decode get_epoch (record j.fine { store = lands.store; trace = j.fine.trace ++ effect_rows n (machine.effect_of st.files lands.request lands.reply) })) j.tie.store stood in
       let good = stands.know.history.good in
       let begun = begun_of j.fine.trace n (fine_call loose.call loose.inner) loose.does.called in
       let over = over_effect decode get_epoch set_epoch j.l op effect

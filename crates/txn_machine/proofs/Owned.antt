@@ -182,7 +182,7 @@ module _ {T : Type 0} (encode : T → List ℕ) (decode : List ℕ → Option T)
       let middle = loosened old op v.ask in
       subst Owned (sym v.state) (given_up_owned middle op v.operation (as_owned old middle refl refl refl h) v.found)
       )
-  takes_owned old (events.Land k) said new h t = (let v = t.step in subst Owned (sym v.state) (as_owned old (effected old v.op v.request v.reply v.store) refl refl refl h))
+  takes_owned old (events.Land k) said new h t = (let v = t.step in subst Owned (sym v.state) (as_owned old (effected old v.loose.op v.loose.request v.loose.reply v.loose.store) refl refl refl h))
   takes_owned old (events.Crash client) said new h t = subst Owned (sym t.step.state) (crashed_owned old client h)
 
   -- in each state of a run

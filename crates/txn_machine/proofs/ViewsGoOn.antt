@@ -383,8 +383,8 @@ module _ {T : Type 0} (encode : T → List ℕ) (decode : List ℕ → Option T)
       goes_so old.views said (told.GaveUp op) new (given_up middle op v.operation) v.tells v.state (given_up_goes middle op v.operation h v.found (ap is_some v.asks) (subst Busied v.state after))
   takes_go old (events.Land k) said new h claims after t =
       let v = t.step in
-      let effect = is_some (effect_of old.store.files v.request v.reply) in
-      goes_so old.views said (told.Landed k effect) new (effected old v.op v.request v.reply v.store) v.tells v.state (landed_goes old (effected old v.op v.request v.reply v.store) k effect refl)
+      let effect = is_some (effect_of old.store.files v.loose.request v.loose.reply) in
+      goes_so old.views said (told.Landed k effect) new (effected old v.loose.op v.loose.request v.loose.reply v.loose.store) v.tells v.state (landed_goes old (effected old v.loose.op v.loose.request v.loose.reply v.loose.store) k effect refl)
   takes_go old (events.Crash client) said new h claims after t = goes_so old.views said (told.Crashed client) new (crashed old client) t.step.tells t.step.state (crashed_goes old client)
 
   none_view : (u : Option (Used T)) → None ≡ seen_view u → u ≡ None

@@ -1,14 +1,11 @@
 -- The world's step, over the store's contract, for all calls.
 use Rattle.std.specs.Prelude.{◌≡◌, ◌≤◌, ◌⊎◌, ℕ, List, [], ◌∷◌, ◌++◌, ◌+◌, ◌-◌, ◌==◌, Bool, true, false, if◌then◌else◌, Option, Some, None, Result, Ok, Err, length, slice_set, is_some, map}
 use Rattle.std.specs.Option.{option_map}
-use Rattle.txn_store.specs.Store.{State as StoreState}
 use Rattle.txn_store.specs.declared.request.Request.{Request}
-use Rattle.txn_store.specs.declared.request.Reply.{Reply}
 use Rattle.txn_types.specs.Errors.{error_number}
 use Rattle.txn_caches.specs.declared.caches.Caches.{Caches}
 use Rattle.txn_history.specs.declared.event.PlainAnswer.TheVariants as plain_answers
 use Rattle.txn_history.specs.declared.event.Failure.{Failure}
-use Rattle.txn_history.specs.declared.event.Failure.TheVariants as failures
 use Rattle.txn_history.specs.declared.event.ToldOf.TheVariants as told
 use Rattle.txn_history.specs.declared.event.EventOf.TheVariants as events
 use Rattle.txn_history.specs.declared.event.EventFault.{EventFault}
@@ -17,7 +14,7 @@ use Rattle.txn_history.specs.Lists.{numbered}
 use Rattle.txn_history.specs.Seen.{Ask, Store, Look, Operation as SeenOperation, Seen, asks_of, AllSeen}
 use Rattle.txn_history.specs.GoesOn.{all_left_loose}
 use Rattle.txn_history.specs.Added.{told_of, answer_rows}
-use Rattle.txn_machine_inner.specs.Machine.{StateOf, no_caches, effect_of, opening_with, next_op, effected, loosened, failing, Reaches, seen_by, Asking, CallReaches, fault_met, taken_count}
+use Rattle.txn_machine_inner.specs.Machine.{StateOf, no_caches, effect_of, opening_with, next_op, effected, loosened, failing, seen_by, Asking, CallReaches, LooseReaches, failing_by, fault_met, taken_count}
 use Rattle.txn_store.specs.MemoryServes.{lacks_memory}
 use Rattle.txn_view_steps.specs.declared.outcome.Outcome.TheVariants as outcomes
 use Rattle.txn_history.specs.declared.event.Call.{Call}
@@ -230,9 +227,7 @@ module _ {T : Type 0} where
 
   -- a failure by its kind
   abbrev pub Fails : State T → ℕ → Failure → Told T → State T → Type 0
-  Fails old op failures.Before said new = FailsFirst old op said false new
-  Fails old op failures.After said new = FailsAfter old op said new
-  Fails old op failures.Loose said new = FailsFirst old op said true new
+  Fails old op failure said new = failing_by (λ looses. FailsFirst old op said looses new) (FailsAfter old op said new) failure
 
   -- A give-up: the operation ends with no answer, and what it asked for may still reach the store.
   pub record GivesUp (old : State T) (op : ℕ) (said : Told T) (new : State T) : Type 0 where
@@ -243,17 +238,12 @@ module _ {T : Type 0} where
     pub tells : said ≡ told.GaveUp op
     pub state : new ≡ given_up (loosened old op ask) op operation
 
-  -- A landing: a loose request reaches the store. It stays loose. Where the store finds no memory, there is no such event.
+  -- A landing. Where the store finds no memory, there is no such event.
   pub record Lands (old : State T) (k : ℕ) (said : Told T) (new : State T) : Type 0 where
-    pub op : ℕ
-    pub request : Request
-    pub found : numbered old.loose k ≡ Some (op, request)
-    pub reply : Reply
-    pub store : StoreState
-    pub reaches : Reaches old request reply store
-    pub answered : lacks_memory reply ≡ false
-    pub tells : said ≡ told.Landed k (is_some (effect_of old.store.files request reply))
-    pub state : new ≡ effected old op request reply store
+    pub loose : LooseReaches old k
+    pub answered : lacks_memory loose.reply ≡ false
+    pub tells : said ≡ told.Landed k (is_some (effect_of old.store.files loose.request loose.reply))
+    pub state : new ≡ effected old loose.op loose.request loose.reply loose.store
 
   -- A crash: a client gives up all its operations, and keeps nothing, no view either.
   pub record Crashes (old : State T) (client : ℕ) (said : Told T) (new : State T) : Type 0 where

@@ -26,7 +26,7 @@ use Rattle.txn_machine_inner.specs.declared.doing.PlainDoing.{PlainDoing}
 use Rattle.txn_machine_inner.specs.declared.doing.PlainDoing.TheVariants.{Write, WriteUnchecked, Read, ReadUnchecked, ReadSeen, ListIds, Delete, Check, Advance, Ended}
 use Rattle.txn_machine_inner.specs.declared.doing.PlainOperation.{PlainOperation}
 use Rattle.txn_machine_inner.specs.Doing.{Next, asked, caches_left}
-use Rattle.txn_machine_inner.specs.Machine.{State, effect_of, with_doing, acted, effected, failing, given_up, told_failure, Acts, Reaches, FailsFirst, FailsAfter, Fails, GivesUp, Lands, Looks, Served}
+use Rattle.txn_machine_inner.specs.Machine.{State, effect_of, with_doing, acted, effected, failing, given_up, told_failure, Acts, Reaches, FailsFirst, FailsAfter, failing_by, GivesUp, Lands, Looks, Served}
 use Rattle.txn_machine_inner.proofs.Lists.{within, numbered_here}
 use Rattle.txn_history.proofs.More.{begun_count-more}
 use Rattle.txn_machine_inner.proofs.Stands.{AreOthers, CachesStand, Runs, RunStands, OpStands, TurnStands, Asks, StandsBut, Stands}
@@ -185,7 +185,7 @@ module _ {T : Type 0} (decode : List ℕ → Option T) (get_epoch : T → ℕ) w
       subst (λ (s : State T). Stands decode get_epoch s) (sym v.state)
       (failed_keeps s' op v.call.operation (Store v.call.request) run.0 v.call.caches (record { found = a.found; asks = a.asks; kept = a.kept }) (inr runs) fits (effected_but old op v.call.request v.call.reply v.call.store bound.0 bound.1 r (but decode get_epoch old op st)))
 
-  pub fail_keeps : (failure : Failure) (old : State T) (op : ℕ) (said : PlainTold T) (new : State T) → Fails old op failure said new → Stands decode get_epoch old → Stands decode get_epoch new
+  pub fail_keeps : (failure : Failure) (old : State T) (op : ℕ) (said : PlainTold T) (new : State T) → failing_by (λ looses. FailsFirst old op said looses new) (FailsAfter old op said new) failure → Stands decode get_epoch old → Stands decode get_epoch new
   fail_keeps failures.Before old op said new v st = fails_first_keeps false old op said new v st
   fail_keeps failures.After old op said new v st = fails_after_keeps old op said new v st
   fail_keeps failures.Loose old op said new v st = fails_first_keeps true old op said new v st
@@ -215,14 +215,15 @@ module _ {T : Type 0} (decode : List ℕ → Option T) (get_epoch : T → ℕ) w
 
   pub land_keeps : (old : State T) (k : ℕ) (said : PlainTold T) (new : State T) → Lands old k said new → Stands decode get_epoch old → Stands decode get_epoch new
   land_keeps old k said new v st =
-      let l = st.loose k v.op v.request v.found in
-      let r = reached old v.op v.request v.reply v.store l.asks v.reaches st in
-      let bound = place_of old v.op st l.begun in
-      let s' = effected old v.op v.request v.reply v.store in
+      let lands = v.loose in
+      let l = st.loose k lands.op lands.request lands.found in
+      let r = reached old lands.op lands.request lands.reply lands.store l.asks lands.reaches st in
+      let bound = place_of old lands.op st l.begun in
+      let s' = effected old lands.op lands.request lands.reply lands.store in
       subst (λ (s : State T). Stands decode get_epoch s) (sym v.state)
-      (close decode get_epoch s' v.op (effected_but old v.op v.request v.reply v.store bound.0 bound.1 r (but decode get_epoch old v.op st))
+      (close decode get_epoch s' lands.op (effected_but old lands.op lands.request lands.reply lands.store bound.0 bound.1 r (but decode get_epoch old lands.op st))
       (λ o e. (
-      let at = at_place decode get_epoch old v.op o st e in
-      let begun = begun_more decode get_epoch old.trace old.store s'.trace v.store r.frame v.op l.begun in
-      (at.0, at.1, subst (λ (d : PlainDoing T). OpStands decode get_epoch s'.trace v.store at.0.boundary v.op d) (sym (l.ended o e)) begun)
+      let at = at_place decode get_epoch old lands.op o st e in
+      let begun = begun_more decode get_epoch old.trace old.store s'.trace lands.store r.frame lands.op l.begun in
+      (at.0, at.1, subst (λ (d : PlainDoing T). OpStands decode get_epoch s'.trace lands.store at.0.boundary lands.op d) (sym (l.ended o e)) begun)
       )))

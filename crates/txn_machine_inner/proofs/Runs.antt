@@ -13,7 +13,7 @@ use Rattle.txn_history.specs.History.{stored, HasContents}
 use Rattle.txn_history.specs.Calls.{begun_count}
 use Rattle.txn_machine_inner.specs.PlainHistory.{IsOneHistory}
 use Rattle.txn_history.specs.Added.{Tells, answer_row, effect_rows, AddsRows}
-use Rattle.txn_machine_inner.specs.Machine.{State, opening, seen_of, effect_of, next_op, Fails, Lands, Looks, Served, Begins, Takes, Runs, IsReached}
+use Rattle.txn_machine_inner.specs.Machine.{State, opening, seen_of, effect_of, next_op, FailsFirst, FailsAfter, failing_by, Lands, Looks, Served, Begins, Takes, Runs, IsReached}
 use Rattle.txn_machine_inner.proofs.Stands.{Stands}
 use Rattle.txn_machine_inner.proofs.EffectRows.{tells_answer, went_row, began_row, adds_answer, adds_effect, adds_landing}
 use Rattle.txn_machine_inner.proofs.Going.{seen_at}
@@ -27,7 +27,7 @@ module _ {T : Type 0} (encode : T → List ℕ) (decode : List ℕ → Option T)
 
   -- events change neither the number of clients nor the size of a page
 
-  fails_same : (failure : Failure) (old : State T) (op : ℕ) (said : PlainTold T) (new : State T) → Fails old op failure said new → (new.clients ≡ old.clients) × (new.page ≡ old.page)
+  fails_same : (failure : Failure) (old : State T) (op : ℕ) (said : PlainTold T) (new : State T) → failing_by (λ looses. FailsFirst old op said looses new) (FailsAfter old op said new) failure → (new.clients ≡ old.clients) × (new.page ≡ old.page)
   fails_same failures.Before old op said new v = (ap (λ (s : State T). s.clients) v.state, ap (λ (s : State T). s.page) v.state)
   fails_same failures.After old op said new v = (ap (λ (s : State T). s.clients) v.state, ap (λ (s : State T). s.page) v.state)
   fails_same failures.Loose old op said new v = (ap (λ (s : State T). s.clients) v.state, ap (λ (s : State T). s.page) v.state)
@@ -80,7 +80,7 @@ module _ {T : Type 0} (encode : T → List ℕ) (decode : List ℕ → Option T)
     ap (λ (s : State T). s.store.files) v.state,
   )
 
-  fail_adds : (failure : Failure) (old : State T) (op : ℕ) (said : PlainTold T) (new : State T) → Fails old op failure said new → Stands decode get_epoch old → AddsRows (seen_of old) old.trace old.store.files (events.Fail op failure) said new.trace new.store.files
+  fail_adds : (failure : Failure) (old : State T) (op : ℕ) (said : PlainTold T) (new : State T) → failing_by (λ looses. FailsFirst old op said looses new) (FailsAfter old op said new) failure → Stands decode get_epoch old → AddsRows (seen_of old) old.trace old.store.files (events.Fail op failure) said new.trace new.store.files
   fail_adds failures.Before old op said new v st = ((answers.Refused 2, v.tells), adds_answer op (answers.Refused 2) old.trace new.trace old.store.files new.store.files said v.tells (ap (λ (s : State T). s.trace) v.state) (ap (λ (s : State T). s.store.files) v.state))
   fail_adds failures.Loose old op said new v st = ((answers.Refused 2, v.tells), adds_answer op (answers.Refused 2) old.trace new.trace old.store.files new.store.files said v.tells (ap (λ (s : State T). s.trace) v.state) (ap (λ (s : State T). s.store.files) v.state))
   fail_adds failures.After old op said new v st = (
@@ -91,7 +91,7 @@ module _ {T : Type 0} (encode : T → List ℕ) (decode : List ℕ → Option T)
 
   land_adds : (old : State T) (k : ℕ) (said : PlainTold T) (new : State T) → Lands old k said new → Stands decode get_epoch old → AddsRows (seen_of old) old.trace old.store.files (events.Land k) said new.trace new.store.files
   land_adds old k said new v st =
-      adds_landing (seen_of old) k v.op v.request v.reply old.store v.store old.trace new.trace new.store.files said v.found st.know.files.given v.reaches.serves v.reaches.honest (ap (λ (s : State T). s.store.files) v.state) v.tells (ap (λ (s : State T). s.trace) v.state)
+      adds_landing (seen_of old) k v.loose.op v.loose.request v.loose.reply old.store v.loose.store old.trace new.trace new.store.files said v.loose.found st.know.files.given v.loose.reaches.serves v.loose.reaches.honest (ap (λ (s : State T). s.store.files) v.state) v.tells (ap (λ (s : State T). s.trace) v.state)
 
   begin_adds : (old : State T) (client : ℕ) (call : PlainCall T) (said : PlainTold T) (new : State T) → Begins encode decode old client call said new → Stands decode get_epoch old → AddsRows (seen_of old) old.trace old.store.files (events.Begin client call) said new.trace new.store.files
   begin_adds old client call said new v st =

@@ -100,6 +100,15 @@ module _ {O V C A : Type 0} where
     pub serves : Serves request s.store reply store
     pub honest : store.failures ≡ 0
 
+  -- A loose request reaches the store, which replies. It stays loose.
+  pub record LooseReaches (s : StateOf O V C A) (k : ℕ) : Type 0 where
+    pub op : ℕ
+    pub request : Request
+    pub found : numbered s.loose k ≡ Some (op, request)
+    pub reply : Reply
+    pub store : StoreState
+    pub reaches : Reaches s request reply store
+
 -- `see` is what a machine shows of an operation
 module _ {O V C A : Type 0} (see : O → SeenOperation) where
   abbrev pub seen_by : StateOf O V C A → Seen
@@ -120,6 +129,12 @@ module _ {O V C A : Type 0} (see : O → SeenOperation) where
     pub reply : Reply
     pub store : StoreState
     pub reaches : Reaches s request reply store
+
+-- what a failure does by its kind: before its effect, or where its request becomes loose, nothing reaches the store
+abbrev pub failing_by : (Bool → Type 0) → Type 0 → Failure → Type 0
+failing_by first after failures.Before = first false
+failing_by first after failures.After = after
+failing_by first after failures.Loose = first true
 
 -- A state of the machine of plain calls, which has no views.
 abbrev pub State : Type 0 → Type 0
@@ -216,12 +231,6 @@ module _ {T : Type 0} where
     pub tells : said ≡ told.Answered op (answers.Refused 2)
     pub state : new ≡ acted (failing (effected old op call.request call.reply call.store) op) op call.operation told_failure call.caches
 
-  -- a failure by its kind
-  abbrev pub Fails : State T → ℕ → Failure → PlainTold T → State T → Type 0
-  Fails old op failures.Before said new = FailsFirst old op said false new
-  Fails old op failures.After said new = FailsAfter old op said new
-  Fails old op failures.Loose said new = FailsFirst old op said true new
-
   -- A give-up: the operation ends with no answer, and what it asked for may still reach the store.
   pub record GivesUp (old : State T) (op : ℕ) (said : PlainTold T) (new : State T) : Type 0 where
     pub operation : PlainOperation T
@@ -231,16 +240,11 @@ module _ {T : Type 0} where
     pub tells : said ≡ told.GaveUp op
     pub state : new ≡ acted (loosened old op ask) op operation given_up caches
 
-  -- A landing: a loose request reaches the store. It stays loose.
+  -- a landing
   pub record Lands (old : State T) (k : ℕ) (said : PlainTold T) (new : State T) : Type 0 where
-    pub op : ℕ
-    pub request : Request
-    pub found : numbered old.loose k ≡ Some (op, request)
-    pub reply : Reply
-    pub store : StoreState
-    pub reaches : Reaches old request reply store
-    pub tells : said ≡ told.Landed k (is_some (effect_of old.store.files request reply))
-    pub state : new ≡ effected old op request reply store
+    pub loose : LooseReaches old k
+    pub tells : said ≡ told.Landed k (is_some (effect_of old.store.files loose.request loose.reply))
+    pub state : new ≡ effected old loose.op loose.request loose.reply loose.store
 
   -- A crash: a client gives up all its operations, and keeps nothing.
   pub record Crashes (old : State T) (client : ℕ) (said : PlainTold T) (new : State T) : Type 0 where
@@ -284,7 +288,7 @@ module _ {T : Type 0} (encode : T → List ℕ) (decode : List ℕ → Option T)
   Steps old (events.Begin client call) said new = Begins old client call said new
   Steps old (events.Look op) said new = Looks decode old op said new
   Steps old (events.Serve op) said new = Served decode old op said new
-  Steps old (events.Fail op failure) said new = Fails old op failure said new
+  Steps old (events.Fail op failure) said new = failing_by (λ looses. FailsFirst old op said looses new) (FailsAfter old op said new) failure
   Steps old (events.GiveUp op) said new = GivesUp old op said new
   Steps old (events.Land k) said new = Lands old k said new
   Steps old (events.Crash client) said new = Crashes old client said new

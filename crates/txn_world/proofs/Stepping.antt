@@ -380,12 +380,7 @@ module _ {T : Type 0} where
       new.clients ≡ old.clients → new.page ≡ old.page → new.caches ≡ old.caches → new.operations ≡ old.operations → new.views ≡ old.views → new.loose ≡ old.loose → new.failed ≡ old.failed → new.trace ≡ old.trace ++ effect_rows op (effect_of old.store.files request reply) → Lands old number (told.Landed number changed) new
   landed old new number op request reply changed found serves honest answered is a b d e v f g h =
       record {
-        op = op;
-        request = request;
-        found = found;
-        reply = reply;
-        store = new.store;
-        reaches = record { serves = serves; honest = honest };
+        loose = record { op = op; request = request; found = found; reply = reply; store = new.store; reaches = record { serves = serves; honest = honest } };
         answered = answered;
         tells = ap (told.Landed number) is;
         state = same_state new (effected old op request reply new.store) a b refl d e v f g h;
