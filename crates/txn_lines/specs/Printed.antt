@@ -1,13 +1,13 @@
 -- The text of each printed line.
-use Rattle.std.specs.Prelude.{ℕ, List, [], ◌∷◌, ◌++◌, ◌==◌, if◌then◌else◌, Option, Some, None, codes, decimal}
+use Rattle.std.specs.Prelude.{ℕ, List, [], ◌∷◌, ◌++◌, ◌==◌, if◌then◌else◌, Option, Some, None, unwrap_or, codes, decimal}
 use Rattle.txn_history.specs.declared.event.PlainAnswer.{PlainAnswer}
 use Rattle.txn_history.specs.declared.event.PlainAnswer.TheVariants as answers
 use Rattle.txn_history.specs.declared.event.Answer.{Answer}
 use Rattle.txn_history.specs.declared.event.Answer.TheVariants as any
 use Rattle.txn_history.specs.Views.{View}
 use Rattle.txn_history.specs.declared.event.EventFault.{EventFault}
-use Rattle.txn_history.specs.declared.event.EventFault.TheVariants as faults
 use Rattle.txn_history.specs.Allowed.{fault_number}
+use Rattle.txn_history.specs.Lists.{numbered}
 use Rattle.txn_lines.specs.declared.printed.IdsLine.{IdsLine}
 use Rattle.txn_lines.specs.declared.printed.IdsLine.TheVariants as ids_lines
 use Rattle.txn_lines.specs.declared.stop.Stop.{Stop}
@@ -88,15 +88,13 @@ module _ {T : Type 0} (text : T → List ℕ) where
   abbrev pub stands_text : ℕ → View T → List ℕ
   stands_text number view = stands_by number view.id view.object view.epoch
 
+-- the names of the faults, in the order of their numbers from 1
+abbrev pub fault_names : List (List ℕ)
+fault_names = codes "UnknownNumber" ∷ codes "NotAsked" ∷ codes "UnknownBase" ∷ codes "BoundaryTooHigh" ∷ codes "EpochLowered" ∷ codes "ViewBusy" ∷ codes "NoMemory" ∷ []
+
 -- the name of a fault
 abbrev pub fault_name : EventFault → List ℕ
-fault_name faults.UnknownNumber = codes "UnknownNumber"
-fault_name faults.NotAsked = codes "NotAsked"
-fault_name faults.UnknownBase = codes "UnknownBase"
-fault_name faults.BoundaryTooHigh = codes "BoundaryTooHigh"
-fault_name faults.EpochLowered = codes "EpochLowered"
-fault_name faults.ViewBusy = codes "ViewBusy"
-fault_name faults.NoMemory = codes "NoMemory"
+fault_name fault = unwrap_or (numbered fault_names (fault_number fault)) []
 
 -- the line of an event that is refused with a fault of this number and name
 abbrev pub named_fault_text : ℕ → List ℕ → List ℕ
