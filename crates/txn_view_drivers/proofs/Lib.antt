@@ -1,6 +1,5 @@
 pub mod EntryRuns
 pub mod ViewRuns
 pub mod Driven
-pub mod ClaimTakes
 pub mod ClaimRuns
 pub mod DrivenClaims

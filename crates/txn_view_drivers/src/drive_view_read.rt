@@ -31,7 +31,8 @@ impl<T: Clone, X: EpochField<T>, C: ObjectCodec<T>, S: ObjectStore> Drive<C, S>
 
     fn step(&mut self, at: &At<C>, store: &mut S, caches: &mut Caches) -> Turned<Self::Answer> {
         let WithEpochs { op, epochs } = self;
-        let reply = reply_to(at.alloc, store, op.ask());
-        op.take(at.alloc, at.layout, epochs, caches, reply)
+        let reply = reply_to(at.alloc, store, op.read.ask());
+        let told = op.read.take(at.alloc, at.layout, caches, reply);
+        op.after_read(epochs, told)
     }
 }

@@ -1,3 +1,2 @@
 pub mod ReadLemmas
-pub mod ClaimLemmas
 pub mod CallLemmas

@@ -1,4 +1,4 @@
--- What a read leaves of the caches depends on whether it goes on alone.
+-- What a read leaves of the caches depends on whether it goes on alone, and a call goes on as its read does.
 use Rattle.std.proofs.Common.{◌≡◌, ℕ, ◌==◌, Bool, true, false, List, if◌then◌else◌, Option, Some, None, Result, Ok, Err, refl, sym, ◌∙◌, ap, subst}
 use Rattle.txn_store.specs.Paths.{Segments}
 use Rattle.txn_store.specs.VersionName.{Names}
@@ -16,9 +16,10 @@ use Rattle.txn_steps.specs.declared.read.ReadOp.{ReadOp}
 use Rattle.txn_steps.specs.declared.read.ReadOp.TheVariants as reads
 use Rattle.txn_steps.specs.Latest.{ReadAnswer, latest_listing, read_in_hand, answered, in_hand, found_turned}
 use Rattle.txn_steps.specs.Reads.{reads_turned, read_turned, read_left}
-use Rattle.txn_view_steps.specs.Readings.{seen, said, OnAnswer}
 use Rattle.txn_view_steps.specs.declared.outcome.Outcome.{Outcome}
-use Rattle.txn_view_steps.specs.Lacking.{lacks, or_lacking}
+use Rattle.txn_view_steps.specs.declared.view_read.ViewReadOp.{ViewReadOp}
+use Rattle.txn_view_steps.specs.Readings.{seen, said, GoesAs, OnAnswer}
+use Rattle.txn_view_steps.specs.ViewReads.{as_view_read, view_read_ended, view_read_told, view_read_turned, shown}
 
 module _ {T : Type 0} where
   -- it answers neither a version nor that there is none
@@ -51,42 +52,39 @@ module _ {T : Type 0} where
   on_answer (Done (Ok x)) P p = p
   on_answer (Done (Err number)) P p = tt
 
-  pub from_left : (told : Turned (ReadAnswer T)) (after left other : Caches) → after ≡ left → OnAnswer told (left ≡ other) → OnAnswer told (after ≡ other)
-  from_left Goes after left other e h = tt
-  from_left (Done (Ok x)) after left other e h = e ∙ h
-  from_left (Done (Err number)) after left other e h = tt
+  -- an answer of a call on a view says what its read leaves as that read's own does
+  said_alike : (read : ReadOp T) (caches : Caches) (told : Turned (ReadAnswer T)) (answer : Turned (Result (Outcome T) ℕ)) → read_left read caches told ≡ read_left read caches (said told) → OnAnswer told (read_left read caches told ≡ read_left read caches Goes) → GoesAs told answer →
+      read_left read caches told ≡ read_left read caches (said answer)
+  said_alike read caches Goes answer e h goes = sym (ap (λ (a : Turned (Result (Outcome T) ℕ)). read_left read caches (said a)) goes)
+  said_alike read caches (Done (Ok found)) Goes e h goes = h
+  said_alike read caches (Done (Ok found)) (Done answer) e h goes = e
+  said_alike read caches (Done (Err number)) answer e h goes = e ∙ sym (ap (λ (a : Turned (Result (Outcome T) ℕ)). read_left read caches (said a)) goes)
 
-  -- it is answered as its read was, a growth that was refused aside
-  lacking_ends : {O : Type 0} (lacking : Bool) (ended : O) (answer see : Result (Outcome T) ℕ) → answer ≡ or_lacking lacking see →
-      ◌≡◌ {A = O × Turned (Result (Outcome T) ℕ)} (ended, Done answer) (unless_lacking lacking ended (ended, Done see))
-  lacking_ends true ended answer see e = ap (λ (a : Result (Outcome T) ℕ). (ended, Done a)) e
-  lacking_ends false ended answer see e = ap (λ (a : Result (Outcome T) ℕ). (ended, Done a)) e
+-- a step of a part as one of the whole
+pub part_of_whole : {A B S : Type 0} (whole : A → B) (lacking : Bool) (old new : A) (told : Turned (Result S ℕ)) (next : A × Turned (Result S ℕ)) → (new, told) ≡ unless_lacking lacking old next → (whole new, told) ≡ unless_lacking lacking (whole old) (whole next.0, next.1)
+part_of_whole whole true old new told next e = ap (λ x. (whole x.0, x.1)) e
+part_of_whole whole false old new told next e = ap (λ x. (whole x.0, x.1)) e
 
-  module _ {O : Type 0} (wrap : ReadOp T → O) (see : Option (ℕ × T) → Result (Outcome T) ℕ) where
-    seen_as_read : (x : ReadOp T × Turned (ReadAnswer T)) (after : ReadOp T) (found : Option (ℕ × T)) (answer : Result (Outcome T) ℕ) → (after, Done (Ok found)) ≡ x → answer ≡ or_lacking (lacks answer) (see found) →
-        (wrap reads.Ended, Done answer) ≡ unless_lacking (lacks answer) (wrap reads.Ended) (seen wrap see x)
-    seen_as_read x after found answer e h =
-        subst (λ (y : ReadOp T × Turned (ReadAnswer T)). (wrap reads.Ended, Done answer) ≡ unless_lacking (lacks answer) (wrap reads.Ended) (seen wrap see y)) e (lacking_ends (lacks answer) (wrap reads.Ended) answer (see found) h)
+-- A call goes on as its read does, a growth that was refused aside. `next` is what it makes of what the read says.
+module _ {T O : Type 0} (next : ReadOp T × Turned (ReadAnswer T) → O × Turned (Result (Outcome T) ℕ)) (ended : O) (refuses : (read : ReadOp T) → next (read, Done (Err 9)) ≡ (ended, Done (Err 9))) where
+  abbrev or_ended : Bool → O × Turned (Result (Outcome T) ℕ) → O × Turned (Result (Outcome T) ℕ)
+  or_ended lacking x = unless_lacking lacking ended x
 
-    lacking_told : (lacking : Bool) (x : ReadOp T × Turned (ReadAnswer T)) (old after : ReadOp T) (number : ℕ) → (after, Done (Err number)) ≡ unless_lacking lacking old x →
-        (wrap reads.Ended, Done (Err number)) ≡ unless_lacking lacking (wrap reads.Ended) (seen wrap see x)
-    lacking_told true x old after number e =
-        let told : ◌≡◌ {A = Turned (ReadAnswer T)} (Done (Err number)) (Done (Err 9)) = ap (λ (p : ReadOp T × Turned (ReadAnswer T)). p.1) e in
-        let same : number ≡ 9 = cc told in
-        cc same
-    lacking_told false x old after number e =
-        subst (λ (y : ReadOp T × Turned (ReadAnswer T)). (wrap reads.Ended, Done (Err number)) ≡ seen wrap see y) e refl
+  ends_lacking : (lacking : Bool) (x : O × Turned (Result (Outcome T) ℕ)) → x ≡ or_ended lacking (ended, Done (Err 9)) → x ≡ (ended, Done (Err 9))
+  ends_lacking true x e = e
+  ends_lacking false x e = e
 
-    -- what it answers where its read was answered a version or none, and where it was answered an error
-    pub found_seen : (x : ReadOp T × Turned (ReadAnswer T)) (old after : ReadOp T) (told : ReadAnswer T) (found : Option (ℕ × T)) (answer : Result (Outcome T) ℕ) → told ≡ Ok found →
-        (after, Done told) ≡ unless_lacking (lacks told) old x → answer ≡ or_lacking (lacks answer) (see found) → (wrap reads.Ended, Done answer) ≡ unless_lacking (lacks answer) (wrap reads.Ended) (seen wrap see x)
-    found_seen x old after told found answer is e h =
-        seen_as_read x after found answer (subst (λ (t : ReadAnswer T). (after, Done t) ≡ unless_lacking (lacks t) old x) is e) h
+  as_read : (lacking : Bool) (x : ReadOp T × Turned (ReadAnswer T)) (old after : ReadOp T) (told : Turned (ReadAnswer T)) (new : O) (answer : Turned (Result (Outcome T) ℕ)) → (after, told) ≡ unless_lacking lacking old x →
+      (new, answer) ≡ or_ended (lacks_memory answer) (next (after, told)) → (new, answer) ≡ or_ended (lacks_memory answer) (next x)
+  as_read true x old after told new answer e h =
+      let end = ends_lacking (lacks_memory answer) (new, answer) (h ∙ ap (λ (p : ReadOp T × Turned (ReadAnswer T)). or_ended (lacks_memory answer) (next p)) e ∙ ap (or_ended (lacks_memory answer)) (refuses old)) in
+      let lacks : answer ≡ Done (Err 9) = ap (λ (p : O × Turned (Result (Outcome T) ℕ)). p.1) end in
+      end ∙ sym (ap (λ (a : Turned (Result (Outcome T) ℕ)). or_ended (lacks_memory a) (next x)) lacks)
+  as_read false x old after told new answer e h = h ∙ ap (λ (p : ReadOp T × Turned (ReadAnswer T)). or_ended (lacks_memory answer) (next p)) e
 
-    pub error_seen : (x : ReadOp T × Turned (ReadAnswer T)) (old after : ReadOp T) (told : ReadAnswer T) (number : ℕ) → told ≡ Err number →
-        (after, Done told) ≡ unless_lacking (lacks told) old x → (wrap reads.Ended, Done (Err number)) ≡ unless_lacking (number == 9) (wrap reads.Ended) (seen wrap see x)
-    error_seen x old after told number is e =
-        lacking_told (number == 9) x old after number (subst (λ (t : ReadAnswer T). (after, Done t) ≡ unless_lacking (lacks t) old x) is e)
+  pub goes_as_read : (x : ReadOp T × Turned (ReadAnswer T)) (old after : ReadOp T) (told : Turned (ReadAnswer T)) (new : O) (answer : Turned (Result (Outcome T) ℕ)) → (after, told) ≡ unless_lacking (lacks_memory told) old x →
+      (new, answer) ≡ or_ended (lacks_memory answer) (next (after, told)) → (new, answer) ≡ or_ended (lacks_memory answer) (next x)
+  goes_as_read x old after told new answer e h = as_read (lacks_memory told) x old after told new answer e h
 
 module _ {T : Type 0} (names : Names) (path : Segments) (page : ℕ) (decode : List ℕ → Option T) where
   hand_on : (boundary : BoundaryRead) (op : LatestOp T) (id : ℕ) (value : Option T) → Goes1 (reads_turned boundary (read_in_hand decode op id value))
@@ -138,3 +136,15 @@ module _ {T : Type 0} (names : Names) (path : Segments) (page : ℕ) (decode : L
   left_where_answered (reads.Reads (Keeps version value) boundary) caches reply new told e = on_answer told _ refl
   left_where_answered (reads.Reads (Drops id) boundary) caches reply new told e = on_answer told _ refl
   left_where_answered (reads.Reads Ended boundary) caches reply new told e = on_answer told _ refl
+
+  -- what a call leaves of the caches is what its read does
+  pub left_as_read : (op : ReadOp T) (caches left : Caches) (reply : Option Reply) (new : ReadOp T) (told : Turned (ReadAnswer T)) (answer : Turned (Result (Outcome T) ℕ)) →
+      (new, told) ≡ unless_lacking (lacks_memory told) op (read_turned names path page decode op caches reply) → left ≡ read_left op caches told → GoesAs told answer → left ≡ read_left op caches (said answer)
+  left_as_read op caches left reply new told answer e leaves goes = leaves ∙ said_alike op caches told answer (left_as_said op caches reply new told e) (left_where_answered op caches reply new told e) goes
+
+  -- a read for a view goes on as its read does
+  pub view_goes_as_read : (epoch_of : T → ℕ) (op : ViewReadOp T) (caches : Caches) (reply : Option Reply) (after : ReadOp T) (told : Turned (ReadAnswer T)) (new : ViewReadOp T) (answer : Turned (Result (Outcome T) ℕ)) →
+      (after, told) ≡ unless_lacking (lacks_memory told) op.read (read_turned names path page decode op.read caches reply) → (new, answer) ≡ unless_lacking (lacks_memory answer) (view_read_ended op) (view_read_told epoch_of (as_view_read op.purpose after) told) →
+      (new, answer) ≡ unless_lacking (lacks_memory answer) (view_read_ended op) (view_read_turned names path page decode epoch_of op caches reply)
+  view_goes_as_read epoch_of op caches reply after told new answer e h =
+      goes_as_read (seen (as_view_read op.purpose) (shown epoch_of op.purpose)) (view_read_ended op) (λ read. refl) (read_turned names path page decode op.read caches reply) op.read after told new answer e h

@@ -61,12 +61,6 @@ module _ {T : Type 0} where
   followed (Ok next) = (next, Goes)
   followed (Err number) = (Ended, Done (Err number))
 
-  -- it goes on or is refused where its read does, and else either way
-  abbrev pub GoesAs : Turned (ReadAnswer T) → Turned (Result (Outcome T) ℕ) → Type 0
-  GoesAs Goes answer = answer ≡ Goes
-  GoesAs (Done (Ok found)) answer = Unit {0}
-  GoesAs (Done (Err number)) answer = answer ≡ Done (Err number)
-
   -- it reads the newest version
   abbrev pub refreshing : Segments → Result (Claiming T) ℕ
   refreshing path = Ok (Reads (read_started path))

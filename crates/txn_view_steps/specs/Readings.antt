@@ -1,5 +1,5 @@
 -- A read of the newest version as the part of a call on a view: an answer ends it.
-use Rattle.std.specs.Prelude.{ℕ, Option, Result, Ok, Err}
+use Rattle.std.specs.Prelude.{◌≡◌, ℕ, Option, Result, Ok, Err}
 use Rattle.txn_caches.specs.declared.turned.Turned.{Turned}
 use Rattle.txn_caches.specs.declared.turned.Turned.TheVariants.{Goes, Done}
 use Rattle.txn_steps.specs.declared.read.ReadOp.{ReadOp}
@@ -18,6 +18,12 @@ module _ {T : Type 0} where
   abbrev pub said : {A : Type 0} → Turned A → Turned (ReadAnswer T)
   said Goes = Goes
   said (Done answer) = Done (Err 9)
+
+  -- a call goes on or is refused where its read does, and else either way
+  abbrev pub GoesAs : Turned (ReadAnswer T) → Turned (Result (Outcome T) ℕ) → Type 0
+  GoesAs Goes answer = answer ≡ Goes
+  GoesAs (Done (Ok found)) answer = Unit {0}
+  GoesAs (Done (Err number)) answer = answer ≡ Done (Err number)
 
   -- a fact where it answers a version, or that there is none
   abbrev pub OnAnswer : Turned (ReadAnswer T) → Type 0 → Type 0

@@ -10,6 +10,7 @@ use Rattle.txn_caches.specs.declared.caches.Caches.{Caches}
 use Rattle.txn_caches.specs.declared.turned.Turned.{Turned}
 use Rattle.txn_steps.specs.declared.read.ReadOp.{ReadOp}
 use Rattle.txn_steps.specs.declared.read.ReadOp.TheVariants.{Ended}
+use Rattle.txn_steps.specs.Latest.{ReadAnswer}
 use Rattle.txn_steps.specs.Reads.{read_started, read_asked, read_turned, IsReadReply, IsInRange}
 use Rattle.txn_view_steps.specs.declared.outcome.Outcome.{Outcome}
 use Rattle.txn_view_steps.specs.declared.outcome.Outcome.TheVariants.{Viewed, Shut}
@@ -68,6 +69,10 @@ module _ {T : Type 0} (epoch_of : T → ℕ) where
   shown Load found = loaded found
   shown Refresh found = refreshed found
   shown (HolderRefresh local) found = holder_refreshed local found
+
+  -- its read says this
+  abbrev pub view_read_told : ViewReadOp T → Turned (ReadAnswer T) → ViewReadOp T × Turned (Result (Outcome T) ℕ)
+  view_read_told op told = seen (as_view_read op.purpose) (shown op.purpose) (op.read, told)
 
 module _ {T : Type 0} (names : Names) (path : Segments) (page : ℕ) (decode : List ℕ → Option T) (epoch_of : T → ℕ) where
   -- what it makes of a look or a reply, memory aside

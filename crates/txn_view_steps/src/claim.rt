@@ -1,20 +1,13 @@
 //! The call that makes a view a holder, of the next epoch or of one that is asked for.
 ghost use Rattle.std.specs.Prelude.{◌≡◌, IfOk};
 ghost use Rattle.txn_types.specs.Clones.{IsExactClone};
-ghost use Rattle.txn_caches.specs.Steps.{by_number, turned_by_number, lacks_memory, TellsErrorOf};
-ghost use Rattle.txn_caches.specs.Asking.{asks, reply_told, unless_lacking};
+ghost use Rattle.txn_caches.specs.Steps.{by_number};
 ghost use Rattle.txn_view_steps.specs.Lacking.{lacks, or_lacking};
-ghost use Rattle.txn_view_steps.specs.Attempts.{claiming_asked, claiming_left, IsMade, IsRefreshing, IsClaimingReply, IsClaimingInRange};
-ghost use Rattle.txn_view_steps.specs.Claims.{claim_started, claim_ended, claim_turned};
-ghost use Rattle.txn_view_steps.specs.Shortages.{LacksAsWrite};
+ghost use Rattle.txn_view_steps.specs.Attempts.{IsMade};
+ghost use Rattle.txn_view_steps.specs.Claims.{claim_started};
 
 use crate::claiming::{Claiming, begin};
-use crate::outcome::ViewAnswer;
 use std::alloc::Global;
-use txn_caches::ask::Ask;
-use txn_caches::caches::Caches;
-use txn_caches::turned::Turned;
-use txn_store::request::Reply;
 use txn_types::codec::ObjectCodec;
 use txn_types::epoch::EpochField;
 use txn_types::error::TransactionalObjectError;
@@ -51,41 +44,5 @@ impl<T: Clone> ClaimOp<T> {
     {
         let claiming = begin(alloc, layout, epochs, asked, id, object)?;
         Ok(ClaimOp { asked, claiming })
-    }
-
-    /// Takes the store's reply to what it asks, or none for a look. Where an attempt is written, the view is at that, as the
-    /// holder of its epoch. Each further attempt is on the version that the read before it finds; where the epoch that is
-    /// asked for is not above that of this version, it is `Fenced`, where there is no next epoch or id, `IdExhausted`, and
-    /// where there is no version, `InvalidObjectState`. Any other error of the write and of the read is answered, and a
-    /// growth that is refused is `NoMemory`. An answer ends it. It asks that a clone is the same value.
-    pub fn take<C: ObjectCodec<T>, X: EpochField<T>>(
-        &mut self,
-        alloc: Global,
-        layout: &Layout<C>,
-        epochs: &X,
-        caches: &mut Caches,
-        reply: Option<Reply>,
-    ) -> Turned<ViewAnswer<T>>
-        requires exact { IsExactClone T.is_clone }
-        requires reply { IsClaimingReply self.old.claiming reply }
-        requires range { IsClaimingInRange self.old.claiming }
-        ensures turned { (self.new, turned_by_number result) ≡ unless_lacking (lacks_memory (turned_by_number result)) (claim_ended self.old) (claim_turned layout.now.names layout.now.boundary layout.now.page (C.encoded layout.now.codec) (C.decoded layout.now.codec) (X.epoch_of epochs.now) (X.with_epoch epochs.now) self.old caches.old reply) }
-        ensures made { IsRefreshing self.old.claiming → IsMade (C.encoded layout.now.codec) (C.decoded layout.now.codec) (X.epoch_of epochs.now) self.new.claiming }
-        // Memory is lacked in an attempt only once its write is overtaken, or where that lacks it.
-        ensures short { LacksAsWrite self.old.claiming caches.old reply (lacks_memory (turned_by_number result)) }
-        ensures caches { caches.new ≡ claiming_left self.old.claiming caches.old (turned_by_number result) }
-        ensures store_error { TellsErrorOf (reply_told reply) result }
-    {
-        self.claiming
-            .take(alloc, layout, epochs, self.asked, caches, reply)
-    }
-}
-
-impl<T: Drop> ClaimOp<T> {
-    /// What it asks for. It takes no memory.
-    pub fn ask(&self) -> Ask<'_>
-        ensures { asks result ≡ claiming_asked self.now.claiming }
-    {
-        self.claiming.ask()
     }
 }

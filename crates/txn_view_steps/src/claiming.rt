@@ -5,7 +5,8 @@ ghost use Rattle.txn_types.specs.Clones.{IsExactClone};
 ghost use Rattle.txn_caches.specs.Steps.{by_number, turned_by_number, lacks_memory, HasErrorOf, TellsErrorOf};
 ghost use Rattle.txn_caches.specs.Asking.{asks, reply_told, unless_lacking};
 ghost use Rattle.txn_view_steps.specs.Lacking.{lacks, or_lacking};
-ghost use Rattle.txn_view_steps.specs.Attempts.{entered, attempted, attempted_again, followed, held_at, refreshing, GoesAs, attempt_told, refresh_told, claiming_asked, claiming_turned, claiming_left, IsMade, IsAttempting, IsRefreshing, IsClaimingReply, IsClaimingInRange};
+ghost use Rattle.txn_view_steps.specs.Readings.{GoesAs};
+ghost use Rattle.txn_view_steps.specs.Attempts.{entered, attempted, attempted_again, followed, held_at, refreshing, attempt_told, refresh_told, claiming_asked, claiming_turned, claiming_left, IsMade, IsAttempting, IsRefreshing, IsClaimingReply, IsClaimingInRange};
 ghost use Rattle.txn_view_steps.specs.Shortages.{IsShort, LacksAsWrite};
 
 use crate::copies::Copies;
@@ -232,7 +233,12 @@ impl<T: Clone> Claiming<T> {
     }
 
     /// Takes the store's reply to what it asks, or none for a look, in a claim that asks for this epoch, or for the next one.
-    pub(crate) fn take<C: ObjectCodec<T>, X: EpochField<T>>(
+    /// Where an attempt is written, the view is at that, as the holder of its epoch. Each further attempt is on the version
+    /// that the read before it finds; where the epoch that is asked for is not above that of this version, it is `Fenced`,
+    /// where there is no next epoch or id, `IdExhausted`, and where there is no version, `InvalidObjectState`. Any other error
+    /// of the write and of the read is answered, and a growth that is refused is `NoMemory`. An answer ends it. It asks that a
+    /// clone is the same value.
+    pub fn take<C: ObjectCodec<T>, X: EpochField<T>>(
         &mut self,
         alloc: Global,
         layout: &Layout<C>,
@@ -246,6 +252,7 @@ impl<T: Clone> Claiming<T> {
         requires range { IsClaimingInRange self.old }
         ensures turned { (self.new, turned_by_number result) ≡ unless_lacking (lacks_memory (turned_by_number result)) Claiming.Ended (claiming_turned layout.now.names layout.now.boundary layout.now.page (C.encoded layout.now.codec) (C.decoded layout.now.codec) (X.epoch_of epochs.now) (X.with_epoch epochs.now) asked self.old caches.old reply) }
         ensures made { IsRefreshing self.old → IsMade (C.encoded layout.now.codec) (C.decoded layout.now.codec) (X.epoch_of epochs.now) self.new }
+        // Memory is lacked in an attempt only once its write is overtaken, or where that lacks it.
         ensures short { LacksAsWrite self.old caches.old reply (lacks_memory (turned_by_number result)) }
         ensures caches { caches.new ≡ claiming_left self.old caches.old (turned_by_number result) }
         ensures store_error { TellsErrorOf (reply_told reply) result }

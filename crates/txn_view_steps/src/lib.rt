@@ -14,7 +14,8 @@
 //!
 //! `start` is lent the view and gives the state, or at once the refusal that is the call's answer. `ask` is what is due, a
 //! request of the store or a look at the caches of the client, and `take` takes the caches and the store's reply, or none
-//! for a look. A state knows neither the number of its call nor that of its view.
+//! for a look. Of a `ViewReadOp` the read asks and takes, and `after_read` makes of what that says what the call says; of a
+//! `ClaimOp` its attempts ask and take. A state knows neither the number of its call nor that of its view.
 #![tactic(auto)]
 
 pub mod claim;

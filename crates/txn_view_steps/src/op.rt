@@ -47,8 +47,8 @@ impl<T: Drop> ViewOp<T> {
     {
         match self {
             ViewOp::Enters(op) => op.ask(),
-            ViewOp::Reads(op) => op.ask(),
-            ViewOp::Claims(op) => op.ask(),
+            ViewOp::Reads(op) => op.read.ask(),
+            ViewOp::Claims(op) => op.claiming.ask(),
         }
     }
 }
@@ -77,8 +77,14 @@ impl<T: Clone> ViewOp<T> {
     {
         match self {
             ViewOp::Enters(op) => op.take(caches, reply),
-            ViewOp::Reads(op) => op.take(alloc, layout, epochs, caches, reply),
-            ViewOp::Claims(op) => op.take(alloc, layout, epochs, caches, reply),
+            ViewOp::Reads(op) => {
+                let told = op.read.take(alloc, layout, caches, reply);
+                op.after_read(epochs, told)
+            }
+            ViewOp::Claims(op) => {
+                op.claiming
+                    .take(alloc, layout, epochs, op.asked, caches, reply)
+            }
         }
     }
 }

@@ -1,23 +1,20 @@
 //! A read of the newest version that a view then shows.
-ghost use Rattle.std.specs.Prelude.{◌≡◌, None, IfOk};
+ghost use Rattle.std.specs.Prelude.{◌≡◌, None, Some, Option, IfOk};
+ghost use Rattle.txn_store.specs.declared.store.StoreError.{StoreError};
 ghost use Rattle.txn_types.specs.Clones.{IsExactClone};
 ghost use Rattle.txn_caches.specs.Steps.{by_number, turned_by_number, lacks_memory, HasErrorOf, TellsErrorOf};
-ghost use Rattle.txn_caches.specs.Asking.{asks, reply_told, unless_lacking};
-ghost use Rattle.txn_steps.specs.Reads.{read_left};
+ghost use Rattle.txn_caches.specs.Asking.{unless_lacking};
 ghost use Rattle.txn_view_steps.specs.Lacking.{lacks, or_lacking};
-ghost use Rattle.txn_view_steps.specs.Readings.{said};
-ghost use Rattle.txn_view_steps.specs.ViewReads.{view_read_started, view_read_ended, view_read_asked, view_read_turned, holder_refreshed, shown, IsViewReadReply, IsViewReadInRange};
+ghost use Rattle.txn_view_steps.specs.Readings.{GoesAs};
+ghost use Rattle.txn_view_steps.specs.ViewReads.{view_read_started, view_read_ended, view_read_told, holder_refreshed, shown};
 
 use crate::copies::Copies;
 use crate::outcome::{Outcome, ViewAnswer};
-use std::alloc::{AllocError, Global};
+use std::alloc::AllocError;
 use std::mem;
-use txn_caches::ask::Ask;
-use txn_caches::caches::Caches;
 use txn_caches::turned::Turned;
+use txn_steps::latest::ReadAnswer;
 use txn_steps::read::ReadOp;
-use txn_store::request::Reply;
-use txn_types::codec::ObjectCodec;
 use txn_types::epoch::{EpochField, test_epoch};
 use txn_types::error::TransactionalObjectError;
 use txn_types::id::MonotonicId;
@@ -90,36 +87,24 @@ impl<T: Drop> ViewReadOp<T> {
         let read = ReadOp::start(layout)?;
         Ok(ViewReadOp { purpose, read })
     }
-
-    /// What it asks for. It takes no memory.
-    pub fn ask(&self) -> Ask<'_>
-        ensures { asks result ≡ view_read_asked self.now }
-    {
-        self.read.ask()
-    }
 }
 
 impl<T: Clone> ViewReadOp<T> {
-    /// Takes the store's reply to what it asks, or none for a look. The view is at the version that the read answers: where
-    /// its epoch is greater than that of a holder that refreshes, the holder is shut by `Fenced`, and where it is smaller by
-    /// `InvalidObjectState`. None is `LatestRecordMissing` for a load, and else `InvalidObjectState`; an error of the read is
-    /// answered. A growth that is refused is `NoMemory`. An answer ends it. It asks that a clone is the same value.
-    pub fn take<C: ObjectCodec<T>, X: EpochField<T>>(
+    /// Its read says this. The view is at the version that the read answers: where its epoch is greater than that of a holder
+    /// that refreshes, the holder is shut by `Fenced`, and where it is smaller by `InvalidObjectState`. None is
+    /// `LatestRecordMissing` for a load, and else `InvalidObjectState`; an error of the read is answered. A growth that is
+    /// refused is `NoMemory`. An answer ends it. It asks that a clone is the same value.
+    pub fn after_read<X: EpochField<T>>(
         &mut self,
-        alloc: Global,
-        layout: &Layout<C>,
         epochs: &X,
-        caches: &mut Caches,
-        reply: Option<Reply>,
+        told: Turned<ReadAnswer<T>>,
     ) -> Turned<ViewAnswer<T>>
-        requires exact { IsExactClone T.is_clone }
-        requires reply { IsViewReadReply self.old reply }
-        requires range { IsViewReadInRange self.old }
-        ensures turned { (self.new, turned_by_number result) ≡ unless_lacking (lacks_memory (turned_by_number result)) (view_read_ended self.old) (view_read_turned layout.now.names layout.now.boundary layout.now.page (C.decoded layout.now.codec) (X.epoch_of epochs.now) self.old caches.old reply) }
-        ensures caches { caches.new ≡ read_left self.old.read caches.old (said (turned_by_number result)) }
-        ensures store_error { TellsErrorOf (reply_told reply) result }
+        requires { IsExactClone T.is_clone }
+        ensures turned { (self.new, turned_by_number result) ≡ unless_lacking (lacks_memory (turned_by_number result)) (view_read_ended self.old) (view_read_told (X.epoch_of epochs.now) self.old (turned_by_number told)) }
+        ensures goes { GoesAs (turned_by_number told) (turned_by_number result) }
+        ensures store_error { (error : Option StoreError) → TellsErrorOf error told → TellsErrorOf error result }
     {
-        match self.read.take(alloc, layout, caches, reply) {
+        match told {
             Turned::Goes => Turned::Goes,
             Turned::Done(told) => {
                 // (by a call: in place, the proof would follow each state that may be dropped)
