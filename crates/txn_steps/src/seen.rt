@@ -32,11 +32,7 @@ pub struct ReadUncheckedOp {
 
 impl ReadUncheckedOp {
     /// A read of the version of this id. The only error is want of memory.
-    pub fn start<C>(
-        alloc: Global,
-        layout: &Layout<C>,
-        id: MonotonicId,
-    ) -> Result<ReadUncheckedOp, AllocError>
+    pub fn start<C>(alloc: Global, layout: &Layout<C>, id: MonotonicId) -> Result<Self, AllocError>
         ensures { IfOk result (λ op. op ≡ record { request = version_got layout.now.names id }) }
     {
         let request = get_request(alloc, &layout.names, id)?;

@@ -5,6 +5,7 @@
 mod count;
 pub mod digits;
 pub mod failing;
+mod growth;
 pub mod in_memory;
 pub mod page;
 pub mod path;

@@ -52,7 +52,8 @@ impl Listing {
         let mut metas = Vec::with_capacity(*self.metas.allocator(), self.metas.len())?;
         let told = self.as_slice();
         for meta in told {
-            metas.push(meta.try_clone()?)?;
+            let location = meta.location.try_clone()?;
+            metas.push(ObjectMeta { location, ..*meta })?;
         }
         Ok(Listing { metas })
     }

@@ -7,7 +7,6 @@ ghost use Rattle.std.specs.Cmp.Lexicographic.{pointwise, slice_cmp, lists_equiv,
 ghost use Rattle.std.specs.Cmp.{partial_equiv_from_equiv, partial_order_from_agreeing_total};
 ghost use Rattle.txn_store.specs.Paths.{is_plain_byte, is_dots, is_plain, all_plain, parts, shown, path_cmp, is_below};
 ghost use Rattle.txn_store.specs.PathText.{lines_of, segments_in, IsKept};
-ghost use Rattle.txn_store.specs.declared.path.PathFault.TheVariants.{NoMemory};
 
 use std::alloc::{AllocError, Global};
 use std::cmp::Ordering;
@@ -25,14 +24,6 @@ pub enum PathFault {
     /// A growth was refused.
     #[error("no memory")]
     NoMemory,
-}
-
-impl From<AllocError> for PathFault {
-    ghost from_gives = { λ _ e. e ≡ NoMemory };
-
-    fn from(_e: AllocError) -> PathFault {
-        PathFault::NoMemory
-    }
 }
 
 fn is_plain_byte(byte: u8) -> bool

@@ -2,12 +2,11 @@
 ghost use Rattle.std.specs.Prelude.{◌≡◌, ◌≤◌, IfOk};
 ghost use Rattle.std.specs.Option.{option_copied};
 ghost use Rattle.txn_store.specs.Store.{put_fault, known_fault};
-ghost use Rattle.txn_store.specs.declared.store.StoreError.TheVariants.{NoMemory};
 
 use crate::page::Page;
 use crate::path::Path;
 use bytes::Bytes;
-use std::alloc::{AllocError, AllocFailed, Global};
+use std::alloc::{AllocError, Global};
 use std::marker::Model;
 use thiserror::Error;
 
@@ -76,16 +75,6 @@ pub struct ObjectMeta {
     pub token: Token,
 }
 
-impl ObjectMeta {
-    /// The same, with the same path. The only error is want of memory.
-    pub fn try_clone(&self) -> Result<ObjectMeta, AllocError>
-        ensures { IfOk result (λ copy. copy ≡ self.now) }
-    {
-        let location = self.location.try_clone()?;
-        Ok(ObjectMeta { location, ..*self })
-    }
-}
-
 /// Why a call was refused. Each but `Failed` leaves the files and the tokens as they were.
 #[derive(Clone, Copy, Debug, PartialEq, Eq, Drop, Error)]
 pub enum StoreError {
@@ -110,22 +99,6 @@ pub enum StoreError {
     /// A put that would take effect, and no token is left.
     #[error("tokens exhausted")]
     TokensExhausted,
-}
-
-impl From<AllocError> for StoreError {
-    ghost from_gives = { λ _ e. e ≡ NoMemory };
-
-    fn from(_e: AllocError) -> StoreError {
-        StoreError::NoMemory
-    }
-}
-
-impl<T: Drop> From<AllocFailed<T>> for StoreError {
-    ghost from_gives = { λ _ e. e ≡ NoMemory };
-
-    fn from(_e: AllocFailed<T>) -> StoreError {
-        StoreError::NoMemory
-    }
 }
 
 /// Why a put is refused by the file that stands under its path.
