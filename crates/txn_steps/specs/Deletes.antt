@@ -74,9 +74,13 @@ removal_latest op latest = removal_latest_at op.step op.id latest
 abbrev pub delete_started : Names → Segments → ℕ → DeleteOp
 delete_started names boundary id = record { step = Checks; check = check_started boundary id; removal = removal_started names id }
 
+-- what is so at its step: where it checks its id, and where it removes the version
+abbrev pub by_step : {A : Type 0} → DeleteStep → A → A → A
+by_step Checks checks removes = checks
+by_step Removes checks removes = removes
+
 abbrev pub delete_asked_at : DeleteStep → DeleteOp → Option Request
-delete_asked_at Checks op = check_asked op.check
-delete_asked_at Removes op = removal_asked op.removal
+delete_asked_at step op = by_step step (check_asked op.check) (removal_asked op.removal)
 
 -- what it asks
 abbrev pub delete_asked : DeleteOp → Option Request
@@ -106,16 +110,14 @@ abbrev pub removes_turned : DeleteOp → DeleteUncheckedOp × Turned (Result (Un
 removes_turned op (removal, told) = (at_removal op removal, told)
 
 abbrev pub delete_turned_at : DeleteStep → DeleteOp → Caches → Option Reply → DeleteOp × Turned (Result (Unit {0}) ℕ)
-delete_turned_at Checks op caches reply = checks_turned op (check_turned op.check caches reply)
-delete_turned_at Removes op caches reply = removes_turned op (removal_turned op.removal reply)
+delete_turned_at step op caches reply = by_step step (checks_turned op (check_turned op.check caches reply)) (removes_turned op (removal_turned op.removal reply))
 
 -- what it makes of a look or a reply
 abbrev pub delete_turned : DeleteOp → Caches → Option Reply → DeleteOp × Turned (Result (Unit {0}) ℕ)
 delete_turned op caches reply = delete_turned_at op.step op caches reply
 
 abbrev pub delete_caches_at : DeleteStep → DeleteOp → Caches → Caches
-delete_caches_at Checks op caches = check_caches op.check caches
-delete_caches_at Removes op caches = record { latest = removal_latest op.removal caches.latest; boundary = caches.boundary }
+delete_caches_at step op caches = by_step step (check_caches op.check caches) (record { latest = removal_latest op.removal caches.latest; boundary = caches.boundary })
 
 -- what it leaves of the caches
 abbrev pub delete_caches : DeleteOp → Caches → Caches
