@@ -19,6 +19,7 @@ use txn_types::epoch::EpochField;
 use txn_types::layout::Layout;
 
 /// The state of any call on a view.
+#[derive(Drop)]
 pub enum ViewOp<T> {
     /// It writes a value that a view then shows: an init, an update, or that of a holder.
     Enters(EntryOp<T>),
@@ -26,18 +27,6 @@ pub enum ViewOp<T> {
     Reads(ViewReadOp<T>),
     /// It makes a view a holder.
     Claims(ClaimOp<T>),
-}
-
-impl<T: Drop> Drop for ViewOp<T> {
-    /// Drops the state: here, so that no crate above has to prove how each is dropped.
-    fn drop(self) {
-        // (by calls: in place, the proof would follow each state that may be dropped)
-        match self {
-            ViewOp::Enters(op) => drop(op),
-            ViewOp::Reads(op) => drop(op),
-            ViewOp::Claims(op) => drop(op),
-        }
-    }
 }
 
 impl<T: Drop> ViewOp<T> {
