@@ -1,4 +1,4 @@
-//! Calls in a row, as a workload makes them.
+//! The calls of workloads, by any protocol.
 //!
 //! The version of each id has the id as its value, so that each answer can be held against what was written.
 ghost use Rattle.std.specs.Prelude.{◌≡◌, ◌+◌, ◌<◌, ◌≤◌, ◌↔◌, ℕ, [], Some, IsTrue, OnOk, IsErrOf};
@@ -78,40 +78,34 @@ fn is_version(read: Option<(MonotonicId, u64)>, id: u64) -> bool
     }
 }
 
-/// Reads the newest version so many times. Any other than the one of this id is `WrongAnswer`.
+/// Reads the newest version. Any other than the one of this id is `WrongAnswer`.
 pub fn read_newest<S: ObjectStore, P: SequencedStorageProtocol<u64, S>>(
     protocol: &mut P,
     store: &mut S,
     newest: u64,
-    count: u64,
 ) -> Result<(), Fault>
     ensures kept { Stays (P.stands protocol.old store.old) (P.stands protocol.new store.new) }
     ensures right { IsErrOf result faults.WrongAnswer → 0 < newest → (b : ℕ) → P.stands protocol.old store.old (numbers_to newest) b → ⊥ }
 {
-    for _ in 0..count {
-        let read = protocol.try_read_latest(store, &mut Turns::new(TURNS))?;
-        if !is_version(read, newest) {
-            return Err(Fault::WrongAnswer);
-        }
+    let read = protocol.try_read_latest(store, &mut Turns::new(TURNS))?;
+    if !is_version(read, newest) {
+        return Err(Fault::WrongAnswer);
     }
     Ok(())
 }
 
-/// Lists all versions so many times. Any other count of them than that of the newest id is `WrongAnswer`.
+/// Lists all versions. Any other count of them than that of the newest id is `WrongAnswer`.
 pub fn list_all<S: ObjectStore, P: SequencedStorageProtocol<u64, S>>(
     protocol: &mut P,
     store: &mut S,
     newest: u64,
-    count: u64,
 ) -> Result<(), Fault>
     ensures kept { Stays (P.stands protocol.old store.old) (P.stands protocol.new store.new) }
     ensures right { IsErrOf result faults.WrongAnswer → P.stands protocol.old store.old (numbers_to newest) 0 → ⊥ }
 {
-    for _ in 0..count {
-        let versions = protocol.list(store, Bound::Unbounded, Bound::Unbounded)?;
-        if versions.len() as u64 != newest {
-            return Err(Fault::WrongAnswer);
-        }
+    let versions = protocol.list(store, Bound::Unbounded, Bound::Unbounded)?;
+    if versions.len() as u64 != newest {
+        return Err(Fault::WrongAnswer);
     }
     Ok(())
 }

@@ -40,7 +40,7 @@ pub fn load_newest<S: ObjectStore>(
     ensures right { IsErrOf result faults.WrongAnswer → 0 < newest → (b : ℕ) → ObjectStands root.now (S.state store.old) (numbers_to newest) b → ⊥ }
 {
     let mut protocol = new_protocol(alloc, root)?;
-    read_newest(&mut protocol, store, newest, 1)
+    read_newest(&mut protocol, store, newest)
 }
 
 /// Loads the newest version by a new protocol, and claims it by that. Any other epoch than the one above this id is
@@ -100,22 +100,28 @@ impl Setting {
         match workload {
             Workload::Update => {
                 update_versions(self.alloc, &mut self.protocol, &mut self.store, calls)?;
-                Ok(())
             }
-            Workload::ReadWarm => read_newest(&mut self.protocol, &mut self.store, newest, calls),
+            Workload::ReadWarm => {
+                for _ in 0..calls {
+                    read_newest(&mut self.protocol, &mut self.store, newest)?;
+                }
+            }
             Workload::LoadCold100 => {
                 for _ in 0..calls {
                     load_newest(self.alloc, &self.root, &mut self.store, newest)?;
                 }
-                Ok(())
             }
-            Workload::List10000 => list_all(&mut self.protocol, &mut self.store, newest, calls),
+            Workload::List10000 => {
+                for _ in 0..calls {
+                    list_all(&mut self.protocol, &mut self.store, newest)?;
+                }
+            }
             Workload::LoadClaimFresh => {
                 for before in 0..calls {
                     load_claim(self.alloc, &self.root, &mut self.store, newest + before)?;
                 }
-                Ok(())
             }
         }
+        Ok(())
     }
 }

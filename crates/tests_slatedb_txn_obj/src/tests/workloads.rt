@@ -39,9 +39,9 @@ fn call_below(
     } = setting;
     match workload {
         Workload::Update => Ok(update_versions(alloc, protocol, store, newest)?),
-        Workload::ReadWarm => read_newest(protocol, store, newest, 2),
+        Workload::ReadWarm => read_newest(protocol, store, newest),
         Workload::LoadCold100 => load_newest(alloc, root, store, newest),
-        Workload::List10000 => list_all(protocol, store, newest, 2),
+        Workload::List10000 => list_all(protocol, store, newest),
         Workload::LoadClaimFresh => load_claim(alloc, root, store, newest),
     }
 }

@@ -9,6 +9,6 @@ pub returns-then-len-newest-clause-right : goal.returns-then-len-newest-clause-r
 returns-then-len-newest-clause-right g c =
     let versions = c.in_ok-versions.versions in
     λ wrong stands.
-    let listed = all_listed c.args.newest (map (λ v. v.id) versions.items) (c.in_ok-versions.ensures.listed (numbers_to c.args.newest) 0 (c.loop.invariant (numbers_to c.args.newest) 0 stands)) in
+    let listed = all_listed c.args.newest (map (λ v. v.id) versions.items) (c.in_ok-versions.ensures.listed (numbers_to c.args.newest) 0 stands) in
     let mapped = length-map versions.items (λ v. v.id) in
     c.if-len-newest.true (c.len.ensures ∙ omega (arith, versions.ok.0, listed, mapped))

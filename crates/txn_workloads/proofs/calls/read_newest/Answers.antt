@@ -6,4 +6,4 @@ use Rattle.txn_workloads.proofs.calls.read_newest.Goals as goal
 
 pub returns-then-not-is_version-clause-right : goal.returns-then-not-is_version-clause-right
 returns-then-not-is_version-clause-right g c =
-    λ wrong some b stands. let is = newest_is c.args.newest c.in_ok-read.read some (c.in_ok-read.ensures.latest (numbers_to c.args.newest) b (c.loop.invariant (numbers_to c.args.newest) b stands)) in (let no = c.is_version.ensures in let ne = c.if-not-is_version in search rules)
+    λ wrong some b stands. let is = newest_is c.args.newest c.in_ok-read.read some (c.in_ok-read.ensures.latest (numbers_to c.args.newest) b stands) in (let no = c.is_version.ensures in let ne = c.if-not-is_version in search rules)
