@@ -52,6 +52,7 @@ struct Begin {
 }
 
 /// What files of recordings have.
+#[derive(Drop)]
 struct Recordings {
     rows: Vec<Vec<Row<Entry>>>,
     /// Where each begins.
@@ -60,18 +61,6 @@ struct Recordings {
     clocks: Vec<Source>,
     /// The clock of the recording that comes next, where that was said.
     next: Option<usize>,
-}
-
-impl Drop for Recordings {
-    /// Drops all that was read: here, so that no function that owns it has to prove how each part is dropped.
-    fn drop(self) {
-        let Recordings {
-            rows: _,
-            begins: _,
-            clocks: _,
-            next: _,
-        } = self;
-    }
 }
 
 /// How many of these bytes are whole lines: those up to the last line feed.
