@@ -1,5 +1,6 @@
 //! Transcripts: what clients do, line by line as in a script, each with what it is told after `=>`, or with what is asked for
-//! below it, two spaces in.
+//! below it, two spaces in. A line may have several events, with commas between: each but the last is told that its operation
+//! goes on.
 ghost use Rattle.std.specs.Prelude.{◌≤◌, vec_len};
 
 use crate::tests::workers::{Records, kept_by};
@@ -19,13 +20,24 @@ use txn_threads::kept::Share;
 /// The last word of a transcript that goes no further, since an operation was answered 9 and left what it may.
 const LACKED: &str = "lacked";
 
-/// The event of a line: what it says, or the next of the operation that is to run.
+/// What stands between two events of a line.
+const NEXT: &str = ", ";
+
+/// The event of a part of a line, without what stands before the next one.
+fn event_in(part: &str) -> &str {
+    match part.strip_suffix(NEXT) {
+        Some(event) => event,
+        None => part,
+    }
+}
+
+/// What an event says, or the next event of the operation that is to run.
 fn event_of(
     alloc: Global,
     kept: &Records,
-    line: &str,
+    event: &str,
 ) -> Result<Option<Event<Record>>, AllocError> {
-    let line: Option<Line<Call<Record>>> = TextForm::read_text(alloc, line)?;
+    let line: Option<Line<Call<Record>>> = TextForm::read_text(alloc, event)?;
     Ok(match line {
         Some(Line::Event(event)) => Some(event),
         Some(Line::Run(op)) => Some(kept.world().next_event(op)),
@@ -33,14 +45,14 @@ fn event_of(
     })
 }
 
-/// What is told of the event of a line.
+/// What is told of an event.
 fn told(
     alloc: Global,
     kept: &mut Records,
     share: &mut Share,
-    line: &str,
+    event: &str,
 ) -> Result<String, AllocError> {
-    let Some(event) = event_of(alloc, kept, line)? else {
+    let Some(event) = event_of(alloc, kept, event)? else {
         return format!(in alloc; "no event");
     };
     match kept.take(share, event) {
@@ -49,9 +61,17 @@ fn told(
     }
 }
 
-/// Whether a line that was told this is taken again: its event was refused for want of memory, or its operation goes on.
-fn goes_on(line: &str, told: &str) -> bool {
-    told == "NoMemory" || (line.starts_with("run ") && told.starts_with("Went("))
+/// Whether an event was told that its operation goes on.
+fn went_on(event: &str, told: &str) -> bool {
+    match (event.split_once(' '), told.strip_prefix("Went(")) {
+        (Some((_kind, op)), Some(rest)) => rest.strip_suffix(")").is_some_and(|went| went == op),
+        _ => false,
+    }
+}
+
+/// Whether an event that was told this is taken again: it was refused for want of memory, or its operation is to run on.
+fn is_taken_again(event: &str, told: &str) -> bool {
+    told == "NoMemory" || (event.starts_with("run ") && went_on(event, told))
 }
 
 /// A view: its id, its value, and the epoch of a holder.
@@ -89,27 +109,28 @@ fn may_leave(claims: bool, before: Left, after: Left) -> bool {
     after.0 == before.0 && (ends_first || ends_second)
 }
 
-/// Adds what a line is told last, and says whether its operation was not answered 9. Where the last begin was a claim, it is
-/// the operation of the line.
-fn take_line(
+/// Adds what an event is told last, and says whether its operation was not answered 9. Where the last begin was a claim, it is
+/// the operation of the event.
+fn take_event(
     alloc: Global,
     kept: &mut Records,
     share: &mut Share,
     claims: bool,
-    line: &str,
+    part: &str,
     text: &mut String,
 ) -> Result<bool, AllocError> {
+    let event = event_in(part);
     let mut before = left(kept);
-    let mut last = told(alloc, kept, share, line)?;
+    let mut last = told(alloc, kept, share, event)?;
     for _turn in 1..64 {
-        if !goes_on(line, last.as_str()) {
+        if !is_taken_again(event, last.as_str()) {
             break;
         }
         before = left(kept);
-        last = told(alloc, kept, share, line)?;
+        last = told(alloc, kept, share, event)?;
     }
     if !last.as_str().ends_with("Refused(9)))") {
-        add_told(alloc, text, line, last.as_str())?;
+        add_told(alloc, text, part, last.as_str())?;
         return Ok(true);
     }
     if may_leave(claims, before, left(kept)) {
@@ -118,9 +139,13 @@ fn take_line(
     Ok(false)
 }
 
-/// Adds a line and what it is told.
-fn add_told(alloc: Global, text: &mut String, line: &str, told: &str) -> Result<(), AllocError> {
-    let line = format!(in alloc; "{line} => {told}\n")?;
+/// Adds an event and what it is told, which is left out where that is that it goes on and another event of its line follows.
+fn add_told(alloc: Global, text: &mut String, part: &str, told: &str) -> Result<(), AllocError> {
+    let event = event_in(part);
+    if event.len() < part.len() && went_on(event, told) {
+        return text.push_str(part);
+    }
+    let line = format!(in alloc; "{event} => {told}\n")?;
     text.push_str(line.as_str())
 }
 
@@ -267,15 +292,19 @@ fn play(
         if line.starts_with(' ') {
             continue;
         }
-        if line.starts_with("begin ") {
-            claims = line.contains(" claim");
-        }
         if line.starts_with('#') || line.starts_with('?') {
             text.push_str(line)?;
             text.push('\n')?;
             answer(alloc, kept, share, line, text)?;
-        } else if !take_line(alloc, kept, share, claims, words_of(line), text)? {
-            break;
+            continue;
+        }
+        for part in words_of(line).split_inclusive(NEXT) {
+            if part.starts_with("begin ") {
+                claims = part.contains(" claim");
+            }
+            if !take_event(alloc, kept, share, claims, part, text)? {
+                return Ok(());
+            }
         }
     }
     Ok(())

@@ -25,13 +25,7 @@ look 1 => Went(1)
 look 1 => Went(1)
 serve 1 => Answered(1, Plain(Wrote(1)))
 begin 2 read => Began(2)
-look 2 => Went(2)
-serve 2 => Went(2)
-look 2 => Went(2)
-serve 2 => Went(2)
-look 2 => Went(2)
-look 2 => Went(2)
-look 2 => Went(2)
+look 2, serve 2, look 2, serve 2, look 2, look 2, look 2 => Went(2)
 serve 2 => Answered(2, Plain(Read(Some((1, Record { epoch: 0, payload: 1 })))))
 ? state
   5 rows, failed [], worker 1 took 15
@@ -40,11 +34,7 @@ serve 2 => Answered(2, Plain(Read(Some((1, Record { epoch: 0, payload: 1 })))))
 # the second of two writes conflicts
 begin 1 write - 0:1 => Began(1)
 begin 2 write - 0:2 => Began(2)
-serve 2 => Went(2)
-look 2 => Went(2)
-look 2 => Went(2)
-look 2 => Went(2)
-serve 2 => Answered(2, Plain(Wrote(1)))
+serve 2, look 2, look 2, look 2, serve 2 => Answered(2, Plain(Wrote(1)))
 serve 1 => Answered(1, Plain(Refused(5)))
 ? state
   5 rows, failed [], worker 1 took 8
@@ -96,10 +86,7 @@ begin 1 write - 0:1 => Began(1)
 begin 1 write 1 0:2 => UnknownBase
 serve 1 => Went(1)
 begin 1 write 1 0:2 => UnknownBase
-look 1 => Went(1)
-look 1 => Went(1)
-look 1 => Went(1)
-serve 1 => Answered(1, Plain(Wrote(1)))
+look 1, look 1, look 1, serve 1 => Answered(1, Plain(Wrote(1)))
 serve 1 => UnknownNumber
 begin 1 write 1 0:2 => Began(2)
 ? state
@@ -118,19 +105,11 @@ begin 2 write 1 5:2 => Began(2)
     "\
 # a view and its holder
 begin 1 init 0:1 => Began(1)
-serve 1 => Went(1)
-look 1 => Went(1)
-look 1 => Went(1)
-look 1 => Went(1)
-serve 1 => Answered(1, View(1, 1, Record { epoch: 0, payload: 1 }))
+serve 1, look 1, look 1, look 1, serve 1 => Answered(1, View(1, 1, Record { epoch: 0, payload: 1 }))
 begin 2 refresh 1 => UnknownNumber
 begin 1 claim 1 => Began(2)
 begin 1 update 1 0:2 => ViewBusy
-serve 2 => Went(2)
-look 2 => Went(2)
-look 2 => Went(2)
-look 2 => Went(2)
-serve 2 => Answered(2, Held(1, 2, Record { epoch: 1, payload: 1 }, 1))
+serve 2, look 2, look 2, look 2, serve 2 => Answered(2, Held(1, 2, Record { epoch: 1, payload: 1 }, 1))
 # A begin is answered where the value has another epoch.
 begin 1 holder_update 1 2:1 => Answered(3, Plain(Refused(7)))
 begin 1 holder_update 1 1:2 => Began(4)
