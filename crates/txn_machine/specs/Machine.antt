@@ -14,7 +14,7 @@ use Rattle.txn_history.specs.Lists.{numbered}
 use Rattle.txn_history.specs.Seen.{Ask, Store, Look, Operation as SeenOperation, Seen, asks_of, AllSeen}
 use Rattle.txn_history.specs.GoesOn.{all_left_loose}
 use Rattle.txn_history.specs.Added.{told_of, answer_rows}
-use Rattle.txn_machine_inner.specs.Machine.{StateOf, no_caches, effect_of, opening_with, next_op, effected, loosened, failing, seen_by, Asking, CallReaches, LooseReaches, failing_by, fault_met, taken_count}
+use Rattle.txn_machine_inner.specs.Machine.{StateOf, no_caches, effect_of, opening_with, next_op, effected, loosened, failing, seen_by, Asking, CallReaches, LooseReaches, FailsBy, fault_met, taken_count}
 use Rattle.txn_store.specs.MemoryServes.{lacks_memory}
 use Rattle.txn_view_steps.specs.declared.outcome.Outcome.TheVariants as outcomes
 use Rattle.txn_history.specs.declared.event.Call.{Call}
@@ -227,7 +227,7 @@ module _ {T : Type 0} where
 
   -- a failure by its kind
   abbrev pub Fails : State T → ℕ → Failure → Told T → State T → Type 0
-  Fails old op failure said new = failing_by (λ looses. FailsFirst old op said looses new) (FailsAfter old op said new) failure
+  Fails = FailsBy FailsFirst FailsAfter
 
   -- A give-up: the operation ends with no answer, and what it asked for may still reach the store.
   pub record GivesUp (old : State T) (op : ℕ) (said : Told T) (new : State T) : Type 0 where

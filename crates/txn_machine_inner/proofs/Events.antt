@@ -26,7 +26,7 @@ use Rattle.txn_machine_inner.specs.declared.doing.PlainDoing.{PlainDoing}
 use Rattle.txn_machine_inner.specs.declared.doing.PlainDoing.TheVariants.{Write, WriteUnchecked, Read, ReadUnchecked, ReadSeen, ListIds, Delete, Check, Advance, Ended}
 use Rattle.txn_machine_inner.specs.declared.doing.PlainOperation.{PlainOperation}
 use Rattle.txn_machine_inner.specs.Doing.{Next, asked, caches_left}
-use Rattle.txn_machine_inner.specs.Machine.{State, effect_of, with_doing, acted, effected, failing, given_up, told_failure, Acts, Reaches, FailsFirst, FailsAfter, failing_by, GivesUp, Lands, Looks, Served}
+use Rattle.txn_machine_inner.specs.Machine.{State, effect_of, with_doing, acted, effected, failing, given_up, told_failure, Acts, Reaches, FailsFirst, FailsAfter, GivesUp, Lands, Looks, Served, FailsBy}
 use Rattle.txn_machine_inner.proofs.Lists.{within, numbered_here}
 use Rattle.txn_history.proofs.More.{begun_count-more}
 use Rattle.txn_machine_inner.proofs.Stands.{AreOthers, CachesStand, Runs, RunStands, OpStands, TurnStands, Asks, StandsBut, Stands}
@@ -185,7 +185,7 @@ module _ {T : Type 0} (decode : List ℕ → Option T) (get_epoch : T → ℕ) w
       subst (λ (s : State T). Stands decode get_epoch s) (sym v.state)
       (failed_keeps s' op v.call.operation (Store v.call.request) run.0 v.call.caches (record { found = a.found; asks = a.asks; kept = a.kept }) (inr runs) fits (effected_but old op v.call.request v.call.reply v.call.store bound.0 bound.1 r (but decode get_epoch old op st)))
 
-  pub fail_keeps : (failure : Failure) (old : State T) (op : ℕ) (said : PlainTold T) (new : State T) → failing_by (λ looses. FailsFirst old op said looses new) (FailsAfter old op said new) failure → Stands decode get_epoch old → Stands decode get_epoch new
+  pub fail_keeps : (failure : Failure) (old : State T) (op : ℕ) (said : PlainTold T) (new : State T) → FailsBy FailsFirst FailsAfter old op failure said new → Stands decode get_epoch old → Stands decode get_epoch new
   fail_keeps failures.Before old op said new v st = fails_first_keeps false old op said new v st
   fail_keeps failures.After old op said new v st = fails_after_keeps old op said new v st
   fail_keeps failures.Loose old op said new v st = fails_first_keeps true old op said new v st

@@ -29,7 +29,7 @@ use Rattle.txn_machine_inner.specs.declared.doing.PlainDoing.{PlainDoing}
 use Rattle.txn_machine_inner.specs.declared.doing.PlainDoing.TheVariants.{Write, WriteUnchecked, Read, ReadUnchecked, ReadSeen, ListIds, Delete, Check, Advance, Ended}
 use Rattle.txn_machine_inner.specs.declared.doing.PlainOperation.{PlainOperation}
 use Rattle.txn_machine_inner.specs.Doing.{Next, started, turned, caches_left, asked, next_of, or_no_memory, write_answer, read_answer, value_answer, ids_answer, done_answer}
-use Rattle.txn_machine_inner.specs.Machine.{State, seen_operation, seen_operations, seen_of, with_doing, effected, acted, loosened, failing, given_up, told_failure, ended_by, crashed, next_op, begun_as, Acts, FailsFirst, FailsAfter, failing_by, GivesUp, Crashes, Looks, Served, Begins, Takes}
+use Rattle.txn_machine_inner.specs.Machine.{State, seen_operation, seen_operations, seen_of, with_doing, effected, acted, loosened, failing, given_up, told_failure, ended_by, crashed, next_op, begun_as, Acts, GivesUp, Crashes, Looks, Served, Begins, Takes, FailsFirst, FailsAfter, FailsBy}
 use Rattle.txn_machine_inner.proofs.Ends.{EndsOne, answer_ends, give_up_ends, told_ends, told_so, land_goes, seen_got, states_acted, states_new, states_crashed}
 
 module _ {T : Type 0} where
@@ -150,7 +150,7 @@ module _ {T : Type 0} where
       map state_of (seen_operations (with_doing old.operations op o Ended)) ≡ states_after {A = PlainAnswer T} (told.Answered op (answers.Refused 2)) 1 (seen_operations old.operations) None
   failed_states old op o ask caches a = acted_states (told.Answered op (answers.Refused 2)) op true old.operations o ask Ended a.found (answer_ends op (answers.Refused 2)) a.asks refl
 
-  fail_goes : (failure : Failure) (old : State T) (op : ℕ) (said : PlainTold T) (new : State T) → failing_by (λ looses. FailsFirst old op said looses new) (FailsAfter old op said new) failure → OperationsGoOn {C = PlainCall T} (seen_of old) (events.Fail op failure) said (seen_of new)
+  fail_goes : (failure : Failure) (old : State T) (op : ℕ) (said : PlainTold T) (new : State T) → FailsBy FailsFirst FailsAfter old op failure said new → OperationsGoOn {C = PlainCall T} (seen_of old) (events.Fail op failure) said (seen_of new)
   fail_goes failures.Before old op said new v =
       told_so seen_operation old (events.Fail op failures.Before) said (told.Answered op (answers.Refused 2)) new (acted (failing old op) op v.operation told_failure v.caches) v.tells v.state
       (record { clients = refl; operations = failed_states old op v.operation (Store v.request) v.caches v.acts; loose = refl; failed = refl })

@@ -13,7 +13,7 @@ use Rattle.txn_history.specs.History.{stored, HasContents}
 use Rattle.txn_history.specs.Calls.{begun_count}
 use Rattle.txn_machine_inner.specs.PlainHistory.{IsOneHistory}
 use Rattle.txn_history.specs.Added.{Tells, answer_row, effect_rows, AddsRows}
-use Rattle.txn_machine_inner.specs.Machine.{State, opening, seen_of, effect_of, next_op, FailsFirst, FailsAfter, failing_by, Lands, Looks, Served, Begins, Takes, Runs, IsReached}
+use Rattle.txn_machine_inner.specs.Machine.{State, opening, seen_of, effect_of, next_op, Lands, Looks, Served, Begins, Takes, Runs, IsReached, FailsFirst, FailsAfter, FailsBy}
 use Rattle.txn_machine_inner.proofs.Stands.{Stands}
 use Rattle.txn_machine_inner.proofs.EffectRows.{tells_answer, went_row, began_row, adds_answer, adds_effect, adds_landing}
 use Rattle.txn_machine_inner.proofs.Going.{seen_at}
@@ -27,7 +27,7 @@ module _ {T : Type 0} (encode : T → List ℕ) (decode : List ℕ → Option T)
 
   -- events change neither the number of clients nor the size of a page
 
-  fails_same : (failure : Failure) (old : State T) (op : ℕ) (said : PlainTold T) (new : State T) → failing_by (λ looses. FailsFirst old op said looses new) (FailsAfter old op said new) failure → (new.clients ≡ old.clients) × (new.page ≡ old.page)
+  fails_same : (failure : Failure) (old : State T) (op : ℕ) (said : PlainTold T) (new : State T) → FailsBy FailsFirst FailsAfter old op failure said new → (new.clients ≡ old.clients) × (new.page ≡ old.page)
   fails_same failures.Before old op said new v = (ap (λ (s : State T). s.clients) v.state, ap (λ (s : State T). s.page) v.state)
   fails_same failures.After old op said new v = (ap (λ (s : State T). s.clients) v.state, ap (λ (s : State T). s.page) v.state)
   fails_same failures.Loose old op said new v = (ap (λ (s : State T). s.clients) v.state, ap (λ (s : State T). s.page) v.state)
@@ -80,7 +80,7 @@ module _ {T : Type 0} (encode : T → List ℕ) (decode : List ℕ → Option T)
     ap (λ (s : State T). s.store.files) v.state,
   )
 
-  fail_adds : (failure : Failure) (old : State T) (op : ℕ) (said : PlainTold T) (new : State T) → failing_by (λ looses. FailsFirst old op said looses new) (FailsAfter old op said new) failure → Stands decode get_epoch old → AddsRows (seen_of old) old.trace old.store.files (events.Fail op failure) said new.trace new.store.files
+  fail_adds : (failure : Failure) (old : State T) (op : ℕ) (said : PlainTold T) (new : State T) → FailsBy FailsFirst FailsAfter old op failure said new → Stands decode get_epoch old → AddsRows (seen_of old) old.trace old.store.files (events.Fail op failure) said new.trace new.store.files
   fail_adds failures.Before old op said new v st = ((answers.Refused 2, v.tells), adds_answer op (answers.Refused 2) old.trace new.trace old.store.files new.store.files said v.tells (ap (λ (s : State T). s.trace) v.state) (ap (λ (s : State T). s.store.files) v.state))
   fail_adds failures.Loose old op said new v st = ((answers.Refused 2, v.tells), adds_answer op (answers.Refused 2) old.trace new.trace old.store.files new.store.files said v.tells (ap (λ (s : State T). s.trace) v.state) (ap (λ (s : State T). s.store.files) v.state))
   fail_adds failures.After old op said new v st = (

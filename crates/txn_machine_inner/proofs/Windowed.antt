@@ -44,7 +44,7 @@ use Rattle.txn_history.specs.Lists.{numbered}
 use Rattle.txn_machine_inner.specs.declared.doing.PlainDoing.{PlainDoing}
 use Rattle.txn_machine_inner.specs.declared.doing.PlainDoing.TheVariants.{Write, WriteUnchecked, Read, ReadUnchecked, ReadSeen, ListIds, Delete, Check, Advance, Ended}
 use Rattle.txn_machine_inner.specs.Doing.{said_of, caches_left}
-use Rattle.txn_machine_inner.specs.Machine.{State, no_caches, opening, FailsFirst, FailsAfter, failing_by, Takes, Runs}
+use Rattle.txn_machine_inner.specs.Machine.{State, no_caches, opening, FailsFirst, Takes, Runs, FailsAfter, FailsBy}
 use Rattle.txn_machine_inner.specs.Alone.{IsWindow}
 
 -- the rules of a window
@@ -191,7 +191,7 @@ module _ {T : Type 0} (encode : T → List ℕ) (decode : List ℕ → Option T)
   first_windowed false old op said new v h = subst Windowed (sym v.state) (left_windows old.caches v.operation.client v.caches v.caches v.acts.kept h (λ w. w))
   first_windowed true old op said new v h = subst Windowed (sym v.state) (left_windows old.caches v.operation.client v.caches v.caches v.acts.kept h (λ w. w))
 
-  fail_windowed : (failure : Failure) (old : State T) (op : ℕ) (said : PlainTold T) (new : State T) → failing_by (λ looses. FailsFirst old op said looses new) (FailsAfter old op said new) failure → Windowed old → Windowed new
+  fail_windowed : (failure : Failure) (old : State T) (op : ℕ) (said : PlainTold T) (new : State T) → FailsBy FailsFirst FailsAfter old op failure said new → Windowed old → Windowed new
   fail_windowed failures.Before old op said new v h = first_windowed false old op said new v h
   fail_windowed failures.After old op said new v h = subst Windowed (sym v.state) (left_windows old.caches v.call.operation.client v.call.caches v.call.caches v.call.acts.kept h (λ w. w))
   fail_windowed failures.Loose old op said new v h = first_windowed true old op said new v h

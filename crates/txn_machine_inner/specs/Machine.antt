@@ -130,11 +130,11 @@ module _ {O V C A : Type 0} (see : O → SeenOperation) where
     pub store : StoreState
     pub reaches : Reaches s request reply store
 
--- what a failure does by its kind: before its effect, or where its request becomes loose, nothing reaches the store
-abbrev pub failing_by : (Bool → Type 0) → Type 0 → Failure → Type 0
-failing_by first after failures.Before = first false
-failing_by first after failures.After = after
-failing_by first after failures.Loose = first true
+-- A failure by its kind: before its effect, or where its request becomes loose, nothing reaches the store.
+abbrev pub FailsBy : {S A : Type 0} → (S → ℕ → A → Bool → S → Type 0) → (S → ℕ → A → S → Type 0) → S → ℕ → Failure → A → S → Type 0
+FailsBy First After old op failures.Before said new = First old op said false new
+FailsBy First After old op failures.After said new = After old op said new
+FailsBy First After old op failures.Loose said new = First old op said true new
 
 -- A state of the machine of plain calls, which has no views.
 abbrev pub State : Type 0 → Type 0
@@ -288,7 +288,7 @@ module _ {T : Type 0} (encode : T → List ℕ) (decode : List ℕ → Option T)
   Steps old (events.Begin client call) said new = Begins old client call said new
   Steps old (events.Look op) said new = Looks decode old op said new
   Steps old (events.Serve op) said new = Served decode old op said new
-  Steps old (events.Fail op failure) said new = failing_by (λ looses. FailsFirst old op said looses new) (FailsAfter old op said new) failure
+  Steps old (events.Fail op failure) said new = FailsBy FailsFirst FailsAfter old op failure said new
   Steps old (events.GiveUp op) said new = GivesUp old op said new
   Steps old (events.Land k) said new = Lands old k said new
   Steps old (events.Crash client) said new = Crashes old client said new
