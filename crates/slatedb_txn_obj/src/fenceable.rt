@@ -108,7 +108,8 @@ impl<T: Clone, I: Invariant<T> + Drop, X: EpochField<T>> FenceableTransactionalO
         ensures other { IfErr result (IsEpochError self.now.local_epoch (X.epoch_of self.now.epochs self.now.delegate.object)) }
     {
         let stored_epoch = self.epochs.get_epoch(self.delegate.object());
-        test_epoch(self.local_epoch, stored_epoch)
+        test_epoch(self.local_epoch, stored_epoch)?;
+        Ok(())
     }
 }
 

@@ -14,9 +14,9 @@ use txn_store::path::Path;
 use txn_store::request::{Reply, Request};
 use txn_store::store::{PutMode, StoreError, Token};
 use txn_types::boundary::boundary_bytes;
-use txn_types::error::TransactionalObjectError;
 use txn_types::id::MonotonicId;
 use txn_types::layout::Layout;
+use txn_types::step_error::StepError;
 
 /// A raise of the boundary to a target.
 #[derive(Drop)]
@@ -187,7 +187,7 @@ impl BoundaryAdvance {
         path: &Path,
         cached: &mut Option<CachedBoundary>,
         reply: Option<Reply>,
-    ) -> Turned<Result<(), TransactionalObjectError>>
+    ) -> Turned<Result<(), StepError>>
         requires { IsBoundaryAdvanceReply self.old reply }
         ensures turned { (self.new, turned_by_number result) ≡ unless_lacking (lacks_memory (turned_by_number result)) self.old (boundary_advance_turned path.now self.old cached.old reply) }
         ensures cached { cached.new ≡ boundary_advance_cached self.old cached.old }
@@ -214,8 +214,8 @@ impl BoundaryAdvance {
         path: &Path,
         target: MonotonicId,
         again: bool,
-        told: Turned<Result<Known, TransactionalObjectError>>,
-    ) -> Turned<Result<(), TransactionalObjectError>>
+        told: Turned<Result<Known, StepError>>,
+    ) -> Turned<Result<(), StepError>>
         ensures turned { (self.new, turned_by_number result) ≡ unless_lacking (lacks_memory (turned_by_number result)) self.old (advance_after path.now self.old target again (turned_by_number told)) }
         ensures goes { turned_by_number told ≡ Turned.Goes → turned_by_number result ≡ Turned.Goes }
         ensures store_error { (error : _) → TellsErrorOf error told → TellsErrorOf error result }
@@ -273,7 +273,7 @@ impl AdvanceOp {
         layout: &Layout<C>,
         caches: &mut Caches,
         reply: Option<Reply>,
-    ) -> Turned<Result<(), TransactionalObjectError>>
+    ) -> Turned<Result<(), StepError>>
         requires { IsAdvanceReply self.old reply }
         ensures turned { (self.new, turned_by_number result) ≡ unless_lacking (lacks_memory (turned_by_number result)) self.old (advance_turned layout.now.boundary self.old caches.old reply) }
         ensures caches { caches.new ≡ advance_caches self.old caches.old }

@@ -12,7 +12,7 @@ use txn_store::path::Path;
 use txn_store::request::{Reply, Request};
 use txn_store::store::{Got, StoreError, Token};
 use txn_types::boundary::read_boundary;
-use txn_types::error::TransactionalObjectError;
+use txn_types::step_error::{ErrorKind, StepError};
 
 /// A boundary that is known, with the token of its file where there is one.
 pub type Known = (u64, Option<Token>);
@@ -45,7 +45,7 @@ fn after_get(answer: Result<Got, StoreError>, op: &BoundaryRead) -> Step
             }
             None => (
                 None,
-                Turned::Done(Err(TransactionalObjectError::InvalidObjectState)),
+                Turned::Done(Err(ErrorKind::InvalidObjectState.into())),
             ),
         },
         Err(StoreError::NotFound) => (None, Turned::Done(Ok((0, None)))),
@@ -75,7 +75,7 @@ fn after_read(
                 Some(kept) => (None, Turned::Done(Ok((kept.number, Some(kept.token))))),
                 None => (
                     None,
-                    Turned::Done(Err(TransactionalObjectError::InvalidObjectState)),
+                    Turned::Done(Err(ErrorKind::InvalidObjectState.into())),
                 ),
             }
         }
@@ -127,7 +127,7 @@ impl BoundaryRead {
         &mut self,
         cached: &mut Option<CachedBoundary>,
         reply: Option<Reply>,
-    ) -> Turned<Result<Known, TransactionalObjectError>>
+    ) -> Turned<Result<Known, StepError>>
         requires { IsBoundaryReply self.old reply }
         ensures turned { (self.new, turned_by_number result) ≡ boundary_turned self.old cached.old reply }
         ensures cached { cached.new ≡ boundary_cached self.old cached.old }

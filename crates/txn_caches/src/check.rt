@@ -11,9 +11,9 @@ use crate::turned::Turned;
 use std::alloc::AllocError;
 use txn_store::path::Path;
 use txn_store::request::{Reply, Request};
-use txn_types::error::TransactionalObjectError;
 use txn_types::id::MonotonicId;
 use txn_types::layout::Layout;
+use txn_types::step_error::{ErrorKind, StepError};
 
 /// Where a check of the boundary is.
 #[derive(Clone, Copy, Debug, PartialEq, Eq)]
@@ -36,13 +36,13 @@ pub struct BoundaryCheck {
 }
 
 /// What a boundary says of an id.
-fn decide(id: MonotonicId, known: Known) -> Result<(), TransactionalObjectError>
+fn decide(id: MonotonicId, known: Known) -> Result<(), StepError>
     ensures { by_number result ≡ decided id (Ok known) }
 {
     if known.0 < id.id() {
         Ok(())
     } else {
-        Err(TransactionalObjectError::ObjectVersionExists)
+        Err(ErrorKind::ObjectVersionExists.into())
     }
 }
 
@@ -108,7 +108,7 @@ impl BoundaryCheck {
         &mut self,
         cached: &mut Option<CachedBoundary>,
         reply: Option<Reply>,
-    ) -> Turned<Result<(), TransactionalObjectError>>
+    ) -> Turned<Result<(), StepError>>
         requires { IsBoundaryCheckReply self.old reply }
         ensures turned { (self.new, turned_by_number result) ≡ boundary_check_turned self.old cached.old reply }
         ensures cached { cached.new ≡ boundary_check_cached self.old cached.old }
@@ -117,7 +117,7 @@ impl BoundaryCheck {
         match self.step {
             BoundaryStep::Looks => {
                 if is_refused(self.id, cached) {
-                    Turned::Done(Err(TransactionalObjectError::ObjectVersionExists))
+                    Turned::Done(Err(ErrorKind::ObjectVersionExists.into()))
                 } else {
                     self.step = BoundaryStep::Reads;
                     Turned::Goes
@@ -179,23 +179,26 @@ impl CheckOp {
         &mut self,
         caches: &mut Caches,
         reply: Option<Reply>,
-    ) -> Turned<Result<(), TransactionalObjectError>>
+    ) -> Turned<Result<(), StepError>>
         requires { IsCheckReply self.old reply }
         ensures turned { (self.new, turned_by_number result) ≡ check_turned self.old caches.old reply }
         ensures caches { caches.new ≡ check_caches self.old caches.old }
         ensures store_error { TellsErrorOf (reply_told reply) result }
     {
         match self {
-            CheckOp::Checks(check) => match check.take(&mut caches.boundary, reply) {
-                Turned::Done(Err(TransactionalObjectError::ObjectVersionExists)) => {
-                    *self = CheckOp::Drops(check.id);
-                    Turned::Goes
+            CheckOp::Checks(check) => {
+                let id = check.id;
+                match check.take(&mut caches.boundary, reply) {
+                    Turned::Done(Err(error)) if error.is_sequenced_write_conflict() => {
+                        *self = CheckOp::Drops(id);
+                        Turned::Goes
+                    }
+                    told => told,
                 }
-                told => told,
-            },
+            }
             CheckOp::Drops(id) => {
                 caches.latest.forget_through(*id);
-                Turned::Done(Err(TransactionalObjectError::ObjectVersionExists))
+                Turned::Done(Err(ErrorKind::ObjectVersionExists.into()))
             }
         }
     }

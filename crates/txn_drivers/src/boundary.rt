@@ -17,8 +17,8 @@ use txn_caches::check::BoundaryCheck;
 use txn_caches::turned::Turned;
 use txn_store::path::Path;
 use txn_store::store::ObjectStore;
-use txn_types::error::TransactionalObjectError;
 use txn_types::id::MonotonicId;
+use txn_types::step_error::{ErrorKind, StepError};
 
 /// Whether the cached boundary is at or above the id.
 fn is_reached(id: MonotonicId, cached: &Option<CachedBoundary>) -> bool
@@ -42,12 +42,12 @@ pub fn check_boundary<S: ObjectStore>(
     cached: &mut Option<CachedBoundary>,
     store: &mut S,
     id: MonotonicId,
-) -> Result<(), TransactionalObjectError>
+) -> Result<(), StepError>
     ensures { Checked path.now id (S.state store.old) (S.state store.new) cached.old cached.new result }
 {
     // Nothing grows where the cached boundary is the answer.
     if is_reached(id, cached) {
-        return Err(TransactionalObjectError::ObjectVersionExists);
+        return Err(ErrorKind::ObjectVersionExists.into());
     }
     let mut op = BoundaryCheck::asking(path, id, cached)?;
     'steps: loop {
@@ -79,7 +79,7 @@ fn run_advance<S: ObjectStore>(
     target: MonotonicId,
     turns: &mut Turns,
     op: &mut BoundaryAdvance,
-) -> Result<(), TransactionalObjectError>
+) -> Result<(), StepError>
     requires unreached { refused_by target cached.old ≡ false }
     requires looks { op.old ≡ BoundaryAdvance.Looks target }
     ensures { Advanced path.now target (S.state store.old) (S.state store.new) turns.old turns.new cached.old cached.new result }
@@ -87,7 +87,7 @@ fn run_advance<S: ObjectStore>(
     number_fits(target);
     'steps: loop {
         if !pay(op, turns) {
-            return Err(TransactionalObjectError::TurnsExhausted);
+            return Err(ErrorKind::TurnsExhausted.into());
         }
         match op.take(alloc, path, cached, reply_to(alloc, store, op.ask())) {
             Turned::Goes => {}
@@ -110,7 +110,7 @@ pub fn advance_boundary<S: ObjectStore>(
     store: &mut S,
     target: MonotonicId,
     turns: &mut Turns,
-) -> Result<(), TransactionalObjectError>
+) -> Result<(), StepError>
     ensures { Advanced path.now target (S.state store.old) (S.state store.new) turns.old turns.new cached.old cached.new result }
 {
     // Nothing grows where the cached boundary is the answer.

@@ -23,13 +23,13 @@ use txn_caches::turned::Turned;
 use txn_steps::delete::{DeleteAnswer, DeleteOp};
 use txn_steps::write::{WriteAnswer, WriteOp};
 use txn_store::store::ObjectStore;
-use txn_types::error::TransactionalObjectError;
+use txn_types::step_error::StepError;
 
 /// What a check answers: that the id is above the boundary.
-pub type CheckAnswer = Result<(), TransactionalObjectError>;
+pub type CheckAnswer = Result<(), StepError>;
 
 /// What an advance answers: that the boundary has reached the target.
-pub type AdvanceAnswer = Result<(), TransactionalObjectError>;
+pub type AdvanceAnswer = Result<(), StepError>;
 
 /// A check looks at the cached boundary, reads the boundary's file between two looks, and drops what a refused id leaves.
 impl<C, S: ObjectStore> Drive<C, S> for CheckOp {

@@ -13,8 +13,8 @@ use txn_caches::window::Window;
 use txn_steps::latest::{LatestOp, ReadAnswer};
 use txn_store::store::ObjectStore;
 use txn_types::codec::ObjectCodec;
-use txn_types::error::TransactionalObjectError;
 use txn_types::layout::Layout;
+use txn_types::step_error::{ErrorKind, StepError};
 
 /// Whether it asks for a page.
 fn is_listing<T>(op: &LatestOp<T>) -> bool
@@ -66,7 +66,7 @@ fn run<T: Drop, C: ObjectCodec<T>, S: ObjectStore>(
     let mut listed = false;
     'steps: loop {
         if !pay(is_listing(op), &mut listed, turns) {
-            return Err(TransactionalObjectError::TurnsExhausted);
+            return Err(ErrorKind::TurnsExhausted.into());
         }
         match op.take(alloc, layout, latest, reply_to(alloc, store, op.ask())) {
             Turned::Goes => {}

@@ -22,9 +22,9 @@ use txn_machine_inner::doing::{PlainDoing, start as start_plain};
 use txn_store::request::Reply;
 use txn_types::codec::ObjectCodec;
 use txn_types::epoch::EpochField;
-use txn_types::error::TransactionalObjectError;
 use txn_types::id::MonotonicId;
 use txn_types::layout::Layout;
+use txn_types::step_error::StepError;
 use txn_view_steps::claim::ClaimOp;
 use txn_view_steps::entry::EntryOp;
 use txn_view_steps::op::ViewOp;
@@ -136,16 +136,16 @@ pub fn is_claim<T>(call: &Call<T>) -> bool
 
 /// How a call on a view starts, by its state: the number of its refusal, where it is refused at once. The only error is
 /// want of memory.
-fn first<T: Drop>(
-    state: Result<ViewOp<T>, TransactionalObjectError>,
-) -> Result<(Doing<T>, Option<u8>), AllocError>
+fn first<T: Drop>(state: Result<ViewOp<T>, StepError>) -> Result<(Doing<T>, Option<u8>), AllocError>
     ensures first { IfOk result (λ start. (start.0, refusal_in start.1) ≡ first_next (λ op. op) (by_number state)) }
     ensures lacks { IfOk result (λ _. lacks (by_number state) ≡ false) }
 {
     match state {
         Ok(op) => Ok((Doing::View(op), None)),
-        Err(TransactionalObjectError::NoMemory) => Err(AllocError),
-        Err(error) => Ok((ended(), Some(error.number()))),
+        Err(error) => match error.number() {
+            9 => Err(AllocError),
+            number => Ok((ended(), Some(number))),
+        },
     }
 }
 

@@ -22,10 +22,10 @@ use txn_steps::versions::Versions;
 use txn_steps::write::{WriteOp, WriteUncheckedOp};
 use txn_store::request::Reply;
 use txn_types::codec::ObjectCodec;
-use txn_types::error::TransactionalObjectError;
 use txn_types::id::MonotonicId;
 use txn_types::layout::Layout;
 use txn_types::room::push_within;
+use txn_types::step_error::StepError;
 
 /// What an operation does next.
 #[derive(Drop)]
@@ -68,14 +68,14 @@ pub fn start<T: Drop, C: ObjectCodec<T>>(
         PlainCall::Write(base, value) => {
             match WriteOp::start(alloc, layout, base.map(MonotonicId::new), value) {
                 Ok(op) => Ok((PlainDoing::Write(op), None)),
-                Err(TransactionalObjectError::IdExhausted) => Ok((PlainDoing::Ended, Some(10))),
+                Err(error) if error.number() == 10 => Ok((PlainDoing::Ended, Some(10))),
                 Err(_) => Err(AllocError),
             }
         }
         PlainCall::WriteUnchecked(base, value) => {
             match WriteUncheckedOp::start(alloc, layout, base.map(MonotonicId::new), value) {
                 Ok(op) => Ok((PlainDoing::WriteUnchecked(op), None)),
-                Err(TransactionalObjectError::IdExhausted) => Ok((PlainDoing::Ended, Some(10))),
+                Err(error) if error.number() == 10 => Ok((PlainDoing::Ended, Some(10))),
                 Err(_) => Err(AllocError),
             }
         }
@@ -227,7 +227,7 @@ impl<T: Clone> PlainDoing<T> {
 }
 
 /// The answer of a check, an advance or a delete.
-fn done<T>(turned: Turned<Result<(), TransactionalObjectError>>) -> Twice<T>
+fn done<T>(turned: Turned<Result<(), StepError>>) -> Twice<T>
     ensures first { first_of result ≡ done_answer (turned_by_number turned) }
     ensures twice { IfSome result (λ pair. pair.1 ≡ pair.0) }
 {
@@ -239,7 +239,7 @@ fn done<T>(turned: Turned<Result<(), TransactionalObjectError>>) -> Twice<T>
 }
 
 /// The answer of a write.
-fn written<T>(turned: Turned<Result<MonotonicId, TransactionalObjectError>>) -> Twice<T>
+fn written<T>(turned: Turned<Result<MonotonicId, StepError>>) -> Twice<T>
     ensures first { first_of result ≡ write_answer (turned_by_number turned) }
     ensures twice { IfSome result (λ pair. pair.1 ≡ pair.0) }
 {
@@ -251,9 +251,7 @@ fn written<T>(turned: Turned<Result<MonotonicId, TransactionalObjectError>>) -> 
 }
 
 /// The answer of a read, whose value is cloned to be told.
-fn read<T: Clone>(
-    turned: Turned<Result<Option<(MonotonicId, T)>, TransactionalObjectError>>,
-) -> Twice<T>
+fn read<T: Clone>(turned: Turned<Result<Option<(MonotonicId, T)>, StepError>>) -> Twice<T>
     requires { IsExactClone T.is_clone }
     ensures first { IsTold (read_answer (turned_by_number turned)) (first_of result) }
     ensures twice { IfSome result (λ pair. pair.1 ≡ pair.0) }
@@ -273,7 +271,7 @@ fn read<T: Clone>(
 }
 
 /// The answer of a read of one id, whose value is cloned to be told.
-fn valued<T: Clone>(turned: Turned<Result<Option<T>, TransactionalObjectError>>) -> Twice<T>
+fn valued<T: Clone>(turned: Turned<Result<Option<T>, StepError>>) -> Twice<T>
     requires { IsExactClone T.is_clone }
     ensures first { IsTold (value_answer (turned_by_number turned)) (first_of result) }
     ensures twice { IfSome result (λ pair. pair.1 ≡ pair.0) }
@@ -305,7 +303,7 @@ fn ids_found(alloc: Global, found: &Versions) -> Result<Ids, AllocError>
 }
 
 /// The answer of a listing, whose ids are copied to be told.
-fn listed<T>(alloc: Global, turned: Turned<Result<Versions, TransactionalObjectError>>) -> Twice<T>
+fn listed<T>(alloc: Global, turned: Turned<Result<Versions, StepError>>) -> Twice<T>
     ensures first { IsTold (ids_answer (turned_by_number turned)) (first_of result) }
     ensures twice { IfSome result (λ pair. pair.1 ≡ pair.0) }
 {

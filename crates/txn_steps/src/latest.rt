@@ -21,9 +21,9 @@ use txn_store::request::{Reply, Request};
 use txn_store::store::{Got, ObjectMeta, StoreError};
 use txn_store::version_names::VersionNames;
 use txn_types::codec::ObjectCodec;
-use txn_types::error::TransactionalObjectError;
 use txn_types::id::MonotonicId;
 use txn_types::layout::Layout;
+use txn_types::step_error::StepError;
 
 /// An unchecked read of the newest version. It probes from the greatest cached version to its successors, at most four,
 /// and else lists, page by page.
@@ -50,7 +50,7 @@ pub enum LatestOp<T> {
 }
 
 /// What a read answers: the id and the value of the newest version, or that there is none.
-pub type ReadAnswer<T> = Result<Option<(MonotonicId, T)>, TransactionalObjectError>;
+pub type ReadAnswer<T> = Result<Option<(MonotonicId, T)>, StepError>;
 
 /// What it does next where it goes on, and what it says.
 type Step<T> = turned::Step<LatestOp<T>, Option<(MonotonicId, T)>>;
@@ -139,7 +139,7 @@ fn answer<T, C: ObjectCodec<T>>(
 {
     match layout.codec.decode(alloc, &hand.bytes) {
         Ok(value) => (None, Turned::Done(Ok(Some((hand.id, value))))),
-        Err(fault) => (None, Turned::Done(Err(fault.into()))),
+        Err(fault) => (None, Turned::Done(Err(StepError::of_fault(alloc, fault)))),
     }
 }
 
@@ -300,7 +300,7 @@ fn decode<T: Drop, C: ObjectCodec<T>>(
 {
     match layout.codec.decode(alloc, &version.bytes) {
         Ok(value) => (Some(LatestOp::Keeps(version, value)), Turned::Goes),
-        Err(fault) => (None, Turned::Done(Err(fault.into()))),
+        Err(fault) => (None, Turned::Done(Err(StepError::of_fault(alloc, fault)))),
     }
 }
 

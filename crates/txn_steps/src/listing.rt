@@ -16,11 +16,11 @@ use txn_store::path::Path;
 use txn_store::request::{Reply, Request};
 use txn_store::store::ObjectMeta;
 use txn_store::version_names::VersionNames;
-use txn_types::error::TransactionalObjectError;
 use txn_types::layout::Layout;
+use txn_types::step_error::StepError;
 
 /// What a listing answers: the versions, in the order of the store's pages, which is that of their ids.
-pub type ListAnswer = Result<Versions, TransactionalObjectError>;
+pub type ListAnswer = Result<Versions, StepError>;
 
 /// A listing of the versions within bounds, page by page.
 #[derive(Drop)]

@@ -14,7 +14,6 @@ use txn_caches::check::CheckOp;
 use txn_caches::turned::Turned;
 use txn_store::request::Reply;
 use txn_types::codec::ObjectCodec;
-use txn_types::error::TransactionalObjectError;
 use txn_types::id::MonotonicId;
 use txn_types::layout::Layout;
 
@@ -118,7 +117,7 @@ impl<T: Drop> ReadOp<T> {
             ReadOp::Checks(_, _, check) => match check.take(caches, reply) {
                 Turned::Goes => Turned::Goes,
                 Turned::Done(Ok(())) => self.accept(),
-                Turned::Done(Err(TransactionalObjectError::ObjectVersionExists)) => {
+                Turned::Done(Err(error)) if error.is_sequenced_write_conflict() => {
                     self.again(layout)
                 }
                 Turned::Done(Err(error)) => Turned::Done(Err(error)),

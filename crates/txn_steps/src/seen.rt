@@ -16,12 +16,12 @@ use txn_caches::window::Window;
 use txn_store::request::{Reply, Request};
 use txn_store::store::{Got, StoreError};
 use txn_types::codec::ObjectCodec;
-use txn_types::error::TransactionalObjectError;
 use txn_types::id::MonotonicId;
 use txn_types::layout::Layout;
+use txn_types::step_error::StepError;
 
 /// What a read of one id answers: its value, or that there is none.
-pub type ValueAnswer<T> = Result<Option<T>, TransactionalObjectError>;
+pub type ValueAnswer<T> = Result<Option<T>, StepError>;
 
 /// An unchecked read of one id: a get of its version.
 #[derive(Drop)]
@@ -62,7 +62,7 @@ impl ReadUncheckedOp {
         match reply {
             Some(Reply::Get(Ok(got))) => match layout.codec.decode(alloc, &got.bytes) {
                 Ok(value) => Turned::Done(Ok(Some(value))),
-                Err(fault) => Turned::Done(Err(fault.into())),
+                Err(fault) => Turned::Done(Err(StepError::of_fault(alloc, fault))),
             },
             Some(Reply::Get(Err(StoreError::NotFound))) => Turned::Done(Ok(None)),
             Some(Reply::Get(Err(error))) => Turned::Done(Err(error.into())),
@@ -113,7 +113,7 @@ fn after_look<T, C: ObjectCodec<T>>(
         None => goes_as(get(alloc, layout, id)),
         Some(cached) => match layout.codec.decode(alloc, &cached.bytes) {
             Ok(value) => (None, Turned::Done(Ok(Some(value)))),
-            Err(fault) => (None, Turned::Done(Err(fault.into()))),
+            Err(fault) => (None, Turned::Done(Err(StepError::of_fault(alloc, fault)))),
         },
     }
 }
@@ -137,7 +137,7 @@ fn after_get<T: Drop, C: ObjectCodec<T>>(
                     Some(ReadSeenOp::Keeps(Cached { id, bytes }, value)),
                     Turned::Goes,
                 ),
-                Err(fault) => (None, Turned::Done(Err(fault.into()))),
+                Err(fault) => (None, Turned::Done(Err(StepError::of_fault(alloc, fault)))),
             }
         }
         Err(StoreError::NotFound) => (None, Turned::Done(Ok(None))),

@@ -6,3 +6,5 @@ pub mod Epochs
 pub mod NumberBytes
 pub mod BoundaryText
 pub mod Numbers
+pub mod StepErrors
+pub mod Held

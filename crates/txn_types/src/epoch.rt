@@ -2,7 +2,7 @@
 ghost use Rattle.std.specs.Prelude.{◌≡◌, ◌<◌, ℕ, IfOk, IfErr, OnOk};
 ghost use Rattle.txn_types.specs.Epochs.{claimed_epoch, epoch_tested, IsEpochError, NextEpoch, HasNoEpoch};
 
-use crate::error::TransactionalObjectError;
+use crate::step_error::{ErrorKind, StepError};
 
 /// Where the values of a type keep their epoch, the number that shuts out clients of smaller ones.
 ///
@@ -27,33 +27,31 @@ pub trait EpochField<T>: Copy {
 
 /// The epoch that a claim sets where this one is stored: one more, which is `IdExhausted` where there is none, or the one
 /// that is asked for, which is `Fenced` where it isn't greater. It takes no memory.
-pub fn next_epoch(asked: Option<u64>, stored: u64) -> Result<u64, TransactionalObjectError>
+pub fn next_epoch(asked: Option<u64>, stored: u64) -> Result<u64, StepError>
     ensures claimed { result ≡ claimed_epoch asked stored }
     ensures rises { IfOk result (λ epoch. stored < epoch) }
     ensures next { IfOk result (NextEpoch asked stored) }
     ensures none { IfErr result (HasNoEpoch asked stored) }
 {
     match asked {
-        None => stored
-            .checked_add(1)
-            .ok_or(TransactionalObjectError::IdExhausted),
-        Some(epoch) if epoch <= stored => Err(TransactionalObjectError::Fenced),
+        None => stored.checked_add(1).ok_or(ErrorKind::IdExhausted.into()),
+        Some(epoch) if epoch <= stored => Err(ErrorKind::Fenced.into()),
         Some(epoch) => Ok(epoch),
     }
 }
 
 /// Whether a stored epoch is the holder's own: a greater one is `Fenced`, and a smaller one `InvalidObjectState`. It takes
 /// no memory.
-pub fn test_epoch(local: u64, stored: u64) -> Result<(), TransactionalObjectError>
+pub fn test_epoch(local: u64, stored: u64) -> Result<(), StepError>
     ensures tested { result ≡ epoch_tested local stored }
     ensures own { OnOk result (stored ≡ local) }
     ensures other { IfErr result (IsEpochError local stored) }
 {
     if local < stored {
-        return Err(TransactionalObjectError::Fenced);
+        return Err(ErrorKind::Fenced.into());
     }
     if local > stored {
-        return Err(TransactionalObjectError::InvalidObjectState);
+        return Err(ErrorKind::InvalidObjectState.into());
     }
     Ok(())
 }

@@ -11,6 +11,7 @@
 //! - `Invariant<T>`: what has to hold between a new value and the current one; `NoInvariant` always holds.
 //! - `ObjectCodec<T>`: how values are written as bytes and read back. What it writes, it reads as the same value.
 //! - `TransactionalObjectError`: the error of every call, of eleven kinds with stated numbers.
+//! - `StepError`: the same error in two words, as operations and drivers move it.
 //! - `Layout<C>`: where the versions and the boundary file of an object lie, and the codec of its values.
 //!
 //! ## Error semantics
@@ -34,4 +35,5 @@ pub mod identified;
 pub mod invariant;
 pub mod layout;
 pub mod room;
+pub mod step_error;
 pub mod test_utils;

@@ -10,9 +10,9 @@ use crate::claiming::{Claiming, begin};
 use std::alloc::Global;
 use txn_types::codec::ObjectCodec;
 use txn_types::epoch::EpochField;
-use txn_types::error::TransactionalObjectError;
 use txn_types::id::MonotonicId;
 use txn_types::layout::Layout;
+use txn_types::step_error::StepError;
 
 /// Makes a view a holder: enters the newest version once more, with its epoch one higher or with the one that is asked for.
 /// An attempt that is overtaken leads to a read of the newest version and another attempt, and each one is refused where the
@@ -37,7 +37,7 @@ impl<T: Clone> ClaimOp<T> {
         asked: Option<u64>,
         id: MonotonicId,
         object: &T,
-    ) -> Result<ClaimOp<T>, TransactionalObjectError>
+    ) -> Result<ClaimOp<T>, StepError>
         requires { IsExactClone T.is_clone }
         ensures started { by_number result ≡ or_lacking (lacks (by_number result)) (claim_started layout.now.names layout.now.boundary (C.encoded layout.now.codec) (X.epoch_of epochs.now) (X.with_epoch epochs.now) asked id object.now) }
         ensures made { IfOk result (λ op. IsMade (C.encoded layout.now.codec) (C.decoded layout.now.codec) (X.epoch_of epochs.now) op.claiming) }

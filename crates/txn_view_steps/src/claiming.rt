@@ -22,9 +22,9 @@ use txn_steps::write::{WriteAnswer, WriteOp};
 use txn_store::request::Reply;
 use txn_types::codec::ObjectCodec;
 use txn_types::epoch::{EpochField, next_epoch};
-use txn_types::error::TransactionalObjectError;
 use txn_types::id::MonotonicId;
 use txn_types::layout::Layout;
+use txn_types::step_error::{ErrorKind, StepError};
 
 /// Where a claim is.
 #[derive(Drop)]
@@ -38,7 +38,7 @@ pub enum Claiming<T> {
 }
 
 /// What a claim does next, or the refusal that it answers.
-pub(crate) type Attempt<T> = Result<Claiming<T>, TransactionalObjectError>;
+pub(crate) type Attempt<T> = Result<Claiming<T>, StepError>;
 
 /// Writes the value, with this epoch set, directly on the version of this id.
 fn enter<T: Clone, C: ObjectCodec<T>, X: EpochField<T>>(
@@ -116,7 +116,7 @@ fn attempt_again<T: Clone, C: ObjectCodec<T>, X: EpochField<T>>(
 {
     match found {
         Some((id, value)) => attempt(alloc, layout, epochs, asked, id, value),
-        None => Err(TransactionalObjectError::InvalidObjectState),
+        None => Err(ErrorKind::InvalidObjectState.into()),
     }
 }
 
@@ -192,7 +192,7 @@ impl<T: Drop> Claiming<T> {
         match told {
             Turned::Goes => Turned::Goes,
             Turned::Done(Ok(id)) => Turned::Done(Ok(self.hold(id))),
-            Turned::Done(Err(TransactionalObjectError::ObjectVersionExists)) => {
+            Turned::Done(Err(error)) if error.is_sequenced_write_conflict() => {
                 self.follow(refresh(layout))
             }
             Turned::Done(Err(error)) => {

@@ -18,9 +18,9 @@ use txn_steps::write::WriteOp;
 use txn_store::request::Reply;
 use txn_types::codec::ObjectCodec;
 use txn_types::epoch::{EpochField, test_epoch};
-use txn_types::error::TransactionalObjectError;
 use txn_types::id::MonotonicId;
 use txn_types::layout::Layout;
+use txn_types::step_error::{ErrorKind, StepError};
 
 /// A write of a value that a view then shows: as the first version, or directly on the view's version. The copies for the
 /// answer are made beforehand, so that nothing grows once it is made. It has at most two calls of the store and five looks.
@@ -46,12 +46,12 @@ fn test_epochs<T, X: EpochField<T>>(
     local: u64,
     object: &T,
     value: &T,
-) -> Result<(), TransactionalObjectError>
+) -> Result<(), StepError>
     ensures { by_number result ≡ own_epochs local (X.epoch_of epochs.now object.now) (X.epoch_of epochs.now value.now) }
 {
     test_epoch(local, epochs.get_epoch(object))?;
     if epochs.get_epoch(value) != local {
-        return Err(TransactionalObjectError::InvalidObjectState);
+        return Err(ErrorKind::InvalidObjectState.into());
     }
     Ok(())
 }
@@ -64,7 +64,7 @@ impl<T: Clone> EntryOp<T> {
         layout: &Layout<C>,
         base: Option<MonotonicId>,
         value: &T,
-    ) -> Result<EntryOp<T>, TransactionalObjectError>
+    ) -> Result<EntryOp<T>, StepError>
         requires { IsExactClone T.is_clone }
         ensures started { by_number result ≡ or_lacking (lacks (by_number result)) (entry_started layout.now.names layout.now.boundary (C.encoded layout.now.codec) base value.now) }
         ensures last { OnOk result (number_of base < 2 ^ 64 - 1) }
@@ -93,7 +93,7 @@ impl<T: Clone> EntryOp<T> {
         id: MonotonicId,
         object: &T,
         value: &T,
-    ) -> Result<EntryOp<T>, TransactionalObjectError>
+    ) -> Result<EntryOp<T>, StepError>
         requires { IsExactClone T.is_clone }
         ensures started { by_number result ≡ or_lacking (lacks (by_number result)) (holder_entry_started layout.now.names layout.now.boundary (C.encoded layout.now.codec) (X.epoch_of epochs.now) local id object.now value.now) }
         ensures last { OnOk result (id < 2 ^ 64 - 1) }

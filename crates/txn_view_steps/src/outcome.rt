@@ -1,8 +1,8 @@
 //! What a call on a view comes to.
 
 use crate::copies::Copies;
-use txn_types::error::TransactionalObjectError;
 use txn_types::id::MonotonicId;
+use txn_types::step_error::StepError;
 
 /// What becomes of the view that a call makes or uses.
 #[derive(Drop)]
@@ -13,9 +13,9 @@ pub enum Outcome<T> {
     Held(MonotonicId, Copies<T>, u64),
     /// The holder's view is at the version of this id, with this value, whose epoch is not the holder's. The answer is this
     /// refusal.
-    Shut(MonotonicId, T, TransactionalObjectError),
+    Shut(MonotonicId, T, StepError),
 }
 
 /// What a call on a view answers. A refusal makes no view and leaves the view that was used as it is, but for a claim's,
 /// which ends.
-pub type ViewAnswer<T> = Result<Outcome<T>, TransactionalObjectError>;
+pub type ViewAnswer<T> = Result<Outcome<T>, StepError>;

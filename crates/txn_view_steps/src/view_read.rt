@@ -16,9 +16,9 @@ use txn_caches::turned::Turned;
 use txn_steps::latest::ReadAnswer;
 use txn_steps::read::ReadOp;
 use txn_types::epoch::{EpochField, test_epoch};
-use txn_types::error::TransactionalObjectError;
 use txn_types::id::MonotonicId;
 use txn_types::layout::Layout;
+use txn_types::step_error::{ErrorKind, StepError};
 
 /// What the newest version is read for.
 #[derive(Clone, Copy)]
@@ -68,8 +68,8 @@ fn shown<T: Clone, X: EpochField<T>>(
     ensures store_error { HasErrorOf None result }
 {
     match (purpose, found) {
-        (Purpose::Load, None) => Err(TransactionalObjectError::LatestRecordMissing),
-        (_, None) => Err(TransactionalObjectError::InvalidObjectState),
+        (Purpose::Load, None) => Err(ErrorKind::LatestRecordMissing.into()),
+        (_, None) => Err(ErrorKind::InvalidObjectState.into()),
         (Purpose::Load | Purpose::Refresh, Some((id, value))) => {
             Ok(Outcome::Viewed(id, Copies::of(value)?))
         }

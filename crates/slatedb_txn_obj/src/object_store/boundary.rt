@@ -13,6 +13,7 @@ use txn_store::store::ObjectStore;
 use txn_types::error::TransactionalObjectError;
 use txn_types::id::MonotonicId;
 use txn_types::layout::Layout;
+use txn_types::step_error::widened;
 
 /// A boundary that one file of a store says, 0 where it is missing, and what this client has cached of it.
 #[derive(Drop)]
@@ -97,7 +98,7 @@ impl<S: ObjectStore> BoundaryObject<S> for ObjectStoreBoundaryObject {
         ensures from_cache { refused_by id self.old.cached ≡ true → FromCache (S.state store.old) (S.state store.new) self.old.cached self.new.cached result }
         ensures asked { OnOk result ((S.state store.new).calls ≡ (S.state store.old).calls + 1) }
     {
-        check_boundary(self.alloc, &self.path, &mut self.cached, store, id)
+        widened(check_boundary(self.alloc, &self.path, &mut self.cached, store, id))
     }
 
     /// A cached boundary at or above the target is the answer, with no call of the store and no turn, and nothing changes.
@@ -116,6 +117,6 @@ impl<S: ObjectStore> BoundaryObject<S> for ObjectStoreBoundaryObject {
         ensures moved { BoundaryAdvances self.old.path self.new.path self.old.cached self.new.cached (S.state store.old) id result (S.state store.new) }
         ensures reached { refused_by id self.old.cached ≡ true → AlreadyReached (S.state store.old) (S.state store.new) turns.old turns.new self.old.cached self.new.cached result }
     {
-        advance_boundary(self.alloc, &self.path, &mut self.cached, store, id, turns)
+        widened(advance_boundary(self.alloc, &self.path, &mut self.cached, store, id, turns))
     }
 }

@@ -24,6 +24,7 @@ use txn_types::error::TransactionalObjectError;
 use txn_types::id::MonotonicId;
 use txn_types::identified::IdentifiedObjectMetadata;
 use txn_types::layout::Layout;
+use txn_types::step_error::widened;
 
 /// Versions of an object as files of a folder, each created by one client, over a boundary. It holds at most eight of the
 /// versions that it read or wrote.
@@ -319,7 +320,7 @@ impl<T: Drop, S: ObjectStore, C: ObjectCodec<T>, B: BoundaryObject<S>> Sequenced
         );
         // It does nothing, and says that the ids of what is held ascend.
         let _ = self.latest.as_slice();
-        result
+        widened(result)
     }
 
     /// It leaves each file. What it answers, and what it holds then, follow from the files and from what it held.
@@ -345,7 +346,7 @@ impl<T: Drop, S: ObjectStore, C: ObjectCodec<T>, B: BoundaryObject<S>> Sequenced
         let result = read_latest(self.alloc, &self.layout, &mut self.latest, store, turns);
         // It does nothing, and says that the ids of what is held ascend.
         let _ = self.latest.as_slice();
-        result
+        widened(result)
     }
 
     /// The value of the version's file, or nothing where there is none. It leaves each file, and itself.
@@ -361,7 +362,7 @@ impl<T: Drop, S: ObjectStore, C: ObjectCodec<T>, B: BoundaryObject<S>> Sequenced
         ensures same { self.new ≡ self.old }
     {
         number_fits(id);
-        read_version(self.alloc, &self.layout, store, id)
+        widened(read_version(self.alloc, &self.layout, store, id))
     }
 
     /// The value of the held version, else of the version's file, which is then put in the window, as `Window::keep` does. It
@@ -376,7 +377,7 @@ impl<T: Drop, S: ObjectStore, C: ObjectCodec<T>, B: BoundaryObject<S>> Sequenced
         ensures exact { SeenRead self.old.layout.names (C.decoded self.old.layout.codec) (S.state store.old) (S.state store.new) self.old.latest self.new.latest id result }
         ensures unmoved { self.new ≡ record { layout = self.old.layout; latest = self.new.latest; boundary = self.old.boundary } }
     {
-        read_seen(self.alloc, &self.layout, &mut self.latest, store, id)
+        widened(read_seen(self.alloc, &self.layout, &mut self.latest, store, id))
     }
 
     /// The versions whose files stand, within the bounds, with what the store tells of each. It leaves each file, and itself.
@@ -418,6 +419,6 @@ impl<T: Drop, S: ObjectStore, C: ObjectCodec<T>, B: BoundaryObject<S>> Sequenced
         ensures removes { MayRemove (version_path self.old.layout.names id) (S.state store.old) (S.state store.new) }
     {
         number_fits(id);
-        delete_version(self.alloc, &self.layout, &mut self.latest, store, id)
+        widened(delete_version(self.alloc, &self.layout, &mut self.latest, store, id))
     }
 }

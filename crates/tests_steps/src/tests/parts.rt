@@ -25,9 +25,12 @@ fn read_of_no_number(alloc: Global) -> Result<Turned<ValueAnswer<u64>>, Fail> {
 /// The codec's words in an answer, where it refused.
 fn refusal(alloc: Global, turned: Turned<ValueAnswer<u64>>) -> Result<Option<String>, AllocError> {
     match turned {
-        Turned::Done(Err(TransactionalObjectError::CallbackError(kept))) => {
-            Ok(Some(format!(in alloc; "{kept}")?))
-        }
+        Turned::Done(Err(error)) => match error.into() {
+            TransactionalObjectError::CallbackError(kept) => {
+                Ok(Some(format!(in alloc; "{kept}")?))
+            }
+            _ => Ok(None),
+        },
         _ => Ok(None),
     }
 }

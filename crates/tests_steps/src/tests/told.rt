@@ -1,8 +1,8 @@
 //! What calls say.
 use txn_caches::turned::Turned;
 use txn_lines::record::Record;
-use txn_types::error::TransactionalObjectError;
 use txn_types::id::MonotonicId;
+use txn_types::step_error::StepError;
 use txn_view_steps::outcome::Outcome;
 
 /// What a call of a client says. A view is told by the id of its version with its record's epoch and payload.
@@ -31,7 +31,7 @@ pub(crate) enum Told {
 
 use Told::{Did, Fails, GoesOn, Held, Newest, Shut, Value, Viewed, Wrote};
 
-pub(crate) type Error = TransactionalObjectError;
+pub(crate) type Error = StepError;
 
 /// What an operation answers where it does not fail.
 pub(crate) trait Tell {

@@ -8,7 +8,9 @@ use std::alloc::{AllocError, Global};
 use std::test::Fail;
 use txn_store::path::PathFault;
 use txn_store::store::StoreError;
+use txn_types::codec::CodecFault;
 use txn_types::error::TransactionalObjectError;
+use txn_types::step_error::{ErrorKind, StepError};
 
 /// The errors of a store.
 const STORE_ERRORS: [StoreError; 7] = [
@@ -108,5 +110,60 @@ fn all_words(alloc: Global) -> Result<String, AllocError> {
 fn errors_have_their_numbers_and_texts(rt: HostRuntime) -> Result<(), Fail> {
     assert_eq!(rt; all_store_words(rt.alloc())?.as_str(), STORE_WORDS);
     assert_eq!(rt; all_words(rt.alloc())?.as_str(), WORDS);
+    Ok(())
+}
+
+/// The errors that say all by their kind.
+const KINDS: [ErrorKind; 7] = [
+    ErrorKind::LatestRecordMissing,
+    ErrorKind::ObjectVersionExists,
+    ErrorKind::Fenced,
+    ErrorKind::InvalidObjectState,
+    ErrorKind::NoMemory,
+    ErrorKind::IdExhausted,
+    ErrorKind::TurnsExhausted,
+];
+
+/// Each error as steps move it: its number, whether it is a conflict, and what it becomes.
+const STEP_WORDS: &str = "\
+4 false LatestRecordMissing
+5 true ObjectVersionExists
+6 false Fenced
+7 false InvalidObjectState
+9 false NoMemory
+10 false IdExhausted
+11 false TurnsExhausted
+2 false ObjectStoreError(Failed)
+9 false NoMemory
+9 false NoMemory
+8 false CallbackError(bad bytes)
+9 false NoMemory
+";
+
+fn step_words(alloc: Global, error: StepError) -> Result<String, AllocError> {
+    let number = error.number();
+    let is_conflict = error.is_sequenced_write_conflict();
+    let became = TransactionalObjectError::from(error);
+    format!(in alloc; "{number} {is_conflict} {became:?}\n")
+}
+
+fn all_step_words(alloc: Global) -> Result<String, AllocError> {
+    let mut text = String::new(alloc);
+    for kind in KINDS {
+        text.push_str(step_words(alloc, kind.into())?.as_str())?;
+    }
+    text.push_str(step_words(alloc, StoreError::Failed.into())?.as_str())?;
+    text.push_str(step_words(alloc, StoreError::NoMemory.into())?.as_str())?;
+    text.push_str(step_words(alloc, AllocError.into())?.as_str())?;
+    let refused = StepError::of_fault(alloc, CodecFault::Refused(anyhow!("bad bytes")));
+    text.push_str(step_words(alloc, refused)?.as_str())?;
+    let lacking = StepError::of_fault(alloc, CodecFault::NoMemory);
+    text.push_str(step_words(alloc, lacking)?.as_str())?;
+    Ok(text)
+}
+
+#[test]
+fn errors_of_steps_have_the_numbers_of_what_they_become(rt: HostRuntime) -> Result<(), Fail> {
+    assert_eq!(rt; all_step_words(rt.alloc())?.as_str(), STEP_WORDS);
     Ok(())
 }
