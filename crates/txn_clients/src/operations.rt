@@ -9,11 +9,9 @@ ghost use Rattle.txn_machine.specs.Doing as any;
 ghost use Rattle.txn_clients.specs.Operations.{asked_by, request_of, loose_of, usage_of, TakesReply, Ends, TakesTurn};
 
 use std::alloc::{AllocError, Global};
-use std::mem;
 use txn_caches::ask::Ask;
 use txn_caches::caches::Caches;
 use txn_machine::doing::{Doing, Ending, Operation};
-use txn_machine_inner::doing::PlainDoing;
 use txn_store::request::{Reply, Request};
 use txn_types::codec::ObjectCodec;
 use txn_types::epoch::EpochField;
@@ -69,10 +67,10 @@ pub fn loose_copy(ask: Option<Ask<'_>>) -> Result<Option<Request>, AllocError>
 }
 
 /// Whether an operation has not ended.
-pub fn runs<T>(doing: &Doing<T>) -> bool
+pub fn runs<T: Drop>(doing: &Doing<T>) -> bool
     ensures { result ≡ is_some (any.asked doing.now) }
 {
-    !matches!(doing, Doing::Plain(PlainDoing::Ended))
+    !doing.has_ended()
 }
 
 /// Whose an operation is that is there, and the view that it uses.
@@ -114,5 +112,5 @@ pub fn end<T: Drop>(operations: &mut Vec<Operation<T>>, op: u64)
     ensures { Ends operations.old.items op operations.new.items }
 {
     let operation = &mut operations[(op - 1) as usize];
-    drop(mem::replace(&mut operation.doing, Doing::Plain(PlainDoing::Ended)));
+    operation.doing.end();
 }

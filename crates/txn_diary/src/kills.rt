@@ -8,12 +8,10 @@ ghost use Rattle.txn_diary.specs.Kills.{EndsAt, EmptiesAt, left_here};
 
 use crate::tables::Tables;
 use std::alloc::{AllocError, Global};
-use std::mem;
 use txn_caches::caches::Caches;
 use txn_clients::operations::loose_copy;
 use txn_journals::rows::Left;
-use txn_machine::doing::{Doing, Operation};
-use txn_machine_inner::doing::PlainDoing;
+use txn_machine::doing::Operation;
 use txn_machine_views::used::Used;
 use txn_store::request::Request;
 use txn_types::codec::ObjectCodec;
@@ -69,7 +67,7 @@ fn end_at<T: Drop>(operations: &mut Vec<Operation<T>>, client: u64, place: usize
 {
     let operation = &mut operations[place];
     if operation.client == client {
-        drop(mem::replace(&mut operation.doing, Doing::Plain(PlainDoing::Ended)));
+        operation.doing.end();
     }
 }
 

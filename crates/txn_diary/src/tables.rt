@@ -12,6 +12,7 @@ use txn_clients::operations::{Usage, asked, end, loose_copy, turn, usage_at};
 use txn_clients::views::{Answers, find, let_go, settle, take};
 use txn_history::event::Call;
 use txn_machine::doing::{Ending, Operation, Twice, is_claim, start};
+use txn_machine::work::Work;
 use txn_machine_views::used::Used;
 use txn_store::request::{Reply, Request};
 use txn_types::codec::ObjectCodec;
@@ -130,6 +131,7 @@ impl<T: Clone, C: ObjectCodec<T> + Drop, E: EpochField<T>> Tables<T, C, E> {
         };
         let view = find(&self.views, of.view);
         let (doing, refusal) = start(self.alloc, &self.layout, &self.epochs, call, view)?;
+        let work = Work::new(self.alloc, doing)?;
         let op = self.operations.len() as u64 + 1;
         push_within(
             &mut self.operations,
@@ -137,7 +139,7 @@ impl<T: Clone, C: ObjectCodec<T> + Drop, E: EpochField<T>> Tables<T, C, E> {
                 client: of.client,
                 view: of.view,
                 claims: of.claims,
-                doing,
+                doing: work,
             },
         );
         push_within(&mut self.writes, epoch_written(&self.epochs, call));

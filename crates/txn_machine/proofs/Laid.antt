@@ -14,7 +14,6 @@ use Rattle.txn_history.specs.Effects.{Raises, BoundaryPut, Erases, VersionRemove
 use Rattle.txn_history.proofs.Numbered.{one_call}
 use Rattle.txn_history.specs.declared.event.Call.{Call}
 use Rattle.txn_history.specs.declared.event.Call.TheVariants as any
-use Rattle.txn_history.specs.OneHistory as history
 use Rattle.txn_machine_views.specs.Layer as layer
 use Rattle.txn_machine_views.specs.Layer.{Inner, Starts, Writes, Reads, Acts, Asked, Layer, with_row}
 use Rattle.txn_machine_views.specs.Steps.{IsDue, WasRemoved, Steps}

@@ -4,3 +4,4 @@ pub mod CallsLeft
 pub mod Refusals
 pub mod Alone
 pub mod Laws
+pub mod Work

@@ -1,5 +1,5 @@
 -- The world's step, over the store's contract, for all calls.
-use Rattle.std.specs.Prelude.{◌≡◌, ◌≤◌, ◌⊎◌, ℕ, List, [], ◌∷◌, ◌++◌, ◌+◌, ◌-◌, ◌==◌, Bool, true, false, if◌then◌else◌, Option, Some, None, Result, Ok, Err, length, slice_set, is_some, map}
+use Rattle.std.specs.Prelude.{◌≡◌, ◌≤◌, ◌⊎◌, ℕ, List, [], ◌∷◌, ◌++◌, ◌+◌, ◌-◌, ◌==◌, Bool, false, if◌then◌else◌, Option, Some, None, Result, Ok, Err, length, slice_set, is_some, map}
 use Rattle.std.specs.Option.{option_map}
 use Rattle.txn_store.specs.declared.request.Request.{Request}
 use Rattle.txn_types.specs.Errors.{error_number}

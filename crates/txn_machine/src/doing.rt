@@ -10,16 +10,15 @@ ghost use Rattle.txn_machine_inner.specs.Doing.{first_of};
 ghost use Rattle.txn_machine.specs.Doing.{started, first_next, refusal_in, IsMadeSo, ReadsBack, FitsWord};
 ghost use Rattle.txn_machine_views.specs.Parts.{is_claim_call};
 
+use crate::work::Work;
 use std::alloc::{AllocError, Global};
 use std::marker::Model;
 use std::mem;
 use txn_caches::ask::Ask;
-use txn_caches::caches::Caches;
 use txn_caches::turned::Turned;
 use txn_history::event::{Call, PlainAnswer, ViewCall};
 use txn_history::view::View;
 use txn_machine_inner::doing::{PlainDoing, start as start_plain};
-use txn_store::request::Reply;
 use txn_types::codec::ObjectCodec;
 use txn_types::epoch::EpochField;
 use txn_types::id::MonotonicId;
@@ -60,7 +59,7 @@ pub struct Operation<T> {
     /// Whether it is a claim, which ends its view unless it is held.
     pub claims: bool,
     /// What it does next.
-    pub doing: Doing<T>,
+    pub doing: Work<T>,
 }
 
 /// The same answer twice: once for the trace, and once to be told. A clause sees the answer.
@@ -290,7 +289,9 @@ pub fn start<T: Clone, C: ObjectCodec<T>, E: EpochField<T>>(
 }
 
 /// How a call without a view ends.
-fn plain_ending<T>(answers: Option<(PlainAnswer<T>, PlainAnswer<T>)>) -> Option<Ending<T>>
+pub(crate) fn plain_ending<T>(
+    answers: Option<(PlainAnswer<T>, PlainAnswer<T>)>,
+) -> Option<Ending<T>>
     requires { IfSome answers (λ pair. pair.1 ≡ pair.0) }
     ensures { result ≡ option_map Ending.Answers (first_of answers) }
 {
@@ -299,10 +300,10 @@ fn plain_ending<T>(answers: Option<(PlainAnswer<T>, PlainAnswer<T>)>) -> Option<
 }
 
 impl<T: Drop> Doing<T> {
-    ghost use Rattle.std.specs.Prelude.{◌≡◌};
+    ghost use Rattle.std.specs.Prelude.{◌≡◌, ◌↔◌, IsTrue};
     ghost use Rattle.txn_caches.specs.Steps.{turned_by_number};
     ghost use Rattle.txn_machine_inner.specs.Doing.{asks_as};
-    ghost use Rattle.txn_machine.specs.Doing.{asked, next_of};
+    ghost use Rattle.txn_machine.specs.Doing.{asked, ended, next_of};
 
     /// What it asks for: a store call, or a look at its client's caches, and nothing where it has ended. It takes no
     /// memory.
@@ -315,8 +316,15 @@ impl<T: Drop> Doing<T> {
         }
     }
 
+    /// Whether it has ended. It takes no memory.
+    pub fn has_ended(&self) -> bool
+        ensures { IsTrue result ↔ (self.now ≡ ended) }
+    {
+        matches!(self, Doing::Plain(PlainDoing::Ended))
+    }
+
     /// An answer ends a call on a view.
-    fn end_where(&mut self, turned: Turned<ViewAnswer<T>>) -> Option<Ending<T>>
+    pub(crate) fn end_where(&mut self, turned: Turned<ViewAnswer<T>>) -> Option<Ending<T>>
         ensures { (self.new, result) ≡ next_of self.old (turned_by_number turned) }
     {
         match turned {
@@ -328,40 +336,6 @@ impl<T: Drop> Doing<T> {
                     Ok(outcome) => Ending::Comes(outcome),
                     Err(error) => Ending::Answers(Twice::refused(error.number())),
                 })
-            }
-        }
-    }
-}
-
-impl<T: Clone> Doing<T> {
-    ghost use Rattle.std.specs.Prelude.{◌≡◌};
-    ghost use Rattle.txn_types.specs.Clones.{IsExactClone};
-    ghost use Rattle.txn_history.specs.Names.{world_names, world_boundary};
-    ghost use Rattle.txn_machine.specs.Doing.{caches_left, InRange, IsReply, Turns};
-
-    /// Takes the store's reply to what it asks, or none for a look, and leaves its client's caches as its step says. An
-    /// answer ends the operation. Where a growth is refused the answer is the refusal 9.
-    pub fn take<C: ObjectCodec<T>, E: EpochField<T>>(
-        &mut self,
-        alloc: Global,
-        layout: &Layout<C>,
-        epochs: &E,
-        caches: &mut Caches,
-        reply: Option<Reply>,
-    ) -> Option<Ending<T>>
-        requires exact { IsExactClone T.is_clone }
-        requires names { layout.now.names ≡ world_names }
-        requires boundary { layout.now.boundary ≡ world_boundary }
-        requires asked { IsReply self.old reply }
-        requires range { InRange self.old }
-        ensures turned { Turns layout.now.page (C.encoded layout.now.codec) (C.decoded layout.now.codec) (E.epoch_of epochs.now) (E.with_epoch epochs.now) self.old caches.old reply (self.new, result) }
-        ensures caches { caches.new ≡ caches_left self.old caches.old result }
-    {
-        match self {
-            Doing::Plain(doing) => plain_ending(doing.take(alloc, layout, caches, reply)),
-            Doing::View(op) => {
-                let turned = op.take(alloc, layout, epochs, caches, reply);
-                self.end_where(turned)
             }
         }
     }

@@ -7,3 +7,4 @@ pub mod counts;
 pub mod doing;
 pub mod laws;
 pub mod refusals;
+pub mod work;

@@ -15,6 +15,7 @@ use std::collections::HashSet;
 use txn_caches::caches::Caches;
 use txn_clients::operations::{self, Usage, asked, loose_copy, runs};
 use txn_machine::doing::{Doing, Ending, Operation};
+use txn_machine::work::Work;
 use txn_rows::sets::ascending;
 use txn_store::request::{Reply, Request};
 use txn_types::codec::ObjectCodec;
@@ -196,7 +197,7 @@ impl<T: Clone> Clients<T> {
     }
 
     /// Adds an operation. The only error is want of memory, and then nothing changes.
-    pub fn add(&mut self, of: Usage, doing: Doing<T>) -> Result<(), AllocError>
+    pub fn add(&mut self, alloc: Global, of: Usage, doing: Doing<T>) -> Result<(), AllocError>
         requires some { 1 ≤ of.client }
         requires within { of.client ≤ self.old.count }
         requires view { IsFromOne of.view }
@@ -205,17 +206,14 @@ impl<T: Clone> Clients<T> {
         ensures ok { OnOk result (self.new.operations.items ≡ self.old.operations.items ++ record { client = of.client; view = of.view; claims = of.claims; doing = doing } ∷ []) }
         ensures err { OnErr result (self.new.operations.items ≡ self.old.operations.items) }
     {
-        let made = enter(
-            &mut self.operations,
-            &mut self.running,
-            of.client,
-            runs(&doing),
-        );
+        let running = runs(&doing);
+        let work = Work::new(alloc, doing)?;
+        let made = enter(&mut self.operations, &mut self.running, of.client, running);
         let operation = Operation {
             client: of.client,
             view: of.view,
             claims: of.claims,
-            doing,
+            doing: work,
         };
         push_where(&mut self.operations, operation, made)
     }

@@ -129,7 +129,7 @@ impl<T: Clone, C: ObjectCodec<T> + Drop, E: EpochField<T>> Tables<T, C, E> {
             self.views.find(of.view),
         )?;
         let op = self.clients.operations.len() as u64 + 1;
-        self.clients.add(of, doing)?;
+        self.clients.add(self.alloc, of, doing)?;
         self.views.take(of.view, op);
         self.trace.begin(op, call);
         Ok(tell_begin(&mut self.trace, &mut self.views, op, of, refusal))

@@ -13,6 +13,6 @@ returns-then-is_some-clause-ok g c =
     c.requires.permits c.in_ok-doing.ensures.reads_back c.in_ok-doing.ensures.word c.in_ok-doing.ensures.started
     (c.find-view.ensures ∙ (ap (λ vs. seen_view (used_by vs used)) c.deref.ensures.value ∙ ap (λ v. seen_view (used_by t.views.items v)) c.view_used.ensures))
     c.in_ok-doing.ensures.made
-    (made_so t.operations.items c.push_within.new.items.items t.client used c.is_claim.result c.in_ok-doing.doing c.args.call.now c.view_used.ensures c.is_claim.ensures c.push_within.ensures.items)
+    (made_so t.operations.items c.push_within.new.items.items t.client used c.is_claim.result c.in_ok-doing.doing c.args.call.now c.view_used.ensures c.is_claim.ensures (rw c.in_ok-work.ensures at c.push_within.ensures.items))
     (refused_so t.views.items c.take.new.views.items c.let_go.new.views.items (length t.operations.items + 1) (c.len.result + 1) t.client used c.is_claim.result c.args.call.now c.in_ok-doing.refusal c.view_used.ensures c.is_claim.ensures (omega (arith, c.len.ensures, t.operations.ok.0)) c.take.ensures.used c.let_go.ensures.used (sym c.is_some.ensures ∙ c.if-is_some.true))
     (c.push_within-2.ensures.items ∙ ap (λ w. t.writes.items ++ w ∷ []) c.epoch_written.ensures)
