@@ -14,7 +14,7 @@ use txn_steps::latest::{LatestOp, ReadAnswer};
 use txn_store::store::ObjectStore;
 use txn_types::codec::ObjectCodec;
 use txn_types::layout::Layout;
-use txn_types::step_error::{ErrorKind, StepError};
+use txn_types::step_error::ErrorKind;
 
 /// Whether it asks for a page.
 fn is_listing<T>(op: &LatestOp<T>) -> bool
