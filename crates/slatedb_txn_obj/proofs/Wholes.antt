@@ -29,7 +29,7 @@ use Rattle.txn_drivers.proofs.LatestStands.{stored_carried}
 use Rattle.txn_drivers.proofs.LatestWindows.{every_carried, every_one}
 use Rattle.txn_drivers.proofs.NextPages.{has_pages}
 use Rattle.txn_drivers.proofs.Frames.{same_at-kept, kept-refl, FilesStand-kept}
-use Rattle.slatedb_txn_obj.specs.Protocol.{base_number, Entered, Overtaken, MayAppend, Stays, LatestOrFenced, IsEntry, AreListed, IsWarmRead, Unheld, HasCauseOfLatestUnchecked, HasCauseOfVersion}
+use Rattle.slatedb_txn_obj.specs.Protocol.{base_number, EntryStands, Overtaken, MayAppend, Stays, LatestOrFenced, IsEntry, AreListed, IsWarmRead, Unheld, HasCauseOfLatestUnchecked, HasCauseOfVersion}
 use Rattle.slatedb_txn_obj.specs.Whole.{Whole, IsGreatestHeld, IsMissing, probe_calls}
 
 -- the number of a base, both ways
@@ -77,7 +77,7 @@ module _ {T : Type 0} (names : Names) (decode : List ℕ → Option T) (bounds b
           ],
         )
 
-    pub whole-entered : Entered before after (base_number (λ n. n) base) value n
+    pub whole-entered : EntryStands before after (base_number (λ n. n) base) value n
     whole-entered = rw (base_is base) (λ h b whole le. entered_as h b whole le)
 
   module _ (written : Written names decode base bytes value old new latest latest' (Err kinds.ObjectVersionExists)) where
@@ -124,7 +124,7 @@ module _ {T : Type 0} (names : Names) (decode : List ℕ → Option T) (bounds b
     ])
 
   -- the same of every answer of a write
-  pub whole-answered : (result : Result ℕ TransactionalObjectError) → Written names decode base bytes value old new latest latest' result → IfOk result (λ n. Entered before after (base_number (λ n. n) base) value n)
+  pub whole-answered : (result : Result ℕ TransactionalObjectError) → Written names decode base bytes value old new latest latest' result → IfOk result (λ n. EntryStands before after (base_number (λ n. n) base) value n)
   whole-answered (Ok n) written = whole-entered n written
   whole-answered (Err error) written = tt
 

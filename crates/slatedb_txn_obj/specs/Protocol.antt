@@ -58,8 +58,8 @@ module _ {T : Type 0} where
   MayAppend before after base value = (h : List T) (b : ℕ) → before h b → base ≤ length h → after h b ⊎ after (h ++ value ∷ []) b
 
   -- the value is the newest entry, or the number above the base is fenced and nothing moved
-  abbrev pub Entered : (before after : List T → ℕ → Type 0) → ℕ → T → ℕ → Type 0
-  Entered before after base value id = (h : List T) (b : ℕ) → before h b → base ≤ length h
+  abbrev pub EntryStands : (before after : List T → ℕ → Type 0) → ℕ → T → ℕ → Type 0
+  EntryStands before after base value id = (h : List T) (b : ℕ) → before h b → base ≤ length h
       → (id ≡ base + 1) × (((base ≡ length h) × after (h ++ value ∷ []) b) ⊎ ((base < length h) × (id ≤ b) × after h b))
 
   -- what an unchecked read answers: the last entry; or, unless it is fresh, a fenced version, whose refusal makes it fresh

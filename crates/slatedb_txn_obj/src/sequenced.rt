@@ -28,7 +28,7 @@ pub trait SequencedStorageProtocol<T, S: ObjectStore>: BoundaryObject<S> {
     ghost use Rattle.txn_drivers.specs.Calls.{HasCause, HasCauseOfPut, Spends, SpendsTurns};
     ghost use Rattle.slatedb_txn_obj.specs.Checked.{CheckedDelete};
     ghost use Rattle.slatedb_txn_obj.specs.Leaves.{SameFiles, MayCreate, MayRemove, SameOwn};
-    ghost use Rattle.slatedb_txn_obj.specs.Protocol.{base_number, LatestOrFenced, IsEntry, AreListed, Entered, Overtaken, MayAppend, Stays, IsWarmRead, Unheld, HasCauseOfLatestUnchecked, ReadsVersion, HasCauseOfDelete};
+    ghost use Rattle.slatedb_txn_obj.specs.Protocol.{base_number, LatestOrFenced, IsEntry, AreListed, EntryStands, Overtaken, MayAppend, Stays, IsWarmRead, Unheld, HasCauseOfLatestUnchecked, ReadsVersion, HasCauseOfDelete};
 
     /// This protocol and a store stand for a history and a boundary.
     ghost stands: { Self → S → List T → ℕ → Type 0 };
@@ -81,7 +81,7 @@ pub trait SequencedStorageProtocol<T, S: ObjectStore>: BoundaryObject<S> {
         base: Option<MonotonicId>,
         value: &T,
     ) -> Result<MonotonicId, TransactionalObjectError>
-        ensures entered { IfOk result (Entered (stands self.old store.old) (stands self.new store.new) (base_number (λ n. n) base) value.now) }
+        ensures entered { IfOk result (EntryStands (stands self.old store.old) (stands self.new store.new) (base_number (λ n. n) base) value.now) }
         ensures conflict { IsErrOf result TransactionalObjectError.ObjectVersionExists → Overtaken (stands self.old store.old) (stands self.new store.new) (base_number (λ n. n) base) }
         ensures err { IfErr result (λ _. MayAppend (stands self.old store.old) (stands self.new store.new) (base_number (λ n. n) base) value.now) }
         ensures cause { IfErr result (HasCauseOfPut (base_number (λ n. n) base) (S.state store.old) (S.state store.new)) }

@@ -27,7 +27,7 @@ use Rattle.txn_drivers.specs.PageCount.{files_below}
 use Rattle.txn_drivers.specs.LatestRuns.{is_listing, steps_left, calls_left, Pays, IsStep, Listing, Holds, HasSpent, Running}
 use Rattle.txn_drivers.proofs.LatestWindows.{grown_none, grown_kept, grown_every}
 use Rattle.txn_drivers.proofs.LatestSteps.{Leaves}
-use Rattle.txn_drivers.proofs.LatestTurns.{NumberCause, calls_of, Fails}
+use Rattle.txn_drivers.proofs.LatestTurns.{NumberCause, calls_of, LatestFails}
 use Rattle.txn_drivers.proofs.LatestMoves.{not_due, due_as, Moved, moved}
 use Rattle.txn_drivers.proofs.LatestStands.{window_stands, answer_stands, newest_few, newest_calls}
 
@@ -202,8 +202,8 @@ module _ {T : Type 0} (names : Names) (page : ℕ) (room : 1 ≤ page) (decode :
         leaves : Left (op', turned_by_number told)
         leaves = subst Left (sym s.turned) (lifted Left s.lacks op (latest_turned names page decode op latest s.reply) (err_held old.files first r.spent r.calls paged latest op r.holds r.grown, λ e. absurd (omega (arith, e))) move.0)
 
-        fails : Fails mid new (reply_told s.reply) (op', turned_by_number told)
-        fails = subst (Fails mid new (reply_told s.reply)) (sym s.turned) (lifted (Fails mid new (reply_told s.reply)) s.lacks op (latest_turned names page decode op latest s.reply) (inr (inr refl)) move.1)
+        fails : LatestFails mid new (reply_told s.reply) (op', turned_by_number told)
+        fails = subst (LatestFails mid new (reply_told s.reply)) (sym s.turned) (lifted (LatestFails mid new (reply_told s.reply)) s.lacks op (latest_turned names page decode op latest s.reply) (inr (inr refl)) move.1)
 
         kept' : Kept old new
         kept' = kept_on old mid new r.kept move.2.kept

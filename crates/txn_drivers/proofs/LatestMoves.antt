@@ -16,7 +16,7 @@ use Rattle.txn_drivers.specs.Calls.{one_if}
 use Rattle.txn_drivers.specs.LatestReads.{HasGrown}
 use Rattle.txn_drivers.specs.LatestRuns.{is_listing, steps_left, calls_left, Holds}
 use Rattle.txn_drivers.proofs.LatestSteps.{Leaves, looks, finds, probes, lists, chooses, gets, keeps}
-use Rattle.txn_drivers.proofs.LatestTurns.{Reads, look_reads, get_reads, list_reads, found_in, gone_in, listed_in, asked_get, asked_list, asked_look, calls_of, Fails, begins_fails, found_fails, chosen_fails, probe_fails, got_fails, list_fails}
+use Rattle.txn_drivers.proofs.LatestTurns.{Reads, look_reads, get_reads, list_reads, found_in, gone_in, listed_in, asked_get, asked_list, asked_look, calls_of, LatestFails, begins_fails, found_fails, chosen_fails, probe_fails, got_fails, list_fails}
 
 pub not_due : (b : Bool) → one_if (false && b) ≡ 0
 not_due true = refl
@@ -45,7 +45,7 @@ module _ {T : Type 0} (names : Names) (page : ℕ) (room : 1 ≤ page) (decode :
     abbrev pub Moved : LatestOp T → List Cached → ℕ → ℕ → Bool → Bool → Option Reply → Type 0
     Moved op latest spent' calls' paged paged' reply =
         Leaves names page room decode files first ascending small_first (latest_left op latest) spent' calls' paged' (steps_left paged op + 16 * one_if (is_listing op && paged)) (6 + spent') (latest_turned names page decode op latest reply)
-        × Fails old new (reply_told reply) (latest_turned names page decode op latest reply)
+        × LatestFails old new (reply_told reply) (latest_turned names page decode op latest reply)
         × Reads (calls_of op) old new
 
     steps_as : (paged : Bool) (steps : ℕ) → steps + 16 * one_if (false && paged) ≡ steps

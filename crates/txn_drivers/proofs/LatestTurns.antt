@@ -120,48 +120,48 @@ module _ {T : Type 0} where
   calls_of Ended = 0
 
   -- an error that it tells has a cause
-  abbrev pub Fails : State → State → Option StoreError → LatestOp T × Turned (ReadAnswer T) → Type 0
-  Fails old new told (next, Goes) = Unit {0}
-  Fails old new told (next, Done (Ok answer)) = Unit {0}
-  Fails old new told (next, Done (Err number)) = NumberCause old new told number
+  abbrev pub LatestFails : State → State → Option StoreError → LatestOp T × Turned (ReadAnswer T) → Type 0
+  LatestFails old new told (next, Goes) = Unit {0}
+  LatestFails old new told (next, Done (Ok answer)) = Unit {0}
+  LatestFails old new told (next, Done (Err number)) = NumberCause old new told number
 
   module _ (names : Names) (page : ℕ) (decode : List ℕ → Option T) (old new : State) (told : Option StoreError) where
-    hand_fails : (op : LatestOp T) (id : ℕ) (value : Option T) → Fails old new told (read_in_hand decode op id value)
+    hand_fails : (op : LatestOp T) (id : ℕ) (value : Option T) → LatestFails old new told (read_in_hand decode op id value)
     hand_fails op id (Some value) = tt
     hand_fails op id None = inr (inl refl)
 
-    in_hand_fails : (op : LatestOp T) (hand : Cached) (found : ℕ) → Fails old new told (in_hand names decode op hand found)
+    in_hand_fails : (op : LatestOp T) (hand : Cached) (found : ℕ) → LatestFails old new told (in_hand names decode op hand found)
     in_hand_fails op hand found = elim (cases_Bool (hand.id == 18446744073709551615)) [ inl last ↦ rw last (hand_fails op hand.id (decode hand.bytes)) | inr more ↦ rw more tt ]
 
-    pub begins_fails : (op : LatestOp T) (o : Option Cached) → Fails old new told (begins_with names page decode op o)
+    pub begins_fails : (op : LatestOp T) (o : Option Cached) → LatestFails old new told (begins_with names page decode op o)
     begins_fails op None = tt
     begins_fails op (Some hand) = in_hand_fails op hand 0
 
-    pub found_fails : (op : LatestOp T) (successor : Cached) (found : ℕ) → Fails old new told (found_turned names page decode op successor found)
+    pub found_fails : (op : LatestOp T) (successor : Cached) (found : ℕ) → LatestFails old new told (found_turned names page decode op successor found)
     found_fails op successor found = elim (cases_Bool (found == 4)) [ inl last ↦ rw last tt | inr more ↦ rw more (in_hand_fails op successor found) ]
 
-    paged_fails : (next : Option Segments) (found : Option ℕ) → Fails old new told (paged_turned names page next found)
+    paged_fails : (next : Option Segments) (found : Option ℕ) → LatestFails old new told (paged_turned names page next found)
     paged_fails None found = tt
     paged_fails (Some after) found = tt
 
-    keeping_fails : (op : LatestOp T) (version : Cached) (value : Option T) → Fails old new told (keeping decode op version value)
+    keeping_fails : (op : LatestOp T) (version : Cached) (value : Option T) → LatestFails old new told (keeping decode op version value)
     keeping_fails op version (Some value) = tt
     keeping_fails op version None = inr (inl refl)
 
-    pub chosen_fails : (op : LatestOp T) (greatest : Option ℕ) (latest : List Cached) → Fails old new told (chosen names decode op greatest latest)
+    pub chosen_fails : (op : LatestOp T) (greatest : Option ℕ) (latest : List Cached) → LatestFails old new told (chosen names decode op greatest latest)
     chosen_fails op None latest = by_held (greatest_held latest)
       where
-        by_held : (o : Option Cached) → Fails old new told (unlisted op o)
+        by_held : (o : Option Cached) → LatestFails old new told (unlisted op o)
         by_held None = tt
         by_held (Some cached) = tt
     chosen_fails op (Some id) latest = by_held (held id latest)
       where
-        by_held : (o : Option Cached) → Fails old new told (held_or_got names decode op id o)
+        by_held : (o : Option Cached) → LatestFails old new told (held_or_got names decode op id o)
         by_held None = tt
         by_held (Some cached) = keeping_fails op cached (decode cached.bytes)
 
   module _ (names : Names) (page : ℕ) (decode : List ℕ → Option T) (old new : State) where
-    pub probe_fails : (op : LatestOp T) (hand : Cached) (found next : ℕ) (path : Segments) (answer : Result Got StoreError) → StoreGets path None old answer new → Fails old new (reply_told (Some (replies.Get answer))) (probed decode op hand found next answer)
+    pub probe_fails : (op : LatestOp T) (hand : Cached) (found next : ℕ) (path : Segments) (answer : Result Got StoreError) → StoreGets path None old answer new → LatestFails old new (reply_told (Some (replies.Get answer))) (probed decode op hand found next answer)
     probe_fails op hand found next path (Ok got) g = tt
     probe_fails op hand found next path (Err errors.NotFound) g = hand_fails names page decode old new (Some errors.NotFound) op hand.id (decode hand.bytes)
     probe_fails op hand found next path (Err errors.AlreadyExists) g = get_failed (map.get old.files path) old new errors.AlreadyExists (λ e. cc) g.err
@@ -171,7 +171,7 @@ module _ {T : Type 0} where
     probe_fails op hand found next path (Err errors.NoMemory) g = get_failed (map.get old.files path) old new errors.NoMemory (λ e. cc) g.err
     probe_fails op hand found next path (Err errors.TokensExhausted) g = get_failed (map.get old.files path) old new errors.TokensExhausted (λ e. cc) g.err
 
-    pub got_fails : (op : LatestOp T) (id : ℕ) (path : Segments) (answer : Result Got StoreError) → StoreGets path None old answer new → Fails old new (reply_told (Some (replies.Get answer))) (latest_got names page decode op id answer)
+    pub got_fails : (op : LatestOp T) (id : ℕ) (path : Segments) (answer : Result Got StoreError) → StoreGets path None old answer new → LatestFails old new (reply_told (Some (replies.Get answer))) (latest_got names page decode op id answer)
     got_fails op id path (Ok got) g = keeping_fails names page decode old new None op (record { id = id; bytes = got.bytes }) (decode got.bytes)
     got_fails op id path (Err errors.NotFound) g = tt
     got_fails op id path (Err errors.AlreadyExists) g = get_failed (map.get old.files path) old new errors.AlreadyExists (λ e. cc) g.err
@@ -181,6 +181,6 @@ module _ {T : Type 0} where
     got_fails op id path (Err errors.NoMemory) g = get_failed (map.get old.files path) old new errors.NoMemory (λ e. cc) g.err
     got_fails op id path (Err errors.TokensExhausted) g = get_failed (map.get old.files path) old new errors.TokensExhausted (λ e. cc) g.err
 
-    pub list_fails : (op : LatestOp T) (found : Option ℕ) (prefix : Segments) (after : Option Segments) (limit : ℕ) (answer : Result Page StoreError) → StoreLists prefix after limit old answer new → Fails old new (reply_told (Some (replies.List answer))) (listed names page op found answer)
+    pub list_fails : (op : LatestOp T) (found : Option ℕ) (prefix : Segments) (after : Option Segments) (limit : ℕ) (answer : Result Page StoreError) → StoreLists prefix after limit old answer new → LatestFails old new (reply_told (Some (replies.List answer))) (listed names page op found answer)
     list_fails op found prefix after limit (Ok p) l = paged_fails names page decode old new None (next_after p) (greatest_from found names p.metas)
     list_fails op found prefix after limit (Err e) l = list_failed old new e l.err

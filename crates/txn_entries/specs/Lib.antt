@@ -1,3 +1,4 @@
 pub mod Entry
+pub mod Holder
 pub mod Text
 pub mod TextLaws

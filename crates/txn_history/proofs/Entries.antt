@@ -182,13 +182,14 @@ module _ {C A T : Type 0} (decode : List ℕ → Option T) (get_epoch : T → �
   -- what was entered is an entry
   pub entered_entry : (rows : List (RowOf C A)) → AreMoves decode get_epoch rows → (k op n : ℕ) (v : T) → Entered decode (take k rows) op n v → IsEntry decode (take k rows) n v
   entered_entry rows moves k op n v e =
-      let there = of_front rows k e.place (Effect op e.request) e.effect in
-      let row : RowOf C A = Effect op e.request in
-      let same = front_of rows k e.place (omega (arith, there.1)) in
-      let lacks : has_id (versions_of (take e.place rows)) n ≡ false = subst (λ (front : List (RowOf C A)). has_id (versions_of front) n ≡ false) same e.first in
-      let next : take (suc e.place) rows ≡ take e.place rows ++ row ∷ [] = front_more rows e.place row (slice_get_within rows e.place row there.0) (get_or_from_slice_get rows e.place row row there.0) in
-      let at = entered_put (take e.place rows) n e.bytes v lacks e.reads row e.creates (move_create (take e.place rows) e.request (n, e.bytes) e.creates (moves e.place op e.request there.0)) in
-      entry_later rows (suc e.place) k n v (omega (arith, there.1)) (subst (λ (front : List (RowOf C A)). IsEntry decode front n v) (sym next) at)
+      let c = e.create in
+      let there = of_front rows k c.place (Effect op c.request) c.effect in
+      let row : RowOf C A = Effect op c.request in
+      let same = front_of rows k c.place (omega (arith, there.1)) in
+      let lacks : has_id (versions_of (take c.place rows)) n ≡ false = subst (λ (front : List (RowOf C A)). has_id (versions_of front) n ≡ false) same e.first in
+      let next : take (suc c.place) rows ≡ take c.place rows ++ row ∷ [] = front_more rows c.place row (slice_get_within rows c.place row there.0) (get_or_from_slice_get rows c.place row row there.0) in
+      let at = entered_put (take c.place rows) n c.bytes v lacks e.reads row c.creates (move_create (take c.place rows) c.request (n, c.bytes) c.creates (moves c.place op c.request there.0)) in
+      entry_later rows (suc c.place) k n v (omega (arith, there.1)) (subst (λ (front : List (RowOf C A)). IsEntry decode front n v) (sym next) at)
 
   -- what was newest at a row of a call is an entry
   pub newest_entry : (rows : List (RowOf C A)) (k op n : ℕ) (v : T) → WasNewest decode (take k rows) op n v → IsEntry decode (take k rows) n v

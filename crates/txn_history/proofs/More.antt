@@ -62,41 +62,40 @@ module _ {C A : Type 0} where
   front_kept : (rows more : List (RowOf C A)) (place : ℕ) (row : RowOf C A) → slice_get rows place ≡ Some row → take place (rows ++ more) ≡ take place rows
   front_kept rows more place row e = take-append-le place rows more (omega (arith, slice_get_within rows place row e))
 
-  pub created_kept : (rows more : List (RowOf C A)) (op n : ℕ) → Created rows op n → Created (rows ++ more) op n
-  created_kept rows more op n c =
+  -- the same row at the same place, after the same rows
+  abbrev created_at : (rows rows' : List (RowOf C A)) (op n : ℕ) → (c : Created rows op n) → slice_get rows' c.place ≡ Some (Effect op c.request) → take c.place rows' ≡ take c.place rows → Created rows' op n
+  created_at rows rows' op n c effect front =
       record {
         place = c.place;
         request = c.request;
         bytes = c.bytes;
-        effect = get_kept rows more c.place (Effect op c.request) c.effect;
+        effect = effect;
         creates = c.creates;
-        begun = subst (λ (front : List (RowOf C A)). was_begun front op ≡ true) (sym (front_kept rows more c.place (Effect op c.request) c.effect)) c.begun;
+        begun = subst (λ (rs : List (RowOf C A)). was_begun rs op ≡ true) (sym front) c.begun;
       }
 
+  pub created_kept : (rows more : List (RowOf C A)) (op n : ℕ) → Created rows op n → Created (rows ++ more) op n
+  created_kept rows more op n c = created_at rows (rows ++ more) op n c (get_kept rows more c.place (Effect op c.request) c.effect) (front_kept rows more c.place (Effect op c.request) c.effect)
+
 module _ {C A T : Type 0} (decode : List ℕ → Option T) where
-  -- the same row at the same place, after the same rows
-  entered_at : (rows rows' : List (RowOf C A)) (op n : ℕ) (value : T) → (e : Entered decode rows op n value) → slice_get rows' e.place ≡ Some (Effect op e.request) → take e.place rows' ≡ take e.place rows → Entered decode rows' op n value
+  entered_at : (rows rows' : List (RowOf C A)) (op n : ℕ) (value : T) → (e : Entered decode rows op n value) → slice_get rows' e.create.place ≡ Some (Effect op e.create.request) → take e.create.place rows' ≡ take e.create.place rows → Entered decode rows' op n value
   entered_at rows rows' op n value e effect front =
       record {
-        place = e.place;
-        request = e.request;
-        bytes = e.bytes;
-        effect = effect;
-        creates = e.creates;
-        begun = subst (λ (rs : List (RowOf C A)). was_begun rs op ≡ true) (sym front) e.begun;
+        create = created_at rows rows' op n e.create effect front;
         first = subst (λ (rs : List (RowOf C A)). has_id (versions_of rs) n ≡ false) (sym front) e.first;
         reads = e.reads;
       }
 
   pub entered_kept : (rows more : List (RowOf C A)) (op n : ℕ) (value : T) → Entered decode rows op n value → Entered decode (rows ++ more) op n value
-  entered_kept rows more op n value e = entered_at rows (rows ++ more) op n value e (get_kept rows more e.place (Effect op e.request) e.effect) (front_kept rows more e.place (Effect op e.request) e.effect)
+  entered_kept rows more op n value e = entered_at rows (rows ++ more) op n value e (get_kept rows more e.create.place (Effect op e.create.request) e.create.effect) (front_kept rows more e.create.place (Effect op e.create.request) e.create.effect)
 
   -- an entry with one more row is one of before, or of that row
   pub entered_back : (rows : List (RowOf C A)) (row : RowOf C A) (op n : ℕ) (value : T) → Entered decode (rows ++ row ∷ []) op n value → Entered decode rows op n value ⊎ ((request : Request) × (bytes : List ℕ) × (row ≡ Effect op request) × (created request ≡ Some (n, bytes)))
   entered_back rows row op n value e =
-      elim (get_more rows row e.place (Effect op e.request) e.effect) [
-        | inl old ↦ inl (entered_at (rows ++ row ∷ []) rows op n value e old (sym (front_kept rows (row ∷ []) e.place (Effect op e.request) old)))
-        | inr last ↦ inr (e.request, e.bytes, last.1, e.creates)
+      let c = e.create in
+      elim (get_more rows row c.place (Effect op c.request) c.effect) [
+        | inl old ↦ inl (entered_at (rows ++ row ∷ []) rows op n value e old (sym (front_kept rows (row ∷ []) c.place (Effect op c.request) old)))
+        | inr last ↦ inr (c.request, c.bytes, last.1, c.creates)
       ]
 
 module _ {C A T : Type 0} (decode : List ℕ → Option T) (get_epoch : T → ℕ) where

@@ -31,14 +31,15 @@ module _ {C A T : Type 0} (decode : List ℕ → Option T) where
 
   pub entered_wrote : (rows : List (RowOf C A)) (j op id : ℕ) (value : T) → was_answered (take j rows) op ≡ false → Entered decode (take j rows) op id value → Wrote rows j op id
   entered_wrote rows j op id value fresh e =
-      let there = of_front rows j e.place (Effect op e.request) e.effect in
+      let c = e.create in
+      let there = of_front rows j c.place (Effect op c.request) c.effect in
       record {
-        place = e.place;
-        request = e.request;
-        bytes = e.bytes;
+        place = c.place;
+        request = c.request;
+        bytes = c.bytes;
         effect = there.0;
-        creates = e.creates;
-        first = subst (λ (front : List (RowOf C A)). has_id (versions_of front) id ≡ false) (front_of rows j e.place (omega (arith, there.1))) e.first;
+        creates = c.creates;
+        first = subst (λ (front : List (RowOf C A)). has_id (versions_of front) id ≡ false) (front_of rows j c.place (omega (arith, there.1))) e.first;
         fresh = fresh;
       }
 

@@ -84,20 +84,41 @@ module _ {T : Type 0} where
   view_used (calls.View (view_calls.ClaimAt view epoch)) = Some view
   view_used (calls.View (view_calls.HolderRefresh view)) = Some view
   view_used (calls.View (view_calls.HolderUpdate view value)) = Some view
-  view_used _ = None
+  view_used (calls.View (view_calls.Init value)) = None
+  view_used (calls.View view_calls.Load) = None
+  view_used (calls.Plain call) = None
 
   -- the call is one of a holder
   abbrev pub is_holders : Call T → Bool
   is_holders (calls.View (view_calls.HolderRefresh view)) = true
   is_holders (calls.View (view_calls.HolderUpdate view value)) = true
-  is_holders _ = false
+  is_holders (calls.View (view_calls.Init value)) = false
+  is_holders (calls.View view_calls.Load) = false
+  is_holders (calls.View (view_calls.Refresh view)) = false
+  is_holders (calls.View (view_calls.Update view value)) = false
+  is_holders (calls.View (view_calls.Claim view)) = false
+  is_holders (calls.View (view_calls.ClaimAt view epoch)) = false
+  is_holders (calls.Plain call) = false
 
   -- the value that a call asks to write on its base, but for a holder, whose value has to have its epoch
   abbrev pub value_written : Call T → Option T
   value_written (calls.Plain (plain_calls.Write base value)) = Some value
   value_written (calls.Plain (plain_calls.WriteUnchecked base value)) = Some value
   value_written (calls.View (view_calls.Update view value)) = Some value
-  value_written _ = None
+  value_written (calls.Plain plain_calls.Read) = None
+  value_written (calls.Plain (plain_calls.ReadUnchecked id)) = None
+  value_written (calls.Plain (plain_calls.ReadSeen id)) = None
+  value_written (calls.Plain (plain_calls.ListIds from to)) = None
+  value_written (calls.Plain (plain_calls.Delete id)) = None
+  value_written (calls.Plain (plain_calls.Check id)) = None
+  value_written (calls.Plain (plain_calls.Advance to)) = None
+  value_written (calls.View (view_calls.Init value)) = None
+  value_written (calls.View view_calls.Load) = None
+  value_written (calls.View (view_calls.Refresh view)) = None
+  value_written (calls.View (view_calls.Claim view)) = None
+  value_written (calls.View (view_calls.ClaimAt view epoch)) = None
+  value_written (calls.View (view_calls.HolderRefresh view)) = None
+  value_written (calls.View (view_calls.HolderUpdate view value)) = None
 
   -- an answer tells an id that passes the test: the version of a view, and of a call without a view what `plain_tells_id` of it says
   abbrev pub tells_id : (ℕ → Bool) → Answer T → Bool

@@ -47,22 +47,21 @@ module _ {C A : Type 0} where
   NoTokens before = put_count before ≡ 18446744073709551615
 
   -- Ids that a listing answers at a row: ids of entries within the bounds, with all of them that are above the boundary.
-  pub record Lists (rows : List (RowOf C A)) (from to : Bound ℕ) (ids : List ℕ) : Type 0 where
+  pub record IsListing (rows : List (RowOf C A)) (from to : Bound ℕ) (ids : List ℕ) : Type 0 where
     pub ascending : IsStrictlySortedBy nat_cmp ids
     pub there : (n : ℕ) → list_any (nat_eq n) ids ≡ true → ((0 < n) × (n ≤ newest rows)) × (is_within from to n ≡ true)
     pub whole : (n : ℕ) → boundary rows < n → n ≤ newest rows → is_within from to n ≡ true → list_any (nat_eq n) ids ≡ true
 
+  -- at a row of the call there was no entry
+  abbrev pub WasEmpty : List (RowOf C A) → ℕ → Type 0
+  WasEmpty before op = AtRow before op (λ rows. newest rows ≡ 0)
+
 module _ {C A T : Type 0} (decode : List ℕ → Option T) where
-  -- Version n was first created by the operation, at a row of its call, with this value.
+  -- Version n was created by the operation so, and this was its first create, with this value.
   pub record Entered (before : List (RowOf C A)) (op n : ℕ) (value : T) : Type 0 where
-    pub place : ℕ
-    pub request : Request
-    pub bytes : List ℕ
-    pub effect : slice_get before place ≡ Some (Effect op request)
-    pub creates : created request ≡ Some (n, bytes)
-    pub begun : was_begun (take place before) op ≡ true
-    pub first : has_id (versions_of (take place before)) n ≡ false
-    pub reads : decode bytes ≡ Some value
+    pub create : Created before op n
+    pub first : has_id (versions_of (take create.place before)) n ≡ false
+    pub reads : decode create.bytes ≡ Some value
 
   -- A base was overtaken: there is a newer entry now. What the operation entered itself, the boundary has reached.
   pub record Overtaken (before : List (RowOf C A)) (op : ℕ) (base : Option ℕ) : Type 0 where
@@ -78,26 +77,20 @@ module _ {C A T : Type 0} (decode : List ℕ → Option T) where
   IsFound before op id None = AtRow before op (λ rows. newest rows < id)
   IsFound before op id (Some value) = IsEntry decode before id value
 
-  -- at a row of the call there was no entry
-  abbrev pub WasEmpty : List (RowOf C A) → ℕ → Type 0
-  WasEmpty before op = AtRow before op (λ rows. newest rows ≡ 0)
+-- Every call is refused where its store call failed, or for want of memory. Rows do not show that a store call failed: the operations that were told so are a list beside them.
+abbrev pub FailureFits : List ℕ → ℕ → ℕ → Type 0
+FailureFits failed op number = ((number ≡ 2) × (list_any (nat_eq op) failed ≡ true)) ⊎ (number ≡ 9)
 
--- Rows do not show that a store call failed: the operations that were told so are a list beside them.
-module _ {T : Type 0} (decode : List ℕ → Option T) (get_epoch : T → ℕ) (failed : List ℕ) where
-  -- every call is refused where its store call failed, or for want of memory
-  abbrev pub Fails : ℕ → ℕ → Type 0
-  Fails op number = ((number ≡ 2) × (list_any (nat_eq op) failed ≡ true)) ⊎ (number ≡ 9)
-
-module _ {C A T : Type 0} (decode : List ℕ → Option T) (get_epoch : T → ℕ) (failed : List ℕ) where
+module _ {C A T : Type 0} (decode : List ℕ → Option T) where
   -- An answer of a plain call that is no refusal fits it. A checked write answers its own version, with its value; a read what was newest.
   abbrev pub PlainSucceeds : List (RowOf C A) → ℕ → PlainCall T → PlainAnswer T → Type 0
   PlainSucceeds before op (plain_calls.Write base value) (plain_answers.Wrote n) = Entered decode before op n value
   PlainSucceeds before op (plain_calls.WriteUnchecked base value) (plain_answers.Wrote n) = Created before op n × (n ≡ number_of base + 1) × (n ≤ newest before)
-  PlainSucceeds before op plain_calls.Read (plain_answers.Read None) = WasEmpty decode before op
+  PlainSucceeds before op plain_calls.Read (plain_answers.Read None) = WasEmpty before op
   PlainSucceeds before op plain_calls.Read (plain_answers.Read (Some found)) = WasNewest decode before op found.0 found.1
   PlainSucceeds before op (plain_calls.ReadUnchecked id) (plain_answers.Value found) = (id ≤ boundary before) ⊎ IsFound decode before op id found
   PlainSucceeds before op (plain_calls.ReadSeen id) (plain_answers.Value found) = (id ≤ boundary before) ⊎ IsFound decode before op id found
-  PlainSucceeds before op (plain_calls.ListIds from to) (plain_answers.Ids ids) = AtRow before op (λ rows. Lists rows from to ids)
+  PlainSucceeds before op (plain_calls.ListIds from to) (plain_answers.Ids ids) = AtRow before op (λ rows. IsListing rows from to ids)
   PlainSucceeds before op (plain_calls.Delete id) plain_answers.Done = AtRow before op (λ rows. (id ≤ boundary rows) × (is_stored rows id ≡ false))
   PlainSucceeds before op (plain_calls.Check id) plain_answers.Done = AtRow before op (λ rows. boundary rows < id)
   PlainSucceeds before op (plain_calls.Advance to) plain_answers.Done = to ≤ boundary before

@@ -5,9 +5,9 @@ use Rattle.txn_types.specs.Numbers.{number_of}
 use Rattle.txn_history.specs.declared.event.PlainCall.TheVariants as plain_calls
 use Rattle.txn_history.specs.declared.event.PlainAnswer.TheVariants as plain_answers
 use Rattle.txn_history.specs.declared.trace.RowOf.TheVariants.{Effect, Begun, Answered}
-use Rattle.txn_history.specs.History.{Version, newest, IsEntry, epoch_at}
+use Rattle.txn_history.specs.History.{newest, IsEntry, epoch_at}
 use Rattle.txn_history.specs.Calls.{was_answered, IsCall, begun_count, before_begin, view_used, is_holders, value_written, was_told, is_below_told}
-use Rattle.txn_history.specs.Facts.{base_on, is_high, greatest, Entered, WasNewest, WasEmpty, NoTokens, WriteRefused, Fails, PlainSucceeds, PlainRefuses}
+use Rattle.txn_history.specs.Facts.{base_on, is_high, greatest, Entered, WasNewest, WasEmpty, NoTokens, WriteRefused, FailureFits, PlainSucceeds, PlainRefuses}
 use Rattle.txn_history.specs.declared.event.ViewCall.TheVariants as view_calls
 use Rattle.txn_history.specs.declared.event.Call.{Call}
 use Rattle.txn_history.specs.declared.event.Call.TheVariants as calls
@@ -31,9 +31,21 @@ module _ {T : Type 0} where
   abbrev pub base_of : Option ℕ → Call T → Option ℕ
   base_of at (calls.Plain (plain_calls.Write base value)) = base
   base_of at (calls.Plain (plain_calls.WriteUnchecked base value)) = base
+  base_of at (calls.Plain plain_calls.Read) = None
+  base_of at (calls.Plain (plain_calls.ReadUnchecked id)) = None
+  base_of at (calls.Plain (plain_calls.ReadSeen id)) = None
+  base_of at (calls.Plain (plain_calls.ListIds from to)) = None
+  base_of at (calls.Plain (plain_calls.Delete id)) = None
+  base_of at (calls.Plain (plain_calls.Check id)) = None
+  base_of at (calls.Plain (plain_calls.Advance to)) = None
   base_of at (calls.View (view_calls.Update view value)) = at
   base_of at (calls.View (view_calls.HolderUpdate view value)) = at
-  base_of at _ = None
+  base_of at (calls.View (view_calls.Init value)) = None
+  base_of at (calls.View view_calls.Load) = None
+  base_of at (calls.View (view_calls.Refresh view)) = None
+  base_of at (calls.View (view_calls.Claim view)) = None
+  base_of at (calls.View (view_calls.ClaimAt view epoch)) = None
+  base_of at (calls.View (view_calls.HolderRefresh view)) = None
 
   -- where the view of a call stands, none of a call without a view
   abbrev pub stands_at : List (Row T) → Option ℕ → Option ℕ
@@ -51,7 +63,15 @@ module _ {T : Type 0} where
   -- a boundary to advance to is 0, or below an id that some call answered
   abbrev pub has_low_boundary : List (Row T) → Call T → Bool
   has_low_boundary rows (calls.Plain (plain_calls.Advance to)) = to == 0 || is_below_told rows to
-  has_low_boundary rows _ = true
+  has_low_boundary rows (calls.Plain (plain_calls.Write base value)) = true
+  has_low_boundary rows (calls.Plain (plain_calls.WriteUnchecked base value)) = true
+  has_low_boundary rows (calls.Plain plain_calls.Read) = true
+  has_low_boundary rows (calls.Plain (plain_calls.ReadUnchecked id)) = true
+  has_low_boundary rows (calls.Plain (plain_calls.ReadSeen id)) = true
+  has_low_boundary rows (calls.Plain (plain_calls.ListIds from to)) = true
+  has_low_boundary rows (calls.Plain (plain_calls.Delete id)) = true
+  has_low_boundary rows (calls.Plain (plain_calls.Check id)) = true
+  has_low_boundary rows (calls.View call) = true
 
   -- the view that a call uses was shown, and is a holder exactly where the call is a holder's
   abbrev pub has_shown_view : List (Row T) → Option ℕ → Bool → Bool
@@ -106,11 +126,14 @@ module _ {T : Type 0} (decode : List ℕ → Option T) (get_epoch : T → ℕ) (
   -- a holder's update appends a value of its own epoch, and nothing once an entry has an epoch above it
   abbrev pub MayAppend : List (Row T) → Call T → Type 0
   MayAppend before (calls.View (view_calls.HolderUpdate view value)) = IsUnfenced before view value
-  MayAppend before _ = Unit {0}
-
-  -- the version that is put, if one is, is an append or a re-creation
-  abbrev pub VersionPut : List (Row T) → ℕ → Option Version → Type 0
-  VersionPut = effects.VersionPut decode get_epoch WritesOn MayAppend
+  MayAppend before (calls.Plain call) = Unit {0}
+  MayAppend before (calls.View (view_calls.Init value)) = Unit {0}
+  MayAppend before (calls.View view_calls.Load) = Unit {0}
+  MayAppend before (calls.View (view_calls.Refresh view)) = Unit {0}
+  MayAppend before (calls.View (view_calls.Update view value)) = Unit {0}
+  MayAppend before (calls.View (view_calls.Claim view)) = Unit {0}
+  MayAppend before (calls.View (view_calls.ClaimAt view epoch)) = Unit {0}
+  MayAppend before (calls.View (view_calls.HolderRefresh view)) = Unit {0}
 
   -- An effect is a legal move of its call, or a re-creation.
   abbrev pub IsLegal : List (Row T) → ℕ → Request → Type 0
@@ -124,6 +147,10 @@ module _ {T : Type 0} where
   pub record Shows (before : List (Row T)) (view shown id : ℕ) : Type 0 where
     pub same : shown ≡ view
     pub rises : number_of (view_at before view) ≤ id
+
+  -- a claim is refused because the store has no token left, or because no id is left
+  abbrev pub ClaimRefused : List (Row T) → ℕ → Type 0
+  ClaimRefused before number = ((number ≡ 2) × NoTokens before) ⊎ ((number ≡ 10) × (greatest ≤ newest before))
 
 module _ {T : Type 0} (decode : List ℕ → Option T) (get_epoch : T → ℕ) where
   -- some entry has an epoch of at least this
@@ -149,44 +176,40 @@ module _ {T : Type 0} (decode : List ℕ → Option T) (get_epoch : T → ℕ) w
     pub entry : IsEntry decode before base old
     pub smaller : get_epoch old < epoch
 
--- Rows do not show that a store call failed: the operations that were told so are a list beside them.
-module _ {T : Type 0} (decode : List ℕ → Option T) (get_epoch : T → ℕ) (failed : List ℕ) where
   -- An answer that is no refusal fits the call. A write on a view answers its own version, with its value; a load or a refresh what was newest.
   abbrev pub Succeeds : List (Row T) → ℕ → Call T → Answer T → Type 0
-  Succeeds before op (calls.Plain call) (answers.Plain answer) = PlainSucceeds decode get_epoch failed before op call answer
+  Succeeds before op (calls.Plain call) (answers.Plain answer) = PlainSucceeds decode before op call answer
   Succeeds before op (calls.View (view_calls.Init value)) (answers.View shown n entry) = Shows before (view_count before + 1) shown n × Entered decode before op n entry
   Succeeds before op (calls.View view_calls.Load) (answers.View shown n entry) = Shows before (view_count before + 1) shown n × WasNewest decode before op n entry
   Succeeds before op (calls.View (view_calls.Refresh view)) (answers.View shown n entry) = Shows before view shown n × WasNewest decode before op n entry
   Succeeds before op (calls.View (view_calls.Update view value)) (answers.View shown n entry) = Shows before view shown n × Entered decode before op n entry
-  Succeeds before op (calls.View (view_calls.Claim view)) (answers.Held shown n entry epoch) = Shows before view shown n × Holds decode get_epoch before op n entry epoch
-  Succeeds before op (calls.View (view_calls.ClaimAt view at)) (answers.Held shown n entry epoch) = Shows before view shown n × Holds decode get_epoch before op n entry epoch × (epoch ≡ at)
+  Succeeds before op (calls.View (view_calls.Claim view)) (answers.Held shown n entry epoch) = Shows before view shown n × Holds before op n entry epoch
+  Succeeds before op (calls.View (view_calls.ClaimAt view at)) (answers.Held shown n entry epoch) = Shows before view shown n × Holds before op n entry epoch × (epoch ≡ at)
   Succeeds before op (calls.View (view_calls.HolderRefresh view)) (answers.View shown n entry) = Shows before view shown n × WasNewest decode before op n entry × (epoch_held before view ≡ Some (get_epoch entry))
   Succeeds before op (calls.View (view_calls.HolderUpdate view value)) (answers.View shown n entry) = Shows before view shown n × Entered decode before op n entry
   Succeeds before op call answer = ⊥
 
-  -- a claim is refused because the store has no token left, or because no id is left
-  abbrev pub ClaimRefused : List (Row T) → ℕ → Type 0
-  ClaimRefused before number = ((number ≡ 2) × NoTokens before) ⊎ ((number ≡ 10) × (greatest ≤ newest before))
-
   -- a refusal fits the call, by its number
   abbrev pub Refuses : List (Row T) → ℕ → Call T → ℕ → Type 0
-  Refuses before op (calls.Plain call) number = PlainRefuses decode get_epoch failed before op call number
-  Refuses before op (calls.View (view_calls.Init value)) number = WriteRefused decode get_epoch failed before op None number
-  Refuses before op (calls.View view_calls.Load) number = (number ≡ 4) × WasEmpty decode before op
-  Refuses before op (calls.View (view_calls.Update view value)) number = WriteRefused decode get_epoch failed before op (base_by before op (calls.View (view_calls.Update view value))) number
-  Refuses before op (calls.View (view_calls.Claim view)) number = ((number ≡ 10) × HasReached decode get_epoch before greatest) ⊎ ClaimRefused before number
-  Refuses before op (calls.View (view_calls.ClaimAt view at)) number = ((number ≡ 6) × HasReached decode get_epoch before at) ⊎ ClaimRefused before number
-  Refuses before op (calls.View (view_calls.HolderRefresh view)) number = (number ≡ 6) × HolderFenced decode get_epoch before view
+  Refuses before op (calls.Plain call) number = PlainRefuses decode before op call number
+  Refuses before op (calls.View (view_calls.Init value)) number = WriteRefused decode before op None number
+  Refuses before op (calls.View view_calls.Load) number = (number ≡ 4) × WasEmpty before op
+  Refuses before op (calls.View (view_calls.Update view value)) number = WriteRefused decode before op (base_by before op (calls.View (view_calls.Update view value))) number
+  Refuses before op (calls.View (view_calls.Claim view)) number = ((number ≡ 10) × HasReached before greatest) ⊎ ClaimRefused before number
+  Refuses before op (calls.View (view_calls.ClaimAt view at)) number = ((number ≡ 6) × HasReached before at) ⊎ ClaimRefused before number
+  Refuses before op (calls.View (view_calls.HolderRefresh view)) number = (number ≡ 6) × HolderFenced before view
   Refuses before op (calls.View (view_calls.HolderUpdate view value)) number =
-      ((number ≡ 6) × HolderFenced decode get_epoch before view)
+      ((number ≡ 6) × HolderFenced before view)
       ⊎ ((number ≡ 7) × (epoch_held before view ≢ Some (get_epoch value)))
-      ⊎ WriteRefused decode get_epoch failed before op (base_by before op (calls.View (view_calls.HolderUpdate view value))) number
+      ⊎ WriteRefused decode before op (base_by before op (calls.View (view_calls.HolderUpdate view value))) number
   Refuses before op call number = ⊥
 
+-- `failed` are the operations whose store call failed
+module _ {T : Type 0} (decode : List ℕ → Option T) (get_epoch : T → ℕ) (failed : List ℕ) where
   -- the answer fits the call: every call is also refused where its store call failed, or for want of memory
   abbrev pub AnswerFits : List (Row T) → ℕ → Call T → Answer T → Type 0
-  AnswerFits before op call (answers.Plain (plain_answers.Refused number)) = Refuses before op call number ⊎ Fails decode get_epoch failed op number
-  AnswerFits before op call answer = Succeeds before op call answer
+  AnswerFits before op call (answers.Plain (plain_answers.Refused number)) = Refuses decode get_epoch before op call number ⊎ FailureFits failed op number
+  AnswerFits before op call answer = Succeeds decode get_epoch before op call answer
 
   -- The one answer of a call that began, and it fits.
   pub record Answers (before : List (Row T)) (op : ℕ) (answer : Answer T) : Type 0 where

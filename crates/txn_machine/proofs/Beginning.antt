@@ -346,7 +346,7 @@ module _ {T : Type 0} where
   plain_epoch decode get_epoch fine rows same base value e = subst (λ (n : ℕ). nat_le n (get_epoch value) ≡ true) (same (number_of base)) e
 
   -- what a call without a view opens in the layer, it opens in the machine
-  plain_opens : (decode : List ℕ → Option T) (get_epoch : T → ℕ) (fine : List (PlainRow T)) (rows : List (Row T)) → ToldBy fine rows → ((n : ℕ) → epoch_at decode get_epoch rows n ≡ epoch_at decode get_epoch fine n) → (number n : ℕ) → n ≡ begun_count fine + 1 → (call : PlainCall T) → history.Opens decode get_epoch rows number (any.Plain call) → plain_history.Opens decode get_epoch fine n call
+  plain_opens : (decode : List ℕ → Option T) (get_epoch : T → ℕ) (fine : List (PlainRow T)) (rows : List (Row T)) → ToldBy fine rows → ((n : ℕ) → epoch_at decode get_epoch rows n ≡ epoch_at decode get_epoch fine n) → (number n : ℕ) → n ≡ begun_count fine + 1 → (call : PlainCall T) → history.Opens decode get_epoch rows number (any.Plain call) → plain_history.PlainOpens decode get_epoch fine n call
   plain_opens decode get_epoch fine rows told same number n next (calls.Write base value) o = record { next = next; known = plain_known fine rows told base o.known; low = refl; keeps = plain_epoch decode get_epoch fine rows same base value o.keeps }
   plain_opens decode get_epoch fine rows told same number n next (calls.WriteUnchecked base value) o = record { next = next; known = plain_known fine rows told base o.known; low = refl; keeps = plain_epoch decode get_epoch fine rows same base value o.keeps }
   plain_opens decode get_epoch fine rows told same number n next calls.Read o = record { next = next; known = refl; low = refl; keeps = refl }

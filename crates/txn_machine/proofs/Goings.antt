@@ -53,7 +53,7 @@ module _ {T : Type 0} (decode : List ℕ → Option T) (get_epoch : T → ℕ) w
       record { begun = f.begun; none = λ k request e. both_ways (machine_stands.has_effect fine.trace (machine.next_op fine)) f.none (has_one fine.trace k (machine.next_op fine) request e) }
 
 module _ {T : Type 0} (encode : T → List ℕ) (decode : List ℕ → Option T) (get_epoch : T → ℕ) (set_epoch : T → ℕ → T) (past : Past T) (s : State T) (op : ℕ) (operation : Operation T) (call : Call T) (was inner : Inner T) (left : List Caches) (h : Open decode get_epoch set_epoch past s op operation call was left)
-    (start : plain.Next T) (starts : start ≡ plain.started h.fine.page encode (fine_call call inner)) (opens : plain_history.Opens decode get_epoch h.fine.trace (machine.next_op h.fine) (fine_call call inner)) (back : plain.ReadsBack encode decode (fine_call call inner)) (word : plain.FitsWord (fine_call call inner))
+    (start : plain.Next T) (starts : start ≡ plain.started h.fine.page encode (fine_call call inner)) (opens : plain_history.PlainOpens decode get_epoch h.fine.trace (machine.next_op h.fine) (fine_call call inner)) (back : plain.ReadsBack encode decode (fine_call call inner)) (word : plain.FitsWord (fine_call call inner))
     (first : DoesFirst get_epoch call inner) (next : layer_stands.NextStands decode get_epoch set_epoch h.l.failed h.l.rows h.l.views h.l.count op (as_laid operation.client call was) (Goes inner)) (fenced : OwnFenced decode get_epoch set_epoch h.l.rows op) where
   abbrev n : ℕ
   n = machine.next_op h.fine

@@ -150,7 +150,7 @@ module _ {T : Type 0} (decode : List ℕ → Option T) (get_epoch : T → ℕ) w
   -- what the answer of a fine operation owes
   abbrev pub Owes : List (Row T) → List ℕ → ℕ → Call T → Inner T → PlainAnswer T → Type 0
   Owes rows failed op (any.Plain call) inner answer = history.AnswerFits decode get_epoch failed rows op (any.Plain call) (any_answers.Plain answer)
-  Owes rows failed op (any.View call) inner answer = InsideFits decode get_epoch failed rows op inner (inside answer)
+  Owes rows failed op (any.View call) inner answer = InsideFits decode failed rows op inner (inside answer)
 
   abbrev pub OwesFor : List (PlainRow T) → List (Row T) → List ℕ → ℕ → Call T → Inner T → Option (PlainAnswer T) → Type 0
   OwesFor fine rows failed op call inner None = Unit {0}

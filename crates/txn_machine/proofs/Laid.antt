@@ -6,18 +6,18 @@ use Rattle.txn_history.specs.declared.event.PlainCall.{PlainCall}
 use Rattle.txn_history.specs.declared.event.PlainCall.TheVariants as calls
 use Rattle.txn_history.specs.declared.trace.RowOf.TheVariants.{Effect, Begun}
 use Rattle.txn_history.specs.Trace.{PlainRow}
-use Rattle.txn_history.specs.History.{Version, created, raised, removed, has_id, versions_of, newest, was_erased}
+use Rattle.txn_history.specs.History.{Version, created, raised, removed, has_id, versions_of, newest, was_erased, is_stored}
 use Rattle.txn_history.specs.Calls.{IsCall}
 use Rattle.txn_history.specs.Facts.{base_on}
-use Rattle.txn_machine_inner.specs.PlainHistory.{alone, WritesOn, VersionPut, IsLegal, IsOneHistory}
-use Rattle.txn_history.specs.Effects.{Raises, BoundaryPut, Erases, VersionRemoved}
+use Rattle.txn_machine_inner.specs.PlainHistory.{alone, WritesOn, Appends, Recreates, IsLegal, IsOneHistory}
+use Rattle.txn_history.specs.Effects.{Raises, Erases, Append, Recreate, Raise, Erase}
 use Rattle.txn_history.proofs.Numbered.{one_call}
 use Rattle.txn_history.specs.declared.event.Call.{Call}
 use Rattle.txn_history.specs.declared.event.Call.TheVariants as any
 use Rattle.txn_machine_views.specs.Layer as layer
 use Rattle.txn_machine_views.specs.Layer.{Inner, Starts, Writes, Reads, Acts, Asked, Layer, with_row}
 use Rattle.txn_machine_views.specs.Steps.{IsDue, WasRemoved, Steps}
-use Rattle.txn_machine_views.proofs.Tied.{Alike, same_versions, same_newest, same_boundary, same_erased}
+use Rattle.txn_machine_views.proofs.Tied.{Alike, same_versions, same_newest, same_stored, same_boundary, same_erased}
 use Rattle.txn_machine_views.proofs.Owed.{same_base, raises_too, erases_too}
 use Rattle.txn_machine.proofs.Matched.{inner_call, fine_call}
 use Rattle.txn_machine.proofs.Joined.{Noted, DoesFirst, Does}
@@ -93,29 +93,27 @@ module _ {T : Type 0} (decode : List ℕ → Option T) (get_epoch : T → ℕ) (
         new = refl;
       }))))
 
-  put_step : (version : Version) → created request ≡ Some version → VersionPut decode get_epoch fine n (Some version) → Steps decode get_epoch set_epoch l (with_row l (Effect op request))
-  put_step version e (inl a) =
+  append_step : (id : ℕ) (bytes : List ℕ) → created request ≡ Some (id, bytes) → Appends decode get_epoch fine n id bytes → Steps decode get_epoch set_epoch l (with_row l (Effect op request))
+  append_step id bytes e a =
       let w : WritesOn decode get_epoch fine n (fine_call call inner) (newest fine) a.value = subst (λ (c : PlainCall T). WritesOn decode get_epoch fine n c (newest fine) a.value) (one a.call a.called) a.written in
       let is = writes_is decode get_epoch call inner d.first fine n (newest fine) a.value w in
-      creates_step (newest fine) a.value is.0 version.0 version.1 is.1 e a.next a.reads (inl (sym (same_newest owner fine l.rows alike)))
-  put_step version e (inr r) =
+      creates_step (newest fine) a.value is.0 id bytes is.1 e a.next a.reads (inl (sym (same_newest owner fine l.rows alike)))
+
+  recreate_step : (id : ℕ) (bytes : List ℕ) → created request ≡ Some (id, bytes) → Recreates decode get_epoch fine n id bytes → Steps decode get_epoch set_epoch l (with_row l (Effect op request))
+  recreate_step id bytes e r =
       let w : WritesOn decode get_epoch fine n (fine_call call inner) r.base r.value = subst (λ (c : PlainCall T). WritesOn decode get_epoch fine n c r.base r.value) (one r.call r.called) r.written in
       let is = writes_is decode get_epoch call inner d.first fine n r.base r.value w in
       let low = same_boundary owner fine l.rows alike in
-      creates_step r.base r.value is.0 version.0 version.1 is.1 e r.next r.reads
+      creates_step r.base r.value is.0 id bytes is.1 e r.next r.reads
       (inr (record {
         again = subst (λ (i : ℕ). has_id (versions_of l.rows) i ≡ true) r.next (rw (same_versions owner fine l.rows alike) r.again);
-        erased = subst (λ (i : ℕ). was_erased l.rows i ≡ true) r.next (same_erased owner fine l.rows alike version.0 ∙ r.erased);
+        erased = subst (λ (i : ℕ). was_erased l.rows i ≡ true) r.next (same_erased owner fine l.rows alike id ∙ r.erased);
+        free = subst (λ (i : ℕ). is_stored l.rows i ≡ false) r.next (rw (same_stored owner fine l.rows alike) r.free);
         below = (let le = r.below in let next = r.next in omega (arith, le, low, next));
       }))
 
-  versions_step : (found : Option Version) → created request ≡ found → VersionPut decode get_epoch fine n found → Steps decode get_epoch set_epoch l (with_row l (Effect op request))
-  versions_step None e put = absurd put
-  versions_step (Some version) e put = put_step version e put
-
-  raises_step : (found : Option ℕ) → raised request ≡ found → BoundaryPut alone fine n found → Steps decode get_epoch set_epoch l (with_row l (Effect op request))
-  raises_step None e put = absurd put
-  raises_step (Some to) e up =
+  raise_step : (to : ℕ) → raised request ≡ Some to → Raises alone fine n to → Steps decode get_epoch set_epoch l (with_row l (Effect op request))
+  raise_step to e up =
       let is : call ≡ any.Plain (calls.Advance to) = is_advance call inner to (sym (one (calls.Advance to) up.called)) in
       let called : IsCall l.rows op (any.Plain (calls.Advance to)) = subst (IsCall l.rows op) is d.own in
       inr (inr (inr (inr (inl (record {
@@ -127,9 +125,8 @@ module _ {T : Type 0} (decode : List ℕ → Option T) (get_epoch : T → ℕ) (
         new = refl;
       })))))
 
-  removes_step : (found : Option ℕ) → removed request ≡ found → VersionRemoved alone fine n found → Steps decode get_epoch set_epoch l (with_row l (Effect op request))
-  removes_step None e gone = absurd gone
-  removes_step (Some id) e gone =
+  erase_step : (id : ℕ) → removed request ≡ Some id → Erases alone fine n id → Steps decode get_epoch set_epoch l (with_row l (Effect op request))
+  erase_step id e gone =
       let is : call ≡ any.Plain (calls.Delete id) = is_delete call inner id (sym (one (calls.Delete id) gone.called)) in
       let called : IsCall l.rows op (any.Plain (calls.Delete id)) = subst (IsCall l.rows op) is d.own in
       inr (inr (inr (inr (inr (inl (record {
@@ -143,6 +140,7 @@ module _ {T : Type 0} (decode : List ℕ → Option T) (get_epoch : T → ℕ) (
 
   -- a legal effect is a step of the layer
   pub effect_step : IsLegal decode get_epoch fine n request → Steps decode get_epoch set_epoch l (with_row l (Effect op request))
-  effect_step (inl put) = versions_step (created request) refl put
-  effect_step (inr (inl up)) = raises_step (raised request) refl up
-  effect_step (inr (inr gone)) = removes_step (removed request) refl gone
+  effect_step (Append id bytes creates a) = append_step id bytes creates a
+  effect_step (Recreate id bytes creates r) = recreate_step id bytes creates r
+  effect_step (Raise to raises r) = raise_step to raises r
+  effect_step (Erase id removes r) = erase_step id removes r

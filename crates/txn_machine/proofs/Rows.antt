@@ -131,7 +131,7 @@ module _ {T : Type 0} (decode : List ℕ → Option T) where
 
   pub past_named : (owner : ℕ → ℕ) (fine : List (PlainRow T)) (next to op n : ℕ) → Unused fine next → PastAt decode owner fine op n → PastAt decode (renamed owner next to) fine op n
   past_named owner fine next to op n u past m k value own ne e =
-      let apart : m ≢ next = (λ q. u.none e.place e.request (subst (λ (j : ℕ). slice_get fine e.place ≡ Some (Effect j e.request)) q e.effect)) in
+      let apart : m ≢ next = (λ q. u.none e.create.place e.create.request (subst (λ (j : ℕ). slice_get fine e.create.place ≡ Some (Effect j e.create.request)) q e.create.effect)) in
       past m k value (sym (renamed_other owner next to m apart) ∙ own) ne e
 
 module _ {T : Type 0} where

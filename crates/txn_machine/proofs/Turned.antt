@@ -128,7 +128,7 @@ module _ {T : Type 0} (encode : T → List ℕ) (decode : List ℕ → Option T)
   -- a call on a view goes on as the layer says
   module _ (call : ViewCall T) (was : Inner T) (h : Open decode get_epoch set_epoch past s op operation (any.View call) was kept) where
     at_work : (local : Option ℕ) (inner : Inner T) (doing : Doing T) (fine_doing : PlainDoing T) → Matched get_epoch (any.View call) local inner doing fine_doing → layer_stands.NextStands decode get_epoch set_epoch h.l.failed h.l.rows h.l.views h.l.count op (as_laid operation.client (any.View call) was) (Goes inner) →
-        NextOnly (IsTold h.fine.trace) (Goes inner) → IsAtWork inner × plain_history.Opens decode get_epoch h.fine.trace (machine.next_op h.fine) (fine_call (any.View call) inner) × OwnFenced decode get_epoch set_epoch h.l.rows op
+        NextOnly (IsTold h.fine.trace) (Goes inner) → IsAtWork inner × plain_history.PlainOpens decode get_epoch h.fine.trace (machine.next_op h.fine) (fine_call (any.View call) inner) × OwnFenced decode get_epoch set_epoch h.l.rows op
     at_work local (Writes base value epoch) doing fine_doing matched stands only =
         let rises = stands.0.0.rises in
         let same = same_epoch decode get_epoch h.owner h.fine.trace h.l.rows h.core.tied.top base in

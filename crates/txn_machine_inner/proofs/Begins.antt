@@ -20,7 +20,7 @@ use Rattle.txn_history.specs.Names.{world_names, world_boundary}
 use Rattle.txn_history.specs.History.{newest, boundary, epoch_at}
 use Rattle.txn_history.specs.Calls.{begins, ends}
 use Rattle.txn_history.specs.Facts.{base_on}
-use Rattle.txn_machine_inner.specs.PlainHistory.{tells, is_known_base, Opens, AnswerFits}
+use Rattle.txn_machine_inner.specs.PlainHistory.{tells, is_known_base, PlainOpens, AnswerFits}
 use Rattle.txn_history.proofs.Lists.{get_last, any_false, any_last}
 use Rattle.txn_machine_inner.specs.declared.doing.PlainDoing.TheVariants.{Write, WriteUnchecked, Read, Ended}
 use Rattle.txn_machine_inner.specs.Doing.{started, ReadsBack, FitsWord}
@@ -157,7 +157,7 @@ module _ {T : Type 0} (encode : T → List ℕ) (decode : List ℕ → Option T)
         }
 
     -- how a call starts fits
-    pub start_turn : (page : ℕ) → 1 ≤ page → (call : PlainCall T) → Opens decode get_epoch rows op call → ReadsBack encode decode call → FitsWord call → TurnStands decode get_epoch failed (after call) store cached op call (started page encode call)
+    pub start_turn : (page : ℕ) → 1 ≤ page → (call : PlainCall T) → PlainOpens decode get_epoch rows op call → ReadsBack encode decode call → FitsWord call → TurnStands decode get_epoch failed (after call) store cached op call (started page encode call)
     start_turn page room (calls.Write base value) o back word = write_starts page base value o.known (leb-true _ _ o.keeps) back
     start_turn page room (calls.WriteUnchecked base value) o back word = unchecked_starts page base value o.known (leb-true _ _ o.keeps) back
     start_turn page room calls.Read o back word = goes_on decode get_epoch failed (after calls.Read) store cached op calls.Read (Read (read_started world_boundary)) (began calls.Read) tt (refl, (tt, refl))

@@ -27,8 +27,8 @@ use Rattle.txn_history.specs.declared.trace.RowOf.TheVariants.{Effect, Begun, An
 use Rattle.txn_history.specs.Lists.{numbered}
 use Rattle.txn_history.specs.Names.{world_names, world_boundary}
 use Rattle.txn_history.specs.History.{Contents, Version, is_id, has_id, with_version, versions_of, newest, stored, boundary, boundary_said, erases, put_count, HasContents}
-use Rattle.txn_history.specs.Effects.{Raises, Erases, BoundaryPut, VersionRemoved}
-use Rattle.txn_machine_inner.specs.PlainHistory.{tells, alone, Opens, Appends, Recreates, VersionPut, Answers, Fits}
+use Rattle.txn_history.specs.Effects.{Raises, Erases, Append, Recreate, Raise, Erase}
+use Rattle.txn_machine_inner.specs.PlainHistory.{tells, alone, PlainOpens, Appends, Recreates, Answers, Fits}
 use Rattle.txn_history.proofs.Lists.{get_more, get_last, any_true, any_more, any_last, get_other}
 use Rattle.txn_history.proofs.Entries as entries
 use Rattle.txn_history.proofs.Rows.{versions_of-more, stored-more, boundary-same, newest_grows}
@@ -344,7 +344,7 @@ module _ {T : Type 0} (decode : List ℕ → Option T) (get_epoch : T → ℕ) (
         };
       }
 
-  pub begun_know : (rows : List (PlainRow T)) (store : StoreState) (op : ℕ) (call : PlainCall T) → KnowStands decode get_epoch failed rows store → Opens decode get_epoch rows op call → KnowStands decode get_epoch failed (rows ++ Begun op call ∷ []) store
+  pub begun_know : (rows : List (PlainRow T)) (store : StoreState) (op : ℕ) (call : PlainCall T) → KnowStands decode get_epoch failed rows store → PlainOpens decode get_epoch rows op call → KnowStands decode get_epoch failed (rows ++ Begun op call ∷ []) store
   begun_know rows store op call k opens = quiet_more rows store (Begun op call) k opens (versions_of-more rows (Begun op call)) (stored-more rows (Begun op call)) refl (λ test e. cc)
 
   pub answered_know : (rows : List (PlainRow T)) (store : StoreState) (op : ℕ) (answer : PlainAnswer T) → KnowStands decode get_epoch failed rows store → Answers decode get_epoch failed rows op answer → TellsKnown rows answer → KnowStands decode get_epoch failed (rows ++ Answered op answer ∷ []) store
@@ -407,7 +407,8 @@ module _ {T : Type 0} (decode : List ℕ → Option T) (get_epoch : T → ℕ) (
       (has, versions_of-more rows (Effect op (create id bytes)) ∙ (ap (with_version (versions_of rows)) (created_is id bytes Create fits) ∙ ap (λ b. cond b (versions_of rows) (versions_of rows ++ (id, bytes) ∷ [])) has))
 
   put_legal : (rows : List (PlainRow T)) (op id : ℕ) (bytes : List ℕ) → id < 2 ^ 64 → (Appends decode get_epoch rows op id bytes ⊎ Recreates decode get_epoch rows op id bytes) → Fits decode get_epoch failed rows (Effect op (create id bytes))
-  put_legal rows op id bytes fits put = inl (subst (VersionPut decode get_epoch rows op) (sym (created_is id bytes Create fits)) put)
+  put_legal rows op id bytes fits (inl appends) = Append id bytes (created_is id bytes Create fits) appends
+  put_legal rows op id bytes fits (inr recreates) = Recreate id bytes (created_is id bytes Create fits) recreates
 
   -- a create that appends
   pub append_more : (rows : List (PlainRow T)) (old new : StoreState) (op id : ℕ) (bytes : List ℕ) (token : ℕ) → KnowStands decode get_epoch failed rows old → id < 2 ^ 64 → Appends decode get_epoch rows op id bytes → Placed (version_path world_names id) bytes token old new → new.failures ≡ 0 →
@@ -471,7 +472,7 @@ module _ {T : Type 0} (decode : List ℕ → Option T) (get_epoch : T → ℕ) (
   -- a raise
 
   raise_legal : (rows : List (PlainRow T)) (op to : ℕ) (mode : PutMode) → to < 2 ^ 64 → Raises alone rows op to → Fits decode get_epoch failed rows (Effect op (raise_of to mode))
-  raise_legal rows op to mode fits raises = inr (inl (subst (BoundaryPut alone rows op) (sym (raised_is to mode fits)) raises))
+  raise_legal rows op to mode fits raises = Raise to (raised_is to mode fits) raises
 
   pub raise_more : (rows : List (PlainRow T)) (old new : StoreState) (op to : ℕ) (mode : PutMode) (token : ℕ) → KnowStands decode get_epoch failed rows old → Raises alone rows op to → Placed world_boundary (decimal to) token old new → new.failures ≡ 0 →
       KnowStands decode get_epoch failed (rows ++ Effect op (raise_of to mode) ∷ []) new
@@ -508,7 +509,7 @@ module _ {T : Type 0} (decode : List ℕ → Option T) (get_epoch : T → ℕ) (
   -- a removal
 
   remove_legal : (rows : List (PlainRow T)) (op id : ℕ) → id < 2 ^ 64 → Erases alone rows op id → Fits decode get_epoch failed rows (Effect op (remove_version id))
-  remove_legal rows op id fits erased = inr (inr (subst (VersionRemoved alone rows op) (sym (removed_is id fits)) erased))
+  remove_legal rows op id fits erased = Erase id (removed_is id fits) erased
 
   pub remove_more : (rows : List (PlainRow T)) (old new : StoreState) (op id : ℕ) → KnowStands decode get_epoch failed rows old → Erases alone rows op id → Removed (version_path world_names id) old new → new.failures ≡ 0 →
       KnowStands decode get_epoch failed (rows ++ Effect op (remove_version id) ∷ []) new

@@ -1,13 +1,11 @@
 -- What one more operation whose store call failed leaves of the history: a refusal fits as before.
-use Rattle.std.proofs.Common.{nat_eq, ℕ, List, [], ◌∷◌, ◌++◌, take, Option, Some, None, inl, inr}
+use Rattle.std.proofs.Common.{nat_eq, ℕ, List, [], ◌∷◌, ◌++◌, take, Option, inl, inr}
 use Rattle.txn_store.specs.Store.{State as StoreState}
 use Rattle.txn_history.specs.declared.event.PlainCall.{PlainCall}
-use Rattle.txn_history.specs.declared.event.PlainCall.TheVariants as calls
 use Rattle.txn_history.specs.declared.event.PlainAnswer.{PlainAnswer}
 use Rattle.txn_history.specs.declared.event.PlainAnswer.TheVariants as answers
 use Rattle.txn_history.specs.Trace.{PlainRow}
 use Rattle.txn_history.specs.declared.trace.RowOf.TheVariants.{Effect, Begun, Answered}
-use Rattle.txn_history.specs.Facts.{PlainSucceeds, PlainRefuses}
 use Rattle.txn_machine_inner.specs.PlainHistory.{AnswerFits, Fits}
 use Rattle.txn_history.proofs.Lists.{any_true}
 use Rattle.txn_machine_inner.proofs.Stands.{KnowStands}
@@ -15,39 +13,18 @@ use Rattle.txn_machine_inner.proofs.Stands.{KnowStands}
 module _ {T : Type 0} (decode : List ℕ → Option T) (get_epoch : T → ℕ) (failed : List ℕ) where
   -- one more operation whose store call failed
 
-  succeeds_still : (op : ℕ) (rows : List (PlainRow T)) (o : ℕ) (call : PlainCall T) (answer : PlainAnswer T) → PlainSucceeds decode get_epoch failed rows o call answer → PlainSucceeds decode get_epoch (failed ++ op ∷ []) rows o call answer
-  succeeds_still op rows o (calls.Write base value) (answers.Wrote n) h = h
-  succeeds_still op rows o (calls.WriteUnchecked base value) (answers.Wrote n) h = h
-  succeeds_still op rows o calls.Read (answers.Read None) h = h
-  succeeds_still op rows o calls.Read (answers.Read (Some found)) h = h
-  succeeds_still op rows o (calls.ReadUnchecked id) (answers.Value found) h = h
-  succeeds_still op rows o (calls.ReadSeen id) (answers.Value found) h = h
-  succeeds_still op rows o (calls.ListIds from to) (answers.Ids ids) h = h
-  succeeds_still op rows o (calls.Delete id) answers.Done h = h
-  succeeds_still op rows o (calls.Check id) answers.Done h = h
-  succeeds_still op rows o (calls.Advance to) answers.Done h = h
-  succeeds_still op rows o _ _ h = absurd h
-
-  refuses_still : (op : ℕ) (rows : List (PlainRow T)) (o : ℕ) (call : PlainCall T) (number : ℕ) → PlainRefuses decode get_epoch failed rows o call number → PlainRefuses decode get_epoch (failed ++ op ∷ []) rows o call number
-  refuses_still op rows o (calls.Write base value) number h = h
-  refuses_still op rows o (calls.WriteUnchecked base value) number h = h
-  refuses_still op rows o (calls.Delete id) number h = h
-  refuses_still op rows o (calls.Check id) number h = h
-  refuses_still op rows o (calls.Advance to) number h = h
-  refuses_still op rows o _ number h = absurd h
-
   pub fits_still : (op : ℕ) (rows : List (PlainRow T)) (o : ℕ) (call : PlainCall T) (answer : PlainAnswer T) → AnswerFits decode get_epoch failed rows o call answer → AnswerFits decode get_epoch (failed ++ op ∷ []) rows o call answer
   fits_still op rows o call (answers.Refused number) h =
       elim h [
-        | inl refused ↦ inl (refuses_still op rows o call number refused)
+        | inl refused ↦ inl refused
         | inr (inl lost) ↦ inr (inl (lost.0, any_true (nat_eq o) failed op lost.1))
         | inr (inr lacks) ↦ inr (inr lacks)
       ]
-  fits_still op rows o call (answers.Wrote id) h = succeeds_still op rows o call (answers.Wrote id) h
-  fits_still op rows o call (answers.Read found) h = succeeds_still op rows o call (answers.Read found) h
-  fits_still op rows o call (answers.Value found) h = succeeds_still op rows o call (answers.Value found) h
-  fits_still op rows o call (answers.Ids ids) h = succeeds_still op rows o call (answers.Ids ids) h
-  fits_still op rows o call answers.Done h = succeeds_still op rows o call answers.Done h
+  fits_still op rows o call (answers.Wrote id) h = h
+  fits_still op rows o call (answers.Read found) h = h
+  fits_still op rows o call (answers.Value found) h = h
+  fits_still op rows o call (answers.Ids ids) h = h
+  fits_still op rows o call answers.Done h = h
 
   row_still : (op : ℕ) (rows : List (PlainRow T)) (row : PlainRow T) → Fits decode get_epoch failed rows row → Fits decode get_epoch (failed ++ op ∷ []) rows row
   row_still op rows (Effect o request) fits = fits

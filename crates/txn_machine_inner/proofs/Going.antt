@@ -29,7 +29,7 @@ use Rattle.txn_machine_inner.specs.declared.doing.PlainDoing.{PlainDoing}
 use Rattle.txn_machine_inner.specs.declared.doing.PlainDoing.TheVariants.{Write, WriteUnchecked, Read, ReadUnchecked, ReadSeen, ListIds, Delete, Check, Advance, Ended}
 use Rattle.txn_machine_inner.specs.declared.doing.PlainOperation.{PlainOperation}
 use Rattle.txn_machine_inner.specs.Doing.{Next, started, turned, caches_left, asked, next_of, or_no_memory, write_answer, read_answer, value_answer, ids_answer, done_answer}
-use Rattle.txn_machine_inner.specs.Machine.{State, seen_operation, seen_operations, seen_of, with_doing, effected, acted, loosened, failing, given_up, told_failure, ended_by, crashed, next_op, begun_as, Acts, GivesUp, Crashes, Looks, Served, Begins, Takes, FailsFirst, FailsAfter, FailsBy}
+use Rattle.txn_machine_inner.specs.Machine.{State, seen_operation, seen_operations, seen_of, with_doing, effected, acted, loosened, failing, given_up, told_failure, ended_by, crashed, next_op, begun_as, Acts, GivesUp, Crashes, Looks, Served, PlainBegins, Takes, FailsFirst, FailsAfter, FailsBy}
 use Rattle.txn_machine_inner.proofs.Ends.{EndsOne, answer_ends, give_up_ends, told_ends, told_so, land_goes, seen_got, states_acted, states_new, states_crashed}
 
 module _ {T : Type 0} where
@@ -111,7 +111,7 @@ module _ {T : Type 0} where
 
   -- each event
 
-  begin_goes : (encode : T → List ℕ) (decode : List ℕ → Option T) (old : State T) (client : ℕ) (call : PlainCall T) (said : PlainTold T) (new : State T) → Begins encode decode old client call said new → OperationsGoOn (seen_of old) (events.Begin client call) said (seen_of new)
+  begin_goes : (encode : T → List ℕ) (decode : List ℕ → Option T) (old : State T) (client : ℕ) (call : PlainCall T) (said : PlainTold T) (new : State T) → PlainBegins encode decode old client call said new → OperationsGoOn (seen_of old) (events.Begin client call) said (seen_of new)
   begin_goes encode decode old client call said new v =
       let n = next_op old in
       let t = told_of (told.Began n) n v.next.1 in

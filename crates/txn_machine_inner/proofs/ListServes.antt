@@ -16,7 +16,7 @@ use Rattle.txn_steps.specs.Listings.{listing_after, listing_answered, listing_tu
 use Rattle.txn_history.specs.Trace.{PlainRow}
 use Rattle.txn_history.specs.Names.{world_names}
 use Rattle.txn_history.specs.Calls.{was_begun}
-use Rattle.txn_history.specs.Facts.{Lists}
+use Rattle.txn_history.specs.Facts.{IsListing}
 use Rattle.txn_machine_inner.specs.Doing.{ids_of}
 use Rattle.txn_machine_inner.proofs.Stands.{KnowStands, CollectingStands, list_versions}
 use Rattle.txn_history.proofs.More.{AtRow-now}
@@ -27,7 +27,7 @@ use Rattle.txn_machine_inner.proofs.Turns.{ListTells}
 module _ {T : Type 0} (decode : List ℕ → Option T) (get_epoch : T → ℕ) (failed : List ℕ) (rows : List (PlainRow T)) (op : ℕ) (page : ℕ) (room : 1 ≤ page) (begun : was_begun rows op ≡ true) where
   -- after a page: the listing ends here, or its next page is asked for
   paged : (list : ListOp) (metas : List ObjectMeta) (next : Option Segments) → ListLeaves rows list.from list.to next (ids_of (list.found ++ picked world_names list.from list.to metas)) → ListTells decode rows op (listing_after world_names page list metas next)
-  paged list metas None h = (AtRow-now rows op (λ front. Lists front list.from list.to (ids_of (list.found ++ picked world_names list.from list.to metas))) begun h.0, h.1)
+  paged list metas None h = (AtRow-now rows op (λ front. IsListing front list.from list.to (ids_of (list.found ++ picked world_names list.from list.to metas))) begun h.0, h.1)
   paged list metas (Some path) h = h page room
 
   answered : (old new : StoreState) (list : ListOp) (answer : Result Page StoreError) → KnowStands decode get_epoch failed rows old → (c : CollectingStands rows list.from list.to (ids_of list.found) list.request) →

@@ -29,7 +29,7 @@ use Rattle.txn_steps.specs.Requests.{version_page, last_location, next_after}
 use Rattle.txn_history.specs.Trace.{PlainRow}
 use Rattle.txn_history.specs.Names.{world_names}
 use Rattle.txn_history.specs.History.{newest, boundary}
-use Rattle.txn_history.specs.Facts.{Lists}
+use Rattle.txn_history.specs.Facts.{IsListing}
 use Rattle.txn_machine_inner.specs.Doing.{ids_of}
 use Rattle.txn_machine_inner.proofs.ListedIds.{is_in, AscendsFrom, last_or, greatest_of, in_first, in_rest, in_cases, last_in, last_least, ascends_within, take_ascends, take_in, take_has, filter_ascends, filter_in, filter_has, sorted_append, greatest_one, greatest_most}
 use Rattle.txn_machine_inner.proofs.Stands.{IsVersionPath, AllVersions, BeginsAfter, Found, IsKnown, KnowsFound, ListingStands, CollectingStands, KnowStands, is_there}
@@ -194,7 +194,7 @@ module _ {T : Type 0} where
 
   -- what a page leaves a listing of ids with: all of them after the last page, and else what its next page owes
   abbrev pub ListLeaves : List (PlainRow T) → Bound ℕ → Bound ℕ → Option Segments → List ℕ → Type 0
-  ListLeaves rows from to None ids = Lists rows from to ids × ((n : ℕ) → is_in n ids ≡ true → IsKnown rows n)
+  ListLeaves rows from to None ids = IsListing rows from to ids × ((n : ℕ) → is_in n ids ≡ true → IsKnown rows n)
   ListLeaves rows from to (Some path) ids = (limit : ℕ) → 1 ≤ limit → CollectingStands rows from to ids (version_page world_names (Some path) limit)
 
   -- what was reached is known

@@ -93,6 +93,7 @@ module _ {T : Type 0} (decode : List ℕ → Option T) (get_epoch : T → ℕ) (
         written = writes_on decode get_epoch rows op call base value (number_of base) is c.base_is;
         again = (recreated decode get_epoch failed rows op version.id version.bytes k.history c.fits some most).0;
         erased = k.files.gone version.id some most missing;
+        free = ap is_some (sym (k.files.kept (version_path world_names version.id))) ∙ (sym (there_bytes store.files version.id) ∙ missing);
         below = elim (cases_lt (boundary rows) version.id) [
           | inl above ↦
               let v = bytes_within (versions_of rows) version.id some most in

@@ -13,7 +13,7 @@ use Rattle.txn_history.specs.History.{stored, HasContents}
 use Rattle.txn_history.specs.Calls.{begun_count}
 use Rattle.txn_machine_inner.specs.PlainHistory.{IsOneHistory}
 use Rattle.txn_history.specs.Added.{Tells, answer_row, effect_rows, AddsRows}
-use Rattle.txn_machine_inner.specs.Machine.{State, opening, seen_of, effect_of, next_op, Lands, Looks, Served, Begins, Takes, Runs, IsReached, FailsFirst, FailsAfter, FailsBy}
+use Rattle.txn_machine_inner.specs.Machine.{State, opening, seen_of, effect_of, next_op, Lands, Looks, Served, PlainBegins, Takes, Runs, IsReached, FailsFirst, FailsAfter, FailsBy}
 use Rattle.txn_machine_inner.proofs.Stands.{Stands}
 use Rattle.txn_machine_inner.proofs.EffectRows.{tells_answer, went_row, began_row, adds_answer, adds_effect, adds_landing}
 use Rattle.txn_machine_inner.proofs.Going.{seen_at}
@@ -93,7 +93,7 @@ module _ {T : Type 0} (encode : T → List ℕ) (decode : List ℕ → Option T)
   land_adds old k said new v st =
       adds_landing (seen_of old) k v.loose.op v.loose.request v.loose.reply old.store v.loose.store old.trace new.trace new.store.files said v.loose.found st.know.files.given v.loose.reaches.serves v.loose.reaches.honest (ap (λ (s : State T). s.store.files) v.state) v.tells (ap (λ (s : State T). s.trace) v.state)
 
-  begin_adds : (old : State T) (client : ℕ) (call : PlainCall T) (said : PlainTold T) (new : State T) → Begins encode decode old client call said new → Stands decode get_epoch old → AddsRows (seen_of old) old.trace old.store.files (events.Begin client call) said new.trace new.store.files
+  begin_adds : (old : State T) (client : ℕ) (call : PlainCall T) (said : PlainTold T) (new : State T) → PlainBegins encode decode old client call said new → Stands decode get_epoch old → AddsRows (seen_of old) old.trace old.store.files (events.Begin client call) said new.trace new.store.files
   begin_adds old client call said new v st =
       let same : next_op old ≡ begun_count old.trace + 1 = ap (λ n. n + 1) st.count in
       subst (λ (n : ℕ). Tells (told.Began n) n said × (new.trace ≡ (old.trace ++ Begun n call ∷ []) ++ answer_row said) × (new.store.files ≡ old.store.files)) same (

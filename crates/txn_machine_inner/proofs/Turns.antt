@@ -23,7 +23,7 @@ use Rattle.txn_history.specs.declared.event.PlainAnswer.TheVariants as answers
 use Rattle.txn_history.specs.Trace.{PlainRow}
 use Rattle.txn_history.specs.History.{boundary}
 use Rattle.txn_history.specs.Calls.{plain_tells_id, AtRow}
-use Rattle.txn_history.specs.Facts.{Lists, WasNewest, NoTokens}
+use Rattle.txn_history.specs.Facts.{IsListing, WasNewest, NoTokens}
 use Rattle.txn_machine_inner.specs.PlainHistory.{AnswerFits}
 use Rattle.txn_machine_inner.specs.declared.doing.PlainDoing.{PlainDoing}
 use Rattle.txn_machine_inner.specs.declared.doing.PlainDoing.TheVariants.{Ended}
@@ -89,7 +89,7 @@ module _ {T : Type 0} (decode : List ℕ → Option T) where
 
   -- what a listing tells
   abbrev pub ListEnds : List (PlainRow T) → ℕ → Bound ℕ → Bound ℕ → Result (List Listed) ℕ → Type 0
-  ListEnds rows op from to (Ok found) = AtRow rows op (λ front. Lists front from to (ids_of found)) × ((n : ℕ) → list_any (nat_eq n) (ids_of found) ≡ true → IsKnown rows n)
+  ListEnds rows op from to (Ok found) = AtRow rows op (λ front. IsListing front from to (ids_of found)) × ((n : ℕ) → list_any (nat_eq n) (ids_of found) ≡ true → IsKnown rows n)
   ListEnds rows op from to (Err number) = number ≡ 9
 
   abbrev pub ListTells : List (PlainRow T) → ℕ → ListOp × Turned (Result (List Listed) ℕ) → Type 0

@@ -19,7 +19,7 @@ use Rattle.txn_history.specs.Lists.{numbered}
 use Rattle.txn_history.specs.Names.{world_names, world_boundary}
 use Rattle.txn_history.specs.History.{boundary_said, boundary}
 use Rattle.txn_history.specs.Calls.{begun_count}
-use Rattle.txn_machine_inner.specs.PlainHistory.{base_of, is_known_base, has_low_boundary, keeps_epoch, Opens}
+use Rattle.txn_machine_inner.specs.PlainHistory.{base_of, is_known_base, has_low_boundary, keeps_epoch, PlainOpens}
 use Rattle.txn_history.specs.Allowed.{is_client, first_fault}
 use Rattle.txn_machine_inner.specs.PlainAllowed.{fault_of}
 use Rattle.txn_history.proofs.Lists.{numbered_more}
@@ -27,7 +27,7 @@ use Rattle.txn_machine_inner.proofs.PlainBegins.{opens_next}
 use Rattle.txn_machine_inner.specs.declared.doing.PlainDoing.{PlainDoing}
 use Rattle.txn_machine_inner.specs.declared.doing.PlainOperation.{PlainOperation}
 use Rattle.txn_machine_inner.specs.Doing.{Next}
-use Rattle.txn_machine_inner.specs.Machine.{State, no_caches, opening, next_op, begun_as, seen_of, Begins, Takes, Runs, IsReached}
+use Rattle.txn_machine_inner.specs.Machine.{State, no_caches, opening, next_op, begun_as, seen_of, PlainBegins, Takes, Runs, IsReached}
 use Rattle.txn_machine_inner.proofs.Lists.{within, numbered_there}
 use Rattle.txn_history.proofs.More.{begun_count-more, begun_count-begun}
 use Rattle.txn_machine_inner.proofs.Stands.{AreOthers, Frame, CachesStand, OpStands, TurnStands, AtClient, StandsBut, Stands}
@@ -61,7 +61,7 @@ module _ {T : Type 0} (encode : T → List ℕ) (decode : List ℕ → Option T)
   answer_others : (op n : ℕ) (answer : PlainAnswer T) → n ≢ op → AreOthers n (Answered op answer ∷ [])
   answer_others op n answer ne = ((λ e. ne (sym e)), tt)
 
-  module _ (s : State T) (client : ℕ) (call : PlainCall T) (st : Stands decode get_epoch s) (opens : Opens decode get_epoch s.trace (next_op s) call) (caches : Caches) (there : numbered s.caches client ≡ Some caches) where
+  module _ (s : State T) (client : ℕ) (call : PlainCall T) (st : Stands decode get_epoch s) (opens : PlainOpens decode get_epoch s.trace (next_op s) call) (caches : Caches) (there : numbered s.caches client ≡ Some caches) where
     abbrev rows : List (PlainRow T)
     rows = s.trace ++ Begun (next_op s) call ∷ []
 
@@ -125,19 +125,19 @@ module _ {T : Type 0} (encode : T → List ℕ) (decode : List ℕ → Option T)
         (caches, there, subst (λ (d : PlainDoing T). OpStands decode get_epoch (rows ++ row ∷ []) s.store caches.boundary op d) (sym turn.is_end) begun))
 
   -- a call of a client of the world opens the next operation
-  pub opened_keeps : (old : State T) (client : ℕ) (call : PlainCall T) (said : PlainTold T) (new : State T) → 0 < client → client ≤ old.clients → Opens decode get_epoch old.trace (next_op old) call → Begins encode decode old client call said new → Stands decode get_epoch old → Stands decode get_epoch new
+  pub opened_keeps : (old : State T) (client : ℕ) (call : PlainCall T) (said : PlainTold T) (new : State T) → 0 < client → client ≤ old.clients → PlainOpens decode get_epoch old.trace (next_op old) call → PlainBegins encode decode old client call said new → Stands decode get_epoch old → Stands decode get_epoch new
   opened_keeps old client call said new some most opens v st =
       let caches = numbered_there old.caches client some (let wide = st.wide in omega (arith, most, wide)) in
       let turn' = start_turn encode decode get_epoch old.failed old.trace old.store (next_op old) st.know (st.fresh (next_op old) (omega arith)) caches.0.boundary old.page st.paged call opens v.reads_back v.word in
       let turn = subst (λ (n : Next T). TurnStands decode get_epoch old.failed (old.trace ++ Begun (next_op old) call ∷ []) old.store caches.0.boundary (next_op old) call n) (sym v.starts) turn' in
       subst (λ (s : State T). Stands decode get_epoch s) (sym v.state) (begun_stands old client call st opens caches.0 caches.1 v.next.0 v.next.1 turn)
 
-  begin_keeps : (old : State T) (client : ℕ) (call : PlainCall T) (said : PlainTold T) (new : State T) → fault_of decode get_epoch (seen_of old) old.trace (events.Begin client call) ≡ None → Begins encode decode old client call said new → Stands decode get_epoch old → Stands decode get_epoch new
+  begin_keeps : (old : State T) (client : ℕ) (call : PlainCall T) (said : PlainTold T) (new : State T) → fault_of decode get_epoch (seen_of old) old.trace (events.Begin client call) ≡ None → PlainBegins encode decode old client call said new → Stands decode get_epoch old → Stands decode get_epoch new
   begin_keeps old client call said new allowed v st =
       let is = client_within old.clients client (first_true (is_client old.clients client) faults.UnknownNumber ((is_known_base old.trace (base_of call), faults.UnknownBase) ∷ (has_low_boundary old.trace call, faults.BoundaryTooHigh) ∷ (keeps_epoch decode get_epoch old.trace call, faults.EpochLowered) ∷ []) allowed) in
       let opens' = opens_next decode get_epoch old.trace (seen_of old) client call allowed in
       let same : begun_count old.trace + 1 ≡ next_op old = ap (λ n. n + 1) (sym st.count) in
-      opened_keeps old client call said new is.0 is.1 (subst (λ (n : ℕ). Opens decode get_epoch old.trace n call) same opens') v st
+      opened_keeps old client call said new is.0 is.1 (subst (λ (n : ℕ). PlainOpens decode get_epoch old.trace n call) same opens') v st
 
   -- runs
 

@@ -88,8 +88,7 @@ module _ {T : Type 0} (decode : List ℕ → Option T) (get_epoch : T → ℕ) w
   unfolding made
   entered rows op id bytes value fits begun lacks reads =
       let row : PlainRow T = Effect op (create id bytes) in
-      let m = made rows op id bytes fits begun in
-      record { place = m.place; request = m.request; bytes = m.bytes; effect = m.effect; creates = m.creates; begun = m.begun; first = subst (λ (rs : List (PlainRow T)). has_id (versions_of rs) id ≡ false) (sym (front rows row)) lacks; reads = reads }
+      record { create = made rows op id bytes fits begun; first = subst (λ (rs : List (PlainRow T)). has_id (versions_of rs) id ≡ false) (sym (front rows row)) lacks; reads = reads }
 
   -- its version is known, and the boundary has reached it, or it is its own entry
   record Stays (rows : List (PlainRow T)) (op : ℕ) (value : T) (version : Cached) : Type 0 where
@@ -136,7 +135,7 @@ module _ {T : Type 0} (decode : List ℕ → Option T) (get_epoch : T → ℕ) (
 
   -- where its create is refused
 
-  write_refused : (rows : List (PlainRow T)) (op : ℕ) (call : PlainCall T) (base : Option ℕ) (value : T) (number : ℕ) → IsWriteOf call base value → WriteRefused decode get_epoch failed rows op base number → AnswerFits decode get_epoch failed rows op call (answers.Refused number)
+  write_refused : (rows : List (PlainRow T)) (op : ℕ) (call : PlainCall T) (base : Option ℕ) (value : T) (number : ℕ) → IsWriteOf call base value → WriteRefused decode rows op base number → AnswerFits decode get_epoch failed rows op call (answers.Refused number)
   write_refused rows op call base value number (inl is) h = subst (λ (c : PlainCall T). AnswerFits decode get_epoch failed rows op c (answers.Refused number)) (sym is) (inl h)
   write_refused rows op call base value number (inr is) h = subst (λ (c : PlainCall T). AnswerFits decode get_epoch failed rows op c (answers.Refused number)) (sym is) (inl h)
 
@@ -145,7 +144,7 @@ module _ {T : Type 0} (decode : List ℕ → Option T) (get_epoch : T → ℕ) (
   overtaken rows store op base value version k c none there =
       let bound = k.files.within version.id c.fits there in
       let next = c.next in
-      record { longer = omega (arith, next, bound.1); fenced = λ n v e. absurd (both_ways _ none (effect_found rows op e.place e.request e.effect)) }
+      record { longer = omega (arith, next, bound.1); fenced = λ n v e. absurd (both_ways _ none (effect_found rows op e.create.place e.create.request e.create.effect)) }
 
   no_tokens : (rows : List (PlainRow T)) (store : StoreState) → KnowStands decode get_epoch failed rows store → store.left ≡ 0 → NoTokens rows
   no_tokens rows store k none = let left = k.files.left in omega (arith, left, none)

@@ -83,7 +83,7 @@ module _ {T : Type 0} (decode : List ℕ → Option T) (get_epoch : T → ℕ) (
   overtaken write w below =
       let longer : number_of w.base < newest rows = omega (arith, w.next, w.known) in
       subst (λ (c : PlainCall T). AnswerFits decode get_epoch failed rows op c (answers.Refused 5)) (sym w.call_is)
-      (inl (inl (refl, record { longer = longer; fenced = λ n value e. (let is = w.only e.place e.request (n, e.bytes) e.effect e.creates in omega (arith, is, below)) })))
+      (inl (inl (refl, record { longer = longer; fenced = λ n value e. (let is = w.only e.create.place e.create.request (n, e.create.bytes) e.create.effect e.create.creates in omega (arith, is, below)) })))
 
   -- after a step of its check
   pub checked_told : (write : WriteOp) (told : CheckOp × Turned (Result (Unit {0}) ℕ)) → write.step ≡ writes.Checks → (w : Written decode get_epoch rows op call write) →

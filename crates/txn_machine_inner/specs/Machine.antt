@@ -276,7 +276,7 @@ module _ {T : Type 0} (decode : List ℕ → Option T) where
 
 module _ {T : Type 0} (encode : T → List ℕ) (decode : List ℕ → Option T) where
   -- A begin: its call's operation starts.
-  pub record Begins (old : State T) (client : ℕ) (call : PlainCall T) (said : PlainTold T) (new : State T) : Type 0 where
+  pub record PlainBegins (old : State T) (client : ℕ) (call : PlainCall T) (said : PlainTold T) (new : State T) : Type 0 where
     pub reads_back : ReadsBack encode decode call
     pub word : FitsWord call
     pub next : Next T
@@ -285,7 +285,7 @@ module _ {T : Type 0} (encode : T → List ℕ) (decode : List ℕ → Option T)
     pub state : new ≡ begun_as old client call next
 
   abbrev pub Steps : State T → PlainEvent T → PlainTold T → State T → Type 0
-  Steps old (events.Begin client call) said new = Begins old client call said new
+  Steps old (events.Begin client call) said new = PlainBegins old client call said new
   Steps old (events.Look op) said new = Looks decode old op said new
   Steps old (events.Serve op) said new = Served decode old op said new
   Steps old (events.Fail op failure) said new = FailsBy FailsFirst FailsAfter old op failure said new

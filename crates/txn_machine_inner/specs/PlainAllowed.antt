@@ -10,8 +10,8 @@ use Rattle.txn_machine_inner.specs.PlainHistory.{base_of, is_known_base, has_low
 
 module _ {T : Type 0} (decode : List ℕ → Option T) (get_epoch : T → ℕ) where
   -- a begin is tested in this order
-  abbrev pub begin_fault : Seen → List (PlainRow T) → ℕ → PlainCall T → Option EventFault
-  begin_fault seen rows client call = first_fault (
+  abbrev pub plain_begin_fault : Seen → List (PlainRow T) → ℕ → PlainCall T → Option EventFault
+  plain_begin_fault seen rows client call = first_fault (
       (is_client seen.clients client, faults.UnknownNumber)
       ∷ (is_known_base rows (base_of call), faults.UnknownBase)
       ∷ (has_low_boundary rows call, faults.BoundaryTooHigh)
@@ -20,4 +20,4 @@ module _ {T : Type 0} (decode : List ℕ → Option T) (get_epoch : T → ℕ) w
 
   -- why an event is refused after these rows, where it is
   abbrev pub fault_of : Seen → List (PlainRow T) → PlainEvent T → Option EventFault
-  fault_of seen rows event = event_fault seen (begin_fault seen rows) event
+  fault_of seen rows event = event_fault seen (plain_begin_fault seen rows) event

@@ -9,9 +9,9 @@ use Rattle.txn_history.specs.declared.event.PlainAnswer.{PlainAnswer}
 use Rattle.txn_history.specs.declared.event.PlainAnswer.TheVariants as answers
 use Rattle.txn_history.specs.declared.trace.RowOf.{RowOf}
 use Rattle.txn_history.specs.declared.trace.RowOf.TheVariants.{Effect, Begun, Answered}
-use Rattle.txn_history.specs.History.{Version, epoch_at}
+use Rattle.txn_history.specs.History.{epoch_at}
 use Rattle.txn_history.specs.Calls.{was_answered, IsCall, begun_count, answers_so, plain_tells_id}
-use Rattle.txn_history.specs.Facts.{base_on, is_high, PlainSucceeds, PlainRefuses, Fails}
+use Rattle.txn_history.specs.Facts.{base_on, is_high, PlainSucceeds, PlainRefuses, FailureFits}
 use Rattle.txn_history.specs.Trace.{PlainRow}
 use Rattle.txn_history.specs.Effects as effects
 
@@ -33,18 +33,37 @@ module _ {T : Type 0} where
   abbrev pub base_of : PlainCall T → Option ℕ
   base_of (calls.Write base value) = base
   base_of (calls.WriteUnchecked base value) = base
-  base_of _ = None
+  base_of calls.Read = None
+  base_of (calls.ReadUnchecked id) = None
+  base_of (calls.ReadSeen id) = None
+  base_of (calls.ListIds from to) = None
+  base_of (calls.Delete id) = None
+  base_of (calls.Check id) = None
+  base_of (calls.Advance to) = None
 
   -- the value that a call asks to write on its base
   abbrev pub value_written : PlainCall T → Option T
   value_written (calls.Write base value) = Some value
   value_written (calls.WriteUnchecked base value) = Some value
-  value_written _ = None
+  value_written calls.Read = None
+  value_written (calls.ReadUnchecked id) = None
+  value_written (calls.ReadSeen id) = None
+  value_written (calls.ListIds from to) = None
+  value_written (calls.Delete id) = None
+  value_written (calls.Check id) = None
+  value_written (calls.Advance to) = None
 
   -- a boundary to advance to is 0, or below an id that some call answered
   abbrev pub has_low_boundary : List (PlainRow T) → PlainCall T → Bool
   has_low_boundary rows (calls.Advance to) = to == 0 || list_any (tells (nat_lt to)) rows
-  has_low_boundary rows _ = true
+  has_low_boundary rows (calls.Write base value) = true
+  has_low_boundary rows (calls.WriteUnchecked base value) = true
+  has_low_boundary rows calls.Read = true
+  has_low_boundary rows (calls.ReadUnchecked id) = true
+  has_low_boundary rows (calls.ReadSeen id) = true
+  has_low_boundary rows (calls.ListIds from to) = true
+  has_low_boundary rows (calls.Delete id) = true
+  has_low_boundary rows (calls.Check id) = true
 
 module _ {T : Type 0} (decode : List ℕ → Option T) (get_epoch : T → ℕ) where
   -- the value that a call writes has an epoch of at least that of its base's entry
@@ -52,7 +71,7 @@ module _ {T : Type 0} (decode : List ℕ → Option T) (get_epoch : T → ℕ) w
   keeps_epoch rows call = is_high get_epoch (epoch_at decode get_epoch rows (number_of (base_of call))) (value_written call)
 
   -- An operation has the next number, a base that is known, a boundary that is low enough, and a value that keeps the epoch.
-  pub record Opens (before : List (PlainRow T)) (op : ℕ) (call : PlainCall T) : Type 0 where
+  pub record PlainOpens (before : List (PlainRow T)) (op : ℕ) (call : PlainCall T) : Type 0 where
     pub next : op ≡ begun_count before + 1
     pub known : is_known_base before (base_of call) ≡ true
     pub low : has_low_boundary before call ≡ true
@@ -74,9 +93,6 @@ module _ {T : Type 0} (decode : List ℕ → Option T) (get_epoch : T → ℕ) w
   abbrev pub Recreates : List (PlainRow T) → ℕ → ℕ → List ℕ → Type 0
   Recreates = effects.Recreates decode get_epoch WritesOn MayAppend
 
-  abbrev pub VersionPut : List (PlainRow T) → ℕ → Option Version → Type 0
-  VersionPut = effects.VersionPut decode get_epoch WritesOn MayAppend
-
   -- an effect is a legal move of its call, or a re-creation
   abbrev pub IsLegal : List (PlainRow T) → ℕ → Request → Type 0
   IsLegal = effects.IsLegal alone decode get_epoch WritesOn MayAppend
@@ -84,8 +100,8 @@ module _ {T : Type 0} (decode : List ℕ → Option T) (get_epoch : T → ℕ) w
 module _ {C A T : Type 0} (decode : List ℕ → Option T) (get_epoch : T → ℕ) (failed : List ℕ) where
   -- the answer fits the call
   abbrev pub AnswerFits : List (RowOf C A) → ℕ → PlainCall T → PlainAnswer T → Type 0
-  AnswerFits before op call (answers.Refused number) = PlainRefuses decode get_epoch failed before op call number ⊎ Fails decode get_epoch failed op number
-  AnswerFits before op call answer = PlainSucceeds decode get_epoch failed before op call answer
+  AnswerFits before op call (answers.Refused number) = PlainRefuses decode before op call number ⊎ FailureFits failed op number
+  AnswerFits before op call answer = PlainSucceeds decode before op call answer
 
 module _ {T : Type 0} (decode : List ℕ → Option T) (get_epoch : T → ℕ) (failed : List ℕ) where
   -- The one answer of a call that began, and it fits.
@@ -98,7 +114,7 @@ module _ {T : Type 0} (decode : List ℕ → Option T) (get_epoch : T → ℕ) (
   -- a row fits the rows before it
   abbrev pub Fits : List (PlainRow T) → PlainRow T → Type 0
   Fits before (Effect op request) = IsLegal decode get_epoch before op request
-  Fits before (Begun op call) = Opens decode get_epoch before op call
+  Fits before (Begun op call) = PlainOpens decode get_epoch before op call
   Fits before (Answered op answer) = Answers before op answer
 
   -- each row fits the rows before it

@@ -5,7 +5,7 @@ ghost use Rattle.txn_history.specs.Calls.{begun_count};
 ghost use Rattle.txn_history.specs.Seen.{Seen};
 ghost use Rattle.txn_history.specs.declared.event.PlainCall.{PlainCall};
 ghost use Rattle.txn_history.specs.declared.event.EventOf.TheVariants as events;
-ghost use Rattle.txn_machine_inner.specs.PlainHistory.{Opens, IsOneHistory};
+ghost use Rattle.txn_machine_inner.specs.PlainHistory.{PlainOpens, IsOneHistory};
 ghost use Rattle.txn_history.specs.Laws.{NeverFalls, KeepsAbove, HasOneWriter};
 ghost use Rattle.txn_machine_inner.specs.PlainLaws.{id_entered};
 ghost use Rattle.txn_history.specs.Trace.{PlainRow};
@@ -28,5 +28,5 @@ pub fn one_writer_per_id<T: Drop>(_value: &T)
 /// A begin that is allowed opens the next operation.
 pub fn allowed_begins_open<T: Drop>(_value: &T)
     ensures { (decode : List ℕ → Option T) (get_epoch : T → ℕ) (rows : List (PlainRow T)) (seen : Seen) (client : ℕ) (call : PlainCall T) →
-        fault_of decode get_epoch seen rows (events.Begin client call) ≡ None → Opens decode get_epoch rows (begun_count rows + 1) call }
+        fault_of decode get_epoch seen rows (events.Begin client call) ≡ None → PlainOpens decode get_epoch rows (begun_count rows + 1) call }
 {}

@@ -22,7 +22,7 @@ use Rattle.txn_history.specs.OneHistory as history
 use Rattle.txn_history.specs.OneHistory.{base_now, base_by, AnswerFits}
 use Rattle.txn_machine_views.specs.Layer.{Used, Starts, Layer, Next, Goes, look_up, starting, opened}
 use Rattle.txn_machine_views.specs.Parts.{tested, with_local, plain_inner, started_on, started, HasEpoch}
-use Rattle.txn_machine_views.specs.Steps.{MayUse, Allowed, Begins}
+use Rattle.txn_machine_views.specs.Steps.{MayUse, Allowed, LayerBegins}
 use Rattle.txn_machine_views.proofs.History.{entry_within, epoch_is}
 use Rattle.txn_machine_views.proofs.Told.{told_within}
 use Rattle.txn_machine_views.proofs.Stands.{WriteStands, OpStands, Stands, NextStands}
@@ -244,14 +244,14 @@ module _ {T : Type 0} (decode : List ℕ → Option T) (get_epoch : T → ℕ) (
         (λ h. holder_first w v m opens e.0 e.1 (nat_lt e.0 viewed) (nat_lt viewed e.0) refl refl h)) has
 
   -- what an operation does first stands
-  pub begin_stands : (s after : Layer T) (st : Stands decode get_epoch set_epoch s) (b : Begins decode get_epoch set_epoch s after) → First s st b.client b.call b.allowed b.opens b.next
+  pub begin_stands : (s after : Layer T) (st : Stands decode get_epoch set_epoch s) (b : LayerBegins decode get_epoch set_epoch s after) → First s st b.client b.call b.allowed b.opens b.next
   begin_stands s after st b =
       elim b.first [
         | inl due ↦ subst (First s st b.client b.call b.allowed b.opens) (sym due) (first_stands s st b.client b.call b.allowed b.opens (subst (HasEpoch get_epoch) due b.has))
         | inr lacking ↦ subst (First s st b.client b.call b.allowed b.opens) (sym lacking) (refusing_stands decode get_epoch set_epoch (now s st b.client b.call b.allowed b.opens) (stands s st b.client b.call b.allowed b.opens) s.next b.client b.call Starts 9 (inr (inr refl)))
       ]
 
-  pub begin_keeps : (s after : Layer T) → Stands decode get_epoch set_epoch s → Begins decode get_epoch set_epoch s after → Stands decode get_epoch set_epoch after
+  pub begin_keeps : (s after : Layer T) → Stands decode get_epoch set_epoch s → LayerBegins decode get_epoch set_epoch s after → Stands decode get_epoch set_epoch after
   begin_keeps s after st b =
       let o = starting b.client b.call in
       let there = set_here s.ops s.next (Some o) in

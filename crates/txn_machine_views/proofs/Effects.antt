@@ -11,14 +11,14 @@ use Rattle.txn_history.specs.History.{Version, is_boundary, created, raised, rem
 use Rattle.txn_history.specs.Calls.{begins, ends}
 use Rattle.txn_history.proofs.Lists.{any_false}
 use Rattle.txn_history.proofs.More.{begun_count-more}
-use Rattle.txn_history.proofs.Apart.{raise_creates, is_boundary_path}
+use Rattle.txn_history.proofs.Legal.{raised_creates, removed_creates}
 use Rattle.txn_history.specs.declared.event.ViewCall.TheVariants as view_calls
 use Rattle.txn_history.specs.declared.event.Call.{Call}
 use Rattle.txn_history.specs.declared.event.Call.TheVariants as any
 use Rattle.txn_history.specs.Trace.{Row}
 use Rattle.txn_history.specs.Views.{view_count}
-use Rattle.txn_history.specs.OneHistory.{WritesOn, MayAppend, VersionPut, IsLegal, IsOneHistory}
-use Rattle.txn_history.specs.Effects.{Appends, Recreates, BoundaryPut, VersionRemoved}
+use Rattle.txn_history.specs.OneHistory.{WritesOn, MayAppend, IsLegal, IsOneHistory}
+use Rattle.txn_history.specs.Effects.{Appends, Recreates, Append, Recreate, Raise, Erase}
 use Rattle.txn_machine_views.specs.Layer.{Operation, Asked, Layer, with_row}
 use Rattle.txn_machine_views.specs.Steps.{IsAsked, IsDue, WasRemoved, Creates, Advances, Removes}
 use Rattle.txn_machine_views.proofs.History.{one_history-more, boundary_up, top_epoch}
@@ -26,24 +26,6 @@ use Rattle.txn_machine_views.proofs.Stands.{MayWrite, WriteStands, OpAt, AskedSt
 use Rattle.txn_machine_views.proofs.Frames.{NotBy, is_write, count_more, view_at_more, unseen_more, asked_more, op_more}
 use Rattle.txn_machine_views.proofs.Tables.{op_of, known_of, op_row}
 use Rattle.txn_machine_views.proofs.Turns.{count_same}
-
--- a put of the boundary, and a removal, create no version
-
-put_raises : (path : Segments) (bytes : List ℕ) (mode : PutMode) (to : ℕ) (b : Bool) → is_boundary path ≡ b → cond b (boundary_read bytes) None ≡ Some to → created (requests.Put path bytes mode) ≡ None
-put_raises path bytes mode to true e said = ap (λ (p : Segments). created (requests.Put p bytes mode)) (is_boundary_path path e) ∙ raise_creates bytes mode
-put_raises path bytes mode to false e said = cc
-
-pub raised_creates : (request : Request) (to : ℕ) → raised request ≡ Some to → created request ≡ None
-raised_creates (requests.Put path bytes mode) to e = put_raises path bytes mode to (is_boundary path) refl e
-raised_creates (requests.Get path known) to e = cc
-raised_creates (requests.List prefix after limit) to e = cc
-raised_creates (requests.Delete path) to e = cc
-
-pub removed_creates : (request : Request) (id : ℕ) → removed request ≡ Some id → created request ≡ None
-removed_creates (requests.Put path bytes mode) id e = cc
-removed_creates (requests.Get path known) id e = cc
-removed_creates (requests.List prefix after limit) id e = cc
-removed_creates (requests.Delete path) id e = refl
 
 module _ {T : Type 0} where
   -- a request that creates nothing makes no entry
@@ -102,16 +84,15 @@ module _ {T : Type 0} (decode : List ℕ → Option T) (get_epoch : T → ℕ) (
       record { call = call; called = w.called; value = value; reads = reads; next = ap (λ (n : ℕ). n + 1) e; written = w'.written; rises = w'.rises; unfenced = may_append failed rows good call w'.may }
 
   recreates : (rows : List (Row T)) (op base : ℕ) (call : Call T) (value : T) (bytes : List ℕ) → WriteStands decode get_epoch set_epoch rows op call base value → decode bytes ≡ Some value → WasRemoved rows (base + 1) → Recreates decode get_epoch (WritesOn decode get_epoch set_epoch) (MayAppend decode get_epoch set_epoch) rows op (base + 1) bytes
-  recreates rows op base call value bytes w reads r = record { call = call; called = w.called; value = value; reads = reads; base = base; next = refl; written = w.written; again = r.again; erased = r.erased; below = r.below }
+  recreates rows op base call value bytes w reads r = record { call = call; called = w.called; value = value; reads = reads; base = base; next = refl; written = w.written; again = r.again; erased = r.erased; free = r.free; below = r.below }
 
   create_legal : (s : Layer T) → Stands decode get_epoch set_epoch s → (write : Asked T) → IsAsked write s.asked → (request : Request) (bytes : List ℕ) → created request ≡ Some (write.base + 1, bytes) → decode bytes ≡ Some write.value → (write.base ≡ newest s.rows) ⊎ WasRemoved s.rows (write.base + 1) → IsLegal decode get_epoch set_epoch s.rows write.op request
   create_legal s st write asked request bytes creates reads place =
       let a = asked_in s.rows write s.asked asked st.asked in
-      inl (subst (λ (found : Option Version). VersionPut decode get_epoch set_epoch s.rows write.op found) (sym creates)
-      (elim place [
-        | inl next ↦ inl (appends s.failed s.rows st.good write.op write.base a.0 write.value bytes a.1 reads next)
-        | inr gone ↦ inr (recreates s.rows write.op write.base a.0 write.value bytes a.1 reads gone)
-      ]))
+      elim place [
+        | inl next ↦ Append (write.base + 1) bytes creates (appends s.failed s.rows st.good write.op write.base a.0 write.value bytes a.1 reads next)
+        | inr gone ↦ Recreate (write.base + 1) bytes creates (recreates s.rows write.op write.base a.0 write.value bytes a.1 reads gone)
+      ]
 
   due_writes : (s : Layer T) (write : Asked T) → IsDue write (s.ops write.op) → (o : Operation T) → s.ops write.op ≡ Some o → is_write o.inner ≡ true
   due_writes s write due o e = by (subst (IsDue write) e due)
@@ -128,9 +109,9 @@ module _ {T : Type 0} (decode : List ℕ → Option T) (get_epoch : T → ℕ) (
   pub advance_keeps : (s after : Layer T) → Stands decode get_epoch set_epoch s → Advances s after → Stands decode get_epoch set_epoch after
   advance_keeps s after st a =
       subst (Stands decode get_epoch set_epoch) (sym a.new)
-      (effect_keeps s a.op a.request st (inr (inl (subst (BoundaryPut any.Plain s.rows a.op) (sym a.has) a.allows))) (λ o e none. makes_none a.op a.op a.request (raised_creates a.request a.number a.has)))
+      (effect_keeps s a.op a.request st (Raise a.number a.has a.allows) (λ o e none. makes_none a.op a.op a.request (raised_creates a.request a.number a.has)))
 
   pub remove_keeps : (s after : Layer T) → Stands decode get_epoch set_epoch s → Removes s after → Stands decode get_epoch set_epoch after
   remove_keeps s after st r =
       subst (Stands decode get_epoch set_epoch) (sym r.new)
-      (effect_keeps s r.op r.request st (inr (inr (subst (VersionRemoved any.Plain s.rows r.op) (sym r.has) r.allows))) (λ o e none. makes_none r.op r.op r.request (removed_creates r.request r.number r.has)))
+      (effect_keeps s r.op r.request st (Erase r.number r.has r.allows) (λ o e none. makes_none r.op r.op r.request (removed_creates r.request r.number r.has)))

@@ -5,7 +5,7 @@ use Rattle.txn_history.specs.declared.event.Call.{Call}
 use Rattle.txn_history.specs.declared.event.Call.TheVariants as any
 use Rattle.txn_machine_views.specs.Layer.{Inner, Writes, Layer, Goes, Opens, starting, opening, opened, turned, with_row}
 use Rattle.txn_machine_views.specs.Parts.{Wrote, entered}
-use Rattle.txn_machine_views.specs.Steps.{Begins, Takes, Creates, Runs, IsHeld, Makeable}
+use Rattle.txn_machine_views.specs.Steps.{LayerBegins, Takes, Creates, Runs, IsHeld, Makeable}
 use Rattle.txn_history.specs.declared.trace.RowOf.TheVariants.{Effect}
 
 module _ {T : Type 0} (decode : List ℕ → Option T) (get_epoch : T → ℕ) (set_epoch : T → ℕ → T) (v : T) (m : Makeable decode get_epoch set_epoch v) where
@@ -42,7 +42,7 @@ module _ {T : Type 0} (decode : List ℕ → Option T) (get_epoch : T → ℕ) (
   abbrev six : Layer T
   six = turned five 2 (record { client = 1; call = claim; inner = attempt }) (entered claim 2 (set_epoch v epoch) epoch)
 
-  step_one : Begins decode get_epoch set_epoch opening one
+  step_one : LayerBegins decode get_epoch set_epoch opening one
   step_one = record { client = 1; call = init; allowed = tt; opens = record { next = refl; shown = refl; known = refl; low = refl; keeps = refl }; next = Goes write; first = inl refl; has = refl; new = refl }
 
   step_two : Creates decode get_epoch set_epoch one two
@@ -60,7 +60,7 @@ module _ {T : Type 0} (decode : List ℕ → Option T) (get_epoch : T → ℕ) (
         new = refl;
       }
 
-  step_four : Begins decode get_epoch set_epoch three four
+  step_four : LayerBegins decode get_epoch set_epoch three four
   step_four =
       record {
         client = 1;

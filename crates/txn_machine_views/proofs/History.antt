@@ -105,14 +105,15 @@ module _ {T : Type 0} (decode : List ℕ → Option T) (get_epoch : T → ℕ) (
   -- one's own entry was the newest at a row of the call
   pub was_newest : (rows : List (Row T)) → IsOneHistory decode get_epoch set_epoch failed rows → (op n : ℕ) (v : T) → Entered decode rows op n v → AtRow rows op (λ front. newest front ≡ n)
   was_newest rows good op n v e =
-      let row : Row T = Effect op e.request in
-      let lt = slice_get_within rows e.place row e.effect in
-      let next : take (suc e.place) rows ≡ take e.place rows ++ row ∷ [] = front_more rows e.place row lt (get_or_from_slice_get rows e.place row row e.effect) in
-      let move : IsMove decode get_epoch (take e.place rows) e.request = are_moves decode get_epoch set_epoch failed rows good e.place op e.request e.effect in
-      let put = move_create decode get_epoch (take e.place rows) e.request (n, e.bytes) e.creates move in
+      let c = e.create in
+      let row : Row T = Effect op c.request in
+      let lt = slice_get_within rows c.place row c.effect in
+      let next : take (suc c.place) rows ≡ take c.place rows ++ row ∷ [] = front_more rows c.place row lt (get_or_from_slice_get rows c.place row row c.effect) in
+      let move : IsMove decode get_epoch (take c.place rows) c.request = are_moves decode get_epoch set_epoch failed rows good c.place op c.request c.effect in
+      let put = move_create decode get_epoch (take c.place rows) c.request (n, c.bytes) c.creates move in
       record {
-        place = suc e.place;
+        place = suc c.place;
         within = omega (arith, lt);
-        begun = subst (λ (front : List (Row T)). was_begun front op ≡ true) (sym next) (any_true (begins op) (take e.place rows) row e.begun);
-        there = subst (λ (front : List (Row T)). newest front ≡ n) (sym next) (put_newest (take e.place rows) op n e.request e.bytes e.creates e.first put);
+        begun = subst (λ (front : List (Row T)). was_begun front op ≡ true) (sym next) (any_true (begins op) (take c.place rows) row c.begun);
+        there = subst (λ (front : List (Row T)). newest front ≡ n) (sym next) (put_newest (take c.place rows) op n c.request c.bytes c.creates e.first put);
       }

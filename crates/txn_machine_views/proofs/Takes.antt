@@ -6,7 +6,7 @@ use Rattle.txn_types.specs.Numbers.{number_of}
 use Rattle.txn_types.specs.declared.error.TransactionalObjectError.TheVariants.{Fenced, InvalidObjectState}
 use Rattle.txn_history.specs.History.{newest, IsEntry}
 use Rattle.txn_history.specs.Calls.{AtRow, view_used}
-use Rattle.txn_history.specs.Facts.{base_on, greatest, Entered, WasNewest, WasEmpty, WriteRefused, Fails}
+use Rattle.txn_history.specs.Facts.{base_on, greatest, Entered, WasNewest, WasEmpty, WriteRefused, FailureFits}
 use Rattle.txn_history.specs.declared.event.ViewCall.{ViewCall}
 use Rattle.txn_history.specs.declared.event.ViewCall.TheVariants as view_calls
 use Rattle.txn_history.specs.declared.event.Call.TheVariants as any
@@ -55,7 +55,7 @@ module _ {T : Type 0} (decode : List ℕ → Option T) (get_epoch : T → ℕ) (
       showing call inner number id value u (up_at call inner number id u (was_newest decode get_epoch set_epoch s.failed s.rows st.good op id value e)) (entered_now decode get_epoch set_epoch s.failed s.rows st.good op id value e)
 
   -- some entry was there at every row of the call
-  never_empty : (call : ViewCall T) (inner : Inner T) (number : ℕ) → UsesIt call inner number → WasEmpty decode s.rows op → ⊥
+  never_empty : (call : ViewCall T) (inner : Inner T) (number : ℕ) → UsesIt call inner number → WasEmpty s.rows op → ⊥
   never_empty call inner number u a =
       let h = (view_of decode get_epoch set_epoch s st number u.used u.there).1 in
       let low = up_at call inner number 0 u a in
@@ -97,10 +97,10 @@ module _ {T : Type 0} (decode : List ℕ → Option T) (get_epoch : T → ℕ) (
   -- its write was refused
 
   abbrev Denied : ℕ → ℕ → Type 0
-  Denied base k = WriteRefused decode get_epoch s.failed s.rows op (base_on base) k ⊎ Fails decode get_epoch s.failed op k
+  Denied base k = WriteRefused decode s.rows op (base_on base) k ⊎ FailureFits s.failed op k
 
   -- a claim reads after a conflict, and else is refused
-  claim_denied : (call : ViewCall T) (inner : Inner T) (base k : ℕ) → ((n : ℕ) → ClaimRefused decode get_epoch s.failed s.rows n ⊎ Fails decode get_epoch s.failed op n → AnswerFits decode get_epoch s.failed s.rows op (any.View call) (refused n)) →
+  claim_denied : (call : ViewCall T) (inner : Inner T) (base k : ℕ) → ((n : ℕ) → ClaimRefused s.rows n ⊎ FailureFits s.failed op n → AnswerFits decode get_epoch s.failed s.rows op (any.View call) (refused n)) →
       MayRead (any.View call) → base ≤ newest s.rows → Denied base k → Fit call inner (if k == 5 then Goes Reads else refusing (any.View call) k)
   claim_denied call inner base k refuse may known fits =
       let at : ℕ → Type 0 = λ n. Fit call inner (if n == 5 then Goes Reads else refusing (any.View call) n) in
@@ -113,8 +113,8 @@ module _ {T : Type 0} (decode : List ℕ → Option T) (get_epoch : T → ℕ) (
       ]
 
   -- of the write's own base
-  base_refused : (base k : ℕ) (own : Option ℕ) → own ≡ base_on base → Denied base k → WriteRefused decode get_epoch s.failed s.rows op own k ⊎ Fails decode get_epoch s.failed op k
-  base_refused base k own e fits = subst (λ (b : Option ℕ). WriteRefused decode get_epoch s.failed s.rows op b k ⊎ Fails decode get_epoch s.failed op k) (sym e) fits
+  base_refused : (base k : ℕ) (own : Option ℕ) → own ≡ base_on base → Denied base k → WriteRefused decode s.rows op own k ⊎ FailureFits s.failed op k
+  base_refused base k own e fits = subst (λ (b : Option ℕ). WriteRefused decode s.rows op b k ⊎ FailureFits s.failed op k) (sym e) fits
 
   denied_stands : (call : ViewCall T) (base : ℕ) (value : T) (epoch k : ℕ) → Runs call (Writes base value epoch) → Denied base k → Fit call (Writes base value epoch) (denied (any.View call) k)
   denied_stands (view_calls.Init v) base value epoch k h fits =
@@ -134,7 +134,7 @@ module _ {T : Type 0} (decode : List ℕ → Option T) (get_epoch : T → ℕ) (
 
   -- its read found nothing
 
-  missed_stands : (call : ViewCall T) → Runs call Reads → WasEmpty decode s.rows op → Fit call Reads (missed (any.View call))
+  missed_stands : (call : ViewCall T) → Runs call Reads → WasEmpty s.rows op → Fit call Reads (missed (any.View call))
   missed_stands view_calls.Load h empty = refuses decode get_epoch set_epoch s st op (op_as client (any.View view_calls.Load) Reads) 4 (inl (refl, empty))
   missed_stands (view_calls.Refresh w) h empty = absurd (never_empty (view_calls.Refresh w) Reads w h.uses empty)
   missed_stands (view_calls.Claim w) h empty = absurd (never_empty (view_calls.Claim w) Reads w h.uses empty)
@@ -193,7 +193,7 @@ module _ {T : Type 0} (decode : List ℕ → Option T) (get_epoch : T → ℕ) (
   abbrev Taken : ViewCall T → Inner T → Inside T → Next T
   Taken call inner answer = taken get_epoch set_epoch (any.View call) (local_of (look_up s.views (view_used (any.View call)))) inner answer
 
-  taken_stands : (call : ViewCall T) (inner : Inner T) → Runs call inner → (answer : Inside T) → InsideFits decode get_epoch s.failed s.rows op inner answer → HasEpoch get_epoch (Taken call inner answer) → Fit call inner (Taken call inner answer)
+  taken_stands : (call : ViewCall T) (inner : Inner T) → Runs call inner → (answer : Inside T) → InsideFits decode s.failed s.rows op inner answer → HasEpoch get_epoch (Taken call inner answer) → Fit call inner (Taken call inner answer)
   taken_stands call (Writes base value epoch) h (Wrote id) f has = wrote_stands call base value epoch id h f.0 f.1
   taken_stands call (Writes base value epoch) h (Refused k) f has = denied_stands call base value epoch k h f
   taken_stands call Reads h (Found id value) f has = found_stands call id value h f has
@@ -201,7 +201,7 @@ module _ {T : Type 0} (decode : List ℕ → Option T) (get_epoch : T → ℕ) (
   taken_stands call Reads h (Refused k) f has = refusing_stands decode get_epoch set_epoch s st op client (any.View call) Reads k (inr f)
   taken_stands call _ h _ f has = absurd f
 
-  pub next_stands : (call : ViewCall T) (inner : Inner T) → Runs call inner → (answer : Inside T) → InsideFits decode get_epoch s.failed s.rows op inner answer → (next : Next T) → OrLacking (any.View call) (Taken call inner answer) next → HasEpoch get_epoch next → Fit call inner next
+  pub next_stands : (call : ViewCall T) (inner : Inner T) → Runs call inner → (answer : Inside T) → InsideFits decode s.failed s.rows op inner answer → (next : Next T) → OrLacking (any.View call) (Taken call inner answer) next → HasEpoch get_epoch next → Fit call inner next
   next_stands call inner h answer f next (inl due) has = subst (Fit call inner) (sym due) (taken_stands call inner h answer f (subst (HasEpoch get_epoch) due has))
   next_stands call inner h answer f next (inr lacking) has = subst (Fit call inner) (sym lacking) (refusing_stands decode get_epoch set_epoch s st op client (any.View call) inner 9 (inr (inr refl)))
 

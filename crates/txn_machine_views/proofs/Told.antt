@@ -55,16 +55,16 @@ module _ {T : Type 0} (decode : List ℕ → Option T) (get_epoch : T → ℕ) (
     same_id : (n m : ℕ) → nat_eq n m ≡ true → IsId m → IsId n
     same_id n m e h = subst IsId (sym (eqb-true n m e)) h
 
-    wrote_id : (id : ℕ) (call : PlainCall T) → facts.PlainSucceeds decode get_epoch failed (take k rows) op call (plain_answers.Wrote id) → IsId id
+    wrote_id : (id : ℕ) (call : PlainCall T) → facts.PlainSucceeds decode (take k rows) op call (plain_answers.Wrote id) → IsId id
     wrote_id id (calls.Write base value) h = entered_id id value h
     wrote_id id (calls.WriteUnchecked base value) h = (let next = h.1 in (omega (arith, next), h.2))
     wrote_id id _ h = absurd h
 
-    read_id : (id : ℕ) (v : T) (call : PlainCall T) → facts.PlainSucceeds decode get_epoch failed (take k rows) op call (plain_answers.Read (Some (id, v))) → IsId id
+    read_id : (id : ℕ) (v : T) (call : PlainCall T) → facts.PlainSucceeds decode (take k rows) op call (plain_answers.Read (Some (id, v))) → IsId id
     read_id id v calls.Read h = newest_id id v h
     read_id id v _ h = absurd h
 
-    listed_id : (n : ℕ) (ids : List ℕ) (call : PlainCall T) → facts.PlainSucceeds decode get_epoch failed (take k rows) op call (plain_answers.Ids ids) → list_any (nat_eq n) ids ≡ true → IsId n
+    listed_id : (n : ℕ) (ids : List ℕ) (call : PlainCall T) → facts.PlainSucceeds decode (take k rows) op call (plain_answers.Ids ids) → list_any (nat_eq n) ids ≡ true → IsId n
     listed_id n ids (calls.ListIds from to) a e =
         let h = a.there.there n e in
         let up = front_newest (take k rows) a.place in
@@ -84,7 +84,7 @@ module _ {T : Type 0} (decode : List ℕ → Option T) (get_epoch : T → ℕ) (
     shown_id w id v (any.Plain call) h = absurd h
 
     -- a call on a view is answered with a view
-    no_plain : (call : ViewCall T) (answer : PlainAnswer T) → Succeeds decode get_epoch failed (take k rows) op (any.View call) (answers.Plain answer) → ⊥
+    no_plain : (call : ViewCall T) (answer : PlainAnswer T) → Succeeds decode get_epoch (take k rows) op (any.View call) (answers.Plain answer) → ⊥
     no_plain (view_calls.Init v) answer h = h
     no_plain view_calls.Load answer h = h
     no_plain (view_calls.Refresh view) answer h = h

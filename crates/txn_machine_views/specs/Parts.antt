@@ -7,7 +7,7 @@ use Rattle.txn_types.specs.Epochs.{claimed_epoch, epoch_tested}
 use Rattle.txn_types.specs.declared.error.TransactionalObjectError.{TransactionalObjectError}
 use Rattle.txn_history.specs.declared.event.PlainCall.{PlainCall}
 use Rattle.txn_history.specs.declared.event.PlainCall.TheVariants as calls
-use Rattle.txn_history.specs.Facts.{base_on, greatest, Entered, WasNewest, WasEmpty, WriteRefused, Fails}
+use Rattle.txn_history.specs.Facts.{base_on, greatest, Entered, WasNewest, WasEmpty, WriteRefused, FailureFits}
 use Rattle.txn_view_steps.specs.Entries.{own_epochs}
 use Rattle.txn_history.specs.declared.event.ViewCall.TheVariants as view_calls
 use Rattle.txn_history.specs.declared.event.Call.{Call}
@@ -24,14 +24,14 @@ pub data Inside (T : Type 0) : Type 0 where
   Nothing : Inside T
   Refused : (number : ℕ) → Inside T
 
-module _ {T : Type 0} (decode : List ℕ → Option T) (get_epoch : T → ℕ) (failed : List ℕ) where
+module _ {T : Type 0} (decode : List ℕ → Option T) (failed : List ℕ) where
   -- What a write or a read owes for its answer: its own entry, or that it was overtaken; what was newest at a row of the call.
   abbrev pub InsideFits : List (Row T) → ℕ → Inner T → Inside T → Type 0
   InsideFits rows op (Writes base value epoch) (Wrote id) = (id ≡ base + 1) × Entered decode rows op id value
-  InsideFits rows op (Writes base value epoch) (Refused number) = WriteRefused decode get_epoch failed rows op (base_on base) number ⊎ Fails decode get_epoch failed op number
+  InsideFits rows op (Writes base value epoch) (Refused number) = WriteRefused decode rows op (base_on base) number ⊎ FailureFits failed op number
   InsideFits rows op Reads (Found id value) = WasNewest decode rows op id value
-  InsideFits rows op Reads Nothing = WasEmpty decode rows op
-  InsideFits rows op Reads (Refused number) = Fails decode get_epoch failed op number
+  InsideFits rows op Reads Nothing = WasEmpty rows op
+  InsideFits rows op Reads (Refused number) = FailureFits failed op number
   InsideFits rows op inner answer = ⊥
 
 module _ {T : Type 0} where

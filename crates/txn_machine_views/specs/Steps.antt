@@ -3,7 +3,7 @@ use Rattle.std.specs.Prelude.{◌≡◌, ℕ, zero, suc, ◌+◌, ◌≤◌, ◌
 use Rattle.txn_store.specs.declared.request.Request.{Request}
 use Rattle.txn_history.specs.declared.event.PlainAnswer.{PlainAnswer}
 use Rattle.txn_history.specs.declared.trace.RowOf.TheVariants.{Effect}
-use Rattle.txn_history.specs.History.{created, raised, removed, has_id, versions_of, newest, boundary, was_erased}
+use Rattle.txn_history.specs.History.{created, raised, removed, has_id, versions_of, newest, boundary, was_erased, is_stored}
 use Rattle.txn_history.specs.Facts.{greatest}
 use Rattle.txn_history.specs.declared.event.Call.{Call}
 use Rattle.txn_history.specs.declared.event.Call.TheVariants as any
@@ -39,10 +39,11 @@ module _ {T : Type 0} where
   IsDue write None = Unit {0}
   IsDue write (Some o) = (epoch : ℕ) × (o.inner ≡ Writes write.base write.value epoch)
 
-  -- The id was created before, was erased, and the boundary has reached it.
+  -- The id was created before, was erased and is free, and the boundary has reached it.
   pub record WasRemoved (rows : List (Row T)) (id : ℕ) : Type 0 where
     pub again : has_id (versions_of rows) id ≡ true
     pub erased : was_erased rows id ≡ true
+    pub free : is_stored rows id ≡ false
     pub below : id ≤ boundary rows
 
   -- an operation that runs, of a call of this kind
@@ -58,7 +59,7 @@ module _ {T : Type 0} where
 
 module _ {T : Type 0} (decode : List ℕ → Option T) (get_epoch : T → ℕ) (set_epoch : T → ℕ → T) where
   -- an operation begins, and does first what its call does
-  pub record Begins (s after : Layer T) : Type 0 where
+  pub record LayerBegins (s after : Layer T) : Type 0 where
     pub client : ℕ
     pub call : Call T
     pub allowed : Allowed s client call (view_used call)
@@ -72,7 +73,7 @@ module _ {T : Type 0} (decode : List ℕ → Option T) (get_epoch : T → ℕ) (
   pub record Takes (s after : Layer T) : Type 0 where
     pub of : Running any.View s
     pub answer : Inside T
-    pub fits : InsideFits decode get_epoch s.failed s.rows of.op of.inner answer
+    pub fits : InsideFits decode s.failed s.rows of.op of.inner answer
     pub next : Next T
     pub makes : OrLacking (any.View of.call) (taken get_epoch set_epoch (any.View of.call) (local_of (look_up s.views (view_used (any.View of.call)))) of.inner answer) next
     pub has : HasEpoch get_epoch next
@@ -136,14 +137,14 @@ module _ {T : Type 0} where
     pub new : after ≡ record s { views = λ number. view_without client (s.views number); ops = λ op. op_without client (s.ops op) }
 
   -- a store call of an operation failed
-  pub record Fails (s after : Layer T) : Type 0 where
+  pub record LayerFails (s after : Layer T) : Type 0 where
     pub op : ℕ
     pub new : after ≡ record s { failed = s.failed ++ op ∷ [] }
 
 module _ {T : Type 0} (decode : List ℕ → Option T) (get_epoch : T → ℕ) (set_epoch : T → ℕ → T) where
   abbrev pub Steps : Layer T → Layer T → Type 0
   Steps s after =
-      Begins decode get_epoch set_epoch s after
+      LayerBegins decode get_epoch set_epoch s after
       ⊎ Takes decode get_epoch set_epoch s after
       ⊎ Tells decode get_epoch set_epoch s after
       ⊎ Creates decode get_epoch set_epoch s after
@@ -151,7 +152,7 @@ module _ {T : Type 0} (decode : List ℕ → Option T) (get_epoch : T → ℕ) (
       ⊎ Removes s after
       ⊎ GivesUp s after
       ⊎ Crashes s after
-      ⊎ Fails s after
+      ⊎ LayerFails s after
 
   abbrev pub Runs : ℕ → Layer T → Layer T → Type 0
   Runs zero s after = after ≡ s

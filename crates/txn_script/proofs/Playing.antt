@@ -11,7 +11,7 @@ use Rattle.txn_lines.specs.Lines.{lines_of, is_skipped, kept}
 use Rattle.txn_lines.specs.Reading.{OnBadLine, SkipsTo}
 use Rattle.txn_script.specs.Rules.{Rules}
 use Rattle.txn_script.specs.Script.{Stage, SaysLine, IsPage, PageSteps, EventSteps, MayStand, LineSteps, Plays, EndsWith, IsBadNext, IsBadLine, IsFront, IsEndFront, IsPrinted, IsPrintedBefore, IsFrontPrinted, StopsAfter}
-use Rattle.txn_script.specs.Reading.{NextLine, ReadsNextLine, MeetsBadLine, Opens, OpensBad}
+use Rattle.txn_script.specs.Reading.{NextLine, ReadsNextLine, MeetsBadLine, OpensWorld, OpensBad}
 use Rattle.txn_script.specs.Printing.{Misplaced, StopsLine, StopsInEnd}
 use Rattle.txn_script.proofs.Ending.{appends_nothing, appends_both}
 
@@ -87,7 +87,7 @@ module _ {T C : Type 0} (rules : Rules T C) where
   abbrev pub Playing : Option (List ℕ) → Option (List ℕ) → ℕ → Option (List ℕ) → Option (List ℕ) → Stage T → Type 0
   Playing old new number out now world = IfSome old (λ input. (left : List ℕ) × (text : List ℕ) × (new ≡ Some left) × Taking input number left (Some world) text × Appends out now text)
 
-  pub play_first : (old new out : Option (List ℕ)) (n m clients : ℕ) (world : State T) → n ≡ 0 → Opens rules old n new m clients world → Playing old new m out out (record { state = world; opened = Some clients })
+  pub play_first : (old new out : Option (List ℕ)) (n m clients : ℕ) (world : State T) → n ≡ 0 → OpensWorld rules old n new m clients world → Playing old new m out out (record { state = world; opened = Some clients })
   play_first None new out n m clients world zero opens = tt
   play_first (Some input) new out n m clients world zero opens =
       let after = opens.0 in

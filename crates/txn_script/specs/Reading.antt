@@ -21,8 +21,8 @@ module _ {T C : Type 0} (rules : Rules T C) where
   MeetsBadLine old n m = MeetsBad (line_text rules.call_text) (LineFits rules.call_fits) old n m
 
   -- The first kept line opens a world for so many clients.
-  abbrev pub Opens : Option (List ℕ) → ℕ → Option (List ℕ) → ℕ → ℕ → State T → Type 0
-  Opens old n new m clients world = IfSome old (λ input. (after : List ℕ) × (new ≡ Some after) × (1 ≤ clients) × (clients ≤ 64) × NextLine input n after m (Some (lines.Clients clients)) × (world ≡ opening clients 1000))
+  abbrev pub OpensWorld : Option (List ℕ) → ℕ → Option (List ℕ) → ℕ → ℕ → State T → Type 0
+  OpensWorld old n new m clients world = IfSome old (λ input. (after : List ℕ) × (new ≡ Some after) × (1 ≤ clients) × (clients ≤ 64) × NextLine input n after m (Some (lines.Clients clients)) × (world ≡ opening clients 1000))
 
   -- The first kept line opens none, or none is kept; m is its number, or that of the line past the end.
   abbrev pub OpensBad : Option (List ℕ) → ℕ → ℕ → Type 0

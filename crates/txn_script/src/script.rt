@@ -9,7 +9,7 @@ ghost use Rattle.txn_script.specs.Rules.{rules_of};
 ghost use Rattle.txn_script.specs.Records.{record_rules};
 ghost use Rattle.txn_script.specs.Script.{IsClients, Steps, RunsOperation, PageSteps, EventSteps, MayStand, EndsWith, IsPrinted, StopsAfter, RunEnds, ended_status};
 ghost use Rattle.txn_lines.specs.Reading.{reader_of, number_of, OnBadLine};
-ghost use Rattle.txn_script.specs.Reading.{Opens, OpensBad};
+ghost use Rattle.txn_script.specs.Reading.{OpensWorld, OpensBad};
 ghost use Rattle.txn_script.specs.Printing.{held, Gathers, IsUnchanged, StopsLine, StopsWithin, StopsInEnd};
 ghost use Rattle.txn_history.specs.Seen.{view_of};
 ghost use Rattle.txn_machine.specs.Machine.{seen_of, seen_views};
@@ -263,7 +263,7 @@ fn open<T: LineValue, C: TextForm, K: ScriptWorld<T, C>, R: BufRead>(
     alloc: Global,
     lines: &mut Lines<R>,
 ) -> Result<(K, u64), Stop>
-    ensures ok { IfOk result (λ opened. Opens (rules_of C.text C.fits T.text K.rules) (R.remaining (reader_of lines.old)) (number_of lines.old)
+    ensures ok { IfOk result (λ opened. OpensWorld (rules_of C.text C.fits T.text K.rules) (R.remaining (reader_of lines.old)) (number_of lines.old)
         (R.remaining (reader_of lines.new)) (number_of lines.new) opened.1 (K.state opened.0)) }
     ensures clients { IfOk result (λ opened. IsClients opened.1) }
     ensures bad { IfErr result (λ stop. OnBadLine stop

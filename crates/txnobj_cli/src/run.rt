@@ -78,15 +78,10 @@ fn say(rt: &HostRuntime, number: u64) -> Result<u8, Halt> {
     Ok(0)
 }
 
-/// Prints an id and an epoch: the status.
-fn say_two(rt: &HostRuntime, id: u64, epoch: u64) -> Result<u8, Halt> {
-    println!(rt; "{id} {epoch}")?;
-    Ok(0)
-}
-
 /// Prints the id and the epoch of a version: the status.
 fn say_version(rt: &HostRuntime, version: Version) -> Result<u8, Halt> {
-    say_two(rt, version.id, version.epoch)
+    rt.println(version)?;
+    Ok(0)
 }
 
 /// Writes the first version, in epoch 0.
@@ -160,7 +155,7 @@ fn look(
 ) -> Result<Option<u8>, Halt> {
     for _ in 0..looks {
         match session.read()? {
-            Some((id, epoch)) if after < id => return Ok(Some(say_two(rt, id, epoch)?)),
+            Some(version) if after < version.id => return Ok(Some(say_version(rt, version)?)),
             _ => {}
         }
         if have_passed(rt, until.0, until.1)? {

@@ -1,16 +1,20 @@
 //! One client of one object in a folder.
 ghost use Rattle.std.specs.Prelude.{◌≤◌, IfOk};
+ghost use Rattle.txn_entries.specs.Holder.{IsNextEntry};
+ghost use Rattle.txnobj_cli.specs.Calls.{IsPutOn};
 
 use crate::ending::{Halt, call_failed};
 use crate::recording::Recording;
 use bytes::Bytes;
 use std::alloc::{AllocError, Global};
+use std::fmt;
 use std::ops::Bound;
 use txn_client::client::Client;
 use txn_client::retry::{Applied, Viewed};
 use txn_client::serve::Serve;
 use txn_clients::layout::world_layout;
 use txn_entries::entry::{Entry, EntryCodec, EntryEpoch};
+use txn_entries::holder::{next_entry, test_holder};
 use txn_files::written::number_now;
 use txn_folder::folder::Folder;
 use txn_folder::store::FolderStore;
@@ -46,12 +50,26 @@ impl Serve for Shared {
     }
 }
 
-/// A version: the view that it is in, its id, and its epoch.
+/// A version: the view that it is in, 0 for none, its id, and its epoch.
 #[derive(Clone, Copy)]
 pub struct Version {
     pub view: u64,
     pub id: u64,
     pub epoch: u64,
+}
+
+/// Its id and its epoch.
+impl fmt::Display for Version {
+    ghost use Rattle.std.specs.Prelude.{Some};
+    ghost use Rattle.txnobj_cli.specs.Calls.{version_words};
+
+    ghost output = { λ version. Some (version_words version) };
+
+    fn fmt<W: fmt::Write>(&self, f: &mut fmt::Formatter<W>) -> fmt::Result {
+        let id = self.id;
+        let epoch = self.epoch;
+        write!(f, "{id} {epoch}")
+    }
 }
 
 /// A client of one object.
@@ -176,8 +194,8 @@ impl Session {
         }
     }
 
-    /// The id and the epoch of the newest version, where there is one.
-    pub fn read(&mut self) -> Result<Option<(u64, u64)>, Halt> {
+    /// The newest version, in no view, where there is one.
+    pub fn read(&mut self) -> Result<Option<Version>, Halt> {
         let answer = self.call(Call::Plain(PlainCall::Read))?;
         let read = read_in(&answer);
         drop(answer);
@@ -200,24 +218,10 @@ impl Session {
         done
     }
 
-    /// The newest version, if it is this one and its epoch is the holder's, where there is one.
-    fn newest_on(&mut self, base: u64, epoch: Option<u64>) -> Result<Version, Halt> {
-        let newest = self.viewed(ViewCall::Load)?;
-        match fenced(epoch, newest.epoch) {
-            Some(number) => Err(Halt::Refused(number)),
-            None if newest.id == base => Ok(newest),
-            None => Err(Halt::Refused(5)),
-        }
-    }
-
-    /// Writes a version on this one, if it is the newest, in its epoch: its id.
+    /// Writes a version on this one, if it is the newest, in its epoch: its id. A holder's is of its own epoch.
     pub fn put_on(&mut self, base: u64, epoch: Option<u64>, payload: &Bytes) -> Result<u64, Halt> {
-        let newest = self.newest_on(base, epoch)?;
-        let entry = Entry {
-            epoch: newest.epoch,
-            payload: payload.clone()?,
-        };
-        Ok(self.viewed(ViewCall::Update(newest.view, entry))?.id)
+        let newest = self.viewed(ViewCall::Load)?;
+        Ok(self.viewed(put_call(newest, base, epoch, payload)?)?.id)
     }
 
     /// Writes a version on the newest, in its epoch, again after each conflict: its id. A holder's is of its own epoch.
@@ -240,7 +244,7 @@ impl Session {
             Applied::Written(viewed) => Ok(viewed.id),
             Applied::Unchanged => {
                 let newest = self.viewed(ViewCall::Load)?;
-                Err(Halt::Refused(fenced(epoch, newest.epoch).unwrap_or(7)))
+                Err(not_own(epoch, newest.epoch))
             }
             Applied::Answered(Answer::Plain(PlainAnswer::Refused(2))) => Err(self.store_failed()),
             Applied::Answered(answer) => Err(refusal_in(answer)),
@@ -298,7 +302,7 @@ impl Session {
 
     /// Removes all versions below the newest: how many it found. Another may have removed some of them meanwhile.
     pub fn collect(&mut self) -> Result<u64, Halt> {
-        let Some((newest, _)) = self.read()? else {
+        let Some(Version { id: newest, .. }) = self.read()? else {
             return Ok(0);
         };
         if newest <= 1 {
@@ -310,10 +314,14 @@ impl Session {
     }
 }
 
-/// The id and the epoch of the version that is read, where there is one.
-fn read_in(answer: &Answer<Entry>) -> Result<Option<(u64, u64)>, Halt> {
+/// The version that is read, where there is one.
+fn read_in(answer: &Answer<Entry>) -> Result<Option<Version>, Halt> {
     match answer {
-        Answer::Plain(PlainAnswer::Read(Some((id, entry)))) => Ok(Some((*id, entry.epoch))),
+        Answer::Plain(PlainAnswer::Read(Some((id, entry)))) => Ok(Some(Version {
+            view: 0,
+            id: *id,
+            epoch: entry.epoch,
+        })),
         Answer::Plain(PlainAnswer::Read(None)) => Ok(None),
         other => Err(refusal_in(other)),
     }
@@ -366,13 +374,32 @@ fn refused(answer: Answer<Entry>) -> Halt {
     halt
 }
 
-/// The number of the refusal of a holder of this epoch, where the newest version has that one.
-fn fenced(epoch: Option<u64>, now: u64) -> Option<u8> {
-    match epoch {
-        Some(epoch) if epoch < now => Some(6),
-        Some(epoch) if now < epoch => Some(7),
-        _ => None,
+/// Why the holder of this epoch writes nothing on a version of that one. Another may have claimed meanwhile.
+fn not_own(epoch: Option<u64>, stored: u64) -> Halt {
+    match test_holder(epoch, stored) {
+        Err(error) => Halt::Refused(error.number()),
+        Ok(()) => Halt::Refused(7),
     }
+}
+
+/// The call that puts this payload on this base, where the version that was read is it: an update in that version's epoch. A
+/// holder of another epoch makes none.
+fn put_call(
+    newest: Version,
+    base: u64,
+    epoch: Option<u64>,
+    payload: &Bytes,
+) -> Result<ViewCall<Entry>, Halt>
+    ensures { IfOk result (IsPutOn newest base epoch payload.now) }
+{
+    let Some(entry) = next_entry(epoch, newest.epoch, payload)? else {
+        return Err(not_own(epoch, newest.epoch));
+    };
+    if newest.id != base {
+        drop(entry);
+        return Err(Halt::Refused(5));
+    }
+    Ok(ViewCall::Update(newest.view, entry))
 }
 
 /// A version with this payload on that one, where the holder, if there is one, has its epoch.
@@ -380,12 +407,8 @@ fn candidate_of(
     epoch: Option<u64>,
     payload: &Bytes,
     now: &Entry,
-) -> Result<Option<Entry>, AllocError> {
-    if fenced(epoch, now.epoch).is_some() {
-        return Ok(None);
-    }
-    Ok(Some(Entry {
-        epoch: now.epoch,
-        payload: payload.clone()?,
-    }))
+) -> Result<Option<Entry>, AllocError>
+    ensures { IfOk result (IsNextEntry epoch now.now.epoch payload.now) }
+{
+    next_entry(epoch, now.epoch, payload)
 }

@@ -223,7 +223,7 @@ impl<T: Drop, S: ObjectStore, C: ObjectCodec<T>, B: BoundaryObject<S>> Sequenced
     ghost use Rattle.txn_drivers.specs.PageCount.{pages_below};
     ghost use Rattle.slatedb_txn_obj.specs.Leaves.{SameFiles, MayCreate, MayRemove};
     ghost use Rattle.slatedb_txn_obj.specs.Whole.{Whole, StandsFor, IsGreatestHeld, IsMissing, Laid, Owned, laid, probe_calls};
-    ghost use Rattle.slatedb_txn_obj.specs.Protocol.{base_number, LatestOrFenced, IsEntry, AreListed, Entered, Overtaken, MayAppend, Stays, IsWarmRead, Unheld, HasCauseOfLatestUnchecked, ReadsVersion};
+    ghost use Rattle.slatedb_txn_obj.specs.Protocol.{base_number, LatestOrFenced, IsEntry, AreListed, EntryStands, Overtaken, MayAppend, Stays, IsWarmRead, Unheld, HasCauseOfLatestUnchecked, ReadsVersion};
     ghost use Rattle.slatedb_txn_obj.specs.WholeLaws.{whole-checked, whole-advanced, whole-frame, refused-fresh, pages-checked, laid-same, probe_few};
     ghost use Rattle.std.proofs.Common.{refl, sym, subst, inl, inr};
     ghost use Rattle.txn_store.specs.VersionName.{version_path};
@@ -295,7 +295,7 @@ impl<T: Drop, S: ObjectStore, C: ObjectCodec<T>, B: BoundaryObject<S>> Sequenced
         base: Option<MonotonicId>,
         value: &T,
     ) -> Result<MonotonicId, TransactionalObjectError>
-        ensures entered { IfOk result (Entered (StandsFor (B.bounds self.old.boundary store.old) (B.file self.old.boundary) C.decoded self.old (S.state store.old).files) (StandsFor (B.bounds self.new.boundary store.new) (B.file self.new.boundary) C.decoded self.new (S.state store.new).files) (base_number (λ n. n) base) value.now) }
+        ensures entered { IfOk result (EntryStands (StandsFor (B.bounds self.old.boundary store.old) (B.file self.old.boundary) C.decoded self.old (S.state store.old).files) (StandsFor (B.bounds self.new.boundary store.new) (B.file self.new.boundary) C.decoded self.new (S.state store.new).files) (base_number (λ n. n) base) value.now) }
         ensures conflict { IsErrOf result TransactionalObjectError.ObjectVersionExists → Overtaken (StandsFor (B.bounds self.old.boundary store.old) (B.file self.old.boundary) C.decoded self.old (S.state store.old).files) (StandsFor (B.bounds self.new.boundary store.new) (B.file self.new.boundary) C.decoded self.new (S.state store.new).files) (base_number (λ n. n) base) }
         ensures err { IfErr result (λ _. MayAppend (StandsFor (B.bounds self.old.boundary store.old) (B.file self.old.boundary) C.decoded self.old (S.state store.old).files) (StandsFor (B.bounds self.new.boundary store.new) (B.file self.new.boundary) C.decoded self.new (S.state store.new).files) (base_number (λ n. n) base) value.now) }
         ensures cause { IfErr result (HasCauseOfPut (base_number (λ n. n) base) (S.state store.old) (S.state store.new)) }
