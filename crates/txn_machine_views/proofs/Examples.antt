@@ -53,7 +53,7 @@ module _ {T : Type 0} (decode : List ℕ → Option T) (get_epoch : T → ℕ) (
       record {
         of = record { op = 1; client = 1; call = view_calls.Init v; inner = write; runs = refl };
         answer = Wrote 1;
-        fits = (refl, record { place = 1; request = m.first; bytes = m.bytes; effect = refl; creates = m.creates; begun = refl; first = refl; reads = m.reads });
+        fits = (refl, record { create = record { place = 1; request = m.first; bytes = m.bytes; effect = refl; creates = m.creates; begun = refl }; first = refl; reads = m.reads });
         next = Opens 1 v;
         makes = inl refl;
         has = tt;
@@ -81,7 +81,7 @@ module _ {T : Type 0} (decode : List ℕ → Option T) (get_epoch : T → ℕ) (
       record {
         of = record { op = 2; client = 1; call = view_calls.Claim 1; inner = attempt; runs = refl };
         answer = Wrote 2;
-        fits = (refl, record { place = 4; request = m.second; bytes = m.more; effect = refl; creates = m.creates_more; begun = refl; first = rw m.creates refl; reads = m.reads_more });
+        fits = (refl, record { create = record { place = 4; request = m.second; bytes = m.more; effect = refl; creates = m.creates_more; begun = refl }; first = rw m.creates refl; reads = m.reads_more });
         next = entered claim 2 (set_epoch v epoch) epoch;
         makes = inl refl;
         has = tt;

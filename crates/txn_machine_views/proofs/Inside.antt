@@ -1,5 +1,5 @@
 -- What the answer of a write or a read of the machine owes the layer.
-use Rattle.std.proofs.Common.{◌≡◌, ℕ, ◌+◌, List, take, nat_eq, true, Some, None, ◌⊎◌, inl, inr, refl, sym, ◌∙◌, ap, subst}
+use Rattle.std.proofs.Common.{◌≡◌, ℕ, ◌+◌, List, take, nat_eq, true, Option, Some, None, ◌⊎◌, inl, inr, refl, sym, ◌∙◌, ap, subst}
 use Rattle.std.specs.List.{list_any}
 use Rattle.std.proofs.lemmas.Bool.{both_ways}
 use Rattle.txn_history.specs.declared.event.PlainCall.{PlainCall}

@@ -49,7 +49,7 @@ module _ {T : Type 0} (decode : List ℕ → Option T) (get_epoch : T → ℕ) (
   none_own : (op : ℕ) (rows : List (Row T)) (call : Call T) → was_begun rows op ≡ false → OwnFenced decode get_epoch set_epoch (rows ++ Begun op call ∷ []) op
   none_own op rows call none n v e =
       elim (entered_back decode rows (Begun op call) op n v e) [
-        | inl old ↦ absurd (both_ways (was_begun (take old.place rows) op) (any_take (begins op) rows old.place none) old.begun)
+        | inl old ↦ absurd (both_ways (was_begun (take old.create.place rows) op) (any_take (begins op) rows old.create.place none) old.create.begun)
         | inr last ↦ absurd (let clash = last.2 in cc)
       ]
 
