@@ -36,6 +36,7 @@ TESTS = {
 # How the name of a build of tests ends, after its crate's.
 TESTS_ENDING = "_tests"
 
+NO_MEMORY = "no memory\n"
 LACKING = "refused 9 NoMemory"
 FAILED = "refused 2 ObjectStoreError"
 
@@ -114,6 +115,8 @@ class Player:
 class Test:
     """A test, which says itself whether it holds."""
 
+    unmet = frozenset()
+
     def __init__(self, player, program, name):
         self.player, self.words, self.name = player, [program, name], name
 
@@ -135,6 +138,7 @@ class Script:
     def __init__(self, player, program, stem):
         self.player, self.program, self.name = player, program, os.path.basename(stem)
         self.arguments = ["script"]
+        self.unmet = {NO_MEMORY}
         if os.path.isfile(f"{stem}.args"):
             with open(f"{stem}.args", encoding="utf-8") as file:
                 self.arguments = file.read().splitlines()
@@ -155,7 +159,8 @@ class Script:
     def is_allowed(self, ran):
         if self.is_well(ran):
             return True
-        if (ran.status, ran.err) == (1, "no memory\n"):
+        if (ran.status, ran.err) == (1, NO_MEMORY):
+            self.unmet.discard(ran.err)
             return self.wanted.out.startswith(ran.out) and (not ran.out or ran.out.endswith("\n"))
         lacking = re.findall(rf"^op (\d+): {LACKING}$", ran.out, re.M)
         return len(lacking) == 1 and ran in self.broken_off(lacking[0])
@@ -205,9 +210,40 @@ class Script:
         return Ran(0, "".join(f"{it}\n" for it in [*printed[:place], f"op {op}: {LACKING}", *rest]), "")
 
 
+class Worker:
+    """A run of one worker, whose allocations come in one order, and what may come of it where a growth is refused."""
+
+    name = "threads 1"
+    HALTS = frozenset({NO_MEMORY, "worker 1 stopped\n"})
+    LINES = r"workers 1\ncalls (\d+)\nanswers \1\nhistory (\d+)\ncounts agree\naudit ok\n"
+
+    def __init__(self, player, program):
+        self.player, self.words, self.unmet = player, [program, *self.name.split()], set(self.HALTS)
+
+    def run(self, nth):
+        return self.player.run(self.words, nth=nth)
+
+    def figures(self, ran):
+        """How many calls there were and how long the history is, where each call was answered, and counts and audit agree."""
+        told = re.fullmatch(self.LINES, ran.out)
+        return tuple(int(it) for it in told.groups()) if told and (ran.status, ran.err) == (0, "") else None
+
+    def is_well(self, ran):
+        """Whether it ended as with ample memory."""
+        return self.figures(ran) == (9, 5)
+
+    def is_allowed(self, ran):
+        """Whether it may end so where a growth was refused: it halts and prints nothing, or a call is answered 9, and its job
+        may enter nothing."""
+        if (ran.status, ran.out) == (1, "") and ran.err in self.HALTS:
+            self.unmet.discard(ran.err)
+            return True
+        return self.figures(ran) in ((9, 5), (9, 4), (8, 4))
+
+
 def sweep(swept):
     """Refuses each allocation in turn, until a run has none left to refuse. Returns how many were refused, and how many
-    runs were odd, after the last of which it may end early."""
+    runs were odd, after the last of which it may end early. It is odd too where no run is halted as some should be."""
     odd = 0
     for nth in range(1, MOST):
         ran, was_refused = swept.run(nth)
@@ -215,7 +251,9 @@ def sweep(swept):
             odd += 1
             say(f"FAILED: {swept.name}, {f'allocation {nth} refused' if was_refused else 'with ample memory'}: {ran}")
         if not was_refused:
-            return nth - 1, odd
+            for halt in sorted(swept.unmet):
+                say(f"FAILED: {swept.name} never ended with {halt!r}")
+            return nth - 1, odd + len(swept.unmet)
         if odd == MOST_ODD:
             return nth, odd
     say(f"FAILED: {swept.name} makes {MOST} allocations or more")
@@ -223,12 +261,12 @@ def sweep(swept):
 
 
 def swept_of(player, root, program):
-    """What is swept of a build: the tests of a crate of tests, and else scripts."""
+    """What is swept of a build: the tests of a crate of tests, and else scripts and a run of a worker."""
     name = os.path.basename(program)
     for crate, tests in TESTS.items():
         if name == crate + TESTS_ENDING:
             return [Test(player, program, it) for it in tests]
-    return [Script(player, program, f"{root}/cases/{it}") for it in SCRIPTS]
+    return [*(Script(player, program, f"{root}/cases/{it}") for it in SCRIPTS), Worker(player, program)]
 
 
 def sweep_all(player, root, programs):

@@ -12,7 +12,7 @@ TOOLS = os.path.dirname(os.path.dirname(os.path.realpath(__file__)))
 sys.path.insert(0, TOOLS)
 
 import refuse_growths  # noqa: E402
-from refuse_growths import NoLibrary, Player, Script, Test, make_library, sweep, sweep_all  # noqa: E402
+from refuse_growths import NoLibrary, Player, Script, Test, Worker, make_library, sweep, sweep_all  # noqa: E402
 
 # Each operation asks for a look, a serve and a look, and each event makes one allocation. An operation that was answered is
 # an entry at the end, and where the program is called `forgetful` one that was answered 9 too.
@@ -136,6 +136,22 @@ class Sweeps(unittest.TestCase):
         program = self.shell("tests_world_tests", f'{says}[ "$REFUSED_ALLOCATION" = 5 ] || printf "\\ntest result: ok\\n"')
         self.assertEqual(silently(sweep, Test(self.player, program, "one"))[0], (7, 1))
 
+    def worker(self, *ends):
+        """A worker, of which each end in turn comes where that allocation is refused: a status, and what is written."""
+        refusals = [f'{at}) tell; {end};;' for at, end in enumerate(ends, 1)]
+        tell = 'tell() { printf ! >"/proc/self/fd/$REFUSED_TO"; }'
+        lines = 'lines() { printf "workers 1\\ncalls $1\\nanswers $1\\nhistory $2\\ncounts agree\\naudit ok\\n"; }'
+        cases = "\n".join(["case $REFUSED_ALLOCATION in", *refusals, "*) lines 9 5;;", "esac"])
+        return Worker(self.player, self.shell("works", "\n".join([tell, lines, cases])))
+
+    def test_each_allocation_of_a_worker(self):
+        lacks, stops = ("echo no memory >&2; exit 1", "echo worker 1 stopped >&2; exit 1")
+        self.assertEqual(silently(sweep, self.worker(lacks, stops, "lines 8 4", "lines 9 4", "lines 9 5")), ((5, 0), ""))
+        self.assertEqual(silently(sweep, self.worker(lacks, stops, "lines 9 3", "lines 9 5; exit 1"))[0], (4, 2))
+        found, said = silently(sweep, self.worker(lacks, "lines 9 5"))
+        self.assertEqual(found, (2, 1))
+        self.assertIn("threads 1 never ended with 'worker 1 stopped\\n'", said)
+
     def test_a_program_that_does_not_end(self):
         with mock.patch.object(refuse_growths, "SECONDS", 0.2):
             found, said = silently(sweep, Test(self.player, self.shell("sleeps", "exec sleep 5"), "one"))
@@ -143,9 +159,10 @@ class Sweeps(unittest.TestCase):
         self.assertIn("had not ended", said)
 
     def test_builds(self):
-        with mock.patch.object(refuse_growths, "SCRIPTS", ("a/one",)):
+        worker = self.worker("echo no memory >&2; exit 1", "echo worker 1 stopped >&2; exit 1")
+        with mock.patch.multiple(refuse_growths, SCRIPTS=("a/one",), Worker=lambda *_: worker):
             program = self.script().program
-            self.assertEqual(silently(sweep_all, self.player, self.room, [program, program])[0], (24, 0))
+            self.assertEqual(silently(sweep_all, self.player, self.room, [program, program])[0], (28, 0))
             self.assertEqual(silently(sweep_all, self.player, self.room, [f"{self.room}/none"])[0], (0, 1))
         program = self.shell("tests_world_tests", 'printf "\\ntest result: ok\\n"')
         found, said = silently(sweep_all, self.player, self.room, [program])

@@ -2,4 +2,5 @@
 
 mod errors;
 mod many;
+mod stores;
 mod values;

@@ -1,11 +1,15 @@
 //! What a run of workers prints.
 ghost use Rattle.std.specs.Prelude.{◌≤◌};
 
-use std::alloc::AllocGlobal;
+use std::alloc::{AllocError, AllocGlobal, Global};
 use std::str;
 use std::sync::Wait;
+use std::test::Fail;
 use std::thread::Threads;
-use txn_commands::threads::run_threads;
+use txn_commands::halt::Halt;
+use txn_commands::threads::{Report, Tally, run_threads};
+use txn_journals::fault::AuditFault;
+use txn_lines::stop::Stop;
 
 /// The number of a line of this name.
 fn number_of(line: Option<&str>, name: &str) -> Option<u64> {
@@ -61,4 +65,33 @@ fn workers_of_each_count_agree(rt: HostRuntime) {
         let is_right = matches!(history_of(&rt, workers), Some(it) if 5 <= it && it <= most);
         assert!(rt; is_right, "{workers} workers");
     }
+}
+
+/// What a run of two workers prints whose counts differ, and whose audit finds this fault.
+fn differing(alloc: Global, fault: AuditFault) -> Result<String, AllocError> {
+    let tally = Tally {
+        workers: 2,
+        calls: 18,
+        answers: 18,
+        history: 5,
+        agree: false,
+    };
+    let audit = Err(fault);
+    let report = Report { tally, audit };
+    format!(in alloc; "{report}")
+}
+
+/// What is said of runs that halt.
+fn halted(alloc: Global) -> Result<String, AllocError> {
+    let (worker, lacking) = (Halt::Worker(2), Halt::Stop(Stop::NoMemory));
+    format!(in alloc; "{worker}, {lacking}")
+}
+
+#[test]
+fn what_went_wrong_is_said(rt: HostRuntime) -> Result<(), Fail> {
+    let text = differing(rt.alloc(), AuditFault::RowsDiffer)?;
+    let want = "workers 2\ncalls 18\nanswers 18\nhistory 5\ncounts differ\naudit fault 3";
+    assert_eq!(rt; text.as_str(), want);
+    assert_eq!(rt; halted(rt.alloc())?.as_str(), "worker 2 stopped, no memory");
+    Ok(())
 }

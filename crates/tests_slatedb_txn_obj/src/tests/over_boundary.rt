@@ -100,6 +100,7 @@ const SCENARIOS: &[(&str, u64, &[Row])] = &[
         &[
             (Call::Write(1), Told::Fails(5), 1),
             (Call::Read(1), Told::Value(Some(1)), 0),
+            (Call::Write(2), Told::Fails(5), 0),
         ],
     ),
     (
@@ -119,6 +120,9 @@ const SCENARIOS: &[(&str, u64, &[Row])] = &[
             (Call::Write(1), Told::Wrote(1), 1),
             (Call::Delete(1), Told::Fails(7), 1),
             (Call::Read(1), Told::Value(Some(1)), 0),
+            (Call::Advance(1), Told::Did, 0),
+            (Call::Delete(1), Told::Did, 1),
+            (Call::Read(1), Told::Value(None), 0),
         ],
     ),
     (

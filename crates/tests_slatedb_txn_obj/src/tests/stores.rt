@@ -221,35 +221,37 @@ fn keeps_its_pins(manifests: &Manifests, protocol: &mut Versions, store: &mut In
     true
 }
 
-/// Whether a run ends as it is to: with the claimed version pinned, or for want of memory.
-fn ends_well(manifests: &mut Manifests, protocol: &mut Versions, store: &mut InMemory) -> bool {
-    match numbered(pin_and_collect(manifests, protocol, store, &mut Turns::new(20), 5)) {
-        Ok(kept) => kept == 2,
-        Err(number) => number == 9,
-    }
-}
+/// How a run ends, by the id that is pinned or the number of an error, and whether what is pinned is stored then.
+type End = (Result<u64, u8>, bool);
 
-/// Whether it does, and what is pinned is stored. A store that is not opened lacks memory.
-fn keeps_whatever_comes(alloc: Global, protocol: &mut Versions, store: &mut InMemory) -> bool {
-    match opened(alloc, protocol, store) {
-        Ok(mut manifests) => {
-            ends_well(&mut manifests, protocol, store)
-                && keeps_its_pins(&manifests, protocol, store)
-        }
-        Err(error) => error.number() == 9,
-    }
+/// How a run ends of a store that is claimed first.
+fn end_over(alloc: Global, protocol: &mut Versions, store: &mut InMemory) -> End {
+    let mut manifests = match opened(alloc, protocol, store) {
+        Ok(manifests) => manifests,
+        Err(error) => return (Err(error.number()), true),
+    };
+    let mut turns = Turns::new(20);
+    let end = numbered(pin_and_collect(&mut manifests, protocol, store, &mut turns, 5));
+    (end, keeps_its_pins(&manifests, protocol, store))
 }
 
 /// The same, from nothing.
-fn keeps_from_nothing(alloc: Global) -> bool {
+fn end(alloc: Global) -> End {
     match a_protocol(alloc) {
-        Ok(mut protocol) => keeps_whatever_comes(alloc, &mut protocol, &mut InMemory::new(alloc)),
-        Err(_) => true,
+        Ok(mut protocol) => end_over(alloc, &mut protocol, &mut InMemory::new(alloc)),
+        Err(PathFault::NoMemory) => (Err(9), true),
+        Err(PathFault::BadSegment) => (Err(0), true),
     }
 }
 
+// Run it with each allocation failing in turn.
 #[test]
 fn what_is_pinned_stays_whichever_growth_is_refused(rt: HostRuntime) -> Result<(), Fail> {
-    assert!(rt; keeps_from_nothing(rt.alloc()));
+    let mut ended = end(rt.alloc());
+    if ended == (Err(9), true) {
+        // That growth was refused, and no other is.
+        ended = end(rt.alloc());
+    }
+    assert_eq!(rt; ended, (Ok(2), true));
     Ok(())
 }

@@ -1,20 +1,23 @@
-//! Reads to which a hand makes the replies, as of a store whose listing lies, which none does that keeps its contract.
-use crate::tests::fits::{fits_latest, fits_read};
+//! Reads and checks to which a hand makes the replies, as of a store whose listing lies, which none does that keeps its
+//! contract.
+use crate::tests::fits::{fits_check, fits_latest, fits_read};
 use crate::tests::operations::holds;
 use crate::tests::place::a_layout;
-use crate::tests::told::Told::{GoesOn, Newest};
+use crate::tests::told::Told::{Did, Fails, GoesOn, Newest};
 use crate::tests::told::{Told, said};
 use bytes::Bytes;
 use std::alloc::Global;
 use std::test::Fail;
 use txn_caches::ask::Ask;
-use txn_caches::caches::Caches;
+use txn_caches::caches::{CachedBoundary, Caches};
+use txn_caches::check::CheckOp;
 use txn_steps::latest::LatestOp;
 use txn_steps::read::ReadOp;
 use txn_store::page::{Listing, Page};
 use txn_store::path::Path;
 use txn_store::request::Reply;
 use txn_store::store::{Got, ObjectMeta, StoreError, Token};
+use txn_types::id::MonotonicId;
 use txn_types::layout::{Layout, PAGE};
 use txn_types::test_utils::NumberCodec;
 
@@ -25,11 +28,15 @@ enum Made {
     Finds(&'static [u8]),
     /// A get finds no file.
     Misses,
+    /// A get finds no file, and this boundary was cached since it was asked for.
+    MissesAt(u64),
+    /// A get finds the file as it was known.
+    NotModified,
     /// A listing tells the file of this path alone, or none.
     Lists(Option<&'static str>),
 }
 
-use Made::{Finds, Lists, Misses};
+use Made::{Finds, Lists, Misses, MissesAt, NotModified};
 
 /// The token of whatever is made up.
 fn a_token() -> Token {
@@ -58,7 +65,8 @@ fn reply_of(alloc: Global, made: Made) -> Result<Reply, Fail> {
             bytes: Bytes::from_static(bytes),
             token: a_token(),
         })),
-        Made::Misses => Reply::Get(Err(StoreError::NotFound)),
+        Made::Misses | Made::MissesAt(_) => Reply::Get(Err(StoreError::NotFound)),
+        Made::NotModified => Reply::Get(Err(StoreError::NotModified)),
         Made::Lists(told) => Reply::List(Ok(a_page(alloc, told)?)),
     })
 }
@@ -71,12 +79,14 @@ fn is_call(ask: Ask<'_>) -> bool {
     }
 }
 
-/// A read that a hand drives.
+/// A read or a check that a hand drives.
 #[derive(Drop)]
 enum Read {
     /// One that no boundary checks.
     Unchecked(LatestOp<u64>),
     Checked(ReadOp<u64>),
+    /// A check alone.
+    Check(CheckOp),
 }
 
 impl Read {
@@ -85,6 +95,7 @@ impl Read {
         match self {
             Read::Unchecked(op) => is_call(op.ask()),
             Read::Checked(op) => is_call(op.ask()),
+            Read::Check(op) => is_call(op.ask()),
         }
     }
 
@@ -103,6 +114,7 @@ impl Read {
             Read::Checked(op) if fits_read(op, &reply) => {
                 Ok(said(op.take(alloc, layout, caches, reply)))
             }
+            Read::Check(op) if fits_check(op, &reply) => Ok(said(op.take(caches, reply))),
             _ => of_another_kind(reply),
         }
     }
@@ -119,6 +131,16 @@ fn replied(alloc: Global, calls: bool, made: Option<Made>) -> Result<Option<Repl
         (false, _) => Ok(None),
         (true, Some(made)) => Ok(Some(reply_of(alloc, made)?)),
         (true, None) => Err("no reply is left")?,
+    }
+}
+
+/// What is cached before a reply comes, where that is told.
+fn cache_before(caches: &mut Caches, reply: Option<&Made>) {
+    if let Some(MissesAt(number)) = reply {
+        caches.boundary = Some(CachedBoundary {
+            number: *number,
+            token: a_token(),
+        });
     }
 }
 
@@ -152,6 +174,7 @@ fn drive_on(
     for _ in 1..STEPS {
         let reply = replied(alloc, op.calls(), made.get(calls).copied())?;
         if reply.is_some() {
+            cache_before(caches, made.get(calls));
             calls = calls.saturating_add(1);
         } else {
             looks = looks.saturating_add(1);
@@ -218,5 +241,25 @@ fn test_try_read_latest_retries_missing_listed_file(rt: HostRuntime) -> Result<(
     ];
     let found = newest(rt.alloc(), &made, &[2])?;
     assert_eq!(rt; found, ((Newest(Some((2, 10))), 5, 6), true));
+    Ok(())
+}
+
+/// A check of id 1 to whose get a hand replies so, and the boundary that is cached then.
+fn checked(alloc: Global, made: Made) -> Result<(Played, Option<u64>), Fail> {
+    let layout = a_layout(alloc, PAGE, NumberCodec)?;
+    let mut caches = Caches::new();
+    let op = Read::Check(CheckOp::start(&layout, MonotonicId::new(1))?);
+    let played = drive(alloc, &layout, &mut caches, op, &[made])?;
+    Ok((played, caches.boundary.map(|known| known.number)))
+}
+
+#[test]
+fn a_check_takes_the_boundary_of_its_get(rt: HostRuntime) -> Result<(), Fail> {
+    // Nothing is cached that could be as it was.
+    let found = checked(rt.alloc(), NotModified)?;
+    assert_eq!(rt; found, ((Fails(7), 1, 3), None));
+    // What was cached meanwhile stays, and is not what the get says.
+    let found = checked(rt.alloc(), MissesAt(2))?;
+    assert_eq!(rt; found, ((Did, 1, 2), Some(2)));
     Ok(())
 }

@@ -1,4 +1,4 @@
-//! Whether a reply, or none for a look, is what a read asks for.
+//! Whether a reply, or none for a look, is what a read or a check asks for.
 ghost use Rattle.std.specs.Prelude.{IsTrue};
 ghost use Rattle.txn_caches.specs.Asking.{IsLook, IsGot, IsListed};
 ghost use Rattle.txn_caches.specs.BoundaryReads.{IsBoundaryReply};
@@ -49,7 +49,7 @@ fn fits_boundary_check(op: &BoundaryCheck, reply: &Option<Reply>) -> bool
     }
 }
 
-fn fits_check(op: &CheckOp, reply: &Option<Reply>) -> bool
+pub(crate) fn fits_check(op: &CheckOp, reply: &Option<Reply>) -> bool
     ensures { IsTrue result → IsCheckReply op.now reply.now }
 {
     match op {

@@ -7,6 +7,7 @@ use std::sync::{Mutex, Wait};
 use std::test::Fail;
 use txn_audit::audit::audit;
 use txn_diary::diary::Diary;
+use txn_history::event::{Call, EventFault, PlainCall, Told};
 use txn_lines::record::{Record, RecordCodec, RecordEpoch};
 use txn_logged::logged::{LoggedStore, serve_shared};
 use txn_store::path::Path;
@@ -130,5 +131,17 @@ fn audits_find_what_is_missing_twice_or_different(rt: HostRuntime) -> Result<(),
     let store = Mutex::new(LoggedStore::new(rt.alloc()));
     // Client 1 reads nothing by one listing, and its write is a create and a get of the boundary.
     assert_eq!(rt; found(&rt, &store)?, ([0, 2, 1, 0], 3, 3, [2, 3]));
+    Ok(())
+}
+
+/// What a client is told that begins a read and gives it up.
+fn given_up(diary: &mut Records) -> [Result<Told<Record>, EventFault>; 2] {
+    [diary.begin(Call::Plain(PlainCall::Read)), diary.give_up(1)]
+}
+
+#[test]
+fn a_client_is_told_that_it_gave_up(rt: HostRuntime) -> Result<(), Fail> {
+    let told = given_up(&mut client(rt.alloc(), 1)?);
+    assert!(rt; matches!(told, [Ok(Told::Began(1)), Ok(Told::GaveUp(1))]));
     Ok(())
 }

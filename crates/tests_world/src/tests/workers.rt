@@ -2,6 +2,7 @@
 ghost use Rattle.std.specs.Prelude.{◌≡◌, ◌≤◌, IfOk, vec_len};
 
 use std::alloc::{AllocError, AllocGlobal, Global};
+use std::mem;
 use std::slice::from_ref;
 use std::sync::{Mutex, Wait};
 use std::test::Fail;
@@ -74,14 +75,35 @@ const JOBS: &[(&[Job<Record>], &str)] = &[
     ),
 ];
 
+/// A gate that puts another kept world in at the third turn, where it is given one.
+#[derive(Drop)]
+struct Replacing<'a, R: Wait> {
+    rt: &'a R,
+    kept: &'a Mutex<Records>,
+    other: Option<Records>,
+}
+
+impl<R: Wait> Gate for Replacing<'_, R> {
+    fn pass(&mut self, _worker: u64, turn: u64) -> Result<(), GateSpent> {
+        if turn == 3 {
+            if let Some(other) = self.other.take() {
+                drop(mem::replace(&mut *self.kept.lock(self.rt), other));
+            }
+        }
+        Ok(())
+    }
+}
+
 /// How a worker ends that does these jobs, and its share.
 fn worked(
     rt: &impl Wait,
     kept: &Mutex<Records>,
     share: Option<Share>,
+    other: Option<Records>,
     jobs: &[Job<Record>],
 ) -> Option<Worked<Share>> {
-    Some(work(rt, kept, share?, &mut FreeGate, jobs))
+    let mut gate = Replacing { rt, kept, other };
+    Some(work(rt, kept, share?, &mut gate, jobs))
 }
 
 /// Puts a share among others, and says how its worker ended.
@@ -97,11 +119,15 @@ fn seen(alloc: Global, kept: &Records) -> Result<String, AllocError> {
     format!(in alloc; "{rows} rows, {entries:?}")
 }
 
-/// What a worker alone leaves.
-fn left_by(rt: &(impl Wait + AllocGlobal), jobs: &[Job<Record>]) -> Result<String, AllocError> {
+/// What a worker alone leaves, where another kept world may be put in.
+fn left_by(
+    rt: &(impl Wait + AllocGlobal),
+    jobs: &[Job<Record>],
+    other: Option<Records>,
+) -> Result<String, AllocError> {
     let (kept, mut shares) = kept_by(rt.alloc(), 1)?;
     let kept = Mutex::new(kept);
-    let worked = worked(rt, &kept, shares.pop(), jobs);
+    let worked = worked(rt, &kept, shares.pop(), other, jobs);
     let end = end_of(&mut shares, worked);
     let kept = kept.into_inner();
     let seen = seen(rt.alloc(), &kept)?;
@@ -112,9 +138,19 @@ fn left_by(rt: &(impl Wait + AllocGlobal), jobs: &[Job<Record>]) -> Result<Strin
 #[test]
 fn a_worker_alone_does_its_jobs_in_order(rt: HostRuntime) -> Result<(), Fail> {
     for (jobs, left) in JOBS {
-        let text = left_by(&rt, jobs)?;
+        let text = left_by(&rt, jobs, None)?;
         assert_eq!(rt; text.as_str(), *left);
     }
+    Ok(())
+}
+
+#[test]
+fn a_kept_world_that_was_replaced_has_other_counts(rt: HostRuntime) -> Result<(), Fail> {
+    let (other, _shares) = kept_by(rt.alloc(), 1)?;
+    let job = Job::WriteOnRead(ONE);
+    let text = left_by(&rt, from_ref(&job), Some(other))?;
+    let want = "Some(Refused(UnknownNumber)), 0 rows, [], CountsDiffer";
+    assert_eq!(rt; text.as_str(), want);
     Ok(())
 }
 

@@ -1,16 +1,8 @@
-//! Worlds: what each event is told, and the laws of what is left.
+//! Worlds: what each event is told.
 use std::alloc::{AllocError, Global};
 use std::test::Fail;
 use txn_history::event::{Call, Event, PlainCall, ViewCall};
-use txn_history::laws::{
-    above_boundary_is_not_removed, boundary_never_falls, holders_keep_their_epoch,
-    one_claimer_per_epoch, one_writer_per_id,
-};
-use txn_lines::record::{Record, RecordCodec, RecordEpoch};
-use txn_machine::alone::{turns_at_rest, two_passes};
-use txn_machine::counts::calls_are_bounded;
-use txn_machine::laws::{one_history, rows_go_on, views_go_on};
-use txn_machine::refusals::{claims_are_refused_by_their_base, failures_are_taken};
+use txn_lines::record::{RecordCodec, RecordEpoch};
 use txn_world::world::World;
 
 /// Transcripts of events. The end lines of a script stand below `? end`, those of views alone below `? views`.
@@ -219,26 +211,6 @@ serve 2 => UnknownNumber
 ",
 ];
 
-/// The laws of worlds and rows, which their types keep.
-fn laws() {
-    one_history::<Record, RecordCodec, RecordEpoch>(&RecordCodec, &RecordEpoch);
-    views_go_on::<Record, RecordCodec, RecordEpoch>(&RecordCodec, &RecordEpoch);
-    rows_go_on::<Record, RecordCodec, RecordEpoch>(&RecordCodec, &RecordEpoch);
-    calls_are_bounded::<Record, RecordCodec, RecordEpoch>(&RecordCodec, &RecordEpoch);
-    two_passes::<Record, RecordCodec, RecordEpoch>(&RecordCodec, &RecordEpoch);
-    turns_at_rest::<Record, RecordCodec, RecordEpoch>(&RecordCodec, &RecordEpoch);
-    failures_are_taken::<Record, RecordCodec, RecordEpoch>(&RecordCodec, &RecordEpoch);
-    claims_are_refused_by_their_base::<Record, RecordCodec, RecordEpoch>(
-        &RecordCodec,
-        &RecordEpoch,
-    );
-    boundary_never_falls(&7u64);
-    above_boundary_is_not_removed(&7u64);
-    one_writer_per_id(&7u64);
-    one_claimer_per_epoch(&7u64);
-    holders_keep_their_epoch(&7u64);
-}
-
 /// How many of two events a run takes: a begin, and one of a client that is not there.
 fn run_of_two(alloc: Global) -> Result<u64, AllocError> {
     let mut events = Vec::new(alloc);
@@ -251,6 +223,5 @@ fn run_of_two(alloc: Global) -> Result<u64, AllocError> {
 #[test]
 fn a_run_passes_over_what_is_refused(rt: HostRuntime) -> Result<(), Fail> {
     assert_eq!(rt; run_of_two(rt.alloc())?, 1);
-    laws();
     Ok(())
 }
