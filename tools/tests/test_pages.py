@@ -2,9 +2,14 @@
 import glob
 import os
 import re
+import sys
 import unittest
 
 TOP = os.path.dirname(os.path.dirname(os.path.dirname(os.path.realpath(__file__))))
+sys.path.insert(0, f"{TOP}/tools")
+
+from cited_definitions import unlisted  # noqa: E402 (it is found beside this folder)
+
 FILE = re.compile(r"^`(crates/\S+\.(?:antt|rt))`")
 # A definition of specs/, and a type of src/.
 DEFINED = r"^ *(?:(?:abbrev|pub|record|data|unfoldable) )*{0}(?= *[:({{])|^pub (?:enum|struct) {0}\b"
@@ -48,6 +53,11 @@ class Pages(unittest.TestCase):
         for file, name, line in found:
             self.assertTrue(file and name, line)
             self.assertRegex(text_of(file), re.compile(DEFINED.format(re.escape(name)), re.M), f"{name} in {file}")
+
+    def test_an_auditor_finds_what_each_definition_cites(self):
+        listed = {(file, name) for file, name, _ in names_by_file(text_of("docs/audit.md"))}
+        lacks = unlisted(TOP, listed)
+        self.assertEqual([f"{name} of {file}, which {by[1]} cites" for (file, name), by in sorted(lacks.items())], [])
 
     def test_a_name_that_is_not_there_is_missed(self):
         self.assertNotRegex("abbrev pub other : ℕ\n", re.compile(DEFINED.format("othe"), re.M))
