@@ -4,6 +4,7 @@ import sys
 import tempfile
 import unittest
 
+sys.dont_write_bytecode = True
 sys.path.insert(0, os.path.dirname(os.path.dirname(os.path.realpath(__file__))))
 
 from cited_definitions import cited_by, unlisted  # noqa: E402 (it is found beside this folder)
