@@ -6,7 +6,7 @@ use Rattle.txn_caches.specs.declared.caches.Caches.{Caches}
 use Rattle.txn_history.specs.Lists.{numbered}
 use Rattle.txn_machine.specs.declared.doing.Doing.{Doing}
 use Rattle.txn_machine.specs.declared.doing.Operation.{Operation}
-use Rattle.txn_machine.specs.Doing.{Next, IsReply, InRange, Turns, caches_left, ended}
+use Rattle.txn_machine.specs.Doing.{Next, IsReply, InRange, Turns, caches_after, ended}
 use Rattle.txn_machine.specs.Machine.{with_doing}
 use Rattle.txn_machine_inner.proofs.Lists.{within}
 use Rattle.txn_clients.specs.Operations.{TakesReply, Ends, TakesTurn}
@@ -61,6 +61,6 @@ module _ {T : Type 0} where
   ends_so operations op o doing there at is = record { operation = o; found = found_here operations op o there at; operations = ap (with_doing operations op o) is }
 
 module _ {T : Type 0} (page : ℕ) (encode : T → List ℕ) (decode : List ℕ → Option T) (get_epoch : T → ℕ) (set_epoch : T → ℕ → T) where
-  pub turned_so : (operations : List (Operation T)) (caches left : Caches) (op : ℕ) (reply : Option Reply) (o : Operation T) (next : Next T) → TakesReply operations op reply → o ≡ get_or operations (op - 1) o → Turns page encode decode get_epoch set_epoch o.doing caches reply next → left ≡ caches_left o.doing caches next.1 →
+  pub turned_so : (operations : List (Operation T)) (caches left : Caches) (op : ℕ) (reply : Option Reply) (o : Operation T) (next : Next T) → TakesReply operations op reply → o ≡ get_or operations (op - 1) o → Turns page encode decode get_epoch set_epoch o.doing caches reply next → left ≡ caches_after o.doing caches next.1 →
       TakesTurn page encode decode get_epoch set_epoch operations caches op reply (with_doing operations op o next.0) left next.1
   turned_so operations caches left op reply o next takes at turns is = record { operation = o; found = found_of operations op reply o takes at; next = next; turns = turns; ends = refl; operations = refl; leaves = is }

@@ -8,7 +8,7 @@ use Rattle.txn_history.specs.Seen.{Ask, Store, Look}
 use Rattle.txn_history.specs.GoesOn.{may_be_loose}
 use Rattle.txn_machine.specs.declared.doing.Operation.{Operation}
 use Rattle.txn_machine.specs.declared.doing.Ending.{Ending}
-use Rattle.txn_machine.specs.Doing.{Next, IsReply, InRange, Turns, asked, caches_left, ended}
+use Rattle.txn_machine.specs.Doing.{Next, IsReply, InRange, Turns, asked, caches_after, ended}
 use Rattle.txn_machine.specs.Machine.{with_doing}
 use Rattle.txn_clients.specs.declared.operations.Usage.{Usage}
 
@@ -59,4 +59,4 @@ module _ {T : Type 0} (page : ℕ) (encode : T → List ℕ) (decode : List ℕ 
     pub turns : Turns page encode decode get_epoch set_epoch operation.doing caches reply next
     pub ends : ending ≡ next.1
     pub operations : new ≡ with_doing old op operation next.0
-    pub leaves : left ≡ caches_left operation.doing caches next.1
+    pub leaves : left ≡ caches_after operation.doing caches next.1

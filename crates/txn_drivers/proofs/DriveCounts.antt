@@ -12,7 +12,7 @@ use Rattle.txn_caches.specs.Asking.{IsLook, IsGot, IsDeleted}
 use Rattle.txn_caches.specs.BoundaryChecks.{asked_at, IsReplyAt}
 use Rattle.txn_caches.specs.BoundaryReads.{boundary_read_asked, IsBoundaryReply}
 use Rattle.txn_caches.specs.Checks.{check_started, check_asked, IsCheckReply}
-use Rattle.txn_caches.specs.Counts.{Left, left_after, SpendsOne, check_left}
+use Rattle.txn_caches.specs.Counts.{Budget, budget_after, SpendsOne, check_budget}
 use Rattle.txn_caches.specs.declared.boundary_read.BoundaryRead.{BoundaryRead}
 use Rattle.txn_caches.specs.declared.boundary_read.BoundaryRead.TheVariants as boundary
 use Rattle.txn_caches.specs.declared.caches.Caches.{Caches}
@@ -23,7 +23,7 @@ use Rattle.txn_caches.specs.declared.check.CheckOp.TheVariants as checks
 use Rattle.txn_caches.specs.declared.turned.Turned.{Turned}
 use Rattle.txn_caches.specs.declared.turned.Turned.TheVariants.{Goes}
 use Rattle.txn_caches.proofs.CountLemmas.{check_spends}
-use Rattle.txn_steps.specs.CallsLeft.{write_left_at, write_left, removal_left_at, delete_left_at, delete_left, seen_left}
+use Rattle.txn_steps.specs.CallsLeft.{write_budget_at, write_budget, removal_budget_at, delete_budget_at, delete_budget, seen_budget}
 use Rattle.txn_steps.specs.Deletes.{delete_started, removal_asked_at, IsRemovalReplyAt, delete_asked_at, IsDeleteReplyAt}
 use Rattle.txn_steps.specs.SeenSteps.{seen_asked, IsSeenReply}
 use Rattle.txn_steps.specs.Writes.{write_started, unchecked_asked, IsUncheckedReply, write_asked_at, IsWriteReplyAt}
@@ -116,38 +116,38 @@ seen_reply seen.Ended old new reply can told = absurd can
 
 -- something is left while it goes on
 
-abbrev all_left : Left → ℕ
+abbrev all_left : Budget → ℕ
 all_left left = left.looks + left.calls
 
-spends_one : (reply : Option Reply) (before after : Left) → SpendsOne reply before after → all_left after < all_left before
+spends_one : (reply : Option Reply) (before after : Budget) → SpendsOne reply before after → all_left after < all_left before
 spends_one None before after spends = omega (arith, spends.0, spends.1)
 spends_one (Some reply) before after spends = omega (arith, spends.0, spends.1)
 
-check_some : (op : CheckOp) → 1 ≤ all_left (check_left op)
+check_some : (op : CheckOp) → 1 ≤ all_left (check_budget op)
 check_some (checks.Checks check) = omega arith
 check_some (checks.Drops id) = omega arith
 
-write_some : (step : WriteStep) (op : WriteOp) → 1 ≤ all_left (write_left_at step op)
+write_some : (step : WriteStep) (op : WriteOp) → 1 ≤ all_left (write_budget_at step op)
 write_some writes.Writes op = let some = check_some op.check in omega (arith, some)
 write_some writes.Checks op = check_some op.check
 
-removal_some : (step : RemovalStep) → 1 ≤ all_left (removal_left_at step)
+removal_some : (step : RemovalStep) → 1 ≤ all_left (removal_budget_at step)
 removal_some removals.Removes = omega arith
 removal_some removals.Drops = omega arith
 
-delete_some : (step : DeleteStep) (op : DeleteOp) → 1 ≤ all_left (delete_left_at step op)
+delete_some : (step : DeleteStep) (op : DeleteOp) → 1 ≤ all_left (delete_budget_at step op)
 delete_some deletes.Checks op = let some = check_some op.check in omega (arith, some)
 delete_some deletes.Removes op = removal_some op.removal.step
 
-seen_some : {T : Type 0} (op : ReadSeenOp T) → CanReadSeen op → 1 ≤ all_left (seen_left op)
+seen_some : {T : Type 0} (op : ReadSeenOp T) → CanReadSeen op → 1 ≤ all_left (seen_budget op)
 seen_some (seen.Looks id) can = omega arith
 seen_some (seen.Gets id request) can = omega arith
 seen_some (seen.Keeps version value) can = omega arith
 seen_some seen.Ended can = absurd can
 
 -- each step takes one of what is left
-module _ {O A : Type 0} (may_grow : Bool) (asked : O → Option Request) (turned : O → Caches → Option Reply → O × Turned (Result A ℕ)) (left : O → Caches → Turned (Result A ℕ) → Caches) (Can : O → Type 0) (left_of : O → Left)
-    (spends : (op : O) (caches : Caches) (old new : State) (reply : Option Reply) → Can op → Replies (asked op) old reply new → SpendsOne reply (left_of op) (left_after (turned op caches reply).1 (left_of (turned op caches reply).0)))
+module _ {O A : Type 0} (may_grow : Bool) (asked : O → Option Request) (turned : O → Caches → Option Reply → O × Turned (Result A ℕ)) (left : O → Caches → Turned (Result A ℕ) → Caches) (Can : O → Type 0) (left_of : O → Budget)
+    (spends : (op : O) (caches : Caches) (old new : State) (reply : Option Reply) → Can op → Replies (asked op) old reply new → SpendsOne reply (left_of op) (budget_after (turned op caches reply).1 (left_of (turned op caches reply).0)))
     (some : (op : O) → Can op → 1 ≤ all_left (left_of op))
     (asks : (a b : Scene O) → Can a.op → Stepped may_grow asked turned left a Goes b → Can b.op) where
   abbrev Steps : Scene O → Turned (Result A TransactionalObjectError) → Scene O → Type 0
@@ -156,11 +156,11 @@ module _ {O A : Type 0} (may_grow : Bool) (asked : O → Option Request) (turned
   one_less : (a b : Scene O) → Can a.op → Steps a Goes b → all_left (left_of b.op) < all_left (left_of a.op)
   one_less a b can step =
       let is = goes_on may_grow asked turned left Can may_grow a.op b.op (turned a.op a.caches step.reply) step.takes in
-      let less = spends_one step.reply (left_of a.op) (left_after (turned a.op a.caches step.reply).1 (left_of (turned a.op a.caches step.reply).0)) (spends a.op a.caches a.store b.store step.reply can step.replies) in
+      let less = spends_one step.reply (left_of a.op) (budget_after (turned a.op a.caches step.reply).1 (left_of (turned a.op a.caches step.reply).0)) (spends a.op a.caches a.store b.store step.reply can step.replies) in
       let goes : Goes ≡ (turned a.op a.caches step.reply).1 = ap (λ p. p.1) is in
       let next : b.op ≡ (turned a.op a.caches step.reply).0 = ap (λ p. p.0) is in
       subst (λ (op : O). all_left (left_of op) < all_left (left_of a.op)) (sym next)
-      (subst (λ t. all_left (left_after t (left_of (turned a.op a.caches step.reply).0)) < all_left (left_of a.op)) (sym goes) less)
+      (subst (λ t. all_left (budget_after t (left_of (turned a.op a.caches step.reply).0)) < all_left (left_of a.op)) (sym goes) less)
 
   counted : (n : ℕ) (a b : Scene O) → Can a.op → GoesOn Steps n a b → Can b.op × (n + all_left (left_of b.op) ≤ all_left (left_of a.op))
   counted zero a b can same = subst (λ (s : Scene O). Can s.op × (0 + all_left (left_of s.op) ≤ all_left (left_of a.op))) (sym same) (can, omega arith)
@@ -180,20 +180,20 @@ module _ {O A : Type 0} (may_grow : Bool) (asked : O → Option Request) (turned
 
 pub check_within : (path : Segments) (id steps : ℕ) (a b : Scene CheckOp) (answer : Option (Result (Unit {0}) TransactionalObjectError)) → a.op ≡ check_started path id → Drives CheckSteps steps a answer b → AnswersWithin 5 steps answer
 check_within path id steps a b answer starts on =
-    subst (λ (op : CheckOp). AnswersWithin (all_left (check_left op)) steps answer) starts
-    (answers_within _ _ _ _ CanCheck check_left (λ op caches old new reply can told. check_spends op caches reply (check_reply op old new reply can told)) (λ op can. check_some op) check_asks steps a b answer (subst CanCheck (sym starts) tt) on)
+    subst (λ (op : CheckOp). AnswersWithin (all_left (check_budget op)) steps answer) starts
+    (answers_within _ _ _ _ CanCheck check_budget (λ op caches old new reply can told. check_spends op caches reply (check_reply op old new reply can told)) (λ op can. check_some op) check_asks steps a b answer (subst CanCheck (sym starts) tt) on)
 
 pub write_within : (names : Names) (path : Segments) (base : Option ℕ) (bytes : List ℕ) (steps : ℕ) (a b : Scene WriteOp) (answer : Option (Result ℕ TransactionalObjectError)) → a.op ≡ write_started names path base bytes → Drives WriteSteps steps a answer b → AnswersWithin 7 steps answer
 write_within names path base bytes steps a b answer starts on =
-    subst (λ (op : WriteOp). AnswersWithin (all_left (write_left op)) steps answer) starts
-    (answers_within _ _ _ _ CanWriteChecked write_left (λ op caches old new reply can told. write_spends op caches reply (write_reply op.step op old new reply can.0 can.1 told)) (λ op can. write_some op.step op) write_asks steps a b answer (subst CanWriteChecked (sym starts) (tt, tt)) on)
+    subst (λ (op : WriteOp). AnswersWithin (all_left (write_budget op)) steps answer) starts
+    (answers_within _ _ _ _ CanWriteChecked write_budget (λ op caches old new reply can told. write_spends op caches reply (write_reply op.step op old new reply can.0 can.1 told)) (λ op can. write_some op.step op) write_asks steps a b answer (subst CanWriteChecked (sym starts) (tt, tt)) on)
 
 pub delete_within : (names : Names) (path : Segments) (id steps : ℕ) (a b : Scene DeleteOp) (answer : Option (Result (Unit {0}) TransactionalObjectError)) → a.op ≡ delete_started names path id → Drives DeleteSteps steps a answer b → AnswersWithin 7 steps answer
 delete_within names path id steps a b answer starts on =
-    subst (λ (op : DeleteOp). AnswersWithin (all_left (delete_left op)) steps answer) starts
-    (answers_within _ _ _ _ CanDelete delete_left (λ op caches old new reply can told. delete_spends op caches reply (delete_reply op.step op old new reply can told)) (λ op can. delete_some op.step op) delete_asks steps a b answer (subst CanDelete (sym starts) (tt, tt)) on)
+    subst (λ (op : DeleteOp). AnswersWithin (all_left (delete_budget op)) steps answer) starts
+    (answers_within _ _ _ _ CanDelete delete_budget (λ op caches old new reply can told. delete_spends op caches reply (delete_reply op.step op old new reply can told)) (λ op can. delete_some op.step op) delete_asks steps a b answer (subst CanDelete (sym starts) (tt, tt)) on)
 
 pub seen_within : {T : Type 0} (names : Names) (decode : List ℕ → Option T) (id steps : ℕ) (a b : Scene (ReadSeenOp T)) (answer : Option (Result (Option T) TransactionalObjectError)) → a.op ≡ seen.Looks id → Drives (SeenSteps names decode) steps a answer b → AnswersWithin 3 steps answer
 seen_within names decode id steps a b answer starts on =
-    subst (λ op. AnswersWithin (all_left (seen_left op)) steps answer) starts
-    (answers_within _ _ _ _ CanReadSeen seen_left (λ op caches old new reply can told. seen_spends names decode op caches.latest reply (seen_reply op old new reply can told)) seen_some (seen_asks names decode) steps a b answer (subst CanReadSeen (sym starts) tt) on)
+    subst (λ op. AnswersWithin (all_left (seen_budget op)) steps answer) starts
+    (answers_within _ _ _ _ CanReadSeen seen_budget (λ op caches old new reply can told. seen_spends names decode op caches.latest reply (seen_reply op old new reply can told)) seen_some (seen_asks names decode) steps a b answer (subst CanReadSeen (sym starts) tt) on)

@@ -17,7 +17,7 @@ use Rattle.txn_caches.specs.declared.turned.Turned.TheVariants.{Goes, Done}
 use Rattle.txn_steps.specs.declared.latest.LatestOp.{LatestOp}
 use Rattle.txn_steps.specs.declared.latest.LatestOp.TheVariants as latest
 use Rattle.txn_steps.specs.declared.read.ReadOp.{ReadOp}
-use Rattle.txn_steps.specs.Latest.{latest_left}
+use Rattle.txn_steps.specs.Latest.{latest_window_after}
 use Rattle.txn_drivers.specs.Calls.{HasCause, HasCauseOfRead, HasCauseOfCheck}
 use Rattle.txn_drivers.specs.Checking.{Unbounded}
 use Rattle.txn_drivers.specs.DriveRuns.{Scene, GoesOn}
@@ -60,7 +60,7 @@ check_reads_none unheld old new error cause is = omega (arith, is)
 
 module _ {T : Type 0} where
   -- an answer leaves of what is held what going on does
-  pub found_leaves : (op : LatestOp T) (held : List Cached) (found : Option (ℕ × T)) → latest_left op held Goes ≡ latest_left op held (Done (Ok found))
+  pub found_leaves : (op : LatestOp T) (held : List Cached) (found : Option (ℕ × T)) → latest_window_after op held Goes ≡ latest_window_after op held (Done (Ok found))
   found_leaves latest.Looks held found = refl
   found_leaves (latest.Probes hand n next request) held found = refl
   found_leaves (latest.Finds successor n) held found = refl

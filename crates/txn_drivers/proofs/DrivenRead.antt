@@ -22,8 +22,8 @@ use Rattle.txn_steps.specs.declared.latest.LatestOp.{LatestOp}
 use Rattle.txn_steps.specs.declared.latest.LatestOp.TheVariants as latest
 use Rattle.txn_steps.specs.declared.read.ReadOp.{ReadOp}
 use Rattle.txn_steps.specs.declared.read.ReadOp.TheVariants.{Reads, Checks, Ended}
-use Rattle.txn_steps.specs.Latest.{ReadAnswer, latest_asked, latest_turned, latest_left}
-use Rattle.txn_steps.specs.Reads.{read_started, read_asked, read_turned, read_left, reads_turned, checks_turned}
+use Rattle.txn_steps.specs.Latest.{ReadAnswer, latest_asked, latest_turned, latest_window_after}
+use Rattle.txn_steps.specs.Reads.{read_started, read_asked, read_turned, read_caches_after, reads_turned, checks_turned}
 use Rattle.txn_drivers.specs.Asked.{Replies}
 use Rattle.txn_drivers.specs.Checking.{Checked, Unbounded}
 use Rattle.txn_drivers.specs.DriveRuns.{Scene, GoesOn, Drives}
@@ -110,7 +110,7 @@ module _ {T : Type 0} (names : Names) (path : Segments) (page : ℕ) (room : 1 �
       abbrev makes : LatestOp T × Turned (ReadAnswer T)
       makes = latest_turned names page decode op b.caches.latest reply
 
-      inner : (op' : LatestOp T) (told : Turned (Result (Option (ℕ × T)) TransactionalObjectError)) → pair op' (turned_by_number told) ≡ unless_lacking (lacks_memory (turned_by_number told)) op makes → c.caches ≡ with_latest (latest_left op b.caches.latest (turned_by_number told)) b.caches → TellsErrorOf (reply_told reply) told → LSteps (reading b op) told (reading c op')
+      inner : (op' : LatestOp T) (told : Turned (Result (Option (ℕ × T)) TransactionalObjectError)) → pair op' (turned_by_number told) ≡ unless_lacking (lacks_memory (turned_by_number told)) op makes → c.caches ≡ with_latest (latest_window_after op b.caches.latest (turned_by_number told)) b.caches → TellsErrorOf (reply_told reply) told → LSteps (reading b op) told (reading c op')
       inner op' told takes leaves tells = record { reply = reply; replies = served; takes = takes; leaves = leaves; error = tells }
 
       stops : (op' : LatestOp T) (answer : Result (Option (ℕ × T)) TransactionalObjectError) → LSteps (reading b op) (Done answer) (reading c op') → PassFound at.before at.s answer c.store c.caches
@@ -130,7 +130,7 @@ module _ {T : Type 0} (names : Names) (path : Segments) (page : ℕ) (room : 1 �
             since = record { k = 0; on = ap (λ r. checking c (check_of_read id r)) at.read_is; count = omega (arith, count) };
           }
 
-      read_fails : (x : LatestOp T × Turned (ReadAnswer T)) (error : TransactionalObjectError) (t : Bool) → (error_number error == 9) ≡ t → x ≡ makes → (c.op, Done (Err (error_number error))) ≡ unless_lacking t (Reads op read) (reads_turned read x) → c.caches ≡ with_latest (latest_left op b.caches.latest (Done (Err (error_number error)))) b.caches → TellsErrorOf {A = Option (ℕ × T)} (reply_told reply) (Done (Err error)) → PassFound at.before at.s (Err error) c.store c.caches
+      read_fails : (x : LatestOp T × Turned (ReadAnswer T)) (error : TransactionalObjectError) (t : Bool) → (error_number error == 9) ≡ t → x ≡ makes → (c.op, Done (Err (error_number error))) ≡ unless_lacking t (Reads op read) (reads_turned read x) → c.caches ≡ with_latest (latest_window_after op b.caches.latest (Done (Err (error_number error)))) b.caches → TellsErrorOf {A = Option (ℕ × T)} (reply_told reply) (Done (Err error)) → PassFound at.before at.s (Err error) c.store c.caches
       read_fails x error true is made takes leaves tells =
           let nine : error_number error ≡ 9 = eqb-true (error_number error) 9 is in
           stops op (Err error) (inner op (Done (Err error)) (ap (λ k. pair op (Done (Err k))) nine ∙ sym (ap (λ t. unless_lacking t op makes) is)) leaves tells)
@@ -140,7 +140,7 @@ module _ {T : Type 0} (names : Names) (path : Segments) (page : ℕ) (room : 1 �
       read_fails (op', Done (Err number)) error false is made takes leaves tells =
           stops op' (Err error) (inner op' (Done (Err error)) ((ap (λ p. pair op' p.1) takes ∙ made) ∙ sym (ap (λ t. unless_lacking t op makes) is)) leaves tells)
 
-      reads_by : (x : LatestOp T × Turned (ReadAnswer T)) (told : Turned (Result (Option (ℕ × T)) TransactionalObjectError)) → x ≡ makes → (c.op, turned_by_number told) ≡ unless_lacking (lacks_memory (turned_by_number told)) (Reads op read) (reads_turned read x) → c.caches ≡ read_left (Reads op read) b.caches (turned_by_number told) → TellsErrorOf (reply_told reply) told → After n c told
+      reads_by : (x : LatestOp T × Turned (ReadAnswer T)) (told : Turned (Result (Option (ℕ × T)) TransactionalObjectError)) → x ≡ makes → (c.op, turned_by_number told) ≡ unless_lacking (lacks_memory (turned_by_number told)) (Reads op read) (reads_turned read x) → c.caches ≡ read_caches_after (Reads op read) b.caches (turned_by_number told) → TellsErrorOf (reply_told reply) told → After n c told
       reads_by (op', Goes) Goes made takes leaves tells =
           subst (At (n + 1) c) (sym (ap (λ p. p.0) takes)) (record { before = at.before; s = at.s; began = at.began; since = since_goes LSteps at.s (reading b op) (reading c op') at.before n at.since (inner op' Goes made leaves tt); read_is = at.read_is })
       reads_by (op', Done (Ok (Some found))) Goes made takes leaves tells =
@@ -229,7 +229,7 @@ module _ {T : Type 0} (names : Names) (path : Segments) (page : ℕ) (room : 1 �
       checks_by (k, Done (Err number)) (Done (Ok answer)) turned takes tells = absurd (never_answers k number (number == 5) answer takes)
       checks_by x (Done (Err error)) turned takes tells = by_error x error (error_number error == 9) refl turned takes tells
 
-    by_op : (op : ReadOp T) (told : Turned (Result (Option (ℕ × T)) TransactionalObjectError)) → At n b op → Replies (read_asked op) b.store reply c.store → (c.op, turned_by_number told) ≡ unless_lacking (lacks_memory (turned_by_number told)) op (read_turned names path page decode op b.caches reply) → c.caches ≡ read_left op b.caches (turned_by_number told) → TellsErrorOf (reply_told reply) told → After n c told
+    by_op : (op : ReadOp T) (told : Turned (Result (Option (ℕ × T)) TransactionalObjectError)) → At n b op → Replies (read_asked op) b.store reply c.store → (c.op, turned_by_number told) ≡ unless_lacking (lacks_memory (turned_by_number told)) op (read_turned names path page decode op b.caches reply) → c.caches ≡ read_caches_after op b.caches (turned_by_number told) → TellsErrorOf (reply_told reply) told → After n c told
     by_op (Reads op read) told at served takes leaves tells = reads_by op read at served (latest_turned names page decode op b.caches.latest reply) told refl takes leaves tells
     by_op (Checks id value check) told at served takes leaves tells = checks_by id value check at served leaves (check_turned check b.caches reply) told refl takes tells
     by_op Ended told at served takes leaves tells = absurd at

@@ -19,7 +19,7 @@ use Rattle.txn_caches.specs.Windows.{Ascends, greatest_held}
 use Rattle.txn_steps.specs.declared.latest.LatestOp.{LatestOp}
 use Rattle.txn_steps.specs.declared.latest.LatestOp.TheVariants.{Looks, Probes, Finds, Lists, Chooses, Gets, Keeps, Drops, Ended}
 use Rattle.txn_steps.specs.Requests.{version_got}
-use Rattle.txn_steps.specs.Latest.{ReadAnswer, answered, begins_with, latest_begun, latest_turned, latest_left}
+use Rattle.txn_steps.specs.Latest.{ReadAnswer, answered, begins_with, latest_begun, latest_turned, latest_window_after}
 use Rattle.txn_drivers.specs.Calls.{one_if, SpendsTurns, HasStoreCause, HasCauseOfRead}
 use Rattle.txn_drivers.specs.Standing.{FilesStand, WindowFits}
 use Rattle.txn_drivers.specs.LatestReads.{HasPages, HasGrown, IsRefused, HasToList, IsAnswer, AnswersOf, Ended as ReadEnded}
@@ -88,7 +88,7 @@ spent_fewer names page files spent pages (inr full) has = fewer page (length (fi
 
 module _ {T : Type 0} (names : Names) (page : ℕ) (room : 1 ≤ page) (decode : List ℕ → Option T) where
   -- what it leaves of the held versions where it lacks memory
-  err_held : (files : Files) (first : List Cached) (spent calls : ℕ) (paged : Bool) (latest : List Cached) (op : LatestOp T) → Holds names page decode files first spent calls paged latest op → HasGrown names files first latest → HasGrown names files first (latest_left op latest (Done (Err 9)))
+  err_held : (files : Files) (first : List Cached) (spent calls : ℕ) (paged : Bool) (latest : List Cached) (op : LatestOp T) → Holds names page decode files first spent calls paged latest op → HasGrown names files first latest → HasGrown names files first (latest_window_after op latest (Done (Err 9)))
   err_held files first spent calls paged latest Looks at every = every
   err_held files first spent calls paged latest (Probes hand found next request) at every = every
   err_held files first spent calls paged latest (Finds successor found) at every = every
@@ -193,7 +193,7 @@ module _ {T : Type 0} (names : Names) (page : ℕ) (room : 1 ≤ page) (decode :
       calls' = r.calls + calls_of op
 
       abbrev Left : LatestOp T × Turned (ReadAnswer T) → Type 0
-      Left = Leaves names page room decode old.files first r.ascending r.small (latest_left op latest) spent' calls' paged' (steps_left paged op + 16 * due) (6 + spent')
+      Left = Leaves names page room decode old.files first r.ascending r.small (latest_window_after op latest) spent' calls' paged' (steps_left paged op + 16 * due) (6 + spent')
 
       module _ (told : Turned (Result (Option (ℕ × T)) TransactionalObjectError)) (s : IsStep names page decode mid new latest latest' op op' told) where
         move : Moved names page room decode old.files first r.ascending r.small mid new r.kept.files op latest spent' calls' paged paged' s.reply

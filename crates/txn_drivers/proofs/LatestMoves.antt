@@ -10,7 +10,7 @@ use Rattle.txn_caches.specs.Asking.{reply_told}
 use Rattle.txn_caches.specs.Windows.{Ascends, greatest_held}
 use Rattle.txn_steps.specs.declared.latest.LatestOp.{LatestOp}
 use Rattle.txn_steps.specs.declared.latest.LatestOp.TheVariants.{Looks, Probes, Finds, Lists, Chooses, Gets, Keeps, Drops, Ended}
-use Rattle.txn_steps.specs.Latest.{ReadAnswer, latest_asked, latest_turned, latest_left}
+use Rattle.txn_steps.specs.Latest.{ReadAnswer, latest_asked, latest_turned, latest_window_after}
 use Rattle.txn_drivers.specs.Asked.{Replies}
 use Rattle.txn_drivers.specs.Calls.{one_if}
 use Rattle.txn_drivers.specs.LatestReads.{HasGrown}
@@ -44,7 +44,7 @@ module _ {T : Type 0} (names : Names) (page : ℕ) (room : 1 ≤ page) (decode :
     -- what a move leaves, why it fails, and what it makes of the store
     abbrev pub Moved : LatestOp T → List Cached → ℕ → ℕ → Bool → Bool → Option Reply → Type 0
     Moved op latest spent' calls' paged paged' reply =
-        Leaves names page room decode files first ascending small_first (latest_left op latest) spent' calls' paged' (steps_left paged op + 16 * one_if (is_listing op && paged)) (6 + spent') (latest_turned names page decode op latest reply)
+        Leaves names page room decode files first ascending small_first (latest_window_after op latest) spent' calls' paged' (steps_left paged op + 16 * one_if (is_listing op && paged)) (6 + spent') (latest_turned names page decode op latest reply)
         × LatestFails old new (reply_told reply) (latest_turned names page decode op latest reply)
         × Reads (calls_of op) old new
 
@@ -79,7 +79,7 @@ module _ {T : Type 0} (names : Names) (page : ℕ) (room : 1 ≤ page) (decode :
         let look = asked_look old new reply told in
         let none = not_due paged in
         rw look.0 (
-          as_is (latest_left (Finds successor found) latest) spent spent' calls calls' paged paged' (16 - 2 * found) (16 - 2 * found + 16 * one_if (false && paged)) _ (omega (arith, due, none)) (omega (arith, made)) (asks ∙ not_asked paged) (steps_as paged (16 - 2 * found))
+          as_is (latest_window_after (Finds successor found) latest) spent spent' calls calls' paged paged' (16 - 2 * found) (16 - 2 * found + 16 * one_if (false && paged)) _ (omega (arith, due, none)) (omega (arith, made)) (asks ∙ not_asked paged) (steps_as paged (16 - 2 * found))
               (finds names page room decode files first ascending small_first successor found spent calls paged latest (6 + spent) at.0 at.1 at.2 at.3 every within),
           found_fails names page decode old new None (Finds successor found) successor found,
           look_reads old new look.1,
@@ -115,7 +115,7 @@ module _ {T : Type 0} (names : Names) (page : ℕ) (room : 1 ≤ page) (decode :
     moved (Keeps version value) latest reply spent spent' calls calls' paged paged' at every told due asks made within =
         let look = asked_look old new reply told in
         let none = not_due paged in (
-          as_is (latest_left (Keeps version value) latest) spent spent' calls calls' paged paged' 2 (2 + 16 * one_if (false && paged)) (Ended, Done (Ok (Some (version.id, value)))) (omega (arith, due, none)) (omega (arith, made)) (asks ∙ not_asked paged) (steps_as paged 2)
+          as_is (latest_window_after (Keeps version value) latest) spent spent' calls calls' paged paged' 2 (2 + 16 * one_if (false && paged)) (Ended, Done (Ok (Some (version.id, value)))) (omega (arith, due, none)) (omega (arith, made)) (asks ∙ not_asked paged) (steps_as paged 2)
               (keeps names page room decode files first ascending small_first version value spent calls paged latest 2 (6 + spent) at.0 at.1 at.2 at.3 every),
           tt,
           look_reads old new look.1,

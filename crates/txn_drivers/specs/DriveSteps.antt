@@ -32,10 +32,10 @@ use Rattle.txn_steps.specs.declared.write.WriteStep.{WriteStep}
 use Rattle.txn_steps.specs.declared.write.WriteStep.TheVariants as writes
 use Rattle.txn_steps.specs.declared.write.WriteUncheckedOp.{WriteUncheckedOp}
 use Rattle.txn_steps.specs.Deletes.{removal_asked, removal_turned, removal_latest, delete_asked, delete_turned, delete_caches}
-use Rattle.txn_steps.specs.Latest.{latest_asked, latest_turned, latest_left}
+use Rattle.txn_steps.specs.Latest.{latest_asked, latest_turned, latest_window_after}
 use Rattle.txn_steps.specs.Listed.{Listed}
 use Rattle.txn_steps.specs.Listings.{listing_turned}
-use Rattle.txn_steps.specs.Reads.{read_asked, read_turned, read_left}
+use Rattle.txn_steps.specs.Reads.{read_asked, read_turned, read_caches_after}
 use Rattle.txn_steps.specs.SeenSteps as of_seen
 use Rattle.txn_steps.specs.SeenSteps.{seen_asked, seen_turned, seen_latest}
 use Rattle.txn_steps.specs.Writes.{unchecked_asked, unchecked_turned, unchecked_latest, write_asked, write_turned, write_caches}
@@ -88,11 +88,11 @@ module _ {T : Type 0} where
 
   -- an unchecked read of the newest version
   abbrev pub LatestSteps : Names → ℕ → (List ℕ → Option T) → Scene (LatestOp T) → Turned (Result (Option (ℕ × T)) TransactionalObjectError) → Scene (LatestOp T) → Type 0
-  LatestSteps names page decode = Stepped true latest_asked (λ op caches reply. latest_turned names page decode op caches.latest reply) (λ op caches told. with_latest (latest_left op caches.latest told) caches)
+  LatestSteps names page decode = Stepped true latest_asked (λ op caches reply. latest_turned names page decode op caches.latest reply) (λ op caches told. with_latest (latest_window_after op caches.latest told) caches)
 
   -- a read of the newest version
   abbrev pub ReadSteps : Names → Segments → ℕ → (List ℕ → Option T) → Scene (ReadOp T) → Turned (Result (Option (ℕ × T)) TransactionalObjectError) → Scene (ReadOp T) → Type 0
-  ReadSteps names path page decode = Stepped true read_asked (read_turned names path page decode) read_left
+  ReadSteps names path page decode = Stepped true read_asked (read_turned names path page decode) read_caches_after
 
 -- what is asked is a get
 abbrev pub CanGet : Request → Type 0

@@ -16,7 +16,7 @@ use Rattle.txn_caches.specs.Asking.{reply_told, unless_lacking}
 use Rattle.txn_steps.specs.declared.latest.LatestOp.{LatestOp}
 use Rattle.txn_steps.specs.declared.latest.LatestOp.TheVariants.{Looks, Probes, Finds, Lists, Chooses, Gets, Keeps, Drops, Ended}
 use Rattle.txn_steps.specs.Requests.{version_got, version_page}
-use Rattle.txn_steps.specs.Latest.{greatest_from, latest_asked, latest_turned, latest_left}
+use Rattle.txn_steps.specs.Latest.{greatest_from, latest_asked, latest_turned, latest_window_after}
 use Rattle.txn_drivers.specs.Asked.{Replies}
 use Rattle.txn_drivers.specs.Calls.{one_if}
 use Rattle.txn_drivers.specs.LatestReads.{UpTo, IsStored, HasGrown, IsMost, Walked, HasToList}
@@ -70,7 +70,7 @@ pub record IsStep {T : Type 0} (names : Names) (page : ℕ) (decode : List ℕ �
   pub replied : Replies (latest_asked op) old reply new
   pub lacks : Bool
   pub turned : (op', turned_by_number told) ≡ unless_lacking lacks op (latest_turned names page decode op latest reply)
-  pub left : latest' ≡ latest_left op latest (turned_by_number told)
+  pub left : latest' ≡ latest_window_after op latest (turned_by_number told)
   pub store_error : TellsErrorOf (reply_told reply) told
 
 module _ {T : Type 0} (names : Names) (page : ℕ) (decode : List ℕ → Option T) (files : Files) (first : List Cached) where

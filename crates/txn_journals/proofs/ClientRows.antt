@@ -23,7 +23,7 @@ use Rattle.txn_history.specs.declared.event.Answer.{Answer}
 use Rattle.txn_history.specs.Trace.{Row, Told}
 use Rattle.txn_history.specs.Calls.{view_used}
 use Rattle.txn_machine.specs.declared.doing.Operation.{Operation}
-use Rattle.txn_machine.specs.Doing.{ended, refused, asked, started, caches_left, Turns}
+use Rattle.txn_machine.specs.Doing.{ended, refused, asked, started, caches_after, Turns}
 use Rattle.txn_machine.specs.Machine.{State, opening, seen_view, used_by, seen_operations, acted, given_up, crashed, answered, begun_as, Acts, TakesOrLacks, RunsOrLacks, IsReached}
 use Rattle.txn_machine.proofs.Busy.{seen_asks}
 use Rattle.txn_machine.proofs.Runs.{runs_more_or_lacking}
@@ -103,7 +103,7 @@ module _ {T : Type 0} (page : ℕ) (encode : T → List ℕ) (decode : List ℕ 
 
   module _ (k : ℕ) (answer : Option (Answer T)) (v : TakesTurn page encode decode get_epoch set_epoch part k Look None answer (parts client)) where
     abbrev look_now : State T
-    look_now = acted s (n k v.operation v.found Look v.asks) (op' k v.operation v.found Look v.asks) v.next (caches_left v.operation.doing part.caches v.next.1)
+    look_now = acted s (n k v.operation v.found Look v.asks) (op' k v.operation v.found Look v.asks) v.next (caches_after v.operation.doing part.caches v.next.1)
 
     abbrev look_n : ℕ
     look_n = number begins client k
@@ -112,7 +112,7 @@ module _ {T : Type 0} (page : ℕ) (encode : T → List ℕ) (decode : List ℕ 
     look_answer = answer_in part v.operation v.next
 
     look_says : answered (length s.views) (option_map (number views client) v.operation.view) v.next.1 ≡ told_in m client look_answer
-    look_says = turn_answer decode get_epoch set_epoch s.failed s client part begins views g.all_views t k v.operation v.found v.next (caches_left v.operation.doing part.caches v.next.1) (some k v.operation v.found Look v.asks)
+    look_says = turn_answer decode get_epoch set_epoch s.failed s client part begins views g.all_views t k v.operation v.found v.next (caches_after v.operation.doing part.caches v.next.1) (some k v.operation v.found Look v.asks)
 
     look_takes : TakesOrLacks encode decode get_epoch set_epoch s (events.Look look_n) (told_of (told.Went look_n) look_n (told_in m client look_answer)) look_now
     look_takes = record {
@@ -145,11 +145,11 @@ module _ {T : Type 0} (page : ℕ) (encode : T → List ℕ) (decode : List ℕ 
           lefts = lefts_look client k look_answer m g.lefts;
           store_is = g.store_is;
           all_operations = Rattle.std.proofs.lemmas.List.length-set s.operations (look_n - 1) (Rattle.txn_machine.specs.Machine.doing_next (op' k v.operation v.found Look v.asks) v.next.0) ∙ g.all_operations;
-          all_views = turn_size decode get_epoch set_epoch s.failed s client part begins views g.all_views t k v.operation v.found v.next (caches_left v.operation.doing part.caches v.next.1) one;
+          all_views = turn_size decode get_epoch set_epoch s.failed s client part begins views g.all_views t k v.operation v.found v.next (caches_after v.operation.doing part.caches v.next.1) one;
           above = g.above;
           tied = both page encode decode get_epoch set_epoch (λ d. TiedTo decode get_epoch look_now d (parts d) begins (with_view client look_answer views)) client
-              (subst (λ (p : Part T). TiedTo decode get_epoch look_now client p begins (with_view client look_answer views)) (sym v.part) (turn_own decode get_epoch set_epoch s.failed s client part begins views g.all_views t k v.operation v.found v.next (caches_left v.operation.doing part.caches v.next.1) one good))
-              (λ d ne. subst (λ (p : Part T). TiedTo decode get_epoch look_now d p begins (with_view client look_answer views)) (same d ne) (turn_other decode get_epoch set_epoch s.failed s client part begins views g.all_views t k v.operation v.found v.next (caches_left v.operation.doing part.caches v.next.1) one d (was d) ne (g.tied d)));
+              (subst (λ (p : Part T). TiedTo decode get_epoch look_now client p begins (with_view client look_answer views)) (sym v.part) (turn_own decode get_epoch set_epoch s.failed s client part begins views g.all_views t k v.operation v.found v.next (caches_after v.operation.doing part.caches v.next.1) one good))
+              (λ d ne. subst (λ (p : Part T). TiedTo decode get_epoch look_now d p begins (with_view client look_answer views)) (same d ne) (turn_other decode get_epoch set_epoch s.failed s client part begins views g.all_views t k v.operation v.found v.next (caches_after v.operation.doing part.caches v.next.1) one d (was d) ne (g.tied d)));
         }
 
     pub look_more : (s2 : State T) × Stage page encode decode get_epoch set_epoch clients (Did client (row_of page encode decode get_epoch set_epoch (steps.Act k acts.Look) answer) ∷ m) parts store s2
@@ -172,7 +172,7 @@ module _ {T : Type 0} (page : ℕ) (encode : T → List ℕ) (decode : List ℕ 
     served = effected s got_n receipt.request receipt.reply after
 
     abbrev got_now : State T
-    got_now = acted served got_n got_op v.next (caches_left v.operation.doing part.caches v.next.1)
+    got_now = acted served got_n got_op v.next (caches_after v.operation.doing part.caches v.next.1)
 
     abbrev got_answer : Option (Answer T)
     got_answer = answer_in part v.operation v.next
@@ -184,7 +184,7 @@ module _ {T : Type 0} (page : ℕ) (encode : T → List ℕ) (decode : List ℕ 
     got_one = some k v.operation v.found ask v.asks
 
     got_says : answered (length s.views) (option_map (number views client) v.operation.view) v.next.1 ≡ told_in m client got_answer
-    got_says = turn_answer decode get_epoch set_epoch s.failed served client part begins views g.all_views (t1 client) k v.operation v.found v.next (caches_left v.operation.doing part.caches v.next.1) got_one
+    got_says = turn_answer decode get_epoch set_epoch s.failed served client part begins views g.all_views (t1 client) k v.operation v.found v.next (caches_after v.operation.doing part.caches v.next.1) got_one
 
     got_takes : TakesOrLacks encode decode get_epoch set_epoch s (events.Serve got_n) (told_of (told.Went got_n) got_n (told_in m client got_answer)) got_now
     got_takes = record {
@@ -232,11 +232,11 @@ module _ {T : Type 0} (page : ℕ) (encode : T → List ℕ) (decode : List ℕ 
           lefts = lefts_got client k receipt got_answer m g.lefts;
           store_is = refl;
           all_operations = Rattle.std.proofs.lemmas.List.length-set s.operations (got_n - 1) (Rattle.txn_machine.specs.Machine.doing_next got_op v.next.0) ∙ g.all_operations;
-          all_views = turn_size decode get_epoch set_epoch s.failed served client part begins views g.all_views (t1 client) k v.operation v.found v.next (caches_left v.operation.doing part.caches v.next.1) got_one;
+          all_views = turn_size decode get_epoch set_epoch s.failed served client part begins views g.all_views (t1 client) k v.operation v.found v.next (caches_after v.operation.doing part.caches v.next.1) got_one;
           above = g.above;
           tied = both page encode decode get_epoch set_epoch (λ d. TiedTo decode get_epoch got_now d (parts d) begins (with_view client got_answer views)) client
-              (subst (λ (p : Part T). TiedTo decode get_epoch got_now client p begins (with_view client got_answer views)) (sym v.part) (turn_own decode get_epoch set_epoch s.failed served client part begins views g.all_views (t1 client) k v.operation v.found v.next (caches_left v.operation.doing part.caches v.next.1) got_one good))
-              (λ d ne. subst (λ (p : Part T). TiedTo decode get_epoch got_now d p begins (with_view client got_answer views)) (same d ne) (turn_other decode get_epoch set_epoch s.failed served client part begins views g.all_views (t1 client) k v.operation v.found v.next (caches_left v.operation.doing part.caches v.next.1) got_one d (was d) ne (t1 d)));
+              (subst (λ (p : Part T). TiedTo decode get_epoch got_now client p begins (with_view client got_answer views)) (sym v.part) (turn_own decode get_epoch set_epoch s.failed served client part begins views g.all_views (t1 client) k v.operation v.found v.next (caches_after v.operation.doing part.caches v.next.1) got_one good))
+              (λ d ne. subst (λ (p : Part T). TiedTo decode get_epoch got_now d p begins (with_view client got_answer views)) (same d ne) (turn_other decode get_epoch set_epoch s.failed served client part begins views g.all_views (t1 client) k v.operation v.found v.next (caches_after v.operation.doing part.caches v.next.1) got_one d (was d) ne (t1 d)));
         }
 
     pub got_more : (s2 : State T) × Stage page encode decode get_epoch set_epoch clients (Did client (row_of page encode decode get_epoch set_epoch got_step answer) ∷ m) parts after s2

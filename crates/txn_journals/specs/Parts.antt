@@ -21,7 +21,7 @@ use Rattle.txn_history.specs.Seen.{AllSeen}
 use Rattle.txn_machine_views.specs.Layer.{Used}
 use Rattle.txn_machine_views.specs.Steps.{view_without}
 use Rattle.txn_machine.specs.declared.doing.Operation.{Operation}
-use Rattle.txn_machine.specs.Doing.{Next, ended, caches_left}
+use Rattle.txn_machine.specs.Doing.{Next, ended, caches_after}
 use Rattle.txn_machine_views.specs.Parts.{is_claim_call}
 use Rattle.txn_machine.specs.Machine.{seen_operations, seen_views, used_by, let_go, views_changed, views_after, views_taken, with_doing, new_operation, answered, ended_by}
 
@@ -138,7 +138,7 @@ module _ {T : Type 0} (get_epoch : T → ℕ) where
 
   -- an operation does this next, and leaves of its client's caches what it leaves of them
   abbrev pub turned : Part T → ℕ → Operation T → Next T → Part T
-  turned part op operation next = turned_with part op operation next (caches_left operation.doing part.caches next.1)
+  turned part op operation next = turned_with part op operation next (caches_after operation.doing part.caches next.1)
 
 module _ {T : Type 0} where
   -- an operation ends with no answer, and lets its view go

@@ -24,7 +24,7 @@ use Rattle.txn_history.specs.declared.event.Answer.{Answer}
 use Rattle.txn_history.specs.declared.event.Answer.TheVariants as answers
 use Rattle.txn_history.specs.Trace.{Row, Event, Told}
 use Rattle.txn_machine.specs.declared.doing.Operation.{Operation}
-use Rattle.txn_machine.specs.Doing.{Next, ended, refused, caches_left}
+use Rattle.txn_machine.specs.Doing.{Next, ended, refused, caches_after}
 use Rattle.txn_machine.specs.Machine.{State, opening, seen_calls, answered, answer_next, doing_next, new_operation, acted, given_up, ended_by, crashed, begun_as, Fails, Lands, Looks, Served, Begins, Lacks, Takes, TakesOrLacks, IsReached}
 use Rattle.txn_machine.proofs.Busy.{seen_asks}
 use Rattle.txn_machine.proofs.Runs.{runs_keep, or_lacking}
@@ -166,9 +166,9 @@ module _ {T : Type 0} (encode : T → List ℕ) (decode : List ℕ → Option T)
 
   takes_counted : (old : State T) (event : Event T) (said : Told T) (new : State T) → Counted old → TakesOrLacks encode decode get_epoch set_epoch old event said new → Counted new
   takes_counted old (events.Begin client call) said new h t = subst Counted (sym t.step.state) (begun_counted old client call t.step.next h)
-  takes_counted old (events.Look op) said new h t = (let v = t.step in subst Counted (sym v.state) (acted_counted old op v.operation v.next (caches_left v.operation.doing v.caches v.next.1) h))
+  takes_counted old (events.Look op) said new h t = (let v = t.step in subst Counted (sym v.state) (acted_counted old op v.operation v.next (caches_after v.operation.doing v.caches v.next.1) h))
   takes_counted old (events.Serve op) said new h t = elim t.step [
-    | inl v ↦ subst Counted (sym v.state) (acted_counted (effected old op v.call.request v.call.reply v.call.store) op v.call.operation v.next (caches_left v.call.operation.doing v.call.caches v.next.1) (effected_counted old op v.call.request v.call.reply v.call.store v.call.reaches h))
+    | inl v ↦ subst Counted (sym v.state) (acted_counted (effected old op v.call.request v.call.reply v.call.store) op v.call.operation v.next (caches_after v.call.operation.doing v.call.caches v.next.1) (effected_counted old op v.call.request v.call.reply v.call.store v.call.reaches h))
     | inr v ↦ subst Counted (sym v.state) (acted_counted old op v.operation (refused 9) v.caches h)
   ]
   takes_counted old (events.Fail op failure) said new h t = fails_counted failure old op said new t.step h

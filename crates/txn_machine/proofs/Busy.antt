@@ -39,7 +39,7 @@ use Rattle.txn_machine.specs.declared.doing.Doing.TheVariants as does
 use Rattle.txn_machine.specs.declared.doing.Operation.{Operation}
 use Rattle.txn_machine.specs.declared.doing.Ending.{Ending}
 use Rattle.txn_machine.specs.declared.doing.Ending.TheVariants as endings
-use Rattle.txn_machine.specs.Doing.{Next, asked, ended, refused, caches_left}
+use Rattle.txn_machine.specs.Doing.{Next, asked, ended, refused, caches_after}
 use Rattle.txn_machine_views.specs.Parts.{is_claim_call}
 use Rattle.txn_machine.specs.Machine.{State, opening, refusal_of, seen_operation, seen_operations, seen_view, seen_views, seen_of, used_in, used_by, with_used, let_go, made_by, change_of, views_after, views_taken, answered, doing_next, with_doing, acted, given_up, new_operation, begun_as, Fails, Looks, Served, Lacks, TakesOrLacks, IsReached}
 use Rattle.txn_machine.proofs.Places.{set_new, any_at, place_of_any}
@@ -309,13 +309,13 @@ module _ {T : Type 0} (encode : T → List ℕ) (decode : List ℕ → Option T)
   looks_busied : (old : State T) (op : ℕ) (said : Told T) (new : State T) → Busied old → Looks encode decode get_epoch set_epoch old op said new → Busied new
   looks_busied old op said new h v =
       subst Busied (sym v.state)
-      (acted_busied old op v.operation v.next (caches_left v.operation.doing v.caches v.next.1) h v.acts.found (ap is_some v.acts.asks)
+      (acted_busied old op v.operation v.next (caches_after v.operation.doing v.caches v.next.1) h v.acts.found (ap is_some v.acts.asks)
       (subst Fits (sym v.turns.turns) (turned_fits old.page encode decode get_epoch set_epoch v.turns.refused v.operation.doing v.caches None Look v.acts.asks)))
 
   served_busied : (old : State T) (op : ℕ) (said : Told T) (new : State T) → Busied old → Served encode decode get_epoch set_epoch old op said new → Busied new
   served_busied old op said new h v =
       subst Busied (sym v.state)
-      (acted_busied (effected old op v.call.request v.call.reply v.call.store) op v.call.operation v.next (caches_left v.call.operation.doing v.call.caches v.next.1) (effected_busied old op v.call.request v.call.reply v.call.store h) v.call.acts.found (ap is_some v.call.acts.asks)
+      (acted_busied (effected old op v.call.request v.call.reply v.call.store) op v.call.operation v.next (caches_after v.call.operation.doing v.call.caches v.next.1) (effected_busied old op v.call.request v.call.reply v.call.store h) v.call.acts.found (ap is_some v.call.acts.asks)
       (subst Fits (sym v.turns.turns) (turned_fits old.page encode decode get_epoch set_epoch v.turns.refused v.call.operation.doing v.call.caches (Some v.call.reply) (Store v.call.request) v.call.acts.asks)))
 
   lacks_busied : (old : State T) (op : ℕ) (said : Told T) (new : State T) → Busied old → Lacks old op said new → Busied new

@@ -20,7 +20,7 @@ use Rattle.txn_history.specs.Calls.{view_used}
 use Rattle.txn_machine.specs.declared.doing.Doing.{Doing}
 use Rattle.txn_machine.specs.declared.doing.Operation.{Operation}
 use Rattle.txn_machine.specs.declared.doing.Ending.{Ending}
-use Rattle.txn_machine.specs.Doing.{Next, asked, ended, refused, caches_left}
+use Rattle.txn_machine.specs.Doing.{Next, asked, ended, refused, caches_after}
 use Rattle.txn_machine.specs.Machine.{State, seen_operation, seen_operations, seen_calls, seen_view, used_by, answered, answer_next, doing_next, with_doing, new_operation, acted, given_up, ended_by, crashed, begun_as, Fails, GivesUp, Crashes, Looks, Served, Begins, Lacks, TakesOrLacks}
 use Rattle.txn_machine.proofs.Fits.{Fits, turned_fits, started_fits}
 use Rattle.txn_machine.proofs.Busy.{seen_asks}
@@ -116,13 +116,13 @@ module _ {T : Type 0} (encode : T → List ℕ) (decode : List ℕ → Option T)
   look_goes : (old : State T) (op : ℕ) (said : Told T) (new : State T) → Looks encode decode get_epoch set_epoch old op said new → OperationsGoOn {C = Call T} (seen_calls old) (events.Look op) said (seen_calls new)
   look_goes old op said new v =
       let fits = subst Fits (sym v.turns.turns) (turned_fits old.page encode decode get_epoch set_epoch v.turns.refused v.operation.doing v.caches None Look v.acts.asks) in
-      told_so seen_operation old (events.Look op) said (told_of (told.Went op) op (answer_next old v.operation v.next)) new (acted old op v.operation v.next (caches_left v.operation.doing v.caches v.next.1)) v.tells v.state
+      told_so seen_operation old (events.Look op) said (told_of (told.Went op) op (answer_next old v.operation v.next)) new (acted old op v.operation v.next (caches_after v.operation.doing v.caches v.next.1)) v.tells v.state
       (record { clients = refl; operations = turn_states old op v.operation Look v.next v.acts.found v.acts.asks fits; loose = refl; failed = refl })
 
   serve_goes : (old : State T) (op : ℕ) (said : Told T) (new : State T) → Served encode decode get_epoch set_epoch old op said new → OperationsGoOn {C = Call T} (seen_calls old) (events.Serve op) said (seen_calls new)
   serve_goes old op said new v =
       let fits = subst Fits (sym v.turns.turns) (turned_fits old.page encode decode get_epoch set_epoch v.turns.refused v.call.operation.doing v.call.caches (Some v.call.reply) (Store v.call.request) v.call.acts.asks) in
-      told_so seen_operation old (events.Serve op) said (told_of (told.Went op) op (answer_next old v.call.operation v.next)) new (acted (effected old op v.call.request v.call.reply v.call.store) op v.call.operation v.next (caches_left v.call.operation.doing v.call.caches v.next.1)) v.tells v.state
+      told_so seen_operation old (events.Serve op) said (told_of (told.Went op) op (answer_next old v.call.operation v.next)) new (acted (effected old op v.call.request v.call.reply v.call.store) op v.call.operation v.next (caches_after v.call.operation.doing v.call.caches v.next.1)) v.tells v.state
       (record { clients = refl; operations = turn_states old op v.call.operation (Store v.call.request) v.next v.call.acts.found v.call.acts.asks fits; loose = refl; failed = refl })
 
   -- what a world shows of its operations goes on with each event that is taken, whatever the state before it

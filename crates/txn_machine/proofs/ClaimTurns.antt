@@ -12,7 +12,7 @@ use Rattle.txn_caches.specs.Asking.{unless_lacking}
 use Rattle.txn_steps.specs.declared.read.ReadOp.{ReadOp}
 use Rattle.txn_steps.specs.declared.write.WriteOp.{WriteOp}
 use Rattle.txn_steps.specs.Latest.{ReadAnswer}
-use Rattle.txn_steps.specs.Reads.{read_started, read_turned, read_left}
+use Rattle.txn_steps.specs.Reads.{read_started, read_turned, read_caches_after}
 use Rattle.txn_steps.specs.Writes.{write_started, write_turned}
 use Rattle.txn_history.specs.declared.event.PlainAnswer.TheVariants as plain_answers
 use Rattle.txn_history.specs.Names.{world_names, world_boundary}
@@ -166,17 +166,17 @@ module _ {T : Type 0} (page : ℕ) (encode : T → List ℕ) (decode : List ℕ 
     reading_answered false (read, turns.Done (Err number)) made = (refusing (any.View call) number, refl, inl refl, (facts.refuses number).0, (facts.refuses number).1)
 
     -- it goes on or is refused, and leaves the same of the caches as its read
-    followed_left : (read : ReadOp T) (caches left : Caches) (next : Result (Claiming T) ℕ) → read_left read caches turns.Goes ≡ left → read_left read caches (turns.Done (Err 9)) ≡ left →
-        read_left read caches (said (goes_by (view_next (wrapped as_op (followed next))).1)) ≡ left
+    followed_left : (read : ReadOp T) (caches left : Caches) (next : Result (Claiming T) ℕ) → read_caches_after read caches turns.Goes ≡ left → read_caches_after read caches (turns.Done (Err 9)) ≡ left →
+        read_caches_after read caches (said (goes_by (view_next (wrapped as_op (followed next))).1)) ≡ left
     followed_left read caches left (Ok op) going refusing = going
     followed_left read caches left (Err number) going refusing = refusing
 
     reading_leaves : (read : ReadOp T) (caches : Caches) (reply : Option Reply) (lacks : Bool) (x : ReadOp T × Turned (ReadAnswer T)) → x ≡ read_turned world_names world_boundary page decode read caches reply →
-        read_left read caches (said (goes_by (view_next (unless_lacking lacks (as_op claiming.Ended) (wrapped as_op (refreshed_turned world_names world_boundary encode get_epoch set_epoch asked x)))).1)) ≡ read_left read caches (plain.said_of (plain.or_no_memory lacks (plain.read_next x)).1)
+        read_caches_after read caches (said (goes_by (view_next (unless_lacking lacks (as_op claiming.Ended) (wrapped as_op (refreshed_turned world_names world_boundary encode get_epoch set_epoch asked x)))).1)) ≡ read_caches_after read caches (plain.said_of (plain.or_no_memory lacks (plain.read_next x)).1)
     reading_leaves read caches reply true x e = refl
     reading_leaves read caches reply false (next, turns.Goes) e = refl
     reading_leaves read caches reply false (next, turns.Done (Ok found)) e =
-        followed_left read caches (read_left read caches (turns.Done (Ok None))) (attempted_again world_names world_boundary encode get_epoch set_epoch asked found)
+        followed_left read caches (read_caches_after read caches (turns.Done (Ok None))) (attempted_again world_names world_boundary encode get_epoch set_epoch asked found)
         (left_as_going world_names world_boundary page decode read caches reply next found e) (left_as_refused world_names world_boundary page decode read caches reply next found e)
     reading_leaves read caches reply false (next, turns.Done (Err number)) e = left_by_refusal read caches 9 number
 
@@ -193,7 +193,7 @@ module _ {T : Type 0} (page : ℕ) (encode : T → List ℕ) (decode : List ℕ 
           turns = refl;
           answered = subst (λ (n : ViewOp T × Turned (Result (Outcome T) ℕ)). Answered page encode decode get_epoch set_epoch (any.View call) local Reads after.0 after.1 (view_next n)) (sym is)
               (reading_answered lacks x (subst (λ (n : ViewOp T × Turned (Result (Outcome T) ℕ)). IsMadeSo encode decode get_epoch (view_next n).0) is made));
-          leaves = ap (λ (n : ViewOp T × Turned (Result (Outcome T) ℕ)). read_left read caches (said (goes_by (view_next n).1))) is ∙ reading_leaves read caches reply lacks x refl;
+          leaves = ap (λ (n : ViewOp T × Turned (Result (Outcome T) ℕ)). read_caches_after read caches (said (goes_by (view_next n).1))) is ∙ reading_leaves read caches reply lacks x refl;
         }
 
     pub attempt_turns : (base : ℕ) (value : T) (epoch : ℕ) (op : Claiming T) (fine : PlainDoing T) (caches : Caches) (reply : Option Reply) (lacks : Bool) → IsAttempt op value epoch fine → LacksAsWrite op caches reply lacks →

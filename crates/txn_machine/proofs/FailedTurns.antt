@@ -53,9 +53,9 @@ use Rattle.txn_steps.specs.declared.delete.DeleteUncheckedOp.{DeleteUncheckedOp}
 use Rattle.txn_steps.specs.declared.delete.DeleteOp.{DeleteOp}
 use Rattle.txn_steps.specs.Writes as write_steps
 use Rattle.txn_steps.specs.Writes.{unchecked_turned, unchecked_latest, IsUncheckedReply, write_turned_at, write_caches_at, IsWriteReplyAt, write_turned, write_caches, IsWriteReply}
-use Rattle.txn_steps.specs.Latest.{ReadAnswer, probed, listed, latest_got, latest_turned, latest_left, IsLatestReply}
+use Rattle.txn_steps.specs.Latest.{ReadAnswer, probed, listed, latest_got, latest_turned, latest_window_after, IsLatestReply}
 use Rattle.txn_steps.specs.Reads as read_steps
-use Rattle.txn_steps.specs.Reads.{reads_turned, read_turned, read_left, IsReadReply}
+use Rattle.txn_steps.specs.Reads.{reads_turned, read_turned, read_caches_after, IsReadReply}
 use Rattle.txn_steps.specs.SeenSteps.{value_got, seen_got, unchecked_turned as value_turned, seen_turned, seen_latest, IsSeenReply}
 use Rattle.txn_steps.specs.Listed.{Listed}
 use Rattle.txn_steps.specs.Listings.{listing_answered, listing_turned}
@@ -70,13 +70,13 @@ use Rattle.txn_view_steps.specs.declared.entry.EntryOp.{EntryOp}
 use Rattle.txn_view_steps.specs.declared.entry.EntryOp.TheVariants as entries
 use Rattle.txn_view_steps.specs.declared.op.ViewOp.TheVariants as ops
 use Rattle.txn_view_steps.specs.declared.outcome.Outcome.{Outcome}
-use Rattle.txn_view_steps.specs.Attempts.{attempt_turned, refreshed_turned, claiming_turned, claiming_left, IsClaimingReply}
+use Rattle.txn_view_steps.specs.Attempts.{attempt_turned, refreshed_turned, claiming_turned, claiming_caches_after, IsClaimingReply}
 use Rattle.txn_view_steps.specs.Entries.{written_turned, entry_turned, entry_caches, IsEntryReply}
 use Rattle.txn_view_steps.specs.Readings.{seen as seen_as}
 use Rattle.txn_view_steps.specs.ViewReads.{as_view_read, shown}
 use Rattle.txn_machine.specs.declared.doing.Doing.{Doing}
 use Rattle.txn_machine.specs.declared.doing.Doing.TheVariants as does
-use Rattle.txn_machine.specs.Doing.{Next, refused, plain_next, next_of, turned, caches_left, IsReply}
+use Rattle.txn_machine.specs.Doing.{Next, refused, plain_next, next_of, turned, caches_after, IsReply}
 
 -- it says the refusal 2
 abbrev EndsInFailure : {A : Type 0} → Turned (Result A ℕ) → Type 0
@@ -202,10 +202,10 @@ module _ (caches : Caches) (reply : Reply) (failed : reply_error reply ≡ Some 
   -- reads
 
   module _ {T : Type 0} (names : Names) (page : ℕ) (decode : List ℕ → Option T) where
-    latest_fails : (op : LatestOp T) → IsLatestReply op (Some reply) → EndsInFailure (latest_turned names page decode op caches.latest (Some reply)).1 × ((told : Turned (ReadAnswer T)) → latest_left op caches.latest told ≡ caches.latest)
+    latest_fails : (op : LatestOp T) → IsLatestReply op (Some reply) → EndsInFailure (latest_turned names page decode op caches.latest (Some reply)).1 × ((told : Turned (ReadAnswer T)) → latest_window_after op caches.latest told ≡ caches.latest)
     latest_fails op is = by op reply failed is
       where
-        by : (op : LatestOp T) (r : Reply) → reply_error r ≡ Some errors.Failed → IsLatestReply op (Some r) → EndsInFailure (latest_turned names page decode op caches.latest (Some r)).1 × ((told : Turned (ReadAnswer T)) → latest_left op caches.latest told ≡ caches.latest)
+        by : (op : LatestOp T) (r : Reply) → reply_error r ≡ Some errors.Failed → IsLatestReply op (Some r) → EndsInFailure (latest_turned names page decode op caches.latest (Some r)).1 × ((told : Turned (ReadAnswer T)) → latest_window_after op caches.latest told ≡ caches.latest)
         by (latest.Probes hand found next request) (replies.Get answer) f i = (ap (λ (a : Result _ StoreError). (probed decode (latest.Probes hand found next request) hand found next a).1) (failed_answer answer f), λ told. refl)
         by (latest.Probes hand found next request) (replies.Put answer) f i = absurd i
         by (latest.Probes hand found next request) (replies.List answer) f i = absurd i
@@ -234,10 +234,10 @@ module _ (caches : Caches) (reply : Reply) (failed : reply_error reply ≡ Some 
     found_told : (path : Segments) (id : ℕ) (value : T) (x : CheckOp × Turned (Result (Unit {0}) ℕ)) → EndsInFailure x.1 → EndsInFailure (read_steps.checks_turned path id value x).1
     found_told path id value x e = ap (λ (t : Turned (Result (Unit {0}) ℕ)). (read_steps.checks_turned path id value (x.0, t)).1) e
 
-    read_op_fails : (path : Segments) (op : ReadOp T) → IsReadReply op (Some reply) → EndsInFailure (read_turned names path page decode op caches (Some reply)).1 × ((told : Turned (ReadAnswer T)) → read_left op caches told ≡ caches)
+    read_op_fails : (path : Segments) (op : ReadOp T) → IsReadReply op (Some reply) → EndsInFailure (read_turned names path page decode op caches (Some reply)).1 × ((told : Turned (ReadAnswer T)) → read_caches_after op caches told ≡ caches)
     read_op_fails path (reads.Reads op boundary) is =
         let l = latest_fails op is in
-        (reads_told boundary (latest_turned names page decode op caches.latest (Some reply)) l.0, λ told. same_caches caches (latest_left op caches.latest told) caches.boundary (l.1 told) refl)
+        (reads_told boundary (latest_turned names page decode op caches.latest (Some reply)) l.0, λ told. same_caches caches (latest_window_after op caches.latest told) caches.boundary (l.1 told) refl)
     read_op_fails path (reads.Checks id value check) is = (let c = check_fails check is in (found_told path id value (check_turned check caches (Some reply)) c.0, λ told. c.1))
     read_op_fails path reads.Ended is = absurd is
 
@@ -291,7 +291,7 @@ module _ (caches : Caches) (reply : Reply) (failed : reply_error reply ≡ Some 
     refresh_told : (x : ReadOp T × Turned (ReadAnswer T)) → EndsInFailure x.1 → EndsInFailure (refreshed_turned names path encode epoch_of with_epoch asked x).1
     refresh_told x e = ap (λ (t : Turned (ReadAnswer T)). (refreshed_turned names path encode epoch_of with_epoch asked (x.0, t)).1) e
 
-    claiming_fails : (op : Claiming T) → IsClaimingReply op (Some reply) → EndsInFailure (claiming_turned names path page encode decode epoch_of with_epoch asked op caches (Some reply)).1 × ((told : Turned (Result (Outcome T) ℕ)) → claiming_left op caches told ≡ caches)
+    claiming_fails : (op : Claiming T) → IsClaimingReply op (Some reply) → EndsInFailure (claiming_turned names path page encode decode epoch_of with_epoch asked op caches (Some reply)).1 × ((told : Turned (Result (Outcome T) ℕ)) → claiming_caches_after op caches told ≡ caches)
     claiming_fails (claims.Writes write value epoch) is = (let w = write_fails write is in (attempt_told value epoch (write_turned write caches (Some reply)) w.0, λ told. w.1))
     claiming_fails (claims.Reads read) is = (let r = read_op_fails names page decode path read is in (refresh_told (read_turned names path page decode read caches (Some reply)) r.0, λ told. r.1 _))
     claiming_fails claims.Ended is = absurd is
@@ -333,7 +333,7 @@ module _ {T : Type 0} (page : ℕ) (encode : T → List ℕ) (decode : List ℕ 
   abbrev After : Doing T → Next T
   After doing = turned page encode decode get_epoch set_epoch false doing caches (Some reply)
 
-  pub failed_turn : (doing : Doing T) → IsReply doing (Some reply) → (After doing ≡ refused 2) × (caches_left doing caches (refused {T = T} 2).1 ≡ caches)
+  pub failed_turn : (doing : Doing T) → IsReply doing (Some reply) → (After doing ≡ refused 2) × (caches_after doing caches (refused {T = T} 2).1 ≡ caches)
   failed_turn (does.Plain (doings.Write op)) is = (let w = write_fails caches reply failed op is in (plain_write (write_turned op caches (Some reply)) w.0, w.1))
   failed_turn (does.Plain (doings.WriteUnchecked op)) is = (let w = unchecked_fails caches reply failed op is in (plain_unchecked (unchecked_turned op (Some reply)) w.0, same_caches caches (unchecked_latest op caches.latest) caches.boundary w.1 refl))
   failed_turn (does.Plain (doings.Read op)) is =

@@ -36,7 +36,7 @@ use Rattle.txn_machine.specs.declared.doing.Doing.{Doing}
 use Rattle.txn_machine.specs.declared.doing.Doing.TheVariants as does
 use Rattle.txn_machine.specs.declared.doing.Ending.{Ending}
 use Rattle.txn_machine.specs.declared.doing.Ending.TheVariants as endings
-use Rattle.txn_machine.specs.Doing.{Next, ended, caches_left, ReadsBack, FitsWord, IsMadeSo, Turns}
+use Rattle.txn_machine.specs.Doing.{Next, ended, caches_after, ReadsBack, FitsWord, IsMadeSo, Turns}
 use Rattle.txn_machine.specs.Doing as whole
 use Rattle.txn_machine.specs.Machine.{answer_of, change_of, made_by, seen_view}
 
@@ -154,7 +154,7 @@ module _ {T : Type 0} (page : ℕ) (encode : T → List ℕ) (decode : List ℕ 
     pub after : plain.Next T
     pub turns : after ≡ plain.turned page decode refused fine caches reply
     pub answered : Answered call local inner after.0 after.1 next
-    pub leaves : caches_left old caches next.1 ≡ plain.caches_left fine caches after.1
+    pub leaves : caches_after old caches next.1 ≡ plain.plain_caches_after fine caches after.1
 
   -- the lemma: every turn is such a one
   abbrev pub EveryTurn : Type 0

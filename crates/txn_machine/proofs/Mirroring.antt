@@ -12,7 +12,7 @@ use Rattle.txn_caches.specs.Asking.{unless_lacking}
 use Rattle.txn_steps.specs.declared.read.ReadOp.{ReadOp}
 use Rattle.txn_steps.specs.declared.read.ReadOp.TheVariants as reads
 use Rattle.txn_steps.specs.Latest.{ReadAnswer}
-use Rattle.txn_steps.specs.Reads.{read_started, read_turned, read_left}
+use Rattle.txn_steps.specs.Reads.{read_started, read_turned, read_caches_after}
 use Rattle.txn_history.specs.declared.event.PlainCall.TheVariants as calls
 use Rattle.txn_history.specs.declared.event.EventFault.TheVariants as faults
 use Rattle.txn_history.specs.declared.event.EventOf.TheVariants as events
@@ -53,7 +53,7 @@ use Rattle.txn_machine.specs.declared.doing.Doing.{Doing}
 use Rattle.txn_machine.specs.declared.doing.Doing.TheVariants as does
 use Rattle.txn_machine.specs.declared.doing.Operation.{Operation}
 use Rattle.txn_machine.specs.Alone.{IsReading, read_of, read_by, read_in, passes, turns, Moves, MovesAlone, ReadsAlone}
-use Rattle.txn_machine.specs.Doing.{Next, ended, asked, plain_next, view_next, next_of, started, turned, caches_left}
+use Rattle.txn_machine.specs.Doing.{Next, ended, asked, plain_next, view_next, next_of, started, turned, caches_after}
 use Rattle.txn_machine_inner.specs.Machine.{next_op}
 use Rattle.txn_machine.specs.Machine.{State, refusal_of, seen_of, doing_next, with_doing, new_operation, view_now, Looks, Served, IsReached}
 use Rattle.txn_machine.proofs.Joined.{as_fine}
@@ -91,7 +91,7 @@ module _ {T : Type 0} (encode : T → List ℕ) (decode : List ℕ → Option T)
     pub is : (read : ReadOp T) → read_of (whole read) ≡ doings.Read read
     pub asks : (read : ReadOp T) → asked (whole read) ≡ plain.asked (doings.Read read)
     pub follows : (page : ℕ) (refused : Bool) (read : ReadOp T) (caches : Caches) (reply : Option Reply) → Follows whole (told_by page read caches reply) (turned page encode decode get_epoch set_epoch refused (whole read) caches reply)
-    pub leaves : (read : ReadOp T) (caches : Caches) → caches_left (whole read) caches None ≡ read_left read caches Goes
+    pub leaves : (read : ReadOp T) (caches : Caches) → caches_after (whole read) caches None ≡ read_caches_after read caches Goes
 
   plain_read : IsRead (λ read. does.Plain (doings.Read read))
   plain_read = record {
@@ -146,7 +146,7 @@ module _ {T : Type 0} (encode : T → List ℕ) (decode : List ℕ → Option T)
 
     -- where the read goes on, so does that of the mirrored state
     goes_on : (new : State T) (g : machine.State T) (o : Operation T) (caches : Caches) (next : ReadOp T) → numbered old.operations op ≡ Some o → numbered old.caches o.client ≡ Some caches → new.operations ≡ with_doing old.operations op o (whole next) →
-        new.caches ≡ set old.caches (o.client - 1) (read_left read caches Goes) → new.page ≡ old.page → g.operations ≡ machine.with_doing f.operations n fine_own (doings.Read next) → g.caches ≡ set f.caches (own.client - 1) (read_left read caches Goes) → g.store ≡ new.store → g.page ≡ f.page →
+        new.caches ≡ set old.caches (o.client - 1) (read_caches_after read caches Goes) → new.page ≡ old.page → g.operations ≡ machine.with_doing f.operations n fine_own (doings.Read next) → g.caches ≡ set f.caches (own.client - 1) (read_caches_after read caches Goes) → g.store ≡ new.store → g.page ≡ f.page →
         Mirrors whole new op g n next
     goes_on new g o caches next found kept operations new_caches page fine fine_caches store fine_page =
         let same = acts_own o found in
@@ -155,7 +155,7 @@ module _ {T : Type 0} (encode : T → List ℕ) (decode : List ℕ → Option T)
           there = ap (λ (os : List (Operation T)). numbered os op) operations ∙ numbered_here old.operations op (doing_next o (whole next)) o found;
           doing = refl;
           fine = ap (λ (os : List (machine_operation.PlainOperation T)). numbered os n) fine ∙ (numbered_here f.operations n (as_fine own.client (doings.Read next)) fine_own m.fine ∙ ap (λ (x : Operation T). Some (as_fine x.client (doings.Read next))) (sym same));
-          caches = fine_caches ∙ (ap (λ (cs : List Caches). set cs (own.client - 1) (read_left read caches Goes)) m.caches ∙ (ap (λ (x : Operation T). set old.caches (x.client - 1) (read_left read caches Goes)) (sym same) ∙ sym new_caches));
+          caches = fine_caches ∙ (ap (λ (cs : List Caches). set cs (own.client - 1) (read_caches_after read caches Goes)) m.caches ∙ (ap (λ (x : Operation T). set old.caches (x.client - 1) (read_caches_after read caches Goes)) (sym same) ∙ sym new_caches));
           store = store;
           page = fine_page ∙ (m.page ∙ sym page);
         }
@@ -179,12 +179,12 @@ module _ {T : Type 0} (encode : T → List ℕ) (decode : List ℕ → Option T)
         elim (subst (Follows whole t) (sym turn) (w.follows old.page v.turns.refused read v.caches None)) [
           | inl ends ↦ inl (ends_there new o v.next found (ap (λ (s : State T). s.operations) v.state) ends)
           | inr goes ↦ (
-              let g = machine.acted f n fine_own (doings.Read t.0, None) (read_left read v.caches Goes) in
+              let g = machine.acted f n fine_own (doings.Read t.0, None) (read_caches_after read v.caches Goes) in
               let asks = fine_asks o Look found v.acts.asks in
               let kept = fine_kept o v.caches found v.acts.kept in
               let fine_turn : ◌≡◌ {A = plain.Next T} (doings.Read t.0, None) (plain.turned f.page decode false (doings.Read read) v.caches None) =
               subst (λ (page : ℕ). ◌≡◌ {A = plain.Next T} (doings.Read t.0, None) (plain.turned page decode false (doings.Read read) v.caches None)) (sym m.page) (ap plain.read_next (sym goes.0)) in
-              let left : caches_left o.doing v.caches v.next.1 ≡ read_left read v.caches Goes = ap (λ (d : Doing T). caches_left d v.caches v.next.1) does_this ∙ (ap (λ (x : Next T). caches_left (whole read) v.caches x.1) goes.1 ∙ w.leaves read v.caches) in
+              let left : caches_after o.doing v.caches v.next.1 ≡ read_caches_after read v.caches Goes = ap (λ (d : Doing T). caches_after d v.caches v.next.1) does_this ∙ (ap (λ (x : Next T). caches_after (whole read) v.caches x.1) goes.1 ∙ w.leaves read v.caches) in
               inr (
                 g,
                 t.0,
@@ -211,12 +211,12 @@ module _ {T : Type 0} (encode : T → List ℕ) (decode : List ℕ → Option T)
         elim (subst (Follows whole t) (sym turn) (w.follows old.page v.turns.refused read v.call.caches (Some v.call.reply))) [
           | inl ends ↦ inl (ends_there new o v.next found (ap (λ (s : State T). s.operations) v.state) ends)
           | inr goes ↦ (
-              let g = machine.acted (machine.effected f n v.call.request v.call.reply v.call.store) n fine_own (doings.Read t.0, None) (read_left read v.call.caches Goes) in
+              let g = machine.acted (machine.effected f n v.call.request v.call.reply v.call.store) n fine_own (doings.Read t.0, None) (read_caches_after read v.call.caches Goes) in
               let asks = fine_asks o (Store v.call.request) found v.call.acts.asks in
               let kept = fine_kept o v.call.caches found v.call.acts.kept in
               let fine_turn : ◌≡◌ {A = plain.Next T} (doings.Read t.0, None) (plain.turned f.page decode false (doings.Read read) v.call.caches (Some v.call.reply)) =
               subst (λ (page : ℕ). ◌≡◌ {A = plain.Next T} (doings.Read t.0, None) (plain.turned page decode false (doings.Read read) v.call.caches (Some v.call.reply))) (sym m.page) (ap plain.read_next (sym goes.0)) in
-              let left : caches_left o.doing v.call.caches v.next.1 ≡ read_left read v.call.caches Goes = ap (λ (d : Doing T). caches_left d v.call.caches v.next.1) does_this ∙ (ap (λ (x : Next T). caches_left (whole read) v.call.caches x.1) goes.1 ∙ w.leaves read v.call.caches) in
+              let left : caches_after o.doing v.call.caches v.next.1 ≡ read_caches_after read v.call.caches Goes = ap (λ (d : Doing T). caches_after d v.call.caches v.next.1) does_this ∙ (ap (λ (x : Next T). caches_after (whole read) v.call.caches x.1) goes.1 ∙ w.leaves read v.call.caches) in
               inr (
                 g,
                 t.0,

@@ -25,7 +25,7 @@ use Rattle.txn_machine_views.specs.Steps.{view_without}
 use Rattle.txn_machine.specs.declared.doing.Operation.{Operation}
 use Rattle.txn_machine.specs.declared.doing.Ending.{Ending}
 use Rattle.txn_machine.specs.declared.doing.Ending.TheVariants as endings
-use Rattle.txn_machine.specs.Doing.{Next, ended, refused, caches_left}
+use Rattle.txn_machine.specs.Doing.{Next, ended, refused, caches_after}
 use Rattle.txn_machine_views.specs.Parts.{is_claim_call}
 use Rattle.txn_machine_inner.specs.Machine.{effected, loosened, failing, next_op}
 use Rattle.txn_machine.specs.Machine.{State, opening, refusal_of, seen_of, seen_views, used_in, used_by, views_changed, let_go, change_of, made_by, views_after, views_taken, doing_next, acted, given_up, ended_by, crashed, new_operation, begun_as, Fails, TakesOrLacks, RunsOrLacks, IsReached}
@@ -168,11 +168,11 @@ module _ {T : Type 0} (encode : T → List ℕ) (decode : List ℕ → Option T)
 
   takes_owned : (old : State T) (event : Event T) (said : Told T) (new : State T) → Owned old → TakesOrLacks encode decode get_epoch set_epoch old event said new → Owned new
   takes_owned old (events.Begin client call) said new h t = subst Owned (sym t.step.state) (begun_owned old client call t.step.next h (begins_own old client call t.allowed))
-  takes_owned old (events.Look op) said new h t = (let v = t.step in subst Owned (sym v.state) (acted_owned old op v.operation v.next (caches_left v.operation.doing v.caches v.next.1) h v.acts.found))
+  takes_owned old (events.Look op) said new h t = (let v = t.step in subst Owned (sym v.state) (acted_owned old op v.operation v.next (caches_after v.operation.doing v.caches v.next.1) h v.acts.found))
   takes_owned old (events.Serve op) said new h t = elim t.step [
     | inl v ↦ (
         let middle = effected old op v.call.request v.call.reply v.call.store in
-        subst Owned (sym v.state) (acted_owned middle op v.call.operation v.next (caches_left v.call.operation.doing v.call.caches v.next.1) (as_owned old middle refl refl refl h) v.call.acts.found)
+        subst Owned (sym v.state) (acted_owned middle op v.call.operation v.next (caches_after v.call.operation.doing v.call.caches v.next.1) (as_owned old middle refl refl refl h) v.call.acts.found)
         )
     | inr v ↦ subst Owned (sym v.state) (acted_owned old op v.operation (refused 9) v.caches h v.acts.found)
   ]

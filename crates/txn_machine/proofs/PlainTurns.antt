@@ -87,7 +87,7 @@ module _ {T : Type 0} (page : ℕ) (encode : T → List ℕ) (decode : List ℕ 
         after = after;
         turns = refl;
         answered = plain_answered call local inner is after (turned_ends page decode refused doing caches reply);
-        leaves = ap (plain.caches_left doing caches) (answer_same after);
+        leaves = ap (plain.plain_caches_after doing caches) (answer_same after);
       })
 
 module _ {T : Type 0} (page : ℕ) (encode : T → List ℕ) where

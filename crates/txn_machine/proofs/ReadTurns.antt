@@ -11,7 +11,7 @@ use Rattle.txn_caches.specs.Asking.{unless_lacking}
 use Rattle.txn_steps.specs.declared.read.ReadOp.{ReadOp}
 use Rattle.txn_steps.specs.declared.read.ReadOp.TheVariants as reads
 use Rattle.txn_steps.specs.Latest.{ReadAnswer}
-use Rattle.txn_steps.specs.Reads.{read_turned, read_left}
+use Rattle.txn_steps.specs.Reads.{read_turned, read_caches_after}
 use Rattle.txn_history.specs.Names.{world_names, world_boundary}
 use Rattle.txn_machine_inner.specs.declared.doing.PlainDoing.{PlainDoing}
 use Rattle.txn_machine_inner.specs.declared.doing.PlainDoing.TheVariants as doings
@@ -81,11 +81,11 @@ module _ {T : Type 0} (page : ℕ) (encode : T → List ℕ) (decode : List ℕ 
     read_answered false (read, turns.Done (Err number)) = (refusing (any.View call) number, refl, inl refl, (facts.refuses number).0, (facts.refuses number).1)
 
     read_leaves : (read : ReadOp T) (caches : Caches) (reply : Option Reply) (lacks : Bool) (x : ReadOp T × Turned (ReadAnswer T)) → x ≡ read_turned world_names world_boundary page decode read caches reply →
-        read_left read caches (said (goes_by (view_next (unless_lacking lacks (as_op reads.Ended) (seen as_op see x))).1)) ≡ read_left read caches (plain.said_of (plain.or_no_memory lacks (plain.read_next x)).1)
+        read_caches_after read caches (said (goes_by (view_next (unless_lacking lacks (as_op reads.Ended) (seen as_op see x))).1)) ≡ read_caches_after read caches (plain.said_of (plain.or_no_memory lacks (plain.read_next x)).1)
     read_leaves read caches reply true x e = refl
     read_leaves read caches reply false (next, turns.Goes) e = refl
     read_leaves read caches reply false (next, turns.Done (Ok found)) e =
-        ap (λ (t : Turned (Result (Outcome T) ℕ)). read_left read caches (said t)) (answered_said (as_op reads.Ended) (see found)) ∙ left_as_refused world_names world_boundary page decode read caches reply next found e
+        ap (λ (t : Turned (Result (Outcome T) ℕ)). read_caches_after read caches (said t)) (answered_said (as_op reads.Ended) (see found)) ∙ left_as_refused world_names world_boundary page decode read caches reply next found e
     read_leaves read caches reply false (next, turns.Done (Err number)) e = left_by_refusal read caches 9 number
 
     read_at : (read : ReadOp T) (caches : Caches) (reply : Option Reply) (lacks : Bool) →
@@ -99,7 +99,7 @@ module _ {T : Type 0} (page : ℕ) (encode : T → List ℕ) (decode : List ℕ 
           after = after;
           turns = refl;
           answered = subst (λ (n : ViewOp T × Turned (Result (Outcome T) ℕ)). Answered page encode decode get_epoch set_epoch (any.View call) local Reads after.0 after.1 (view_next n)) (sym is) (read_answered lacks x);
-          leaves = ap (λ (n : ViewOp T × Turned (Result (Outcome T) ℕ)). read_left read caches (said (goes_by (view_next n).1))) is ∙ read_leaves read caches reply lacks x refl;
+          leaves = ap (λ (n : ViewOp T × Turned (Result (Outcome T) ℕ)). read_caches_after read caches (said (goes_by (view_next n).1))) is ∙ read_leaves read caches reply lacks x refl;
         }
 
     pub read_turns : (read : ReadOp T) (fine : PlainDoing T) (caches : Caches) (reply : Option Reply) (lacks : Bool) → fine ≡ doings.Read read →

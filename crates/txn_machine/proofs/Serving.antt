@@ -119,7 +119,7 @@ module _ {T : Type 0} (encode : T → List ℕ) (decode : List ℕ → Option T)
       let n = j.now op in
       let o = as_fine operation.client held.doing in
       let t = every_turn s.page encode decode get_epoch set_epoch held.call (local_of (look_up j.l.views (view_used held.call))) held.inner operation.doing held.doing v.caches None v.next held.matched (stood_looks decode get_epoch j.fine j.stands n o held.there h.acts.asks) v.turns in
-      let left = plain.caches_left held.doing v.caches t.after.1 in
+      let left = plain.plain_caches_after held.doing v.caches t.after.1 in
       let fine = machine.acted j.fine n o t.after left in
       let stands = look_keeps decode get_epoch j.fine n (told_of (told.Went n) n t.after.1) fine
       (record { operation = o; caches = v.caches; acts = h.acts; refused = t.refused; next = t.after; turns = t.turns ∙ ap (λ (p : ℕ). plain.turned p decode t.refused held.doing v.caches None) (sym j.tie.page); tells = refl; state = refl }) j.stands in
@@ -137,7 +137,7 @@ module _ {T : Type 0} (encode : T → List ℕ) (decode : List ℕ → Option T)
       let o = as_fine operation.client held.doing in
       let serves : Serves v.call.request j.fine.store v.call.reply v.call.store = subst (λ (st : StoreState). Serves v.call.request st v.call.reply v.call.store) (sym j.tie.store) v.call.reaches.serves in
       let t = every_turn s.page encode decode get_epoch set_epoch held.call (local_of (look_up j.l.views (view_used held.call))) held.inner operation.doing held.doing v.call.caches (Some v.call.reply) v.next held.matched (stood_replies decode get_epoch j.fine j.stands n o held.there v.call.request v.call.reply v.call.store h.acts.asks serves) v.turns in
-      let left = plain.caches_left held.doing v.call.caches t.after.1 in
+      let left = plain.plain_caches_after held.doing v.call.caches t.after.1 in
       let fine = machine.acted (machine.effected j.fine n v.call.request v.call.reply v.call.store) n o t.after left in
       let stands = serve_keeps decode get_epoch j.fine n (told_of (told.Went n) n t.after.1) fine
       (record { call = record { operation = o; request = v.call.request; caches = v.call.caches; acts = h.acts; reply = v.call.reply; store = v.call.store; reaches = record { serves = serves; honest = v.call.reaches.honest } }; refused = t.refused; next = t.after; turns = t.turns ∙ ap (λ (p : ℕ). plain.turned p decode t.refused held.doing v.call.caches (Some v.call.reply)) (sym j.tie.page); tells = refl; state = refl }) j.stands in

@@ -17,14 +17,14 @@ use Rattle.txn_view_steps.specs.declared.claiming.Claiming.TheVariants as claimi
 use Rattle.txn_view_steps.specs.declared.op.ViewOp.{ViewOp}
 use Rattle.txn_view_steps.specs.declared.op.ViewOp.TheVariants as ops
 use Rattle.txn_view_steps.specs.declared.outcome.Outcome.{Outcome}
-use Rattle.txn_view_steps.specs.Attempts.{claiming_left}
+use Rattle.txn_view_steps.specs.Attempts.{claiming_caches_after}
 use Rattle.txn_view_steps.specs.ViewOps as views
-use Rattle.txn_view_steps.specs.ViewOps.{view_turned, view_left, IsViewMade}
+use Rattle.txn_view_steps.specs.ViewOps.{view_turned, view_caches_after, IsViewMade}
 use Rattle.txn_machine.specs.declared.doing.Doing.{Doing}
 use Rattle.txn_machine.specs.declared.doing.Doing.TheVariants as does
 use Rattle.txn_machine.specs.declared.doing.Ending.{Ending}
 use Rattle.txn_machine.specs.declared.doing.Ending.TheVariants as endings
-use Rattle.txn_machine.specs.Doing.{Next, plain_next, next_of, view_next, goes_by, caches_left, IsMadeSo, Turns}
+use Rattle.txn_machine.specs.Doing.{Next, plain_next, next_of, view_next, goes_by, caches_after, IsMadeSo, Turns}
 
 module _ {T : Type 0} where
   next_of_plain : (next : plain.Next T) → (does.Plain next.0, option_map endings.Answers next.1) ≡ plain_next next
@@ -32,24 +32,24 @@ module _ {T : Type 0} where
   next_of_plain (doing, Some answer) = refl
 
   -- what it leaves of the caches depends on whether it goes on alone
-  claiming_left_so : (op : Claiming T) (caches : Caches) (answer : Result (Outcome T) ℕ) → claiming_left op caches (Done answer) ≡ claiming_left op caches (Done (Err 9))
+  claiming_left_so : (op : Claiming T) (caches : Caches) (answer : Result (Outcome T) ℕ) → claiming_caches_after op caches (Done answer) ≡ claiming_caches_after op caches (Done (Err 9))
   claiming_left_so (claiming.Writes write value epoch) caches answer = refl
   claiming_left_so (claiming.Reads read) caches answer = refl
   claiming_left_so claiming.Ended caches answer = refl
 
-  view_left_so : (op : ViewOp T) (caches : Caches) (answer : Result (Outcome T) ℕ) → view_left op caches (Done answer) ≡ view_left op caches (Done (Err 9))
+  view_left_so : (op : ViewOp T) (caches : Caches) (answer : Result (Outcome T) ℕ) → view_caches_after op caches (Done answer) ≡ view_caches_after op caches (Done (Err 9))
   view_left_so (ops.Enters op) caches answer = refl
   view_left_so (ops.Reads op) caches answer = refl
   view_left_so (ops.Claims op) caches answer = claiming_left_so op.claiming caches answer
 
-  left_at : (op new : ViewOp T) (caches : Caches) (told : Turned (Result (Outcome T) ℕ)) → view_left op caches told ≡ view_left op caches (goes_by (next_of (does.View new) told).1)
+  left_at : (op new : ViewOp T) (caches : Caches) (told : Turned (Result (Outcome T) ℕ)) → view_caches_after op caches told ≡ view_caches_after op caches (goes_by (next_of (does.View new) told).1)
   left_at op new caches Goes = refl
   left_at op new caches (Done (Ok outcome)) = view_left_so op caches (Ok outcome)
   left_at op new caches (Done (Err number)) = view_left_so op caches (Err number)
 
-  pub view_leaves : (old : Doing T) (op new : ViewOp T) (before after : Caches) (told : Turned (Result (Outcome T) ℕ)) (next : Next T) → old ≡ does.View op → after ≡ view_left op before told → next ≡ next_of (does.View new) told → after ≡ caches_left old before next.1
+  pub view_leaves : (old : Doing T) (op new : ViewOp T) (before after : Caches) (told : Turned (Result (Outcome T) ℕ)) (next : Next T) → old ≡ does.View op → after ≡ view_caches_after op before told → next ≡ next_of (does.View new) told → after ≡ caches_after old before next.1
   view_leaves old op new before after told next is left ends =
-      left ∙ (left_at op new before told ∙ (ap (λ (n : Next T). view_left op before (goes_by n.1)) (sym ends) ∙ ap (λ (o : Doing T). caches_left o before next.1) (sym is)))
+      left ∙ (left_at op new before told ∙ (ap (λ (n : Next T). view_caches_after op before (goes_by n.1)) (sym ends) ∙ ap (λ (o : Doing T). caches_after o before next.1) (sym is)))
 
 module _ {T : Type 0} (page : ℕ) (encode : T → List ℕ) (decode : List ℕ → Option T) (get_epoch : T → ℕ) (set_epoch : T → ℕ → T) (caches : Caches) (reply : Option Reply) where
   pub plain_takes : (old : Doing T) (doing new : PlainDoing T) (answers : Option (PlainAnswer T)) (ending : Option (Ending T)) → old ≡ does.Plain doing → plain.Turns page decode doing caches reply new answers → ending ≡ option_map endings.Answers answers →

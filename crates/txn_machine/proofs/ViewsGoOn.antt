@@ -31,7 +31,7 @@ use Rattle.txn_machine_views.specs.Steps.{view_without}
 use Rattle.txn_machine.specs.declared.doing.Operation.{Operation}
 use Rattle.txn_machine.specs.declared.doing.Ending.{Ending}
 use Rattle.txn_machine.specs.declared.doing.Ending.TheVariants as endings
-use Rattle.txn_machine.specs.Doing.{Next, ended, refused, caches_left}
+use Rattle.txn_machine.specs.Doing.{Next, ended, refused, caches_after}
 use Rattle.txn_machine_views.specs.Parts.{is_claim_call}
 use Rattle.txn_machine.specs.Machine.{State, seen_operation, seen_view, seen_views, seen_of, used_in, used_by, with_used, let_go, answer_of, change_of, made_by, views_after, views_taken, answered, doing_next, answer_next, acted, given_up, crashed, new_operation, begun_as, Fails, TakesOrLacks, IsReached}
 use Rattle.txn_machine.proofs.Busies.{IsRunning, uses_or_not}
@@ -363,13 +363,13 @@ module _ {T : Type 0} (encode : T → List ℕ) (decode : List ℕ → Option T)
   takes_go old (events.Look op) said new h claims after t =
       let v = t.step in
       let fits = subst (NextFits v.operation.claims) (sym v.turns.turns) (turned_claims old.page encode decode get_epoch set_epoch v.operation.claims v.turns.refused v.operation.doing v.caches None Look v.acts.asks (claims op v.operation v.acts.found)) in
-      let caches = caches_left v.operation.doing v.caches v.next.1 in
+      let caches = caches_after v.operation.doing v.caches v.next.1 in
       goes_so old.views said (told_of (told.Went op) op (answer_next old v.operation v.next)) new (acted old op v.operation v.next caches) v.tells v.state
       (acted_goes old op v.operation v.next caches h v.acts.found (ap is_some v.acts.asks) fits (subst Busied v.state after))
   takes_go old (events.Serve op) said new h claims after t = elim t.step [
     | inl v ↦ (
         let fits = subst (NextFits v.call.operation.claims) (sym v.turns.turns) (turned_claims old.page encode decode get_epoch set_epoch v.call.operation.claims v.turns.refused v.call.operation.doing v.call.caches (Some v.call.reply) (Store v.call.request) v.call.acts.asks (claims op v.call.operation v.call.acts.found)) in
-        let caches = caches_left v.call.operation.doing v.call.caches v.next.1 in
+        let caches = caches_after v.call.operation.doing v.call.caches v.next.1 in
         let middle = effected old op v.call.request v.call.reply v.call.store in
         goes_so old.views said (told_of (told.Went op) op (answer_next old v.call.operation v.next)) new (acted middle op v.call.operation v.next caches) v.tells v.state
         (acted_goes middle op v.call.operation v.next caches (effected_busied old op v.call.request v.call.reply v.call.store h) v.call.acts.found (ap is_some v.call.acts.asks) fits (subst Busied v.state after)))

@@ -1,15 +1,15 @@
 -- How many looks and calls of the store a bounded call makes at most, and how many its operation has left, whatever others do.
 -- A read, an advance, a listing and a claim have no bound: others may keep them going.
 use Rattle.std.specs.Prelude.{ℕ, ◌+◌, ◌==◌, if◌then◌else◌, Bool, false, List, [], ◌∷◌, Option, Some, None}
-use Rattle.txn_caches.specs.Counts.{Left, nothing_left, check_left}
-use Rattle.txn_steps.specs.CallsLeft.{one_of_each, unchecked_left, write_left, delete_left, seen_left}
+use Rattle.txn_caches.specs.Counts.{Budget, no_budget, check_budget}
+use Rattle.txn_steps.specs.CallsLeft.{one_of_each, unchecked_budget, write_budget, delete_budget, seen_budget}
 use Rattle.txn_history.specs.declared.event.PlainCall.TheVariants as calls
 use Rattle.txn_history.specs.declared.event.EventOf.TheVariants as events
 use Rattle.txn_machine_inner.specs.declared.doing.PlainDoing.{PlainDoing}
 use Rattle.txn_machine_inner.specs.declared.doing.PlainDoing.TheVariants as doings
 use Rattle.txn_view_steps.specs.declared.op.ViewOp.{ViewOp}
 use Rattle.txn_view_steps.specs.declared.op.ViewOp.TheVariants.{Enters, Reads, Claims}
-use Rattle.txn_view_steps.specs.CallsLeft.{entry_left}
+use Rattle.txn_view_steps.specs.CallsLeft.{entry_budget}
 use Rattle.txn_history.specs.declared.event.ViewCall.TheVariants as view_calls
 use Rattle.txn_history.specs.declared.event.Call.{Call}
 use Rattle.txn_history.specs.declared.event.Call.TheVariants as any
@@ -18,12 +18,12 @@ use Rattle.txn_machine.specs.declared.doing.Doing.{Doing}
 use Rattle.txn_machine.specs.declared.doing.Doing.TheVariants as does
 
 -- a create or a removal, and its check
-abbrev pub five_and_two : Left
+abbrev pub five_and_two : Budget
 five_and_two = record { looks = 5; calls = 2 }
 
 module _ {T : Type 0} where
   -- the most that a call makes, where it has a bound
-  abbrev pub most_of : Call T → Option Left
+  abbrev pub most_of : Call T → Option Budget
   most_of (any.Plain (calls.Write base value)) = Some five_and_two
   most_of (any.Plain (calls.WriteUnchecked base value)) = Some one_of_each
   most_of (any.Plain (calls.ReadUnchecked id)) = Some (record { looks = 0; calls = 1 })
@@ -42,27 +42,27 @@ module _ {T : Type 0} where
   most_of (any.View (view_calls.ClaimAt view epoch)) = None
   most_of (any.View (view_calls.HolderRefresh view)) = None
 
-  abbrev pub plain_left : PlainDoing T → Option Left
-  plain_left (doings.Write op) = Some (write_left op)
-  plain_left (doings.WriteUnchecked op) = Some (unchecked_left op)
-  plain_left (doings.ReadUnchecked op) = Some (record { looks = 0; calls = 1 })
-  plain_left (doings.ReadSeen op) = Some (seen_left op)
-  plain_left (doings.Delete op) = Some (delete_left op)
-  plain_left (doings.Check op) = Some (check_left op)
-  plain_left doings.Ended = Some nothing_left
-  plain_left (doings.Read op) = None
-  plain_left (doings.ListIds op) = None
-  plain_left (doings.Advance op) = None
+  abbrev pub plain_budget : PlainDoing T → Option Budget
+  plain_budget (doings.Write op) = Some (write_budget op)
+  plain_budget (doings.WriteUnchecked op) = Some (unchecked_budget op)
+  plain_budget (doings.ReadUnchecked op) = Some (record { looks = 0; calls = 1 })
+  plain_budget (doings.ReadSeen op) = Some (seen_budget op)
+  plain_budget (doings.Delete op) = Some (delete_budget op)
+  plain_budget (doings.Check op) = Some (check_budget op)
+  plain_budget doings.Ended = Some no_budget
+  plain_budget (doings.Read op) = None
+  plain_budget (doings.ListIds op) = None
+  plain_budget (doings.Advance op) = None
 
-  abbrev pub view_left : ViewOp T → Option Left
-  view_left (Enters op) = Some (entry_left op)
-  view_left (Reads op) = None
-  view_left (Claims op) = None
+  abbrev pub view_budget : ViewOp T → Option Budget
+  view_budget (Enters op) = Some (entry_budget op)
+  view_budget (Reads op) = None
+  view_budget (Claims op) = None
 
   -- what an operation has left, where its call has a bound: nothing where it has ended
-  abbrev pub any_left : Doing T → Option Left
-  any_left (does.Plain doing) = plain_left doing
-  any_left (does.View op) = view_left op
+  abbrev pub any_budget : Doing T → Option Budget
+  any_budget (does.Plain doing) = plain_budget doing
+  any_budget (does.View op) = view_budget op
 
   -- a look, and a serve, of this operation
 

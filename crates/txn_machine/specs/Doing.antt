@@ -18,7 +18,7 @@ use Rattle.txn_view_steps.specs.declared.op.ViewOp.TheVariants as ops
 use Rattle.txn_view_steps.specs.declared.view_read.Purpose.{Purpose}
 use Rattle.txn_view_steps.specs.declared.view_read.Purpose.TheVariants as purposes
 use Rattle.txn_view_steps.specs.ViewOps as views
-use Rattle.txn_view_steps.specs.ViewOps.{view_asked, view_turned, view_left, IsViewReply, IsViewInRange, IsViewMade}
+use Rattle.txn_view_steps.specs.ViewOps.{view_asked, view_turned, view_caches_after, IsViewReply, IsViewInRange, IsViewMade}
 use Rattle.txn_view_steps.specs.Entries.{entry_started, holder_entry_started}
 use Rattle.txn_view_steps.specs.ViewReads.{view_read_started}
 use Rattle.txn_view_steps.specs.Claims.{claim_started}
@@ -90,9 +90,9 @@ module _ {T : Type 0} where
   goes_by (Some ending) = turns.Done (Err 9)
 
   -- what it leaves of its client's caches, by how it ends
-  abbrev pub caches_left : Doing T → Caches → Option (Ending T) → Caches
-  caches_left (does.Plain doing) caches ending = plain.caches_left doing caches (answer_in ending)
-  caches_left (does.View op) caches ending = view_left op caches (goes_by ending)
+  abbrev pub caches_after : Doing T → Caches → Option (Ending T) → Caches
+  caches_after (does.Plain doing) caches ending = plain.plain_caches_after doing caches (answer_in ending)
+  caches_after (does.View op) caches ending = view_caches_after op caches (goes_by ending)
 
   -- memory lacks in a claim's attempt only where its write was overtaken, or lacked it
   abbrev pub MayLack : Doing T → Caches → Option Reply → Bool → Type 0

@@ -30,7 +30,7 @@ use Rattle.txn_machine.specs.declared.doing.Doing.{Doing}
 use Rattle.txn_machine.specs.declared.doing.Ending.{Ending}
 use Rattle.txn_machine.specs.declared.doing.Ending.TheVariants as endings
 use Rattle.txn_machine.specs.declared.doing.Operation.{Operation}
-use Rattle.txn_machine.specs.Doing.{Next, ended, refused, asked, started, caches_left, ReadsBack, FitsWord, IsMadeSo, Turns}
+use Rattle.txn_machine.specs.Doing.{Next, ended, refused, asked, started, caches_after, ReadsBack, FitsWord, IsMadeSo, Turns}
 use Rattle.txn_machine_views.specs.Parts.{is_claim_call}
 
 -- All of a world but its codec and its allocator. An ended view is none.
@@ -259,7 +259,7 @@ module _ {T : Type 0} (encode : T → List ℕ) (decode : List ℕ → Option T)
     pub next : Next T
     pub turns : Turns old.page encode decode get_epoch set_epoch operation.doing caches None next
     pub tells : said ≡ told_of (told.Went op) op (answer_next old operation next)
-    pub state : new ≡ acted old op operation next (caches_left operation.doing caches next.1)
+    pub state : new ≡ acted old op operation next (caches_after operation.doing caches next.1)
 
   -- A serve: the operation's request is served by the store, and the operation takes the reply.
   pub record Served (old : State T) (op : ℕ) (said : Told T) (new : State T) : Type 0 where
@@ -267,7 +267,7 @@ module _ {T : Type 0} (encode : T → List ℕ) (decode : List ℕ → Option T)
     pub next : Next T
     pub turns : Turns old.page encode decode get_epoch set_epoch call.operation.doing call.caches (Some call.reply) next
     pub tells : said ≡ told_of (told.Went op) op (answer_next old call.operation next)
-    pub state : new ≡ acted (effected old op call.request call.reply call.store) op call.operation next (caches_left call.operation.doing call.caches next.1)
+    pub state : new ≡ acted (effected old op call.request call.reply call.store) op call.operation next (caches_after call.operation.doing call.caches next.1)
 
   -- A begin: its call's operation starts.
   pub record Begins (old : State T) (client : ℕ) (call : Call T) (said : Told T) (new : State T) : Type 0 where

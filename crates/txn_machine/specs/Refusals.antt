@@ -16,7 +16,7 @@ use Rattle.txn_view_steps.specs.declared.claiming.Claiming.{Claiming}
 use Rattle.txn_view_steps.specs.declared.claiming.Claiming.TheVariants.{Reads}
 use Rattle.txn_history.specs.Trace.{Told}
 use Rattle.txn_machine.specs.declared.doing.Operation.{Operation}
-use Rattle.txn_machine.specs.Doing.{turned, caches_left, IsReply}
+use Rattle.txn_machine.specs.Doing.{turned, caches_after, IsReply}
 use Rattle.txn_machine.specs.Machine.{State, Acts, with_doing, views_after, answer_next}
 
 module _ {T : Type 0} (encode : T → List ℕ) (decode : List ℕ → Option T) (get_epoch : T → ℕ) (set_epoch : T → ℕ → T) where
@@ -29,7 +29,7 @@ module _ {T : Type 0} (encode : T → List ℕ) (decode : List ℕ → Option T)
     pub as_replied : (reply : Reply) → reply_error reply ≡ Some errors.Failed → IsReply operation.doing (Some reply) → (
         (said ≡ told_of (told.Went op) op (answer_next old operation (turned old.page encode decode get_epoch set_epoch false operation.doing caches (Some reply))))
         × (new.operations ≡ with_doing old.operations op operation (turned old.page encode decode get_epoch set_epoch false operation.doing caches (Some reply)).0)
-        × (new.caches ≡ slice_set old.caches (operation.client - 1) (caches_left operation.doing caches (turned old.page encode decode get_epoch set_epoch false operation.doing caches (Some reply)).1))
+        × (new.caches ≡ slice_set old.caches (operation.client - 1) (caches_after operation.doing caches (turned old.page encode decode get_epoch set_epoch false operation.doing caches (Some reply)).1))
         × (new.views ≡ views_after old.views operation.client operation.view operation.claims (turned old.page encode decode get_epoch set_epoch false operation.doing caches (Some reply)).1)
         )
 

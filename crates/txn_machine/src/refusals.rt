@@ -20,7 +20,7 @@ ghost use Rattle.txn_history.specs.Trace.{Told};
 ghost use Rattle.txn_history.specs.Views.{View};
 ghost use Rattle.txn_machine.specs.declared.doing.Doing.{Doing};
 ghost use Rattle.txn_machine.specs.declared.doing.Doing.TheVariants as does;
-ghost use Rattle.txn_machine.specs.Doing.{refused, started, turned, caches_left, IsReply};
+ghost use Rattle.txn_machine.specs.Doing.{refused, started, turned, caches_after, IsReply};
 ghost use Rattle.txn_machine.specs.Refusals.{FailsAsReplied, Found};
 ghost use Rattle.txn_machine.specs.Machine.{State, Fails};
 
@@ -31,7 +31,7 @@ use txn_types::epoch::EpochField;
 /// its client's caches. So each failure, before the effect or after it, is the turn that this reply would be.
 pub fn failures_are_taken<T: Drop, C: ObjectCodec<T>, E: EpochField<T>>(_codec: &C, _epochs: &E)
     ensures refused { (page : ℕ) (doing : Doing T) (caches : Caches) (reply : Reply) → reply_error reply ≡ Some errors.Failed → IsReply doing (Some reply) → turned page (C.encoded _codec.now) (C.decoded _codec.now) (E.epoch_of _epochs.now) (E.with_epoch _epochs.now) false doing caches (Some reply) ≡ refused 2 }
-    ensures caches { (doing : Doing T) (caches : Caches) (reply : Reply) → reply_error reply ≡ Some errors.Failed → IsReply doing (Some reply) → caches_left doing caches (refused {T = T} 2).1 ≡ caches }
+    ensures caches { (doing : Doing T) (caches : Caches) (reply : Reply) → reply_error reply ≡ Some errors.Failed → IsReply doing (Some reply) → caches_after doing caches (refused {T = T} 2).1 ≡ caches }
     ensures event { (old : State T) (op : ℕ) (failure : Failure) (said : Told T) (new : State T) → Fails old op failure said new → FailsAsReplied (C.encoded _codec.now) (C.decoded _codec.now) (E.epoch_of _epochs.now) (E.with_epoch _epochs.now) old op said new }
 {}
 

@@ -90,7 +90,7 @@ impl<T: Clone> Work<T> {
     ghost use Rattle.std.specs.Prelude.{◌≡◌};
     ghost use Rattle.txn_types.specs.Clones.{IsExactClone};
     ghost use Rattle.txn_history.specs.Names.{world_names, world_boundary};
-    ghost use Rattle.txn_machine.specs.Doing.{caches_left, InRange, IsReply, Turns};
+    ghost use Rattle.txn_machine.specs.Doing.{caches_after, InRange, IsReply, Turns};
 
     /// Takes the store's reply to what it asks, or none for a look, and leaves its client's caches as its step says. An
     /// answer ends the operation, which gives back what it kept. Where a growth is refused the answer is the refusal 9.
@@ -108,7 +108,7 @@ impl<T: Clone> Work<T> {
         requires asked { IsReply self.old reply }
         requires range { InRange self.old }
         ensures turned { Turns layout.now.page (C.encoded layout.now.codec) (C.decoded layout.now.codec) (E.epoch_of epochs.now) (E.with_epoch epochs.now) self.old caches.old reply (self.new, result) }
-        ensures caches { caches.new ≡ caches_left self.old caches.old result }
+        ensures caches { caches.new ≡ caches_after self.old caches.old result }
     {
         let ending = match &mut self.kept {
             Kept::Runs(doing) => match &mut **doing {

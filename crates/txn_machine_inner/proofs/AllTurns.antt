@@ -12,7 +12,7 @@ use Rattle.txn_steps.specs.declared.latest.LatestOp.TheVariants as latest
 use Rattle.txn_steps.specs.declared.read.ReadOp.{ReadOp}
 use Rattle.txn_steps.specs.declared.read.ReadOp.TheVariants as reads
 use Rattle.txn_steps.specs.Latest.{ReadAnswer}
-use Rattle.txn_steps.specs.Reads.{read_started, read_turned, read_left}
+use Rattle.txn_steps.specs.Reads.{read_started, read_turned, read_caches_after}
 use Rattle.txn_history.specs.Trace.{PlainRow}
 use Rattle.txn_history.specs.Names.{world_names, world_boundary}
 use Rattle.txn_machine_inner.specs.declared.doing.PlainDoing.{PlainDoing}
@@ -100,7 +100,7 @@ module _ {T : Type 0} (encode : T → List ℕ) (decode : List ℕ → Option T)
     turn_is : ◌≡◌ {A = ℕ} (cond (is_turn (doing_in old op) (doing_in new op)) 1 0) (turn_count read g.next)
     turn_is =
         let before = does old op read caches r in
-        let after = does new op g.next (read_left read caches Goes) g.at in
+        let after = does new op g.next (read_caches_after read caches Goes) g.at in
         ap (λ (d : PlainDoing T). cond {A = ℕ} (is_turn d (doing_in new op)) 1 0) before ∙ ap (λ (d : PlainDoing T). cond {A = ℕ} (is_turn (Read read) d) 1 0) after
 
     pages_stay : Pages old → Pages new
@@ -132,7 +132,7 @@ module _ {T : Type 0} (encode : T → List ℕ) (decode : List ℕ → Option T)
               | inl refused ↦ absurd (starts_pass g.next (refused_starts s next read caches h r g refused) on.1)
               | inr turn ↦
                   let is = turn_is s next read caches h r g in
-                  let rest = second_turns states next g.next (read_left read caches Goes) turn.0 h' g.at on.0 (pages_stay s next read caches h r g p) (enough_stays s next read caches h r g 0 turn.0 g.next turn.2) a.1 in
+                  let rest = second_turns states next g.next (read_caches_after read caches Goes) turn.0 h' g.at on.0 (pages_stay s next read caches h r g p) (enough_stays s next read caches h r g 0 turn.0 g.next turn.2) a.1 in
                   omega (arith, is, turn.1, rest)
             ]
       ]
@@ -159,14 +159,14 @@ module _ {T : Type 0} (encode : T → List ℕ) (decode : List ℕ → Option T)
             let p' = pages_stay s next read caches h r g p in
             let on = first_on encode decode get_epoch op s next read caches h r h' g f in
             elim (turn_on s next read caches h r g (more + 1) left (first_newest s.trace read caches.latest f) p l) [
-              | inl refused ↦ refused_turns next states g.next (read_left read caches Goes) left (cond (is_turn (doing_in s op) (doing_in next op)) 1 0) h' g.at p' (refused_starts s next read caches h r g refused) on a.1
+              | inl refused ↦ refused_turns next states g.next (read_caches_after read caches Goes) left (cond (is_turn (doing_in s op) (doing_in next op)) 1 0) h' g.at p' (refused_starts s next read caches h r g refused) on a.1
                   (refusal_left s.store.files s.page more (more + 1) left read refused l) (at_most_one (is_turn (doing_in s op) (doing_in next op)))
               | inr turn ↦
                   let is = turn_is s next read caches h r g in
                   let l' = enough_stays s next read caches h r g (more + 1) turn.0 g.next turn.2 in
                   elim on [
-                    | inl first ↦ (let rest = first_turns states next g.next (read_left read caches Goes) turn.0 h' g.at first.0 p' l' a.1 in omega (arith, is, turn.1, rest))
-                    | inr second ↦ (let rest = second_turns states next g.next (read_left read caches Goes) turn.0 h' g.at second p' (less next.store.files next.page more (more + 1) turn.0 g.next l') a.1 in omega (arith, is, turn.1, rest))
+                    | inl first ↦ (let rest = first_turns states next g.next (read_caches_after read caches Goes) turn.0 h' g.at first.0 p' l' a.1 in omega (arith, is, turn.1, rest))
+                    | inr second ↦ (let rest = second_turns states next g.next (read_caches_after read caches Goes) turn.0 h' g.at second p' (less next.store.files next.page more (more + 1) turn.0 g.next l') a.1 in omega (arith, is, turn.1, rest))
                   ]
             ]
       ]

@@ -48,7 +48,7 @@ use Rattle.txn_history.specs.Added.{effect_rows}
 use Rattle.txn_history.proofs.Rows.{newest_grows}
 use Rattle.txn_machine_inner.specs.declared.doing.PlainDoing.{PlainDoing}
 use Rattle.txn_machine_inner.specs.declared.doing.PlainDoing.TheVariants.{Delete, Check, Advance}
-use Rattle.txn_machine_inner.specs.Doing.{Next, ask_of, asked, turned, caches_left, delete_next, check_next, advance_next}
+use Rattle.txn_machine_inner.specs.Doing.{Next, ask_of, asked, turned, plain_caches_after, delete_next, check_next, advance_next}
 use Rattle.txn_machine_inner.specs.Machine.{effect_of}
 use Rattle.txn_machine_inner.proofs.Stands.{remove_version, IsQuiet, Frame, Room, PutStands, RaiseStands, WasAbove, WasGone, RemovalStands, DeleteStepStands, CachesStand, KnowStands, Asks, Runs, DoingStands, TurnStands}
 use Rattle.txn_machine_inner.proofs.Turns.{stays, CheckTells, RaiseTells, LooksTo, no_id, ends_with, ended, goes_on, fails_with, lacking, may_lack}
@@ -81,13 +81,13 @@ advance_kept caches (advances.Raises target raise) request asks = ap (with_bound
 advance_kept caches (advances.Drops target) request asks = cc
 
 module _ {T : Type 0} where
-  pub check_op_keeps : (caches : Caches) (state : CheckOp) (request : Request) (answer : Option (PlainAnswer T)) → asked {T = T} (Check state) ≡ Some (Store request) → caches_left (Check state) caches answer ≡ caches
+  pub check_op_keeps : (caches : Caches) (state : CheckOp) (request : Request) (answer : Option (PlainAnswer T)) → asked {T = T} (Check state) ≡ Some (Store request) → plain_caches_after (Check state) caches answer ≡ caches
   check_op_keeps caches state request answer asks = check_kept caches state request (asks_request (check_asked state) request asks)
 
-  pub delete_op_keeps : (caches : Caches) (state : DeleteOp) (request : Request) (answer : Option (PlainAnswer T)) → asked {T = T} (Delete state) ≡ Some (Store request) → caches_left (Delete state) caches answer ≡ caches
+  pub delete_op_keeps : (caches : Caches) (state : DeleteOp) (request : Request) (answer : Option (PlainAnswer T)) → asked {T = T} (Delete state) ≡ Some (Store request) → plain_caches_after (Delete state) caches answer ≡ caches
   delete_op_keeps caches state request answer asks = delete_kept_at caches state.step state request (asks_request (delete_asked state) request asks)
 
-  pub advance_op_keeps : (caches : Caches) (state : AdvanceOp) (request : Request) (answer : Option (PlainAnswer T)) → asked {T = T} (Advance state) ≡ Some (Store request) → caches_left (Advance state) caches answer ≡ caches
+  pub advance_op_keeps : (caches : Caches) (state : AdvanceOp) (request : Request) (answer : Option (PlainAnswer T)) → asked {T = T} (Advance state) ≡ Some (Store request) → plain_caches_after (Advance state) caches answer ≡ caches
   advance_op_keeps caches state request answer asks = advance_kept caches state request (asks_request (advance_asked state) request asks)
 
   -- the rows after a request that reached the store
@@ -216,7 +216,7 @@ module _ {T : Type 0} (decode : List ℕ → Option T) (get_epoch : T → ℕ) w
   abbrev pub LooksFrom : ℕ → Bool → List ℕ → List (PlainRow T) → StoreState → Caches → ℕ → PlainCall T → PlainDoing T → Type 0
   LooksFrom page refused failed rows store caches op call doing =
       let next = turned page decode refused doing caches None in
-      LooksTo decode get_epoch failed rows store caches (caches_left doing caches next.1) op call next
+      LooksTo decode get_epoch failed rows store caches (plain_caches_after doing caches next.1) op call next
 
   -- a check
 

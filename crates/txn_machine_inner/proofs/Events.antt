@@ -25,7 +25,7 @@ use Rattle.txn_history.proofs.Lists.{any_last}
 use Rattle.txn_machine_inner.specs.declared.doing.PlainDoing.{PlainDoing}
 use Rattle.txn_machine_inner.specs.declared.doing.PlainDoing.TheVariants.{Write, WriteUnchecked, Read, ReadUnchecked, ReadSeen, ListIds, Delete, Check, Advance, Ended}
 use Rattle.txn_machine_inner.specs.declared.doing.PlainOperation.{PlainOperation}
-use Rattle.txn_machine_inner.specs.Doing.{Next, asked, caches_left}
+use Rattle.txn_machine_inner.specs.Doing.{Next, asked, plain_caches_after}
 use Rattle.txn_machine_inner.specs.Machine.{State, effect_of, with_doing, acted, effected, failing, given_up, told_failure, Acts, Reaches, FailsFirst, FailsAfter, GivesUp, Lands, Looks, Served, FailsBy}
 use Rattle.txn_machine_inner.proofs.Lists.{within, numbered_here}
 use Rattle.txn_history.proofs.More.{begun_count-more}
@@ -87,10 +87,10 @@ module _ {T : Type 0} (decode : List ℕ → Option T) (get_epoch : T → ℕ) w
       let doing = v.operation.doing in
       let run = acts_run old op v.operation Look c a st in
       let l' = look_turn decode get_epoch old.page st.paged v.refused old.failed old.trace old.store c op run.0 st.know (st.caches v.operation.client c a.kept) doing run.1 a.asks in
-      let l = subst (λ (n : Next T). LooksTo decode get_epoch old.failed old.trace old.store c (caches_left doing c n.1) op run.0 n) (sym v.turns) l' in
+      let l = subst (λ (n : Next T). LooksTo decode get_epoch old.failed old.trace old.store c (plain_caches_after doing c n.1) op run.0 n) (sym v.turns) l' in
       subst (λ (s : State T). Stands decode get_epoch s) (sym v.state)
-      (turn_keeps decode get_epoch old op v.operation Look run.0 v.next.0 v.next.1 c (caches_left doing c v.next.1) a.found a.asks a.kept l.fits l.more
-      (own_turn decode get_epoch old.failed old.trace old.store (caches_left doing c v.next.1).boundary op run.0 v.next.0 v.next.1 l.turn) (but decode get_epoch old op st))
+      (turn_keeps decode get_epoch old op v.operation Look run.0 v.next.0 v.next.1 c (plain_caches_after doing c v.next.1) a.found a.asks a.kept l.fits l.more
+      (own_turn decode get_epoch old.failed old.trace old.store (plain_caches_after doing c v.next.1).boundary op run.0 v.next.0 v.next.1 l.turn) (but decode get_epoch old op st))
 
   -- a request of an operation reaches the store
 

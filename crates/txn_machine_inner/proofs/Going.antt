@@ -28,7 +28,7 @@ use Rattle.txn_history.specs.Added.{told_of}
 use Rattle.txn_machine_inner.specs.declared.doing.PlainDoing.{PlainDoing}
 use Rattle.txn_machine_inner.specs.declared.doing.PlainDoing.TheVariants.{Write, WriteUnchecked, Read, ReadUnchecked, ReadSeen, ListIds, Delete, Check, Advance, Ended}
 use Rattle.txn_machine_inner.specs.declared.doing.PlainOperation.{PlainOperation}
-use Rattle.txn_machine_inner.specs.Doing.{Next, started, turned, caches_left, asked, next_of, or_no_memory, write_answer, read_answer, value_answer, ids_answer, done_answer}
+use Rattle.txn_machine_inner.specs.Doing.{Next, started, turned, plain_caches_after, asked, next_of, or_no_memory, write_answer, read_answer, value_answer, ids_answer, done_answer}
 use Rattle.txn_machine_inner.specs.Machine.{State, seen_operation, seen_operations, seen_of, with_doing, effected, acted, loosened, failing, given_up, told_failure, ended_by, crashed, next_op, begun_as, Acts, GivesUp, Crashes, Looks, Served, PlainBegins, Takes, FailsFirst, FailsAfter, FailsBy}
 use Rattle.txn_machine_inner.proofs.Ends.{EndsOne, answer_ends, give_up_ends, told_ends, told_so, land_goes, seen_got, states_acted, states_new, states_crashed}
 
@@ -132,13 +132,13 @@ module _ {T : Type 0} where
   look_goes : (decode : List ℕ → Option T) (old : State T) (op : ℕ) (said : PlainTold T) (new : State T) → Looks decode old op said new → OperationsGoOn {C = PlainCall T} (seen_of old) (events.Look op) said (seen_of new)
   look_goes decode old op said new v =
       let fits = subst Fits (sym v.turns) (turned_fits old.page decode v.refused v.operation.doing v.caches None Look v.acts.asks) in
-      told_so seen_operation old (events.Look op) said (told_of (told.Went op) op v.next.1) new (acted old op v.operation v.next (caches_left v.operation.doing v.caches v.next.1)) v.tells v.state
+      told_so seen_operation old (events.Look op) said (told_of (told.Went op) op v.next.1) new (acted old op v.operation v.next (plain_caches_after v.operation.doing v.caches v.next.1)) v.tells v.state
       (record { clients = refl; operations = turn_states old op v.operation Look v.caches v.next v.acts fits; loose = refl; failed = refl })
 
   serve_goes : (decode : List ℕ → Option T) (old : State T) (op : ℕ) (said : PlainTold T) (new : State T) → Served decode old op said new → OperationsGoOn {C = PlainCall T} (seen_of old) (events.Serve op) said (seen_of new)
   serve_goes decode old op said new v =
       let fits = subst Fits (sym v.turns) (turned_fits old.page decode v.refused v.call.operation.doing v.call.caches (Some v.call.reply) (Store v.call.request) v.call.acts.asks) in
-      told_so seen_operation old (events.Serve op) said (told_of (told.Went op) op v.next.1) new (acted (effected old op v.call.request v.call.reply v.call.store) op v.call.operation v.next (caches_left v.call.operation.doing v.call.caches v.next.1)) v.tells v.state
+      told_so seen_operation old (events.Serve op) said (told_of (told.Went op) op v.next.1) new (acted (effected old op v.call.request v.call.reply v.call.store) op v.call.operation v.next (plain_caches_after v.call.operation.doing v.call.caches v.next.1)) v.tells v.state
       (record { clients = refl; operations = turn_states old op v.call.operation (Store v.call.request) v.call.caches v.next v.call.acts fits; loose = refl; failed = refl })
 
   -- what an operation leaves loose, by what it is seen to ask for

@@ -23,7 +23,7 @@ use Rattle.txn_caches.specs.Windows.{held, greatest_held}
 use Rattle.txn_steps.specs.declared.latest.LatestOp.{LatestOp}
 use Rattle.txn_steps.specs.declared.latest.LatestOp.TheVariants.{Looks, Probes, Finds, Lists, Chooses, Gets as GetsVersion, Keeps, Drops, Ended}
 use Rattle.txn_steps.specs.Requests.{version_got, version_page}
-use Rattle.txn_steps.specs.Latest.{ReadAnswer, latest_asked, paged_turned, listed, unlisted, found_kept, latest_left, read_in_hand, answered, probed, keeping, got_decoded, in_hand, held_or_got, chosen, begins_with, found_turned, latest_got, latest_turned}
+use Rattle.txn_steps.specs.Latest.{ReadAnswer, latest_asked, paged_turned, listed, unlisted, found_kept, latest_window_after, read_in_hand, answered, probed, keeping, got_decoded, in_hand, held_or_got, chosen, begins_with, found_turned, latest_got, latest_turned}
 use Rattle.txn_history.specs.Trace.{PlainRow}
 use Rattle.txn_history.specs.Lists.{numbered}
 use Rattle.txn_history.specs.Names.{world_names}
@@ -149,7 +149,7 @@ module _ {T : Type 0} (decode : List ℕ → Option T) where
   found_fits rows successor versions (Done (Ok answer)) c w = kept_fits decode rows successor versions c w
   found_fits rows successor versions (Done (Err number)) c w = w
 
-  pub latest_fits : (rows : List (PlainRow T)) (op : ℕ) (latest : LatestOp T) (versions : List Cached) (told : Turned (ReadAnswer T)) → LatestStands decode rows op latest → WindowFits decode rows versions → WindowFits decode rows (latest_left latest versions told)
+  pub latest_fits : (rows : List (PlainRow T)) (op : ℕ) (latest : LatestOp T) (versions : List Cached) (told : Turned (ReadAnswer T)) → LatestStands decode rows op latest → WindowFits decode rows versions → WindowFits decode rows (latest_window_after latest versions told)
   latest_fits rows op (Finds successor found) versions told s w = found_fits rows successor versions told s w
   latest_fits rows op (Keeps version value) versions told s w = kept_fits decode rows version versions s.1.0 w
   latest_fits rows op (Drops id) versions told s w = above_fits decode rows id versions w

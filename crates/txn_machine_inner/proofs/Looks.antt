@@ -16,8 +16,8 @@ use Rattle.txn_steps.specs.declared.read.ReadOp.TheVariants as reads
 use Rattle.txn_steps.specs.declared.seen.ReadSeenOp.{ReadSeenOp}
 use Rattle.txn_steps.specs.declared.seen.ReadSeenOp.TheVariants as seen
 use Rattle.txn_steps.specs.Writes.{unchecked_asked, unchecked_turned, unchecked_latest, write_asked_at, write_turned_at, write_caches_at}
-use Rattle.txn_steps.specs.Latest.{ReadAnswer, latest_turned, latest_left}
-use Rattle.txn_steps.specs.Reads.{read_asked, read_turned, read_left, IsInRange}
+use Rattle.txn_steps.specs.Latest.{ReadAnswer, latest_turned, latest_window_after}
+use Rattle.txn_steps.specs.Reads.{read_asked, read_turned, read_caches_after, IsInRange}
 use Rattle.txn_steps.specs.SeenSteps.{seen_asked, seen_turned, seen_latest}
 use Rattle.txn_steps.proofs.RangeLemmas.{read_stays}
 use Rattle.txn_history.specs.declared.event.PlainCall.{PlainCall}
@@ -71,10 +71,10 @@ module _ {T : Type 0} (decode : List ℕ → Option T) (get_epoch : T → ℕ) (
 
   -- a read of the newest version: what it leaves of the window fits, whatever it says
   pub read_looks : (refused : Bool) (page : ℕ) → 1 ≤ page → (read : ReadOp T) → IsInRange read → call ≡ calls.Read → ReadStands decode rows store caches.boundary op read → read_asked read ≡ None → (said : Turned (ReadAnswer T)) →
-      Leaves (read_left read caches said) (or_no_memory refused (read_next (read_turned world_names world_boundary page decode read caches None)))
+      Leaves (read_caches_after read caches said) (or_no_memory refused (read_next (read_turned world_names world_boundary page decode read caches None)))
   read_looks refused page room (reads.Reads latest boundary) range is h e said =
       let next = read_next (read_turned world_names world_boundary page decode (reads.Reads latest boundary) caches None) in
-      latest_left_as (latest_left latest caches.latest said) (or_no_memory refused next) (latest_fits decode rows op latest caches.latest said h.0 c.latest)
+      latest_left_as (latest_window_after latest caches.latest said) (or_no_memory refused next) (latest_fits decode rows op latest caches.latest said h.0 c.latest)
       (may_lack decode get_epoch refused failed rows store caches.boundary op call next r
       (latest_told decode get_epoch failed rows store caches.boundary op call r (latest_turned world_names page decode latest caches.latest None) boundary h.1 is
       (read_stays world_names page decode world_boundary (reads.Reads latest boundary) caches None range)

@@ -14,7 +14,7 @@ use Rattle.txn_caches.specs.declared.turned.Turned.TheVariants.{Goes, Done}
 use Rattle.txn_steps.specs.declared.read.ReadOp.{ReadOp}
 use Rattle.txn_steps.specs.declared.read.ReadOp.TheVariants as reads
 use Rattle.txn_steps.specs.Latest.{ReadAnswer}
-use Rattle.txn_steps.specs.Reads.{read_started, read_asked, read_turned, read_left}
+use Rattle.txn_steps.specs.Reads.{read_started, read_asked, read_turned, read_caches_after}
 use Rattle.txn_history.specs.declared.event.PlainCall.TheVariants as calls
 use Rattle.txn_history.specs.Trace.{PlainTold, PlainEvent, PlainRow}
 use Rattle.txn_history.specs.declared.event.EventOf.TheVariants as events
@@ -26,7 +26,7 @@ use Rattle.txn_history.proofs.Lists.{numbered_last}
 use Rattle.txn_machine_inner.specs.declared.doing.PlainDoing.{PlainDoing}
 use Rattle.txn_machine_inner.specs.declared.doing.PlainDoing.TheVariants.{Read, Ended}
 use Rattle.txn_machine_inner.specs.declared.doing.PlainOperation.{PlainOperation}
-use Rattle.txn_machine_inner.specs.Doing.{Next, asked, or_no_memory, read_next, turned, caches_left}
+use Rattle.txn_machine_inner.specs.Doing.{Next, asked, or_no_memory, read_next, turned, plain_caches_after}
 use Rattle.txn_machine_inner.specs.Machine.{State, opening, acted, effected, next_op, Looks, Served, Takes, IsReached}
 use Rattle.txn_machine_inner.specs.Alone.{IsWindow, doing_of, doing_in, Moves}
 use Rattle.txn_machine_inner.proofs.Lists.{numbered_here}
@@ -65,7 +65,7 @@ module _ {T : Type 0} where
     pub reply : Option Reply
     pub given : Given read old.store reply new.store
     pub turn : read_turned world_names world_boundary old.page decode read caches reply ≡ (next, Goes)
-    pub at : Reading new op next (read_left read caches Goes)
+    pub at : Reading new op next (read_caches_after read caches Goes)
     pub trace : new.trace ≡ old.trace
     pub files : new.store.files ≡ old.store.files
     pub page : new.page ≡ old.page
@@ -98,20 +98,20 @@ module _ {T : Type 0} (decode : List ℕ → Option T) where
 
   -- what a reply leads to
   replied : (old : State T) (op : ℕ) (o : PlainOperation T) (read : ReadOp T) (caches : Caches) (reply : Option Reply) (refused : Bool) (next : Next T) (middle : State T) → numbered middle.operations op ≡ Some o → numbered middle.caches o.client ≡ Some caches →
-      Given read old.store reply middle.store → middle.trace ≡ old.trace → middle.store.files ≡ old.store.files → middle.page ≡ old.page → next ≡ turned old.page decode refused (Read read) caches reply → Outcome old op read caches (acted middle op o next (caches_left (Read read) caches next.1))
+      Given read old.store reply middle.store → middle.trace ≡ old.trace → middle.store.files ≡ old.store.files → middle.page ≡ old.page → next ≡ turned old.page decode refused (Read read) caches reply → Outcome old op read caches (acted middle op o next (plain_caches_after (Read read) caches next.1))
   replied old op o read caches reply refused next middle there kept given trace files page turn =
       let told = read_turned world_names world_boundary old.page decode read caches reply in
       elim (next_cases refused told) [
-        | inl ends ↦ inl (acted_ends middle op o next (caches_left (Read read) caches next.1) there (ap (λ (n : Next T). n.0) turn ∙ ends))
+        | inl ends ↦ inl (acted_ends middle op o next (plain_caches_after (Read read) caches next.1) there (ap (λ (n : Next T). n.0) turn ∙ ends))
         | inr goes ↦
             let is : next ≡ (Read told.0, None) = turn ∙ goes.1 in
-            subst (λ (n : Next T). Outcome old op read caches (acted middle op o n (caches_left (Read read) caches n.1))) (sym is)
+            subst (λ (n : Next T). Outcome old op read caches (acted middle op o n (plain_caches_after (Read read) caches n.1))) (sym is)
             (inr (record {
               next = told.0;
               reply = reply;
               given = given;
               turn = goes.0;
-              at = acted_reads middle op o told.0 caches (read_left read caches Goes) there kept;
+              at = acted_reads middle op o told.0 caches (read_caches_after read caches Goes) there kept;
               trace = append-nil middle.trace ∙ trace;
               files = files;
               page = page;
@@ -165,8 +165,8 @@ module _ {T : Type 0} (encode : T → List ℕ) (decode : List ℕ → Option T)
     look_moves old said new v r =
         let i = is_read old v.operation v.caches r v.acts.found v.acts.kept in
         let turn : v.next ≡ turned old.page decode v.refused (Read read) caches None = v.turns ∙ (ap (λ (d : PlainDoing T). turned old.page decode v.refused d v.caches None) i.doing ∙ ap (λ (c : Caches). turned old.page decode v.refused (Read read) c None) i.same) in
-        let left : caches_left v.operation.doing v.caches v.next.1 ≡ caches_left (Read read) caches v.next.1 = ap (λ (d : PlainDoing T). caches_left d v.caches v.next.1) i.doing ∙ ap (λ (c : Caches). caches_left (Read read) c v.next.1) i.same in
-        let is : new ≡ acted old op v.operation v.next (caches_left (Read read) caches v.next.1) = v.state ∙ ap (λ (c : Caches). acted old op v.operation v.next c) left in
+        let left : plain_caches_after v.operation.doing v.caches v.next.1 ≡ plain_caches_after (Read read) caches v.next.1 = ap (λ (d : PlainDoing T). plain_caches_after d v.caches v.next.1) i.doing ∙ ap (λ (c : Caches). plain_caches_after (Read read) c v.next.1) i.same in
+        let is : new ≡ acted old op v.operation v.next (plain_caches_after (Read read) caches v.next.1) = v.state ∙ ap (λ (c : Caches). acted old op v.operation v.next c) left in
         let looks = asks_look (read_asked read) (sym (ap asked i.doing) ∙ v.acts.asks) in
         subst (λ (s : State T). Outcome decode old op read caches s) (sym is)
         (replied decode old op v.operation read caches None v.refused v.next old v.acts.found i.kept (looks, refl) refl refl refl turn)
@@ -175,9 +175,9 @@ module _ {T : Type 0} (encode : T → List ℕ) (decode : List ℕ → Option T)
     serve_moves old said new h v r =
         let i = is_read old v.call.operation v.call.caches r v.call.acts.found v.call.acts.kept in
         let turn : v.next ≡ turned old.page decode v.refused (Read read) caches (Some v.call.reply) = v.turns ∙ (ap (λ (d : PlainDoing T). turned old.page decode v.refused d v.call.caches (Some v.call.reply)) i.doing ∙ ap (λ (c : Caches). turned old.page decode v.refused (Read read) c (Some v.call.reply)) i.same) in
-        let left : caches_left v.call.operation.doing v.call.caches v.next.1 ≡ caches_left (Read read) caches v.next.1 = ap (λ (d : PlainDoing T). caches_left d v.call.caches v.next.1) i.doing ∙ ap (λ (c : Caches). caches_left (Read read) c v.next.1) i.same in
+        let left : plain_caches_after v.call.operation.doing v.call.caches v.next.1 ≡ plain_caches_after (Read read) caches v.next.1 = ap (λ (d : PlainDoing T). plain_caches_after d v.call.caches v.next.1) i.doing ∙ ap (λ (c : Caches). plain_caches_after (Read read) c v.next.1) i.same in
         let middle = effected old op v.call.request v.call.reply v.call.store in
-        let is : new ≡ acted middle op v.call.operation v.next (caches_left (Read read) caches v.next.1) = v.state ∙ ap (λ (c : Caches). acted middle op v.call.operation v.next c) left in
+        let is : new ≡ acted middle op v.call.operation v.next (plain_caches_after (Read read) caches v.next.1) = v.state ∙ ap (λ (c : Caches). acted middle op v.call.operation v.next c) left in
         let asks = asks_request (read_asked read) v.call.request (sym (ap asked i.doing) ∙ v.call.acts.asks) in
         let quiet = read_quiet decode old.trace old.store caches op read v.call.request (read_stands old h r) asks in
         subst (λ (s : State T). Outcome decode old op read caches s) (sym is)

@@ -23,8 +23,8 @@ use Rattle.txn_steps.specs.declared.read.ReadOp.TheVariants as reads
 use Rattle.txn_steps.specs.declared.seen.ReadSeenOp.{ReadSeenOp}
 use Rattle.txn_steps.specs.declared.seen.ReadSeenOp.TheVariants as seen
 use Rattle.txn_steps.specs.Writes.{unchecked_asked, unchecked_turned, unchecked_latest, write_asked, write_asked_at, write_caches_at}
-use Rattle.txn_steps.specs.Latest.{ReadAnswer, latest_asked, latest_left}
-use Rattle.txn_steps.specs.Reads.{read_asked, read_turned, read_left}
+use Rattle.txn_steps.specs.Latest.{ReadAnswer, latest_asked, latest_window_after}
+use Rattle.txn_steps.specs.Reads.{read_asked, read_turned, read_caches_after}
 use Rattle.txn_steps.specs.SeenSteps.{unchecked_turned as value_turned, seen_asked, seen_turned, seen_latest}
 use Rattle.txn_steps.specs.declared.listing.ListOp.{ListOp}
 use Rattle.txn_steps.specs.Requests.{next_after}
@@ -38,7 +38,7 @@ use Rattle.txn_history.specs.Seen.{Store, Look}
 use Rattle.txn_history.specs.Facts.{Entered, WasNewest}
 use Rattle.txn_machine_inner.specs.declared.doing.PlainDoing.{PlainDoing}
 use Rattle.txn_machine_inner.specs.declared.doing.PlainDoing.TheVariants.{Write, WriteUnchecked, Read, ReadUnchecked, ReadSeen, ListIds, Delete, Check, Advance, Ended}
-use Rattle.txn_machine_inner.specs.Doing.{asked, read_next, value_next, seen_next, ids_next, said_of, caches_left, turned}
+use Rattle.txn_machine_inner.specs.Doing.{asked, read_next, value_next, seen_next, ids_next, said_of, plain_caches_after, turned}
 use Rattle.txn_machine_inner.specs.Machine.{effect_of}
 use Rattle.txn_machine_inner.proofs.Stands.{IsQuiet, Frame, KnowStands, CachesStand, UncheckedStands, WriteStands, ReadStands, SeenStands, DoingStands, Asks, Runs, RunStands}
 use Rattle.txn_machine_inner.proofs.Turns.{may_lack}
@@ -115,7 +115,7 @@ module _ {T : Type 0} (decode : List ℕ → Option T) (get_epoch : T → ℕ) w
     write_keeps writes.Writes write e = unchecked_keeps write.write e
     write_keeps writes.Checks write e = check_kept caches write.check request e
 
-    latest_keeps : (read : LatestOp T) (said : Turned (ReadAnswer T)) → latest_asked read ≡ Some request → latest_left read caches.latest said ≡ caches.latest
+    latest_keeps : (read : LatestOp T) (said : Turned (ReadAnswer T)) → latest_asked read ≡ Some request → latest_window_after read caches.latest said ≡ caches.latest
     latest_keeps (latest.Probes hand found next own) said e = refl
     latest_keeps (latest.Lists found own) said e = refl
     latest_keeps (latest.Gets id own) said e = refl
@@ -126,7 +126,7 @@ module _ {T : Type 0} (decode : List ℕ → Option T) (get_epoch : T → ℕ) w
     latest_keeps (latest.Drops id) said e = cc
     latest_keeps latest.Ended said e = cc
 
-    read_keeps : (read : ReadOp T) (said : Turned (ReadAnswer T)) → read_asked read ≡ Some request → read_left read caches said ≡ caches
+    read_keeps : (read : ReadOp T) (said : Turned (ReadAnswer T)) → read_asked read ≡ Some request → read_caches_after read caches said ≡ caches
     read_keeps (reads.Reads latest boundary) said e = ap (λ vs. record { latest = vs; boundary = caches.boundary }) (latest_keeps latest said e)
     read_keeps (reads.Checks id value check) said e = check_kept caches check request e
     read_keeps reads.Ended said e = cc
@@ -137,7 +137,7 @@ module _ {T : Type 0} (decode : List ℕ → Option T) (get_epoch : T → ℕ) w
     seen_keeps (seen.Keeps version value) e = cc
     seen_keeps seen.Ended e = cc
 
-    pub keeps_caches : (doing : PlainDoing T) (answer : Option (PlainAnswer T)) → asked doing ≡ Some (Store request) → caches_left doing caches answer ≡ caches
+    pub keeps_caches : (doing : PlainDoing T) (answer : Option (PlainAnswer T)) → asked doing ≡ Some (Store request) → plain_caches_after doing caches answer ≡ caches
     keeps_caches (Write write) answer e = write_keeps write.step write (asks_request (write_asked write) request e)
     keeps_caches (WriteUnchecked write) answer e = unchecked_keeps write (asks_request (unchecked_asked write) request e)
     keeps_caches (Read read) answer e = read_keeps read (said_of answer) (asks_request (read_asked read) request e)

@@ -5,7 +5,7 @@ use Rattle.txn_caches.specs.declared.turned.Turned.{Turned}
 use Rattle.txn_caches.specs.declared.turned.Turned.TheVariants.{Goes}
 use Rattle.txn_steps.specs.declared.read.ReadOp.{ReadOp}
 use Rattle.txn_steps.specs.Latest.{ReadAnswer}
-use Rattle.txn_steps.specs.Reads.{read_started, read_left}
+use Rattle.txn_steps.specs.Reads.{read_started, read_caches_after}
 use Rattle.txn_history.specs.Trace.{PlainRow}
 use Rattle.txn_history.specs.Names.{world_boundary}
 use Rattle.txn_machine_inner.specs.declared.doing.PlainDoing.TheVariants.{Ended}
@@ -35,7 +35,7 @@ module _ {T : Type 0} (encode : T → List ℕ) (decode : List ℕ → Option T)
   module _ (old new : State T) (read : ReadOp T) (caches : Caches) (h : Standing encode decode get_epoch old) (r : Reading old op read caches) (h' : Standing encode decode get_epoch new) (g : GoesTo decode old new op read caches) where
     -- what a move makes of the first pass, and of the second
     abbrev pub after : Caches
-    after = read_left read caches Goes
+    after = read_caches_after read caches Goes
 
     pub first_on : First old.trace read caches.latest → FirstOn new.trace (g.next, Goes) after.latest
     first_on f =
@@ -60,7 +60,7 @@ module _ {T : Type 0} (encode : T → List ℕ) (decode : List ℕ → Option T)
         | inr g ↦
             let on = second_on s next read caches h r h' g f in
             let none = counts_none (begins_pass (doing_in next op)) (no_pass s next read caches h r h' g on.1) in
-            let rest = second_passes states next g.next (read_left read caches Goes) h' g.at on.0 a.1 in
+            let rest = second_passes states next g.next (read_caches_after read caches Goes) h' g.at on.0 a.1 in
             omega (arith, none, rest)
       ]
 
@@ -73,11 +73,11 @@ module _ {T : Type 0} (encode : T → List ℕ) (decode : List ℕ → Option T)
         | inr g ↦ elim (first_on s next read caches h r h' g f) [
           | inl on ↦
               let none = counts_none (begins_pass (doing_in next op)) (no_pass s next read caches h r h' g on.1) in
-              let rest = first_passes states next g.next (read_left read caches Goes) h' g.at on.0 a.1 in
+              let rest = first_passes states next g.next (read_caches_after read caches Goes) h' g.at on.0 a.1 in
               omega (arith, none, rest)
           | inr on ↦
               let one = at_most_one (begins_pass (doing_in next op)) in
-              let rest = second_passes states next g.next (read_left read caches Goes) h' g.at on a.1 in
+              let rest = second_passes states next g.next (read_caches_after read caches Goes) h' g.at on a.1 in
               omega (arith, one, rest)
         ]
       ]

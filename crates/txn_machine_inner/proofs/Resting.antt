@@ -27,8 +27,8 @@ use Rattle.txn_steps.specs.declared.latest.LatestOp.TheVariants as latest
 use Rattle.txn_steps.specs.declared.read.ReadOp.{ReadOp}
 use Rattle.txn_steps.specs.declared.read.ReadOp.TheVariants as reads
 use Rattle.txn_steps.specs.Requests.{next_after}
-use Rattle.txn_steps.specs.Latest.{ReadAnswer, greatest_from, latest_turned, latest_left, paged_turned, unlisted, read_in_hand, probed, keeping, in_hand, held_or_got, chosen, begins_with, found_turned, latest_got, latest_replied}
-use Rattle.txn_steps.specs.Reads.{read_asked, read_turned, read_left, reads_turned, checks_turned}
+use Rattle.txn_steps.specs.Latest.{ReadAnswer, greatest_from, latest_turned, latest_window_after, paged_turned, unlisted, read_in_hand, probed, keeping, in_hand, held_or_got, chosen, begins_with, found_turned, latest_got, latest_replied}
+use Rattle.txn_steps.specs.Reads.{read_asked, read_turned, read_caches_after, reads_turned, checks_turned}
 use Rattle.txn_history.specs.Trace.{PlainRow}
 use Rattle.txn_history.specs.Names.{world_names, world_boundary}
 use Rattle.txn_history.specs.History.{newest, boundary}
@@ -311,7 +311,7 @@ module _ {T : Type 0} (decode : List ℕ → Option T) (get_epoch : T → ℕ) (
   seeking_step (latest.Drops id) ahead versions reply h g w s = tt
   seeking_step latest.Ended ahead versions reply h g w s = tt
 
-  probing_step : (read : LatestOp T) (versions : List Cached) (reply : Option Reply) → LatestStands decode rows op read → Ascends versions → Probing read versions → ProbesOn rows (latest_turned world_names page decode read versions reply) (latest_left read versions Goes)
+  probing_step : (read : LatestOp T) (versions : List Cached) (reply : Option Reply) → LatestStands decode rows op read → Ascends versions → Probing read versions → ProbesOn rows (latest_turned world_names page decode read versions reply) (latest_window_after read versions Goes)
   probing_step latest.Looks versions reply h up p = begins_on decode page rows versions latest.Looks (greatest_held versions) refl up
   probing_step (latest.Probes hand found next request) versions reply h up p = probes_on decode page rows versions hand found next request reply h.1 p
   probing_step (latest.Finds successor found) versions reply h up p = found_on decode page rows (kept successor versions) successor found (up_kept successor versions p)
@@ -323,12 +323,12 @@ module _ {T : Type 0} (decode : List ℕ → Option T) (get_epoch : T → ℕ) (
   probing_step latest.Ended versions reply h up p = absurd p
 
   -- a step of the first pass: it goes on, or a second begins with nothing cached
-  pub first_step : (read : ReadOp T) (caches : Caches) (reply : Option Reply) → ReadStands decode rows store caches.boundary op read → Given read store reply new → IsWindow caches.latest → CachesStand decode rows store caches → WindowFits decode rows (read_left read caches Goes).latest → First rows read caches.latest →
-      FirstOn rows (read_turned world_names world_boundary page decode read caches reply) (read_left read caches Goes).latest
+  pub first_step : (read : ReadOp T) (caches : Caches) (reply : Option Reply) → ReadStands decode rows store caches.boundary op read → Given read store reply new → IsWindow caches.latest → CachesStand decode rows store caches → WindowFits decode rows (read_caches_after read caches Goes).latest → First rows read caches.latest →
+      FirstOn rows (read_turned world_names world_boundary page decode read caches reply) (read_caches_after read caches Goes).latest
   first_step (reads.Reads read ahead) caches reply h g w c after f =
       elim f [
-        | inl p ↦ probes_first decode page rows (latest_left read caches.latest Goes) ahead (latest_turned world_names page decode read caches.latest reply) (probing_step read caches.latest reply h.0 w.ascending p)
-        | inr s ↦ seeks_first decode page rows (latest_left read caches.latest Goes) ahead (latest_turned world_names page decode read caches.latest reply) after (seeking_step read ahead caches.latest reply h.0 g c.latest s)
+        | inl p ↦ probes_first decode page rows (latest_window_after read caches.latest Goes) ahead (latest_turned world_names page decode read caches.latest reply) (probing_step read caches.latest reply h.0 w.ascending p)
+        | inr s ↦ seeks_first decode page rows (latest_window_after read caches.latest Goes) ahead (latest_turned world_names page decode read caches.latest reply) after (seeking_step read ahead caches.latest reply h.0 g c.latest s)
       ]
   first_step (reads.Checks id value (checks.Checks check)) caches reply h g w c after f =
       checks_first rows id caches.latest (checks_turned world_boundary id value (check_turned (checks.Checks check) caches reply)) (checks_on id value check.id (boundary_check_turned check caches.boundary reply)) f
@@ -345,9 +345,9 @@ module _ {T : Type 0} (decode : List ℕ → Option T) (get_epoch : T → ℕ) (
 
   -- a step of the second pass: it is never refused
   pub second_step : (read : ReadOp T) (caches : Caches) (reply : Option Reply) → ReadStands decode rows store caches.boundary op read → Given read store reply new → CachesStand decode rows store caches → Second rows read caches.latest →
-      SecondOn rows (read_turned world_names world_boundary page decode read caches reply) (read_left read caches Goes).latest
+      SecondOn rows (read_turned world_names world_boundary page decode read caches reply) (read_caches_after read caches Goes).latest
   second_step (reads.Reads read ahead) caches reply h g c s =
-      seeks_second decode page rows (latest_left read caches.latest Goes) ahead (latest_turned world_names page decode read caches.latest reply)
+      seeks_second decode page rows (latest_window_after read caches.latest Goes) ahead (latest_turned world_names page decode read caches.latest reply)
       (elim s [ inl none ↦ emptied_step read caches.latest reply none | inr seeks ↦ seeking_step read ahead caches.latest reply h.0 g c.latest seeks ])
   second_step (reads.Checks id value (checks.Checks check)) caches reply h g c s =
       checks_second rows id caches.latest (checks_turned world_boundary id value (check_turned (checks.Checks check) caches reply)) (checks_on id value check.id (boundary_check_turned check caches.boundary reply)) s

@@ -30,8 +30,8 @@ use Rattle.txn_steps.specs.declared.delete.RemovalStep.TheVariants as removals
 use Rattle.txn_steps.specs.declared.delete.DeleteStep.{DeleteStep}
 use Rattle.txn_steps.specs.declared.delete.DeleteStep.TheVariants as deletes
 use Rattle.txn_steps.specs.declared.delete.DeleteOp.{DeleteOp}
-use Rattle.txn_steps.specs.Latest.{ReadAnswer, latest_left, found_kept}
-use Rattle.txn_steps.specs.Reads.{read_left}
+use Rattle.txn_steps.specs.Latest.{ReadAnswer, latest_window_after, found_kept}
+use Rattle.txn_steps.specs.Reads.{read_caches_after}
 use Rattle.txn_steps.specs.Writes.{unchecked_latest, write_caches_at}
 use Rattle.txn_steps.specs.SeenSteps.{seen_latest}
 use Rattle.txn_steps.specs.Deletes.{removal_latest_at, delete_caches_at}
@@ -43,7 +43,7 @@ use Rattle.txn_history.specs.declared.event.Failure.TheVariants as failures
 use Rattle.txn_history.specs.Lists.{numbered}
 use Rattle.txn_machine_inner.specs.declared.doing.PlainDoing.{PlainDoing}
 use Rattle.txn_machine_inner.specs.declared.doing.PlainDoing.TheVariants.{Write, WriteUnchecked, Read, ReadUnchecked, ReadSeen, ListIds, Delete, Check, Advance, Ended}
-use Rattle.txn_machine_inner.specs.Doing.{said_of, caches_left}
+use Rattle.txn_machine_inner.specs.Doing.{said_of, plain_caches_after}
 use Rattle.txn_machine_inner.specs.Machine.{State, no_caches, opening, FailsFirst, Takes, Runs, FailsAfter, FailsBy}
 use Rattle.txn_machine_inner.specs.Alone.{IsWindow}
 
@@ -115,7 +115,7 @@ module _ {T : Type 0} where
   found_window versions successor (Done (Ok answer)) w = kept_window successor versions w
   found_window versions successor (Done (Err number)) w = w
 
-  latest_window : (read : LatestOp T) (versions : List Cached) (said : Turned (ReadAnswer T)) → IsWindow versions → IsWindow (latest_left read versions said)
+  latest_window : (read : LatestOp T) (versions : List Cached) (said : Turned (ReadAnswer T)) → IsWindow versions → IsWindow (latest_window_after read versions said)
   latest_window latest.Looks versions said w = w
   latest_window (latest.Probes hand found next request) versions said w = w
   latest_window (latest.Finds successor found) versions said w = found_window versions successor said w
@@ -126,7 +126,7 @@ module _ {T : Type 0} where
   latest_window (latest.Drops id) versions said w = above_window id versions w
   latest_window latest.Ended versions said w = w
 
-  pub read_window : (read : ReadOp T) (caches : Caches) (said : Turned (ReadAnswer T)) → IsWindow caches.latest → IsWindow (read_left read caches said).latest
+  pub read_window : (read : ReadOp T) (caches : Caches) (said : Turned (ReadAnswer T)) → IsWindow caches.latest → IsWindow (read_caches_after read caches said).latest
   read_window (reads.Reads latest boundary) caches said w = latest_window latest caches.latest said w
   read_window (reads.Checks id value check) caches said w = check_window check caches w
   read_window reads.Ended caches said w = w
@@ -137,7 +137,7 @@ module _ {T : Type 0} where
   seen_window (seen.Keeps version value) versions w = kept_window version versions w
   seen_window seen.Ended versions w = w
 
-  pub left_window : (doing : PlainDoing T) (caches : Caches) (answer : Option (PlainAnswer T)) → IsWindow caches.latest → IsWindow (caches_left doing caches answer).latest
+  pub left_window : (doing : PlainDoing T) (caches : Caches) (answer : Option (PlainAnswer T)) → IsWindow caches.latest → IsWindow (plain_caches_after doing caches answer).latest
   left_window (Write write) caches answer w = write_window write.step write caches w
   left_window (WriteUnchecked write) caches answer w = unchecked_window write caches.latest w
   left_window (Read read) caches answer w = read_window read caches (said_of answer) w
@@ -200,10 +200,10 @@ module _ {T : Type 0} (encode : T → List ℕ) (decode : List ℕ → Option T)
   takes_windowed old (events.Begin client call) said new t h = subst Windowed (sym t.step.state) h
   takes_windowed old (events.Look op) said new t h =
       let v = t.step in
-      subst Windowed (sym v.state) (left_windows old.caches v.operation.client v.caches (caches_left v.operation.doing v.caches v.next.1) v.acts.kept h (left_window v.operation.doing v.caches v.next.1))
+      subst Windowed (sym v.state) (left_windows old.caches v.operation.client v.caches (plain_caches_after v.operation.doing v.caches v.next.1) v.acts.kept h (left_window v.operation.doing v.caches v.next.1))
   takes_windowed old (events.Serve op) said new t h =
       let v = t.step in
-      subst Windowed (sym v.state) (left_windows old.caches v.call.operation.client v.call.caches (caches_left v.call.operation.doing v.call.caches v.next.1) v.call.acts.kept h (left_window v.call.operation.doing v.call.caches v.next.1))
+      subst Windowed (sym v.state) (left_windows old.caches v.call.operation.client v.call.caches (plain_caches_after v.call.operation.doing v.call.caches v.next.1) v.call.acts.kept h (left_window v.call.operation.doing v.call.caches v.next.1))
   takes_windowed old (events.Fail op failure) said new t h = fail_windowed failure old op said new t.step h
   takes_windowed old (events.GiveUp op) said new t h =
       let v = t.step in

@@ -29,7 +29,7 @@ use Rattle.txn_steps.specs.declared.delete.DeleteOp.{DeleteOp}
 use Rattle.txn_steps.specs.Requests.{version_got}
 use Rattle.txn_steps.specs.Latest.{ReadAnswer}
 use Rattle.txn_steps.specs.Writes.{unchecked_started, unchecked_asked, unchecked_turned, unchecked_latest, IsUncheckedReply, write_started, write_asked, write_turned, write_caches, IsWriteReply}
-use Rattle.txn_steps.specs.Reads.{read_started, read_asked, read_turned, read_left, IsReadReply, IsInRange}
+use Rattle.txn_steps.specs.Reads.{read_started, read_asked, read_turned, read_caches_after, IsReadReply, IsInRange}
 use Rattle.txn_steps.specs.SeenSteps.{unchecked_turned as value_turned, seen_asked, seen_turned, seen_latest, IsSeenReply}
 use Rattle.txn_steps.specs.Listed.{Listed}
 use Rattle.txn_steps.specs.Listings.{listing_started, listing_turned}
@@ -205,17 +205,17 @@ module _ {T : Type 0} where
   said_of (Some answer) = turns.Done (Ok None)
 
   -- what it leaves of its client's caches, by its answer
-  abbrev pub caches_left : PlainDoing T → Caches → Option (PlainAnswer T) → Caches
-  caches_left (Write op) caches answer = write_caches op caches
-  caches_left (WriteUnchecked op) caches answer = record { latest = unchecked_latest op caches.latest; boundary = caches.boundary }
-  caches_left (Read op) caches answer = read_left op caches (said_of answer)
-  caches_left (ReadUnchecked op) caches answer = caches
-  caches_left (ReadSeen op) caches answer = record { latest = seen_latest op caches.latest; boundary = caches.boundary }
-  caches_left (ListIds op) caches answer = caches
-  caches_left (Delete op) caches answer = delete_caches op caches
-  caches_left (Check op) caches answer = check_caches op caches
-  caches_left (Advance op) caches answer = advance_caches op caches
-  caches_left Ended caches answer = caches
+  abbrev pub plain_caches_after : PlainDoing T → Caches → Option (PlainAnswer T) → Caches
+  plain_caches_after (Write op) caches answer = write_caches op caches
+  plain_caches_after (WriteUnchecked op) caches answer = record { latest = unchecked_latest op caches.latest; boundary = caches.boundary }
+  plain_caches_after (Read op) caches answer = read_caches_after op caches (said_of answer)
+  plain_caches_after (ReadUnchecked op) caches answer = caches
+  plain_caches_after (ReadSeen op) caches answer = record { latest = seen_latest op caches.latest; boundary = caches.boundary }
+  plain_caches_after (ListIds op) caches answer = caches
+  plain_caches_after (Delete op) caches answer = delete_caches op caches
+  plain_caches_after (Check op) caches answer = check_caches op caches
+  plain_caches_after (Advance op) caches answer = advance_caches op caches
+  plain_caches_after Ended caches answer = caches
 
 module _ {T : Type 0} (page : ℕ) (encode : T → List ℕ) where
   -- how a call starts, where a page of a listing has so many files at most

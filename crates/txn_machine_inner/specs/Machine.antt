@@ -28,7 +28,7 @@ use Rattle.txn_history.specs.Added.{told_of, answer_rows, effect_rows}
 use Rattle.txn_machine_inner.specs.declared.doing.PlainDoing.{PlainDoing}
 use Rattle.txn_machine_inner.specs.declared.doing.PlainDoing.TheVariants.{Ended}
 use Rattle.txn_machine_inner.specs.declared.doing.PlainOperation.{PlainOperation}
-use Rattle.txn_machine_inner.specs.Doing.{Next, started, asked, turned, caches_left, ReadsBack, FitsWord}
+use Rattle.txn_machine_inner.specs.Doing.{Next, started, asked, turned, plain_caches_after, ReadsBack, FitsWord}
 
 -- All of a world but its codec and its allocator, whatever its operations, its views, its calls and their answers are. Each list is in the order of the numbers, from 1 on.
 pub record StateOf (O V C A : Type 0) : Type 0 where
@@ -262,7 +262,7 @@ module _ {T : Type 0} (decode : List ℕ → Option T) where
     pub next : Next T
     pub turns : next ≡ turned old.page decode refused operation.doing caches None
     pub tells : said ≡ told_of (told.Went op) op next.1
-    pub state : new ≡ acted old op operation next (caches_left operation.doing caches next.1)
+    pub state : new ≡ acted old op operation next (plain_caches_after operation.doing caches next.1)
 
   -- A serve: the operation's request is served by the store, and the operation takes the reply.
   pub record Served (old : State T) (op : ℕ) (said : PlainTold T) (new : State T) : Type 0 where
@@ -272,7 +272,7 @@ module _ {T : Type 0} (decode : List ℕ → Option T) where
     pub next : Next T
     pub turns : next ≡ turned old.page decode refused call.operation.doing call.caches (Some call.reply)
     pub tells : said ≡ told_of (told.Went op) op next.1
-    pub state : new ≡ acted (effected old op call.request call.reply call.store) op call.operation next (caches_left call.operation.doing call.caches next.1)
+    pub state : new ≡ acted (effected old op call.request call.reply call.store) op call.operation next (plain_caches_after call.operation.doing call.caches next.1)
 
 module _ {T : Type 0} (encode : T → List ℕ) (decode : List ℕ → Option T) where
   -- A begin: its call's operation starts.

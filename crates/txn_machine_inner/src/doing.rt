@@ -163,7 +163,7 @@ impl<T: Clone> PlainDoing<T> {
     ghost use Rattle.std.specs.Prelude.{◌≡◌, IfSome};
     ghost use Rattle.txn_types.specs.Clones.{IsExactClone};
     ghost use Rattle.txn_history.specs.Names.{world_names, world_boundary};
-    ghost use Rattle.txn_machine_inner.specs.Doing.{caches_left, first_of, InRange, IsReply, Turns};
+    ghost use Rattle.txn_machine_inner.specs.Doing.{plain_caches_after, first_of, InRange, IsReply, Turns};
 
     /// Takes the store's reply to what it asks, or none for a look, and leaves its client's caches as its step says. An
     /// answer ends the operation, and comes twice: once for the trace, and once to be told. Where a growth is refused the
@@ -181,7 +181,7 @@ impl<T: Clone> PlainDoing<T> {
         requires asked { IsReply self.old reply }
         requires range { InRange self.old }
         ensures turned { Turns layout.now.page (C.decoded layout.now.codec) self.old caches.old reply self.new (first_of result) }
-        ensures caches { caches.new ≡ caches_left self.old caches.old (first_of result) }
+        ensures caches { caches.new ≡ plain_caches_after self.old caches.old (first_of result) }
         ensures twice { IfSome result (λ pair. pair.1 ≡ pair.0) }
     {
         match self {

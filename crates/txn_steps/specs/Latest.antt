@@ -140,16 +140,16 @@ module _ {T : Type 0} where
   found_kept latest successor (Done (Err number)) = latest
 
   -- what it leaves of the cached versions, by what it says: a found successor is cached but for an error
-  abbrev pub latest_left : LatestOp T → List Cached → Turned (ReadAnswer T) → List Cached
-  latest_left (Finds successor found) latest told = found_kept latest successor told
-  latest_left (Keeps version value) latest told = kept version latest
-  latest_left (Drops id) latest told = above id latest
-  latest_left Looks latest told = latest
-  latest_left (Probes hand found next request) latest told = latest
-  latest_left (Lists found request) latest told = latest
-  latest_left (Chooses greatest) latest told = latest
-  latest_left (Gets id request) latest told = latest
-  latest_left Ended latest told = latest
+  abbrev pub latest_window_after : LatestOp T → List Cached → Turned (ReadAnswer T) → List Cached
+  latest_window_after (Finds successor found) latest told = found_kept latest successor told
+  latest_window_after (Keeps version value) latest told = kept version latest
+  latest_window_after (Drops id) latest told = above id latest
+  latest_window_after Looks latest told = latest
+  latest_window_after (Probes hand found next request) latest told = latest
+  latest_window_after (Lists found request) latest told = latest
+  latest_window_after (Chooses greatest) latest told = latest
+  latest_window_after (Gets id request) latest told = latest
+  latest_window_after Ended latest told = latest
 
 module _ {T : Type 0} (decode : List ℕ → Option T) where
   abbrev pub read_in_hand : LatestOp T → ℕ → Option T → LatestOp T × Turned (ReadAnswer T)

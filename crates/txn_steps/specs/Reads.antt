@@ -15,7 +15,7 @@ use Rattle.txn_steps.specs.declared.latest.LatestOp.{LatestOp}
 use Rattle.txn_steps.specs.declared.latest.LatestOp.TheVariants as latest
 use Rattle.txn_steps.specs.declared.read.ReadOp.{ReadOp}
 use Rattle.txn_steps.specs.declared.read.ReadOp.TheVariants.{Reads, Checks, Ended}
-use Rattle.txn_steps.specs.Latest.{ReadAnswer, InRange, IsLatestReply, latest_asked, latest_turned, latest_left}
+use Rattle.txn_steps.specs.Latest.{ReadAnswer, InRange, IsLatestReply, latest_asked, latest_turned, latest_window_after}
 
 module _ {T : Type 0} where
   -- it begins with a look, and has the read of the boundary that its check will make
@@ -75,10 +75,10 @@ module _ {T : Type 0} where
   checks_turned path id value (check, Done (Err number)) = if number == 5 then (read_started path, Goes) else (Checks id value check, Done (Err number))
 
   -- what it leaves of the caches, by what it says
-  abbrev pub read_left : ReadOp T → Caches → Turned (ReadAnswer T) → Caches
-  read_left (Reads op boundary) caches told = record { latest = latest_left op caches.latest told; boundary = caches.boundary }
-  read_left (Checks id value check) caches told = check_caches check caches
-  read_left Ended caches told = caches
+  abbrev pub read_caches_after : ReadOp T → Caches → Turned (ReadAnswer T) → Caches
+  read_caches_after (Reads op boundary) caches told = record { latest = latest_window_after op caches.latest told; boundary = caches.boundary }
+  read_caches_after (Checks id value check) caches told = check_caches check caches
+  read_caches_after Ended caches told = caches
 
 module _ {T : Type 0} (names : Names) (path : Segments) (page : ℕ) (decode : List ℕ → Option T) where
   -- what it makes of a look or a reply, memory aside

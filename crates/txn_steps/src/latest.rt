@@ -360,7 +360,7 @@ fn after_get<T: Drop, C: ObjectCodec<T>>(
 impl<T: Drop> LatestOp<T> {
     ghost use Rattle.std.specs.Prelude.{List};
     ghost use Rattle.txn_caches.specs.declared.caches.Cached.{Cached};
-    ghost use Rattle.txn_steps.specs.Latest.{latest_asked, latest_begun, latest_turned, latest_left, is_keeping, IsLatestReply, InRange};
+    ghost use Rattle.txn_steps.specs.Latest.{latest_asked, latest_begun, latest_turned, latest_window_after, is_keeping, IsLatestReply, InRange};
 
     /// A read, which begins with a look. It takes no memory.
     pub fn start() -> LatestOp<T>
@@ -427,7 +427,7 @@ impl<T: Drop> LatestOp<T> {
         requires reply { IsLatestReply self.old reply }
         requires range { InRange self.old }
         ensures turned { (self.new, turned_by_number result) ≡ unless_lacking (lacks_memory (turned_by_number result)) self.old (latest_turned layout.now.names layout.now.page (C.decoded layout.now.codec) self.old latest.old reply) }
-        ensures latest { latest.new ≡ latest_left self.old latest.old (turned_by_number result) }
+        ensures latest { latest.new ≡ latest_window_after self.old latest.old (turned_by_number result) }
         ensures store_error { TellsErrorOf (reply_told reply) result }
     {
         if let LatestOp::Keeps(_, _) = self {
@@ -455,7 +455,7 @@ impl<T: Drop> LatestOp<T> {
         requires reply { IsLatestReply self.now None }
         requires own { is_keeping self.now ≡ false }
         ensures turned { (unwrap_or result.0 self.now, turned_by_number result.1) ≡ unless_lacking (lacks_memory (turned_by_number result.1)) self.now (latest_turned layout.now.names layout.now.page (C.decoded layout.now.codec) self.now latest.old None) }
-        ensures latest { latest.new ≡ latest_left self.now latest.old (turned_by_number result.1) }
+        ensures latest { latest.new ≡ latest_window_after self.now latest.old (turned_by_number result.1) }
         ensures store_error { TellsErrorOf None result.1 }
     {
         match self {
@@ -480,7 +480,7 @@ impl<T: Drop> LatestOp<T> {
         requires reply { IsLatestReply self.now (Some reply) }
         requires range { InRange self.now }
         ensures turned { (latest : List Cached) → (unwrap_or result.0 self.now, turned_by_number result.1) ≡ unless_lacking (lacks_memory (turned_by_number result.1)) self.now (latest_turned layout.now.names layout.now.page (C.decoded layout.now.codec) self.now latest (Some reply)) }
-        ensures latest { (latest : List Cached) → latest_left self.now latest (turned_by_number result.1) ≡ latest }
+        ensures latest { (latest : List Cached) → latest_window_after self.now latest (turned_by_number result.1) ≡ latest }
         ensures store_error { TellsErrorOf (reply_told (Some reply)) result.1 }
     {
         match (self, reply) {

@@ -2,7 +2,7 @@
 ghost use Rattle.std.specs.Prelude.{◌≡◌, IfOk};
 ghost use Rattle.txn_caches.specs.Steps.{turned_by_number, lacks_memory, TellsErrorOf};
 ghost use Rattle.txn_caches.specs.Asking.{asks, reply_told, unless_lacking};
-ghost use Rattle.txn_steps.specs.Reads.{read_started, read_asked, read_turned, read_left, read_chosen, read_accepted, IsReading, IsChecking, IsReadReply, IsInRange};
+ghost use Rattle.txn_steps.specs.Reads.{read_started, read_asked, read_turned, read_caches_after, read_chosen, read_accepted, IsReading, IsChecking, IsReadReply, IsInRange};
 
 use crate::latest::{LatestOp, ReadAnswer};
 use std::alloc::{AllocError, Global};
@@ -98,7 +98,7 @@ impl<T: Drop> ReadOp<T> {
         requires reply { IsReadReply self.old reply }
         requires range { IsInRange self.old }
         ensures turned { (self.new, turned_by_number result) ≡ unless_lacking (lacks_memory (turned_by_number result)) self.old (read_turned layout.now.names layout.now.boundary layout.now.page (C.decoded layout.now.codec) self.old caches.old reply) }
-        ensures caches { caches.new ≡ read_left self.old caches.old (turned_by_number result) }
+        ensures caches { caches.new ≡ read_caches_after self.old caches.old (turned_by_number result) }
         ensures store_error { TellsErrorOf (reply_told reply) result }
     {
         match self {

@@ -9,7 +9,7 @@ use Rattle.txn_types.specs.declared.error.TransactionalObjectError.{Transactiona
 use Rattle.txn_types.specs.declared.error.TransactionalObjectError.TheVariants as kinds
 use Rattle.txn_caches.specs.Windows.{Ascends, greatest_held}
 use Rattle.txn_steps.specs.declared.read.ReadOp.TheVariants as reads
-use Rattle.txn_steps.specs.Reads.{read_started, read_asked, read_turned, read_left}
+use Rattle.txn_steps.specs.Reads.{read_started, read_asked, read_turned, read_caches_after}
 use Rattle.txn_steps.specs.Writes.{write_started, write_asked, write_turned, write_caches}
 use Rattle.txn_drivers.specs.Calls.{HasCause}
 use Rattle.txn_drivers.specs.DriveRuns.{Scene, Drives}
@@ -91,10 +91,10 @@ module _ {T : Type 0} (epoch_of : T → ℕ) (h : List T) (old new : State) wher
 module _ {T X : Type 0} (names : Names) (path : Segments) (page : ℕ) (room : 1 ≤ page) (decode : List ℕ → Option T) (epoch_of : X → T → ℕ) (purpose : Purpose) (a : Scene (WithEpochs (ViewReadOp T) X)) (ascending : Ascends a.caches.latest) (small : IfSome (greatest_held a.caches.latest) (λ version. version.id < 2 ^ 64)) (starts : a.op ≡ view_read_at purpose a.op.epochs (read_started path)) where
   pub view_driven : (steps : ℕ) (answer : Option (Result (Outcome T) TransactionalObjectError)) (b : Scene (WithEpochs (ViewReadOp T) X)) → Drives (ViewReadSteps names path page decode epoch_of) steps a answer b → ViewDriven names decode path page (view_read_seen (epoch_of a.op.epochs) purpose) (λ h old new. AnswersFor (epoch_of a.op.epochs) h old new purpose) steps a answer b
   view_driven steps None b on =
-      let run = run_through true read_asked (read_turned names path page decode) read_left view_read_gone (λ call. view_read_asked call.op) (view_read_call_turned names path page decode epoch_of) (λ call caches told. read_left call.op.read caches (said told)) (view_read_at purpose a.op.epochs) (view_read_at purpose a.op.epochs reads.Ended) (view_read_seen (epoch_of a.op.epochs) purpose) (view_read_layer names path page decode epoch_of purpose a.op.epochs) (read_started path) a starts steps None b on in
+      let run = run_through true read_asked (read_turned names path page decode) read_caches_after view_read_gone (λ call. view_read_asked call.op) (view_read_call_turned names path page decode epoch_of) (λ call caches told. read_caches_after call.op.read caches (said told)) (view_read_at purpose a.op.epochs) (view_read_at purpose a.op.epochs reads.Ended) (view_read_seen (epoch_of a.op.epochs) purpose) (view_read_layer names path page decode epoch_of purpose a.op.epochs) (read_started path) a starts steps None b on in
       read_driven names path page room decode (part_of (read_started path) a) refl ascending small steps None (part_of run.0 b) run.1
   view_driven steps (Some answer) b on =
-      let run = run_through true read_asked (read_turned names path page decode) read_left view_read_gone (λ call. view_read_asked call.op) (view_read_call_turned names path page decode epoch_of) (λ call caches told. read_left call.op.read caches (said told)) (view_read_at purpose a.op.epochs) (view_read_at purpose a.op.epochs reads.Ended) (view_read_seen (epoch_of a.op.epochs) purpose) (view_read_layer names path page decode epoch_of purpose a.op.epochs) (read_started path) a starts steps (Some answer) b on in
+      let run = run_through true read_asked (read_turned names path page decode) read_caches_after view_read_gone (λ call. view_read_asked call.op) (view_read_call_turned names path page decode epoch_of) (λ call caches told. read_caches_after call.op.read caches (said told)) (view_read_at purpose a.op.epochs) (view_read_at purpose a.op.epochs reads.Ended) (view_read_seen (epoch_of a.op.epochs) purpose) (view_read_layer names path page decode epoch_of purpose a.op.epochs) (read_started path) a starts steps (Some answer) b on in
       let read = read_driven names path page room decode (part_of (read_started path) a) refl ascending small steps (Some run.1) (part_of run.0 b) run.2 in
       record {
         last = run.0;

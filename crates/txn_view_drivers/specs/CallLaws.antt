@@ -5,7 +5,7 @@ use Rattle.txn_store.specs.Paths.{Segments}
 use Rattle.txn_store.specs.VersionName.{Names}
 use Rattle.txn_caches.specs.declared.turned.Turned.TheVariants.{Goes}
 use Rattle.txn_steps.specs.declared.read.ReadOp.TheVariants as reads
-use Rattle.txn_steps.specs.Reads.{read_asked, read_turned, read_left}
+use Rattle.txn_steps.specs.Reads.{read_asked, read_turned, read_caches_after}
 use Rattle.txn_steps.specs.Writes.{write_asked, write_turned, write_caches}
 use Rattle.txn_drivers.specs.DriveChecked.{write_asks}
 use Rattle.txn_drivers.specs.DriveReads.{read_asks}
@@ -43,5 +43,5 @@ module _ {T X : Type 0} (names : Names) (path : Segments) (page : ℕ) (room : 1
   view_read_asks a b can step =
       let purpose = a.op.op.purpose in
       let epochs = a.op.epochs in
-      let next = step_through true read_asked (read_turned names path page decode) read_left view_read_gone (λ call. view_read_asked call.op) (view_read_call_turned names path page decode epoch_of) (λ call caches told. read_left call.op.read caches (said told)) (view_read_at purpose epochs) (view_read_at purpose epochs reads.Ended) (view_read_seen (epoch_of epochs) purpose) (view_read_layer names path page decode epoch_of purpose epochs) a.op.op.read a b Goes refl step in
+      let next = step_through true read_asked (read_turned names path page decode) read_caches_after view_read_gone (λ call. view_read_asked call.op) (view_read_call_turned names path page decode epoch_of) (λ call caches told. read_caches_after call.op.read caches (said told)) (view_read_at purpose epochs) (view_read_at purpose epochs reads.Ended) (view_read_seen (epoch_of epochs) purpose) (view_read_layer names path page decode epoch_of purpose epochs) a.op.op.read a b Goes refl step in
       subst (λ (call : WithEpochs (ViewReadOp T) X). CanRead call.op.read) (sym next.2) (read_asks names page room decode path (part_of a.op.op.read a) (part_of next.0 b) can next.1)

@@ -17,7 +17,7 @@ use Rattle.txn_steps.specs.declared.read.ReadOp.{ReadOp}
 use Rattle.txn_steps.specs.declared.read.ReadOp.TheVariants as reads
 use Rattle.txn_steps.specs.declared.write.WriteOp.{WriteOp}
 use Rattle.txn_steps.specs.Latest.{ReadAnswer}
-use Rattle.txn_steps.specs.Reads.{read_asked, read_turned, read_left}
+use Rattle.txn_steps.specs.Reads.{read_asked, read_turned, read_caches_after}
 use Rattle.txn_steps.specs.Writes.{write_asked, write_turned, write_caches}
 use Rattle.txn_drivers.proofs.Refusals.{HoldsNothing, error_is}
 use Rattle.txn_view_steps.specs.declared.entry.EntryOp.{EntryOp}
@@ -81,8 +81,8 @@ module _ {T : Type 0} where
   seen_turns {P} {O} wrap hold see see' same (read, Done (Err number)) = refl
 
 module _ {T : Type 0} (names : Names) (path : Segments) (page : ℕ) (decode : List ℕ → Option T) where
-  read_leaves : (part next : ReadOp T) (caches : Caches) (reply : Option Reply) (told : Turned (ReadAnswer T)) (answer : Turned (Result (Outcome T) ℕ)) → Alike told answer → (next, told) ≡ unless_lacking (lacks_memory told) part (read_turned names path page decode part caches reply) → read_left part caches (said answer) ≡ read_left part caches told
-  read_leaves part next caches reply told answer alike takes = ap (λ (t : Turned (ReadAnswer T)). read_left part caches t) (same_said told answer alike) ∙ sym (left_as_said names path page decode part caches reply next told takes)
+  read_leaves : (part next : ReadOp T) (caches : Caches) (reply : Option Reply) (told : Turned (ReadAnswer T)) (answer : Turned (Result (Outcome T) ℕ)) → Alike told answer → (next, told) ≡ unless_lacking (lacks_memory told) part (read_turned names path page decode part caches reply) → read_caches_after part caches (said answer) ≡ read_caches_after part caches told
+  read_leaves part next caches reply told answer alike takes = ap (λ (t : Turned (ReadAnswer T)). read_caches_after part caches t) (same_said told answer alike) ∙ sym (left_as_said names path page decode part caches reply next told takes)
 
 module _ {T : Type 0} (epoch_of : T → ℕ) where
   -- what is shown of a read, by number
@@ -112,7 +112,7 @@ module _ {T X : Type 0} where
 
 module _ {T X : Type 0} (names : Names) (path : Segments) (page : ℕ) (decode : List ℕ → Option T) (epoch_of : X → T → ℕ) (purpose : Purpose) (epochs : X) where
   abbrev pub ViewReadLayer : Type 0
-  ViewReadLayer = Layer true read_asked (read_turned names path page decode) read_left view_read_gone (λ call. view_read_asked call.op) (view_read_call_turned names path page decode epoch_of) (λ call caches told. read_left call.op.read caches (said told)) (view_read_at purpose epochs) (view_read_at purpose epochs reads.Ended) (view_read_seen (epoch_of epochs) purpose)
+  ViewReadLayer = Layer true read_asked (read_turned names path page decode) read_caches_after view_read_gone (λ call. view_read_asked call.op) (view_read_call_turned names path page decode epoch_of) (λ call caches told. read_caches_after call.op.read caches (said told)) (view_read_at purpose epochs) (view_read_at purpose epochs reads.Ended) (view_read_seen (epoch_of epochs) purpose)
 
   pub view_read_layer : ViewReadLayer
   view_read_layer = record {

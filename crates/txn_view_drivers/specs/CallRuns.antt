@@ -9,7 +9,7 @@ use Rattle.txn_caches.specs.declared.caches.Caches.{Caches}
 use Rattle.txn_caches.specs.declared.turned.Turned.{Turned}
 use Rattle.txn_caches.specs.Asking.{reply_told, unless_lacking}
 use Rattle.txn_caches.specs.Steps.{turned_by_number, lacks_memory, TellsErrorOf}
-use Rattle.txn_steps.specs.Reads.{read_left}
+use Rattle.txn_steps.specs.Reads.{read_caches_after}
 use Rattle.txn_drivers.specs.Asked.{Replies}
 use Rattle.txn_drivers.specs.DriveRuns.{Scene}
 use Rattle.txn_drivers.specs.DriveSteps.{CanWriteChecked}
@@ -56,7 +56,7 @@ module _ {T : Type 0} where
 
     -- a call that reads the newest version for a view
     abbrev pub ViewReadSteps : StepsOf T (WithEpochs (ViewReadOp T) X)
-    ViewReadSteps = CallStepped true (λ call. record { op = view_read_ended call.op; epochs = call.epochs }) (λ call. view_read_asked call.op) view_read_call_turned (λ call caches told. read_left call.op.read caches (said told))
+    ViewReadSteps = CallStepped true (λ call. record { op = view_read_ended call.op; epochs = call.epochs }) (λ call. view_read_asked call.op) view_read_call_turned (λ call caches told. read_caches_after call.op.read caches (said told))
 
   -- a write of a value that a view then shows asks for what its write does, and has not ended
   abbrev pub CanEnter : EntryOp T → Type 0

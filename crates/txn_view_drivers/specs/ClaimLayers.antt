@@ -15,7 +15,7 @@ use Rattle.txn_caches.specs.Steps.{by_number, turned_by_number, lacks_memory, Te
 use Rattle.txn_steps.specs.declared.read.ReadOp.{ReadOp}
 use Rattle.txn_steps.specs.declared.write.WriteOp.{WriteOp}
 use Rattle.txn_steps.specs.Latest.{ReadAnswer}
-use Rattle.txn_steps.specs.Reads.{read_started, read_asked, read_turned, read_left}
+use Rattle.txn_steps.specs.Reads.{read_started, read_asked, read_turned, read_caches_after}
 use Rattle.txn_steps.specs.Writes.{write_asked, write_turned, write_caches}
 use Rattle.txn_drivers.specs.Asked.{Replies}
 use Rattle.txn_drivers.specs.DriveRuns.{Scene}
@@ -25,7 +25,7 @@ use Rattle.txn_view_steps.specs.declared.claiming.Claiming.{Claiming}
 use Rattle.txn_view_steps.specs.declared.claiming.Claiming.TheVariants.{Writes, Reads, Ended}
 use Rattle.txn_view_steps.specs.declared.outcome.Outcome.{Outcome}
 use Rattle.txn_view_steps.specs.declared.outcome.Outcome.TheVariants.{Held}
-use Rattle.txn_view_steps.specs.Attempts.{attempted_again, attempt_turned, refreshed_turned, followed, claiming_asked, claiming_turned, claiming_left, IsMade, IsRefreshing}
+use Rattle.txn_view_steps.specs.Attempts.{attempted_again, attempt_turned, refreshed_turned, followed, claiming_asked, claiming_turned, claiming_caches_after, IsMade, IsRefreshing}
 use Rattle.txn_view_steps.specs.Readings.{said}
 use Rattle.txn_view_steps.specs.Shortages.{IsShort, LacksAsWrite}
 use Rattle.txn_view_steps.proofs.ReadLemmas.{left_as_said, left_where_answered}
@@ -117,20 +117,20 @@ module _ {T : Type 0} (names : Names) (path : Segments) (page : ℕ) (encode : T
     abbrev turned : ReadOp T × Turned (ReadAnswer T)
     turned = read_turned names path page decode read a.caches reply
 
-    was_read : (next : ReadOp T) (told : Turned (Result (Option (ℕ × T)) TransactionalObjectError)) → (next, turned_by_number told) ≡ unless_lacking (lacks_memory (turned_by_number told)) read turned → c.caches ≡ read_left read a.caches (turned_by_number told) → TellsErrorOf (reply_told reply) told → ReadSteps names path page decode (part_of read a) told (part_of next c)
+    was_read : (next : ReadOp T) (told : Turned (Result (Option (ℕ × T)) TransactionalObjectError)) → (next, turned_by_number told) ≡ unless_lacking (lacks_memory (turned_by_number told)) read turned → c.caches ≡ read_caches_after read a.caches (turned_by_number told) → TellsErrorOf (reply_told reply) told → ReadSteps names path page decode (part_of read a) told (part_of next c)
     was_read next told takes leaves tells = record { reply = reply; replies = served; takes = takes; leaves = leaves; error = tells }
 
     -- where the claim ends so does the read
-    read_ended : (next : ReadOp T) (told : Result (Option (ℕ × T)) TransactionalObjectError) → (next, Done (by_number told)) ≡ unless_lacking (lacks_memory (Done (by_number told))) read turned → c.caches ≡ read_left read a.caches (Done (Err 9)) → TellsErrorOf (reply_told reply) (Done told) → ReadSteps names path page decode (part_of read a) (Done told) (part_of next c)
+    read_ended : (next : ReadOp T) (told : Result (Option (ℕ × T)) TransactionalObjectError) → (next, Done (by_number told)) ≡ unless_lacking (lacks_memory (Done (by_number told))) read turned → c.caches ≡ read_caches_after read a.caches (Done (Err 9)) → TellsErrorOf (reply_told reply) (Done told) → ReadSteps names path page decode (part_of read a) (Done told) (part_of next c)
     read_ended next told takes leaves tells = was_read next (Done told) takes (leaves ∙ sym (left_as_said names path page decode read a.caches reply next (Done (by_number told)) takes)) tells
 
-    follows : (again : Result (Claiming T) ℕ) (next : ReadOp T) (found : Option (ℕ × T)) → Again found ≡ again → (next, Done (Ok found)) ≡ turned → (c.op, Goes) ≡ followed again → c.caches ≡ read_left read a.caches Goes → ReadLed (part_of read a) Goes c
+    follows : (again : Result (Claiming T) ℕ) (next : ReadOp T) (found : Option (ℕ × T)) → Again found ≡ again → (next, Done (Ok found)) ≡ turned → (c.op, Goes) ≡ followed again → c.caches ≡ read_caches_after read a.caches Goes → ReadLed (part_of read a) Goes c
     follows (Ok claiming) next found is at takes leaves =
         let same : c.op ≡ claiming = ap (λ p. p.0) takes in
         inr (next, found, was_read next (Done (Ok found)) at (leaves ∙ sym (left_where_answered names path page decode read a.caches reply next (Done (Ok found)) at)) tt, is ∙ ap Ok (sym same))
     follows (Err number) next found is at takes leaves = let e = ap (λ p. p.1) takes in absurd (cc)
 
-    reads_on : (next : ReadOp T × Turned (ReadAnswer T)) → next ≡ turned → (c.op, Goes) ≡ refreshed_turned names path encode epoch_of with_epoch asked next → c.caches ≡ read_left read a.caches Goes → ReadLed (part_of read a) Goes c
+    reads_on : (next : ReadOp T × Turned (ReadAnswer T)) → next ≡ turned → (c.op, Goes) ≡ refreshed_turned names path encode epoch_of with_epoch asked next → c.caches ≡ read_caches_after read a.caches Goes → ReadLed (part_of read a) Goes c
     reads_on (next, Goes) at takes leaves = inl (next, was_read next Goes at leaves tt, ap (λ p. p.0) takes)
     reads_on (next, Done (Ok found)) at takes leaves = follows (Again found) next found refl at takes leaves
     reads_on (next, Done (Err number)) at takes leaves = let e = ap (λ p. p.1) takes in absurd (cc)
@@ -144,14 +144,14 @@ module _ {T : Type 0} (names : Names) (path : Segments) (page : ℕ) (encode : T
     never_answers (next, Done (Ok found)) outcome takes = never_followed (Again found) outcome takes
     never_answers (next, Done (Err number)) outcome takes = let e = ap (λ p. p.1) takes in cc
 
-    refused : (again : Result (Claiming T) ℕ) (next : ReadOp T) (found : Option (ℕ × T)) (error : TransactionalObjectError) → Again found ≡ again → (next, Done (Ok found)) ≡ turned → (c.op, Done (Err (error_number error))) ≡ followed again → c.caches ≡ read_left read a.caches (Done (Err 9)) → ReadLed (part_of read a) (Done (Err error)) c
+    refused : (again : Result (Claiming T) ℕ) (next : ReadOp T) (found : Option (ℕ × T)) (error : TransactionalObjectError) → Again found ≡ again → (next, Done (Ok found)) ≡ turned → (c.op, Done (Err (error_number error))) ≡ followed again → c.caches ≡ read_caches_after read a.caches (Done (Err 9)) → ReadLed (part_of read a) (Done (Err error)) c
     refused (Ok claiming) next found error is at takes leaves = let e = ap (λ p. p.1) takes in absurd (cc)
     refused (Err number) next found error is at takes leaves =
         let e = ap (λ p. p.1) takes in
         let same : by_number {A = Outcome T} (Err error) ≡ Err number = cc in
         (next, Ok found, read_ended next (Ok found) at leaves tt, (number, is, same))
 
-    ends : (next : ReadOp T × Turned (ReadAnswer T)) (error : TransactionalObjectError) → (error_number error == 9) ≡ false → next ≡ turned → (c.op, Done (Err (error_number error))) ≡ refreshed_turned names path encode epoch_of with_epoch asked next → c.caches ≡ read_left read a.caches (Done (Err 9)) → TellsErrorOf {A = Option (ℕ × T)} (reply_told reply) (Done (Err error)) → ReadLed (part_of read a) (Done (Err error)) c
+    ends : (next : ReadOp T × Turned (ReadAnswer T)) (error : TransactionalObjectError) → (error_number error == 9) ≡ false → next ≡ turned → (c.op, Done (Err (error_number error))) ≡ refreshed_turned names path encode epoch_of with_epoch asked next → c.caches ≡ read_caches_after read a.caches (Done (Err 9)) → TellsErrorOf {A = Option (ℕ × T)} (reply_told reply) (Done (Err error)) → ReadLed (part_of read a) (Done (Err error)) c
     ends (next, Goes) error is at takes leaves tells = let e = ap (λ p. p.1) takes in absurd (cc)
     ends (next, Done (Ok found)) error is at takes leaves tells = refused (Again found) next found error refl at takes leaves
     ends (next, Done (Err number)) error is at takes leaves tells =
@@ -161,14 +161,14 @@ module _ {T : Type 0} (names : Names) (path : Segments) (page : ℕ) (encode : T
         let takes' : (next, Done (Err (error_number error))) ≡ unless_lacking (error_number error == 9) read turned = subst (λ (lacking : Bool). (next, Done (Err (error_number error))) ≡ unless_lacking lacking read turned) (sym is) here in
         (next, Err error, read_ended next (Err error) takes' leaves tells, refl)
 
-    ends_by : (lacking : Bool) (error : TransactionalObjectError) → (error_number error == 9) ≡ lacking → (c.op, Done (Err (error_number error))) ≡ unless_lacking lacking Ended (refreshed_turned names path encode epoch_of with_epoch asked turned) → c.caches ≡ read_left read a.caches (Done (Err 9)) → TellsErrorOf {A = Option (ℕ × T)} (reply_told reply) (Done (Err error)) → ReadLed (part_of read a) (Done (Err error)) c
+    ends_by : (lacking : Bool) (error : TransactionalObjectError) → (error_number error == 9) ≡ lacking → (c.op, Done (Err (error_number error))) ≡ unless_lacking lacking Ended (refreshed_turned names path encode epoch_of with_epoch asked turned) → c.caches ≡ read_caches_after read a.caches (Done (Err 9)) → TellsErrorOf {A = Option (ℕ × T)} (reply_told reply) (Done (Err error)) → ReadLed (part_of read a) (Done (Err error)) c
     ends_by true error is takes leaves tells =
         let nine = eqb-true (error_number error) 9 is in
         let takes' : (read, Done (Err (error_number error))) ≡ unless_lacking (error_number error == 9) read turned = subst (λ (lacking : Bool). (read, Done (Err (error_number error))) ≡ unless_lacking lacking read turned) (sym is) (ap (λ (n : ℕ). (read, Done (Err n))) nine) in
         (read, Err error, read_ended read (Err error) takes' leaves tells, refl)
     ends_by false error is takes leaves tells = ends turned error is refl takes leaves tells
 
-    read_by : (told : Turned (Result (Outcome T) TransactionalObjectError)) → (c.op, turned_by_number told) ≡ unless_lacking (lacks_memory (turned_by_number told)) Ended (refreshed_turned names path encode epoch_of with_epoch asked turned) → c.caches ≡ read_left read a.caches (said (turned_by_number told)) → TellsErrorOf (reply_told reply) told → ReadLed (part_of read a) told c
+    read_by : (told : Turned (Result (Outcome T) TransactionalObjectError)) → (c.op, turned_by_number told) ≡ unless_lacking (lacks_memory (turned_by_number told)) Ended (refreshed_turned names path encode epoch_of with_epoch asked turned) → c.caches ≡ read_caches_after read a.caches (said (turned_by_number told)) → TellsErrorOf (reply_told reply) told → ReadLed (part_of read a) told c
     read_by Goes takes leaves tells = reads_on turned refl takes leaves
     read_by (Done (Ok outcome)) takes leaves tells = absurd (never_answers turned outcome takes)
     read_by (Done (Err error)) takes leaves tells = ends_by (error_number error == 9) error refl takes leaves tells
@@ -179,7 +179,7 @@ module _ {T : Type 0} (names : Names) (path : Segments) (page : ℕ) (encode : T
   ClaimLed (Reads read) a told c = ReadLed (part_of read a) told c × IsMade encode decode epoch_of c.op
   ClaimLed Ended a told c = Unit {0}
 
-  led_by : (op : Claiming T) (a c : Scene (Claiming T)) (told : Turned (Result (Outcome T) TransactionalObjectError)) (reply : Option Reply) → Replies (claiming_asked op) a.store reply c.store → (c.op, turned_by_number told) ≡ unless_lacking (lacks_memory (turned_by_number told)) Ended (claiming_turned names path page encode decode epoch_of with_epoch asked op a.caches reply) → c.caches ≡ claiming_left op a.caches (turned_by_number told) → TellsErrorOf (reply_told reply) told → (IsRefreshing op → IsMade encode decode epoch_of c.op) → LacksAsWrite op a.caches reply (lacks_memory (turned_by_number told)) → ClaimLed op a told c
+  led_by : (op : Claiming T) (a c : Scene (Claiming T)) (told : Turned (Result (Outcome T) TransactionalObjectError)) (reply : Option Reply) → Replies (claiming_asked op) a.store reply c.store → (c.op, turned_by_number told) ≡ unless_lacking (lacks_memory (turned_by_number told)) Ended (claiming_turned names path page encode decode epoch_of with_epoch asked op a.caches reply) → c.caches ≡ claiming_caches_after op a.caches (turned_by_number told) → TellsErrorOf (reply_told reply) told → (IsRefreshing op → IsMade encode decode epoch_of c.op) → LacksAsWrite op a.caches reply (lacks_memory (turned_by_number told)) → ClaimLed op a told c
   led_by (Writes write value epoch) a c told reply served takes leaves tells made short = attempt_by path write value epoch a c reply served leaves told short takes tells
   led_by (Reads read) a c told reply served takes leaves tells made short = (read_by read a c reply served told takes leaves tells, made tt)
   led_by Ended a c told reply served takes leaves tells made short = tt

@@ -11,7 +11,7 @@ use Rattle.txn_view_steps.specs.declared.claim.ClaimOp.{ClaimOp}
 use Rattle.txn_view_steps.specs.declared.claiming.Claiming.{Claiming}
 use Rattle.txn_view_steps.specs.declared.claiming.Claiming.TheVariants.{Writes, Reads, Ended}
 use Rattle.txn_view_steps.specs.declared.outcome.Outcome.{Outcome}
-use Rattle.txn_view_steps.specs.Attempts.{claiming_asked, claiming_turned, claiming_left, IsMade, IsRefreshing}
+use Rattle.txn_view_steps.specs.Attempts.{claiming_asked, claiming_turned, claiming_caches_after, IsMade, IsRefreshing}
 use Rattle.txn_view_steps.specs.Shortages.{LacksAsWrite}
 use Rattle.txn_view_drivers.specs.declared.with_epochs.WithEpochs.{WithEpochs}
 use Rattle.txn_view_drivers.specs.CallRuns.{CallStepped}
@@ -27,7 +27,7 @@ module _ {T : Type 0} where
   module _ (names : Names) (path : Segments) (page : ℕ) (encode : T → List ℕ) (decode : List ℕ → Option T) (epoch_of : T → ℕ) (with_epoch : T → ℕ → T) where
     -- One step of a claim's attempts: what a read leads to is read back with its epoch, and want of memory comes of a write only where that was overtaken, or lacked it.
     pub record AttemptStepped (asked : Option ℕ) (a : Scene (Claiming T)) (told : Turned (Result (Outcome T) TransactionalObjectError)) (b : Scene (Claiming T)) : Type 0 where
-      pub step : CallStepped true (λ claiming. Ended) claiming_asked (claiming_turned names path page encode decode epoch_of with_epoch asked) claiming_left a told b
+      pub step : CallStepped true (λ claiming. Ended) claiming_asked (claiming_turned names path page encode decode epoch_of with_epoch asked) claiming_caches_after a told b
       pub made : IsRefreshing a.op → IsMade encode decode epoch_of b.op
       pub short : LacksAsWrite a.op a.caches step.reply (lacks_memory (turned_by_number told))
 

@@ -9,10 +9,10 @@ use Rattle.txn_types.specs.declared.error.TransactionalObjectError.{Transactiona
 use Rattle.txn_caches.specs.declared.caches.Caches.{Caches}
 use Rattle.txn_caches.specs.declared.turned.Turned.{Turned}
 use Rattle.txn_caches.specs.declared.turned.Turned.TheVariants.{Goes, Done}
-use Rattle.txn_caches.specs.Counts.{Left, left_after, SpendsOne}
+use Rattle.txn_caches.specs.Counts.{Budget, budget_after, SpendsOne}
 use Rattle.txn_steps.specs.declared.read.ReadOp.{ReadOp}
 use Rattle.txn_steps.specs.declared.write.WriteOp.{WriteOp}
-use Rattle.txn_steps.specs.CallsLeft.{write_left}
+use Rattle.txn_steps.specs.CallsLeft.{write_budget}
 use Rattle.txn_steps.specs.Latest.{ReadAnswer}
 use Rattle.txn_steps.specs.Reads.{read_started, read_turned, IsInRange}
 use Rattle.txn_steps.specs.Writes.{write_started, write_turned}
@@ -25,32 +25,32 @@ use Rattle.txn_view_steps.specs.declared.entry.EntryOp.{EntryOp}
 use Rattle.txn_view_steps.specs.declared.entry.EntryOp.TheVariants.{Writes, Ended}
 use Rattle.txn_view_steps.specs.declared.view_read.ViewReadOp.{ViewReadOp}
 use Rattle.txn_view_steps.specs.Attempts.{attempt_turned, entered_with, attempted_again, refreshed_turned, followed, claiming_turned, IsClaimingInRange}
-use Rattle.txn_view_steps.specs.CallsLeft.{entry_left}
+use Rattle.txn_view_steps.specs.CallsLeft.{entry_budget}
 use Rattle.txn_view_steps.specs.Entries.{entry_started, entry_turned, written_turned, IsEntryReply}
 use Rattle.txn_view_steps.specs.Readings.{seen}
 use Rattle.txn_view_steps.specs.ViewReads.{as_view_read, shown, view_read_turned, IsViewReadInRange}
 
-abbrev after_write : WriteOp × Turned (Result ℕ ℕ) → Left
-after_write next = left_after next.1 (write_left next.0)
+abbrev after_write : WriteOp × Turned (Result ℕ ℕ) → Budget
+after_write next = budget_after next.1 (write_budget next.0)
 
 module _ {T : Type 0} where
-  abbrev after_entry : EntryOp T × Turned (Result (Outcome T) ℕ) → Left
-  after_entry next = left_after next.1 (entry_left next.0)
+  abbrev after_entry : EntryOp T × Turned (Result (Outcome T) ℕ) → Budget
+  after_entry next = budget_after next.1 (entry_budget next.0)
 
-  written_spends : (reply : Option Reply) (before : Left) (value : T) (next : WriteOp × Turned (Result ℕ ℕ)) → SpendsOne reply before (after_write next) → SpendsOne reply before (after_entry (written_turned value next))
+  written_spends : (reply : Option Reply) (before : Budget) (value : T) (next : WriteOp × Turned (Result ℕ ℕ)) → SpendsOne reply before (after_write next) → SpendsOne reply before (after_entry (written_turned value next))
   written_spends reply before value (write, Goes) h = h
   written_spends reply before value (write, Done answer) h = h
 
-  pub entry_spends : (op : EntryOp T) (caches : Caches) (reply : Option Reply) → IsEntryReply op reply → SpendsOne reply (entry_left op) (after_entry (entry_turned op caches reply))
-  entry_spends (Writes write value) caches reply is = written_spends reply (write_left write) value (write_turned write caches reply) (write_spends write caches reply is)
+  pub entry_spends : (op : EntryOp T) (caches : Caches) (reply : Option Reply) → IsEntryReply op reply → SpendsOne reply (entry_budget op) (after_entry (entry_turned op caches reply))
+  entry_spends (Writes write value) caches reply is = written_spends reply (write_budget write) value (write_turned write caches reply) (write_spends write caches reply is)
   entry_spends Ended caches reply is = absurd is
 
-  started_left : (b : Bool) (names : Names) (boundary : Segments) (bytes : List ℕ) (base : Option ℕ) (value : T) (op : EntryOp T) → if◌then◌else◌ {A = Result (EntryOp T) ℕ} b (Err 10) (Ok (Writes (write_started names boundary base bytes) value)) ≡ Ok op → entry_left op ≡ record { looks = 5; calls = 2 }
+  started_left : (b : Bool) (names : Names) (boundary : Segments) (bytes : List ℕ) (base : Option ℕ) (value : T) (op : EntryOp T) → if◌then◌else◌ {A = Result (EntryOp T) ℕ} b (Err 10) (Ok (Writes (write_started names boundary base bytes) value)) ≡ Ok op → entry_budget op ≡ record { looks = 5; calls = 2 }
   started_left true names boundary bytes base value op e = cc
   started_left false names boundary bytes base value (Writes write other) e = cc
   started_left false names boundary bytes base value Ended e = cc
 
-  pub entry_starts : (names : Names) (boundary : Segments) (encode : T → List ℕ) (base : Option ℕ) (value : T) (op : EntryOp T) → entry_started names boundary encode base value ≡ Ok op → entry_left op ≡ record { looks = 5; calls = 2 }
+  pub entry_starts : (names : Names) (boundary : Segments) (encode : T → List ℕ) (base : Option ℕ) (value : T) (op : EntryOp T) → entry_started names boundary encode base value ≡ Ok op → entry_budget op ≡ record { looks = 5; calls = 2 }
   entry_starts names boundary encode base value op e = started_left (number_of base == 18446744073709551615) names boundary (encode value) base value op e
 
   seen_in_range : {O : Type 0} (as_read : ReadOp T → O) (see : Option (ℕ × T) → Result (Outcome T) ℕ) (InRange : O → Type 0) → ((read : ReadOp T) → IsInRange read → InRange (as_read read)) → (x : ReadOp T × Turned (ReadAnswer T)) → IsInRange x.0 → InRange (seen as_read see x).0

@@ -15,7 +15,7 @@ use Rattle.txn_steps.specs.declared.latest.LatestOp.TheVariants.{Looks, Probes, 
 use Rattle.txn_steps.specs.declared.read.ReadOp.{ReadOp}
 use Rattle.txn_steps.specs.declared.read.ReadOp.TheVariants as reads
 use Rattle.txn_steps.specs.Latest.{ReadAnswer, latest_listing, read_in_hand, answered, in_hand, found_turned}
-use Rattle.txn_steps.specs.Reads.{reads_turned, read_turned, read_left}
+use Rattle.txn_steps.specs.Reads.{reads_turned, read_turned, read_caches_after}
 use Rattle.txn_view_steps.specs.declared.outcome.Outcome.{Outcome}
 use Rattle.txn_view_steps.specs.declared.view_read.ViewReadOp.{ViewReadOp}
 use Rattle.txn_view_steps.specs.Readings.{seen, said, GoesAs, OnAnswer}
@@ -36,13 +36,13 @@ module _ {T : Type 0} where
   lacking_on true op x h = tt
 
   found_said : (successor : Cached) (found : ℕ) (boundary : BoundaryRead) (caches : Caches) (told : Turned (ReadAnswer T)) → NotAnswered told →
-      read_left {T = T} (reads.Reads (Finds successor found) boundary) caches told ≡ read_left {T = T} (reads.Reads (Finds successor found) boundary) caches (said told)
+      read_caches_after {T = T} (reads.Reads (Finds successor found) boundary) caches told ≡ read_caches_after {T = T} (reads.Reads (Finds successor found) boundary) caches (said told)
   found_said successor found boundary caches Goes h = refl
   found_said successor found boundary caches (Done (Ok x)) h = absurd h
   found_said successor found boundary caches (Done (Err number)) h = refl
 
   found_answered : (successor : Cached) (found : ℕ) (boundary : BoundaryRead) (caches : Caches) (told : Turned (ReadAnswer T)) → NotAnswered told →
-      OnAnswer told (read_left {T = T} (reads.Reads (Finds successor found) boundary) caches told ≡ read_left {T = T} (reads.Reads (Finds successor found) boundary) caches Goes)
+      OnAnswer told (read_caches_after {T = T} (reads.Reads (Finds successor found) boundary) caches told ≡ read_caches_after {T = T} (reads.Reads (Finds successor found) boundary) caches Goes)
   found_answered successor found boundary caches Goes h = tt
   found_answered successor found boundary caches (Done (Ok x)) h = absurd h
   found_answered successor found boundary caches (Done (Err number)) h = tt
@@ -53,12 +53,12 @@ module _ {T : Type 0} where
   on_answer (Done (Err number)) P p = tt
 
   -- an answer of a call on a view says what its read leaves as that read's own does
-  said_alike : (read : ReadOp T) (caches : Caches) (told : Turned (ReadAnswer T)) (answer : Turned (Result (Outcome T) ℕ)) → read_left read caches told ≡ read_left read caches (said told) → OnAnswer told (read_left read caches told ≡ read_left read caches Goes) → GoesAs told answer →
-      read_left read caches told ≡ read_left read caches (said answer)
-  said_alike read caches Goes answer e h goes = sym (ap (λ (a : Turned (Result (Outcome T) ℕ)). read_left read caches (said a)) goes)
+  said_alike : (read : ReadOp T) (caches : Caches) (told : Turned (ReadAnswer T)) (answer : Turned (Result (Outcome T) ℕ)) → read_caches_after read caches told ≡ read_caches_after read caches (said told) → OnAnswer told (read_caches_after read caches told ≡ read_caches_after read caches Goes) → GoesAs told answer →
+      read_caches_after read caches told ≡ read_caches_after read caches (said answer)
+  said_alike read caches Goes answer e h goes = sym (ap (λ (a : Turned (Result (Outcome T) ℕ)). read_caches_after read caches (said a)) goes)
   said_alike read caches (Done (Ok found)) Goes e h goes = h
   said_alike read caches (Done (Ok found)) (Done answer) e h goes = e
-  said_alike read caches (Done (Err number)) answer e h goes = e ∙ sym (ap (λ (a : Turned (Result (Outcome T) ℕ)). read_left read caches (said a)) goes)
+  said_alike read caches (Done (Err number)) answer e h goes = e ∙ sym (ap (λ (a : Turned (Result (Outcome T) ℕ)). read_caches_after read caches (said a)) goes)
 
 -- a step of a part as one of the whole
 pub part_of_whole : {A B S : Type 0} (whole : A → B) (lacking : Bool) (old new : A) (told : Turned (Result S ℕ)) (next : A × Turned (Result S ℕ)) → (new, told) ≡ unless_lacking lacking old next → (whole new, told) ≡ unless_lacking lacking (whole old) (whole next.0, next.1)
@@ -110,7 +110,7 @@ module _ {T : Type 0} (names : Names) (path : Segments) (page : ℕ) (decode : L
       subst Goes1 (sym e) (lacking_on (lacks_memory told) (reads.Reads (Finds successor found) boundary) _ (found_on boundary successor found))
 
   pub left_as_said : (op : ReadOp T) (caches : Caches) (reply : Option Reply) (new : ReadOp T) (told : Turned (ReadAnswer T)) →
-      (new, told) ≡ unless_lacking (lacks_memory told) op (read_turned names path page decode op caches reply) → read_left op caches told ≡ read_left op caches (said told)
+      (new, told) ≡ unless_lacking (lacks_memory told) op (read_turned names path page decode op caches reply) → read_caches_after op caches told ≡ read_caches_after op caches (said told)
   left_as_said (reads.Checks id value check) caches reply new told e = refl
   left_as_said reads.Ended caches reply new told e = refl
   left_as_said (reads.Reads Looks boundary) caches reply new told e = refl
@@ -124,7 +124,7 @@ module _ {T : Type 0} (names : Names) (path : Segments) (page : ℕ) (decode : L
   left_as_said (reads.Reads Ended boundary) caches reply new told e = refl
 
   pub left_where_answered : (op : ReadOp T) (caches : Caches) (reply : Option Reply) (new : ReadOp T) (told : Turned (ReadAnswer T)) →
-      (new, told) ≡ unless_lacking (lacks_memory told) op (read_turned names path page decode op caches reply) → OnAnswer told (read_left op caches told ≡ read_left op caches Goes)
+      (new, told) ≡ unless_lacking (lacks_memory told) op (read_turned names path page decode op caches reply) → OnAnswer told (read_caches_after op caches told ≡ read_caches_after op caches Goes)
   left_where_answered (reads.Checks id value check) caches reply new told e = on_answer told _ refl
   left_where_answered reads.Ended caches reply new told e = on_answer told _ refl
   left_where_answered (reads.Reads Looks boundary) caches reply new told e = on_answer told _ refl
@@ -139,7 +139,7 @@ module _ {T : Type 0} (names : Names) (path : Segments) (page : ℕ) (decode : L
 
   -- what a call leaves of the caches is what its read does
   pub left_as_read : (op : ReadOp T) (caches left : Caches) (reply : Option Reply) (new : ReadOp T) (told : Turned (ReadAnswer T)) (answer : Turned (Result (Outcome T) ℕ)) →
-      (new, told) ≡ unless_lacking (lacks_memory told) op (read_turned names path page decode op caches reply) → left ≡ read_left op caches told → GoesAs told answer → left ≡ read_left op caches (said answer)
+      (new, told) ≡ unless_lacking (lacks_memory told) op (read_turned names path page decode op caches reply) → left ≡ read_caches_after op caches told → GoesAs told answer → left ≡ read_caches_after op caches (said answer)
   left_as_read op caches left reply new told answer e leaves goes = leaves ∙ said_alike op caches told answer (left_as_said op caches reply new told e) (left_where_answered op caches reply new told e) goes
 
   -- a read for a view goes on as its read does

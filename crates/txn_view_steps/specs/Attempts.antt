@@ -13,7 +13,7 @@ use Rattle.txn_caches.specs.declared.turned.Turned.TheVariants.{Goes, Done}
 use Rattle.txn_steps.specs.declared.read.ReadOp.{ReadOp}
 use Rattle.txn_steps.specs.declared.write.WriteOp.{WriteOp}
 use Rattle.txn_steps.specs.Latest.{ReadAnswer}
-use Rattle.txn_steps.specs.Reads.{read_started, read_asked, read_turned, read_left, IsReadReply, IsInRange}
+use Rattle.txn_steps.specs.Reads.{read_started, read_asked, read_turned, read_caches_after, IsReadReply, IsInRange}
 use Rattle.txn_steps.specs.Writes.{write_started, write_asked, write_turned, write_caches, IsWriteReply}
 use Rattle.txn_view_steps.specs.declared.outcome.Outcome.{Outcome}
 use Rattle.txn_view_steps.specs.declared.outcome.Outcome.TheVariants.{Held}
@@ -78,10 +78,10 @@ module _ {T : Type 0} where
   attempt_told path Ended told = (Ended, Goes)
 
   -- what it leaves of the caches, by whether it goes on
-  abbrev pub claiming_left : Claiming T → Caches → Turned (Result (Outcome T) ℕ) → Caches
-  claiming_left (Writes write value epoch) caches told = write_caches write caches
-  claiming_left (Reads read) caches told = read_left read caches (said told)
-  claiming_left Ended caches told = caches
+  abbrev pub claiming_caches_after : Claiming T → Caches → Turned (Result (Outcome T) ℕ) → Caches
+  claiming_caches_after (Writes write value epoch) caches told = write_caches write caches
+  claiming_caches_after (Reads read) caches told = read_caches_after read caches (said told)
+  claiming_caches_after Ended caches told = caches
 
 module _ {T : Type 0} (encode : T → List ℕ) (decode : List ℕ → Option T) (epoch_of : T → ℕ) where
   -- What it attempts to write has an id, is read back, and has its epoch.

@@ -7,14 +7,14 @@ use Rattle.txn_store.specs.declared.request.Reply.{Reply}
 use Rattle.txn_caches.specs.declared.caches.Caches.{Caches}
 use Rattle.txn_caches.specs.declared.turned.Turned.{Turned}
 use Rattle.txn_caches.specs.Asking.{unless_lacking}
-use Rattle.txn_steps.specs.Reads.{read_left}
+use Rattle.txn_steps.specs.Reads.{read_caches_after}
 use Rattle.txn_view_steps.specs.declared.outcome.Outcome.{Outcome}
 use Rattle.txn_view_steps.specs.declared.entry.EntryOp.{EntryOp}
 use Rattle.txn_view_steps.specs.declared.entry.EntryOp.TheVariants.{Writes, Ended}
 use Rattle.txn_view_steps.specs.declared.op.ViewOp.{ViewOp}
 use Rattle.txn_view_steps.specs.declared.op.ViewOp.TheVariants.{Enters, Reads, Claims}
 use Rattle.txn_view_steps.specs.Readings.{said}
-use Rattle.txn_view_steps.specs.Attempts.{claiming_asked, claiming_left, IsClaimingReply, IsClaimingInRange, IsRefreshing, IsMade}
+use Rattle.txn_view_steps.specs.Attempts.{claiming_asked, claiming_caches_after, IsClaimingReply, IsClaimingInRange, IsRefreshing, IsMade}
 use Rattle.txn_view_steps.specs.Shortages.{LacksAsWrite}
 use Rattle.txn_view_steps.specs.Claims.{claim_ended, claim_turned}
 use Rattle.txn_view_steps.specs.Entries.{entry_asked, entry_turned, entry_caches, IsEntryReply}
@@ -44,10 +44,10 @@ module _ {T : Type 0} where
   IsViewInRange (Claims op) = IsClaimingInRange op.claiming
 
   -- what it leaves of the caches, by what it says
-  abbrev pub view_left : ViewOp T → Caches → Turned (Result (Outcome T) ℕ) → Caches
-  view_left (Enters op) caches told = entry_caches op caches
-  view_left (Reads op) caches told = read_left op.read caches (said told)
-  view_left (Claims op) caches told = claiming_left op.claiming caches told
+  abbrev pub view_caches_after : ViewOp T → Caches → Turned (Result (Outcome T) ℕ) → Caches
+  view_caches_after (Enters op) caches told = entry_caches op caches
+  view_caches_after (Reads op) caches told = read_caches_after op.read caches (said told)
+  view_caches_after (Claims op) caches told = claiming_caches_after op.claiming caches told
 
   -- memory lacks in a claim's attempt only where its write was overtaken, or lacked it
   abbrev pub MayLack : ViewOp T → Caches → Option Reply → Bool → Type 0

@@ -6,7 +6,7 @@ ghost use Rattle.txn_caches.specs.Steps.{by_number, turned_by_number, lacks_memo
 ghost use Rattle.txn_caches.specs.Asking.{asks, reply_told, unless_lacking};
 ghost use Rattle.txn_view_steps.specs.Lacking.{lacks, or_lacking};
 ghost use Rattle.txn_view_steps.specs.Readings.{GoesAs};
-ghost use Rattle.txn_view_steps.specs.Attempts.{entered, attempted, attempted_again, followed, held_at, refreshing, attempt_told, refresh_told, claiming_asked, claiming_turned, claiming_left, IsMade, IsAttempting, IsRefreshing, IsClaimingReply, IsClaimingInRange};
+ghost use Rattle.txn_view_steps.specs.Attempts.{entered, attempted, attempted_again, followed, held_at, refreshing, attempt_told, refresh_told, claiming_asked, claiming_turned, claiming_caches_after, IsMade, IsAttempting, IsRefreshing, IsClaimingReply, IsClaimingInRange};
 ghost use Rattle.txn_view_steps.specs.Shortages.{IsShort, LacksAsWrite};
 
 use crate::copies::Copies;
@@ -254,7 +254,7 @@ impl<T: Clone> Claiming<T> {
         ensures made { IsRefreshing self.old → IsMade (C.encoded layout.now.codec) (C.decoded layout.now.codec) (X.epoch_of epochs.now) self.new }
         // Memory is lacked in an attempt only once its write is overtaken, or where that lacks it.
         ensures short { LacksAsWrite self.old caches.old reply (lacks_memory (turned_by_number result)) }
-        ensures caches { caches.new ≡ claiming_left self.old caches.old (turned_by_number result) }
+        ensures caches { caches.new ≡ claiming_caches_after self.old caches.old (turned_by_number result) }
         ensures store_error { TellsErrorOf (reply_told reply) result }
     {
         match self {

@@ -4,12 +4,12 @@ ghost use Rattle.txn_store.specs.Paths.{Segments};
 ghost use Rattle.txn_store.specs.VersionName.{Names};
 ghost use Rattle.txn_store.specs.declared.request.Reply.{Reply};
 ghost use Rattle.txn_caches.specs.declared.caches.Caches.{Caches};
-ghost use Rattle.txn_caches.specs.Counts.{left_after, SpendsOne};
+ghost use Rattle.txn_caches.specs.Counts.{budget_after, SpendsOne};
 ghost use Rattle.txn_view_steps.specs.declared.claiming.Claiming.{Claiming};
 ghost use Rattle.txn_view_steps.specs.declared.entry.EntryOp.{EntryOp};
 ghost use Rattle.txn_view_steps.specs.declared.view_read.ViewReadOp.{ViewReadOp};
 ghost use Rattle.txn_view_steps.specs.Attempts.{claiming_turned, IsClaimingInRange};
-ghost use Rattle.txn_view_steps.specs.CallsLeft.{entry_left};
+ghost use Rattle.txn_view_steps.specs.CallsLeft.{entry_budget};
 ghost use Rattle.txn_view_steps.specs.Entries.{entry_started, entry_turned, IsEntryReply};
 ghost use Rattle.txn_view_steps.specs.ViewReads.{view_read_turned, IsViewReadInRange};
 
@@ -17,8 +17,8 @@ ghost use Rattle.txn_view_steps.specs.ViewReads.{view_read_turned, IsViewReadInR
 /// and two calls of the store: it has so many left as it starts, and each step takes one of its kind at least and adds none
 /// of the other.
 pub fn entries_are_short<T: Drop>(_value: &T)
-    ensures started { (names : Names) (boundary : Segments) (encode : T → List ℕ) (base : Option ℕ) (value : T) (op : EntryOp T) → entry_started names boundary encode base value ≡ Ok op → entry_left op ≡ record { looks = 5; calls = 2 } }
-    ensures spends { (op : EntryOp T) (caches : Caches) (reply : Option Reply) → IsEntryReply op reply → SpendsOne reply (entry_left op) (left_after (entry_turned op caches reply).1 (entry_left (entry_turned op caches reply).0)) }
+    ensures started { (names : Names) (boundary : Segments) (encode : T → List ℕ) (base : Option ℕ) (value : T) (op : EntryOp T) → entry_started names boundary encode base value ≡ Ok op → entry_budget op ≡ record { looks = 5; calls = 2 } }
+    ensures spends { (op : EntryOp T) (caches : Caches) (reply : Option Reply) → IsEntryReply op reply → SpendsOne reply (entry_budget op) (budget_after (entry_turned op caches reply).1 (entry_budget (entry_turned op caches reply).0)) }
 {}
 
 /// The reads of these calls find at most four successors: each step leaves them in range.

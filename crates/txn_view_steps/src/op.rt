@@ -3,7 +3,7 @@ ghost use Rattle.std.specs.Prelude.{◌≡◌};
 ghost use Rattle.txn_types.specs.Clones.{IsExactClone};
 ghost use Rattle.txn_caches.specs.Steps.{turned_by_number, lacks_memory, TellsErrorOf};
 ghost use Rattle.txn_caches.specs.Asking.{asks, reply_told};
-ghost use Rattle.txn_view_steps.specs.ViewOps.{view_asked, view_left, view_turned, IsViewReply, IsViewInRange, IsClaimReading, IsViewMade, MayLack};
+ghost use Rattle.txn_view_steps.specs.ViewOps.{view_asked, view_caches_after, view_turned, IsViewReply, IsViewInRange, IsClaimReading, IsViewMade, MayLack};
 
 use crate::claim::ClaimOp;
 use crate::entry::EntryOp;
@@ -61,7 +61,7 @@ impl<T: Clone> ViewOp<T> {
         ensures made { IsClaimReading self.old → IsViewMade (C.encoded layout.now.codec) (C.decoded layout.now.codec) (X.epoch_of epochs.now) self.new }
         // A claim's attempt lacks memory only where its write was overtaken, or lacked it.
         ensures short { MayLack self.old caches.old reply (lacks_memory (turned_by_number result)) }
-        ensures caches { caches.new ≡ view_left self.old caches.old (turned_by_number result) }
+        ensures caches { caches.new ≡ view_caches_after self.old caches.old (turned_by_number result) }
         ensures store_error { TellsErrorOf (reply_told reply) result }
     {
         match self {

@@ -27,7 +27,7 @@ use Rattle.txn_history.proofs.Lists.{numbered_last}
 use Rattle.txn_machine_inner.proofs.Lists.{numbered_here, numbered_other}
 use Rattle.txn_clients.specs.Operations.{asked_of, asked_by, loose_of}
 use Rattle.txn_clients.proofs.Acting.{held_at, numbered_past}
-use Rattle.txn_world.specs.Running.{runs_as, runs_for, left_of, ended_where}
+use Rattle.txn_world.specs.Running.{runs_as, runs_for, requests_left, ended_where}
 use Rattle.txn_world.specs.Owning.{is_in_set, owns}
 
 -- what is left loose, operation by operation
@@ -37,16 +37,16 @@ as_left op None = refl
 as_left op (Some ask) = refl
 
 module _ {T : Type 0} where
-  left_of-append : (operations : List (Operation T)) (xs ys : List ℕ) → left_of operations (xs ++ ys) ≡ left_of operations xs ++ left_of operations ys
-  left_of-append operations [] ys = refl
-  left_of-append operations (x ∷ xs) ys = ap (λ (rest : List (ℕ × Request)). left_loose x (asked_by operations x) ++ rest) (left_of-append operations xs ys) ∙ sym (append_assoc (left_loose x (asked_by operations x)) (left_of operations xs) (left_of operations ys))
+  requests_left-append : (operations : List (Operation T)) (xs ys : List ℕ) → requests_left operations (xs ++ ys) ≡ requests_left operations xs ++ requests_left operations ys
+  requests_left-append operations [] ys = refl
+  requests_left-append operations (x ∷ xs) ys = ap (λ (rest : List (ℕ × Request)). left_loose x (asked_by operations x) ++ rest) (requests_left-append operations xs ys) ∙ sym (append_assoc (left_loose x (asked_by operations x)) (requests_left operations xs) (requests_left operations ys))
 
-  pub one_left : (operations : List (Operation T)) (ops : List ℕ) (i : ℕ) (copy : Option Request) (left new : List (ℕ × Request)) → i < length ops → copy ≡ loose_of (asked_by operations (get_or ops i 0)) → left ≡ left_of operations (take i ops) → new ≡ left ++ as_loose (get_or ops i 0) copy → new ≡ left_of operations (take (i + 1) ops)
+  pub one_left : (operations : List (Operation T)) (ops : List ℕ) (i : ℕ) (copy : Option Request) (left new : List (ℕ × Request)) → i < length ops → copy ≡ loose_of (asked_by operations (get_or ops i 0)) → left ≡ requests_left operations (take i ops) → new ≡ left ++ as_loose (get_or ops i 0) copy → new ≡ requests_left operations (take (i + 1) ops)
   one_left operations ops i copy left new lt is so_far e =
       let op = get_or ops i 0 in
       e ∙ (ap (λ (o : Option Request). left ++ as_loose op o) is ∙ (ap (λ (rest : List (ℕ × Request)). left ++ rest) (as_left op (asked_by operations op)) ∙ (ap (λ (front : List (ℕ × Request)). front ++ left_loose op (asked_by operations op)) so_far
-      ∙ (ap (λ (rest : List (ℕ × Request)). left_of operations (take i ops) ++ rest) (sym (append-nil (left_loose op (asked_by operations op))))
-      ∙ (sym (left_of-append operations (take i ops) (op ∷ [])) ∙ ap (left_of operations) (sym (take_more ops i 0 lt)))))))
+      ∙ (ap (λ (rest : List (ℕ × Request)). requests_left operations (take i ops) ++ rest) (sym (append-nil (left_loose op (asked_by operations op))))
+      ∙ (sym (requests_left-append operations (take i ops) (op ∷ [])) ∙ ap (requests_left operations) (sym (take_more ops i 0 lt)))))))
 
 -- lists of numbers that ascend
 
@@ -348,7 +348,7 @@ module _ {T : Type 0} where
   not_empty : (operations : List (Operation T)) (client first : ℕ) → runs_for operations client first ≡ true → HasFrom operations client first [] → ⊥
   not_empty operations client first runs has = both_ways false refl (has first ∙ (ap (λ b. b && runs_for operations client first) (at_most_itself first) ∙ runs))
 
-  left_from : (operations : List (Operation T)) (client first : ℕ) (rest : List (Operation T)) (keys : List ℕ) → AreFrom operations first rest → IsStrictlySortedBy nat_cmp keys → HasFrom operations client first keys → left_of operations keys ≡ all_left_loose client first (seen_operations rest)
+  left_from : (operations : List (Operation T)) (client first : ℕ) (rest : List (Operation T)) (keys : List ℕ) → AreFrom operations first rest → IsStrictlySortedBy nat_cmp keys → HasFrom operations client first keys → requests_left operations keys ≡ all_left_loose client first (seen_operations rest)
   left_from operations client first [] [] from sorted has = refl
   left_from operations client first [] (k ∷ keys) from sorted has =
       let both = and_true (nat_at_most first k) (runs_for operations client k) (sym (has k) ∙ has_first k keys) in
@@ -359,8 +359,8 @@ module _ {T : Type 0} where
       here : numbered operations first ≡ Some o
       here = head_from operations first o rest from
 
-      by : ((ks : List ℕ) → IsStrictlySortedBy nat_cmp ks → HasFrom operations client (first + 1) ks → left_of operations ks ≡ all_left_loose client (first + 1) (seen_operations rest)) →
-          (b : Bool) → runs_for operations client first ≡ b → (ks : List ℕ) → IsStrictlySortedBy nat_cmp ks → HasFrom operations client first ks → left_of operations ks ≡ all_left_loose client first (seen_operations (o ∷ rest))
+      by : ((ks : List ℕ) → IsStrictlySortedBy nat_cmp ks → HasFrom operations client (first + 1) ks → requests_left operations ks ≡ all_left_loose client (first + 1) (seen_operations rest)) →
+          (b : Bool) → runs_for operations client first ≡ b → (ks : List ℕ) → IsStrictlySortedBy nat_cmp ks → HasFrom operations client first ks → requests_left operations ks ≡ all_left_loose client first (seen_operations (o ∷ rest))
       by next false idle ks above has =
           next ks above (skip_first operations client first ks idle has)
           ∙ sym (ap (λ (ls : List (ℕ × Request)). ls ++ all_left_loose client (first + 1) (seen_operations rest)) (not_running_left first (asked o.doing) (o.client == client) (sym (ap (runs_as client) here) ∙ idle)))
@@ -370,11 +370,11 @@ module _ {T : Type 0} where
           let tail = next ks (sorted_tail nat_cmp k ks above)
           (drop_first operations client first ks (subst (λ (m : ℕ). AllByRecursion (λ y. nat_cmp m y ≡ Less) ks) same (sorted_head nat_cmp k ks above)) (subst (λ (m : ℕ). HasFrom operations client first (m ∷ ks)) same has)) in
           let ask : asked_by operations k ≡ asked o.doing = ap (asked_by operations) same ∙ ap asked_of here in
-          ap (λ (m : ℕ). left_loose m (asked_by operations k) ++ left_of operations ks) same ∙ (ap (λ (a : Option Ask). left_loose first a ++ left_of operations ks) ask ∙ (ap (λ (ls : List (ℕ × Request)). left_loose first (asked o.doing) ++ ls) tail
+          ap (λ (m : ℕ). left_loose m (asked_by operations k) ++ requests_left operations ks) same ∙ (ap (λ (a : Option Ask). left_loose first a ++ requests_left operations ks) ask ∙ (ap (λ (ls : List (ℕ × Request)). left_loose first (asked o.doing) ++ ls) tail
           ∙ sym (ap (λ (ls : List (ℕ × Request)). ls ++ all_left_loose client (first + 1) (seen_operations rest)) (running_left first (asked o.doing) (o.client == client) (sym (ap (runs_as client) here) ∙ runs)))))
 
   -- what the operations of a client leave loose
-  pub crash_leaves : {S : Type 0} (running : List (HashSet ℕ S)) (operations : List (Operation T)) (client : ℕ) (keys : List ℕ) → AreRunning running operations → IsStrictlySortedBy nat_cmp keys → ((n : ℕ) → list_any (nat_eq n) keys ≡ owns running client n) → left_of operations keys ≡ all_left_loose client 1 (seen_operations operations)
+  pub crash_leaves : {S : Type 0} (running : List (HashSet ℕ S)) (operations : List (Operation T)) (client : ℕ) (keys : List ℕ) → AreRunning running operations → IsStrictlySortedBy nat_cmp keys → ((n : ℕ) → list_any (nat_eq n) keys ≡ owns running client n) → requests_left operations keys ≡ all_left_loose client 1 (seen_operations operations)
   crash_leaves running operations client keys all sorted has = left_from operations client 1 operations keys at_first sorted from_first
     where
       at_first : AreFrom operations 1 operations

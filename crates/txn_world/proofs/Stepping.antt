@@ -50,7 +50,7 @@ use Rattle.txn_machine.specs.declared.doing.Doing.TheVariants as does
 use Rattle.txn_machine.specs.declared.doing.Operation.{Operation}
 use Rattle.txn_machine.specs.declared.doing.Ending.{Ending}
 use Rattle.txn_machine.specs.declared.doing.Ending.TheVariants as endings
-use Rattle.txn_machine.specs.Doing.{Next, asked, ended, refused, plain_next, view_next, turned, started, caches_left, answer_in, IsClaimReading, IsMadeSo, ReadsBack, FitsWord, MayLack, Turns}
+use Rattle.txn_machine.specs.Doing.{Next, asked, ended, refused, plain_next, view_next, turned, started, caches_after, answer_in, IsClaimReading, IsMadeSo, ReadsBack, FitsWord, MayLack, Turns}
 use Rattle.txn_machine_views.specs.Parts.{is_claim_call}
 use Rattle.txn_machine.specs.Machine.{State, seen_operation, seen_operations, seen_of, with_doing, answer_of, answered, acted, given_up, let_go, views_changed, views_after, views_taken, begun_as, view_now, Acts, FailsFirst, FailsAfter, GivesUp, Lands, Looks, Served, Begins}
 use Rattle.txn_clients.specs.declared.operations.Usage.{Usage}
@@ -135,7 +135,7 @@ module _ {T : Type 0} (page : ℕ) (decode : List ℕ → Option T) where
   MayRefuse refused doing caches reply =
       ((Ended, Some (answers.Refused 9)) ≡ plain.turned page decode true doing caches reply)
       × ((plain.turned page decode refused doing caches reply).0 ≡ Ended)
-      × (plain.caches_left doing caches (plain.turned page decode refused doing caches reply).1 ≡ plain.caches_left doing caches (Some (answers.Refused 9)))
+      × (plain.plain_caches_after doing caches (plain.turned page decode refused doing caches reply).1 ≡ plain.plain_caches_after doing caches (Some (answers.Refused 9)))
 
   may_refuse : (refused : Bool) (doing : PlainDoing T) (caches : Caches) (reply : Option Reply) → ArePlainIds (plain.turned page decode refused doing caches reply).1 → MayRefuse refused doing caches reply
   may_refuse refused (Write op) caches reply h = let next = write_turned op caches reply in absurd (write_no_ids next.1 (write_answer next.1) refl (next_ids (Write next.0) (write_answer next.1) h).1)
@@ -157,7 +157,7 @@ module _ {T : Type 0} (page : ℕ) (encode : T → List ℕ) (decode : List ℕ 
   record MayEnd (lacks : Bool) (doing : Doing T) (caches : Caches) (reply : Option Reply) : Type 0 where
     pub refuses : (ended, Some (endings.Answers (answers.Refused 9))) ≡ turned page encode decode get_epoch set_epoch true doing caches reply
     pub ends : (turned page encode decode get_epoch set_epoch lacks doing caches reply).0 ≡ ended
-    pub leaves : caches_left doing caches (turned page encode decode get_epoch set_epoch lacks doing caches reply).1 ≡ caches_left doing caches (Some (endings.Answers (answers.Refused 9)))
+    pub leaves : caches_after doing caches (turned page encode decode get_epoch set_epoch lacks doing caches reply).1 ≡ caches_after doing caches (Some (endings.Answers (answers.Refused 9)))
     pub may : MayLack doing caches reply true
     pub reads_no_claim : IsClaimReading doing → ⊥
 
@@ -168,7 +168,7 @@ module _ {T : Type 0} (page : ℕ) (encode : T → List ℕ) (decode : List ℕ 
       record {
         refuses = ap plain_next may.0;
         ends = plain_first next ∙ ap does.Plain may.1;
-        leaves = ap (plain.caches_left doing caches) (plain_answer next) ∙ may.2;
+        leaves = ap (plain.plain_caches_after doing caches) (plain_answer next) ∙ may.2;
         may = tt;
         reads_no_claim = λ reads. reads;
       }
@@ -193,7 +193,7 @@ module _ {T : Type 0} (page : ℕ) (encode : T → List ℕ) (decode : List ℕ 
           turns = record { refused = true; turns = m.refuses; may = m.may; made = λ reads. absurd (m.reads_no_claim reads) };
           ends = lacks.0;
           operations = t.operations ∙ ap (with_doing old op o) (ap (λ (n : Next T). n.0) t.turns.turns ∙ m.ends);
-          leaves = t.leaves ∙ (ap (λ (n : Next T). caches_left o.doing v.keeps n.1) t.turns.turns ∙ m.leaves);
+          leaves = t.leaves ∙ (ap (λ (n : Next T). caches_after o.doing v.keeps n.1) t.turns.turns ∙ m.leaves);
         };
         kept = v.kept;
         leaves = v.leaves;
@@ -237,7 +237,7 @@ module _ {T : Type 0} (encode : T → List ℕ) (decode : List ℕ → Option T)
     pub answer : answered (length old.views) of.view said ≡ answered (length old.views) operation.view next.1
     pub views : views_after old.views of.client of.view of.claims said ≡ views_after old.views operation.client operation.view operation.claims next.1
     pub operations : new.operations ≡ with_doing old.operations op operation next.0
-    pub leaves : new.caches ≡ set old.caches (operation.client - 1) (caches_left operation.doing keeps next.1)
+    pub leaves : new.caches ≡ set old.caches (operation.client - 1) (caches_after operation.doing keeps next.1)
 
   taken : (old new : State T) (op : ℕ) (of : Usage) (ask : Ask) (reply : Option Reply) (ending said : Option (Ending T)) → asked_by old.operations op ≡ Some ask → option_map usage_of (numbered old.operations op) ≡ Some of →
       TurnsAmong old.page encode decode get_epoch set_epoch old.operations old.caches op reply new.operations new.caches ending → IsAfforded ending said → Taken old new op of ask reply said
@@ -272,7 +272,7 @@ module _ {T : Type 0} (encode : T → List ℕ) (decode : List ℕ → Option T)
         next = t.next;
         turns = t.turns;
         tells = is ∙ ap (told_of (told.Went op) op) t.answer;
-        state = same_state new (acted old op t.operation t.next (caches_left t.operation.doing t.keeps t.next.1)) a b c t.leaves t.operations (e ∙ t.views) f g (h ∙ ap (λ a. old.trace ++ answer_rows op a) t.answer);
+        state = same_state new (acted old op t.operation t.next (caches_after t.operation.doing t.keeps t.next.1)) a b c t.leaves t.operations (e ∙ t.views) f g (h ∙ ap (λ a. old.trace ++ answer_rows op a) t.answer);
       }
 
   -- a serve
@@ -287,7 +287,7 @@ module _ {T : Type 0} (encode : T → List ℕ) (decode : List ℕ → Option T)
         next = t.next;
         turns = t.turns;
         tells = is ∙ ap (told_of (told.Went op) op) t.answer;
-        state = same_state new (acted (effected old op request reply new.store) op t.operation t.next (caches_left t.operation.doing t.keeps t.next.1)) a b refl t.leaves t.operations (e ∙ t.views) f g
+        state = same_state new (acted (effected old op request reply new.store) op t.operation t.next (caches_after t.operation.doing t.keeps t.next.1)) a b refl t.leaves t.operations (e ∙ t.views) f g
             (h ∙ ap (λ a. (old.trace ++ effect_rows op (effect_of old.store.files request reply)) ++ answer_rows op a) t.answer);
       }
 

@@ -19,9 +19,9 @@ module _ {T : Type 0} where
   runs_for operations client op = runs_as client (numbered operations op)
 
   -- the requests that these operations leave loose, in this order
-  abbrev pub left_of : List (Operation T) → List ℕ → List (ℕ × Request)
-  left_of operations [] = []
-  left_of operations (op ∷ ops) = left_loose op (asked_by operations op) ++ left_of operations ops
+  abbrev pub requests_left : List (Operation T) → List ℕ → List (ℕ × Request)
+  requests_left operations [] = []
+  requests_left operations (op ∷ ops) = left_loose op (asked_by operations op) ++ requests_left operations ops
 
   -- an operation, ended where this is so
   abbrev pub ended_where : Bool → Option (Operation T) → Option (Operation T)

@@ -7,7 +7,7 @@ ghost use Rattle.txn_machine.specs.declared.doing.Operation.{Operation};
 ghost use Rattle.txn_history.specs.Lists.{numbered};
 ghost use Rattle.txn_clients.specs.Views.{IsFromOne};
 ghost use Rattle.txn_world.specs.Owning.{owns};
-ghost use Rattle.txn_world.specs.Running.{runs_for, left_of, ended_where};
+ghost use Rattle.txn_world.specs.Running.{runs_for, requests_left, ended_where};
 
 use crate::numbers::{clear, new_sets};
 use std::alloc::{AllocError, Global};
@@ -34,12 +34,12 @@ pub(crate) fn push_loose(loose: &mut Vec<(u64, Request)>, op: u64, copy: Option<
 }
 
 /// The requests that these operations leave loose, in this order. The only error is want of memory.
-fn left_of<T: Drop>(
+fn requests_left<T: Drop>(
     alloc: Global,
     operations: &[Operation<T>],
     ops: &[u64],
 ) -> Result<Vec<(u64, Request)>, AllocError>
-    ensures { IfOk result (λ left. left.items ≡ left_of operations.now ops.now) }
+    ensures { IfOk result (λ left. left.items ≡ requests_left operations.now ops.now) }
 {
     let mut left = Vec::new(alloc);
     for op in ops {
@@ -280,7 +280,7 @@ impl<T: Clone> Clients<T> {
         ensures err_loose { OnErr result (loose.new.items ≡ loose.old.items) }
     {
         let ops = ascending(alloc, &self.running[(client - 1) as usize])?;
-        let mut left = left_of(alloc, &self.operations, &ops)?;
+        let mut left = requests_left(alloc, &self.operations, &ops)?;
         loose.append(&mut left)?;
         end_all(&mut self.operations, &ops);
         clear(&mut self.running, client);

@@ -1,7 +1,7 @@
 use Rattle.std.proofs.Common.{ap, ◌∙◌, arith}
 use Rattle.std.proofs.lemmas.List.{take_all}
 use Rattle.txn_clients.specs.Operations.{loose_of}
-use Rattle.txn_world.specs.Running.{left_of}
+use Rattle.txn_world.specs.Running.{requests_left}
 use Rattle.txn_world.proofs.Running.{one_left}
 use Rattle.txn_world.proofs.clients.left_of.Goals as goal
 
@@ -10,4 +10,4 @@ loop-op-preserved g c =
     one_left c.args.operations.now c.args.ops.now c.loop-op.op-index c.in_ok-copy.copy _ _ c.loop-op-test.true (c.in_ok-copy.ensures ∙ ap loose_of c.asked.ensures) (c.in_ok-reserve.ensures.items ∙ c.loop-op.invariant) c.push_loose.ensures
 
 pub returns : goal.returns
-returns g c = c.loop-op.invariant ∙ ap (left_of c.args.operations.now) (take_all c.loop-op.op-index c.args.ops.now (omega (arith, c.loop-op-test.false)))
+returns g c = c.loop-op.invariant ∙ ap (requests_left c.args.operations.now) (take_all c.loop-op.op-index c.args.ops.now (omega (arith, c.loop-op-test.false)))

@@ -1,7 +1,7 @@
 use Rattle.std.proofs.Common.{◌∙◌, ap, sym, subst, ℕ, List, ◌++◌, arith}
 use Rattle.std.specs.List.Sorted.{IsStrictlySortedBy}
 use Rattle.std.specs.Ordering.{nat_cmp}
-use Rattle.txn_world.specs.Running.{left_of}
+use Rattle.txn_world.specs.Running.{requests_left}
 use Rattle.txn_world.proofs.Running.{running_found, crash_running, crash_operations, crash_leaves, has_all}
 use Rattle.txn_world.proofs.Acting.{from_ended}
 use Rattle.txn_world.proofs.clients.Clients.crash.Goals as goal
@@ -35,4 +35,4 @@ returns-clause-loose g c =
     let keys = c.deref-2.result.now in
     let has = has_all t.running.items c.args.client c.index.result.now c.in_ok-ops.ops.items keys c.requires.some (omega (arith, c.requires.within, t.each, t.running.ok.0)) c.index.ensures c.in_ok-ops.ensures c.deref-2.ensures.value in
     let sorted = subst (λ (ks : List ℕ). IsStrictlySortedBy nat_cmp ks) (sym c.deref-2.ensures.value) c.in_ok-ops.ensures.ascending in
-    c.in_ok-append.ensures.items ∙ ap (λ ls. c.args.loose.now.items ++ ls) (c.in_ok-left.ensures ∙ (ap (λ os. left_of os keys) c.deref.ensures.value ∙ crash_leaves t.running.items t.operations.items c.args.client keys t.all_running sorted has))
+    c.in_ok-append.ensures.items ∙ ap (λ ls. c.args.loose.now.items ++ ls) (c.in_ok-left.ensures ∙ (ap (λ os. requests_left os keys) c.deref.ensures.value ∙ crash_leaves t.running.items t.operations.items c.args.client keys t.all_running sorted has))
