@@ -20,7 +20,7 @@ use Rattle.txn_history.specs.Added.{told_of, answer_rows, effect_rows}
 use Rattle.txn_machine_inner.specs.Machine.{effect_of, effected, loosened, failing, next_op}
 use Rattle.txn_history.specs.declared.event.Call.{Call}
 use Rattle.txn_history.specs.declared.event.Answer.{Answer}
-use Rattle.txn_history.specs.Trace.{Row, Told}
+use Rattle.txn_history.specs.Trace.{Row}
 use Rattle.txn_history.specs.Calls.{view_used}
 use Rattle.txn_machine.specs.declared.doing.Operation.{Operation}
 use Rattle.txn_machine.specs.Doing.{ended, refused, asked, started, caches_after, Turns}
@@ -39,7 +39,8 @@ use Rattle.txn_journals.specs.Journals.{Begins, TakesTurn, FailsAt, LacksAt, Giv
 use Rattle.txn_journals.specs.Logs.{IsLog, files_of}
 use Rattle.txn_journals.specs.Numbers.{count, number}
 use Rattle.txn_journals.specs.Merged.{Did, Merged, log_of, begins_of, views_of, with_view}
-use Rattle.txn_journals.specs.Traces.{named_call, told_in, next_in, op_in, loose_of, trace_of, failed_of, event_in, tells_in, taken_of}
+use Rattle.txn_journals.specs.Traces.{named_call, told_in, next_in, op_in, loose_of, trace_of, failed_of}
+use Rattle.txn_journals.proofs.Taken.{event_in, tells_in, taken_of}
 use Rattle.txn_journals.proofs.Numbers.{count_other, IsWithin}
 use Rattle.txn_journals.proofs.Operations.{named_op, op_within}
 use Rattle.txn_journals.proofs.Files.{log_files}

@@ -15,7 +15,8 @@ use Rattle.txn_machine.proofs.Runs.{runs_more_or_lacking}
 use Rattle.txn_journals.specs.Parts.{Part}
 use Rattle.txn_journals.specs.Logs.{IsLog, files_of}
 use Rattle.txn_journals.specs.Merged.{Landing, Lands, Merged, log_of, begins_of, views_of, CanLand}
-use Rattle.txn_journals.specs.Traces.{op_in, place_in, trace_of, taken_of}
+use Rattle.txn_journals.specs.Traces.{op_in, trace_of}
+use Rattle.txn_journals.proofs.Taken.{place_in, taken_of}
 use Rattle.txn_journals.proofs.Files.{log_files}
 use Rattle.txn_journals.proofs.Ties.{effected_tied}
 use Rattle.txn_journals.proofs.Stages.{Stage}

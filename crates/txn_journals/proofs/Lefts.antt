@@ -22,7 +22,8 @@ use Rattle.txn_journals.specs.declared.rows.JournalRow.{JournalRow}
 use Rattle.txn_journals.specs.Journals.{left_by, left_now, left_among, left_in, left_of}
 use Rattle.txn_journals.specs.Numbers.{count}
 use Rattle.txn_journals.specs.Merged.{Did, Merged, part_of, begins_of}
-use Rattle.txn_journals.specs.Traces.{loose_of, place_now, place_among, place_in, op_in}
+use Rattle.txn_journals.specs.Traces.{loose_of, op_in}
+use Rattle.txn_journals.proofs.Taken.{place_now, place_among, place_in}
 use Rattle.txn_journals.proofs.Numbers.{number_old, IsWithin}
 use Rattle.txn_machine_inner.proofs.Lists.{numbered_new}
 use Rattle.txn_journals.proofs.Operations.{within_more}

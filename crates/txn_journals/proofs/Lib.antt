@@ -4,6 +4,7 @@ pub mod Operations
 pub mod Views
 pub mod Files
 pub mod Told
+pub mod Taken
 pub mod Lefts
 pub mod Order
 pub mod Killing

@@ -1,6 +1,8 @@
 -- A merged list is a run of a world, and one history; and so is each beginning of it.
-use Rattle.std.proofs.Common.{◌≡◌, ◌≢◌, ℕ, zero, suc, ◌≤◌, List, [], ◌∷◌, drop, Bool, if◌then◌else◌, ◌==◌, Option, Some, None, inl, inr, refl, sym, subst, arith}
+use Rattle.std.proofs.Common.{◌≡◌, ◌≢◌, ℕ, zero, suc, ◌≤◌, List, [], ◌∷◌, drop, Bool, if◌then◌else◌, ◌==◌, Option, Some, None, inl, inr, refl, sym, ◌∙◌, ap, subst, arith}
+use Rattle.std.specs.Option.{option_map}
 use Rattle.std.proofs.lemmas.Bool.{cases_eq, eq-eqb, ne_eqb}
+use Rattle.std.proofs.lemmas.List.{length-map}
 use Rattle.txn_store.specs.Store.{State as StoreState}
 use Rattle.txn_store.specs.Requests.{Serves}
 use Rattle.txn_store.specs.declared.request.Request.{Request}
@@ -10,9 +12,11 @@ use Rattle.txn_history.specs.Trace.{Row}
 use Rattle.txn_history.specs.OneHistory.{IsOneHistory}
 use Rattle.txn_history.specs.Views.{ViewsFit}
 use Rattle.txn_history.specs.Laws.{HasOneClaimer}
-use Rattle.txn_machine.specs.Machine.{State, opening, seen_views}
+use Rattle.txn_machine.specs.Machine.{State, opening, seen_view, seen_views}
 use Rattle.txn_machine.proofs.Reached.{run_reaches_or_lacking, reached_history, reached_views, reached_claims}
 use Rattle.txn_machine_inner.specs.Machine.{no_caches}
+use Rattle.txn_machine_inner.proofs.Lists.{numbered_of_map}
+use Rattle.txn_machine_views.specs.Layer.{Used}
 use Rattle.txn_journals.specs.declared.rows.LogRow.{LogRow}
 use Rattle.txn_journals.specs.declared.rows.Act.TheVariants as acts
 use Rattle.txn_journals.specs.declared.rows.Step.{Step}
@@ -21,9 +25,12 @@ use Rattle.txn_journals.specs.declared.rows.JournalRow.{JournalRow}
 use Rattle.txn_journals.specs.Parts.{Part}
 use Rattle.txn_journals.specs.Journals.{Follows, Replays}
 use Rattle.txn_journals.specs.Logs.{IsLog}
-use Rattle.txn_journals.specs.Merged.{Landing, Did, Lands, Merged, part_of, clients_of, landing_row, with_receipt, log_of, CanLand, IsMerged}
-use Rattle.txn_journals.specs.Traces.{failed_of, taken_of}
-use Rattle.txn_journals.specs.Runs.{IsRun}
+use Rattle.txn_journals.specs.Numbers.{number}
+use Rattle.txn_journals.specs.Merged.{Landing, Did, Lands, Merged, part_of, clients_of, views_of, landing_row, with_receipt, log_of, CanLand, IsMerged}
+use Rattle.txn_journals.specs.Traces.{failed_of}
+use Rattle.txn_journals.specs.Histories.{OneHistoryOfMerged}
+use Rattle.txn_journals.specs.Runs.{IsRun, used_in}
+use Rattle.txn_journals.proofs.Taken.{taken_of}
 use Rattle.txn_journals.proofs.Stages.{History, Stage}
 use Rattle.txn_journals.proofs.ClientRows.{look_more, got_more, left_more, fail_more, lack_more, kill_more, new_more}
 use Rattle.txn_journals.proofs.Landings.{land_more}
@@ -180,17 +187,21 @@ module _ {T : Type 0} (page : ℕ) (encode : T → List ℕ) (decode : List ℕ 
       land_more page encode decode get_epoch set_epoch clients m parts b.before s.0 s.1 landing b.lands store b.merged.log b.serves b.honest
 
 module _ {T : Type 0} (page : ℕ) (encode : T → List ℕ) (decode : List ℕ → Option T) (get_epoch : T → ℕ) (set_epoch : T → ℕ → T) where
+  -- a client's view is seen as it is, whichever operation uses it
+  seen_same : (m : Merged T) (client : ℕ) (used : Option (Used T)) → seen_view (option_map (used_in m client) used) ≡ option_map (λ (it : Used T). it.view) used
+  seen_same m client None = refl
+  seen_same m client (Some used) = refl
+
   history : History page encode decode get_epoch set_epoch
   history clients size taken state room runs = reached_history encode decode get_epoch set_epoch state (run_reaches_or_lacking encode decode get_epoch set_epoch clients size taken state room runs)
 
   pub merged_runs : (clients : ℕ) (m : Merged T) (parts : ℕ → Part T) (store : StoreState) → 1 ≤ page → clients_of m ≤ clients → IsMerged page encode decode get_epoch set_epoch m parts store → IsRun page encode decode get_epoch set_epoch clients m parts store
   merged_runs clients m parts store room le h =
       let found = stages page encode decode get_epoch set_epoch history room clients m parts store le h in
-      let s = found.0 in
       let g = found.1 in
-      let r = run_reaches_or_lacking encode decode get_epoch set_epoch clients page (taken_of m) s room g.runs in
       record {
-        state = s;
+        taken = taken_of m;
+        state = found.0;
         runs = g.runs;
         trace = g.trace;
         failed = g.failed;
@@ -201,7 +212,20 @@ module _ {T : Type 0} (page : ℕ) (encode : T → List ℕ) (decode : List ℕ 
         operations = λ client k operation is. (g.tied client).ops.each k operation is;
         all_views = g.all_views;
         views = λ client k used is. (g.tied client).seen.each k used is;
+      }
+
+  pub merged_history : (m : Merged T) (parts : ℕ → Part T) (store : StoreState) → 1 ≤ page → IsMerged page encode decode get_epoch set_epoch m parts store → OneHistoryOfMerged decode get_epoch set_epoch m parts
+  merged_history m parts store room h =
+      let clients = clients_of m in
+      let found = stages page encode decode get_epoch set_epoch history room clients m parts store (omega arith) h in
+      let s = found.0 in
+      let g = found.1 in
+      let r = run_reaches_or_lacking encode decode get_epoch set_epoch clients page (taken_of m) s room g.runs in
+      record {
         one_history = subst (λ (rows : List (Row T)). IsOneHistory decode get_epoch set_epoch (failed_of m) rows) g.trace (subst (λ (failed : List ℕ). IsOneHistory decode get_epoch set_epoch failed s.trace) g.failed (reached_history encode decode get_epoch set_epoch s r));
+        views = seen_views s.views;
+        all_views = length-map s.views seen_view ∙ g.all_views;
+        its_views = λ client k used is. numbered_of_map seen_view s.views (number (views_of m) client k) (option_map (used_in m client) used) ((g.tied client).seen.each k used is) ∙ ap Some (seen_same m client used);
         views_fit = subst (λ (rows : List (Row T)). ViewsFit decode get_epoch rows (seen_views s.views)) g.trace (reached_views encode decode get_epoch set_epoch s r);
         one_claimer = subst (λ (rows : List (Row T)). HasOneClaimer rows) g.trace (reached_claims encode decode get_epoch set_epoch s r);
       }

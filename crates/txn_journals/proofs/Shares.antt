@@ -14,7 +14,7 @@ use Rattle.txn_journals.specs.Logs.{IsLog}
 use Rattle.txn_journals.specs.Merged.{Did, Lands, Merged, part_of, clients_of, landing_row, with_receipt, log_of, IsMerged}
 use Rattle.txn_journals.specs.Verdict.{Diary, IsDue, HasClient, journal_of, kept_by, clients_in}
 use Rattle.txn_journals.specs.Shares.{Merges, AreDiaries, IsBeginning, ShareOnlyTheStore}
-use Rattle.txn_journals.proofs.Runs.{tail, landing_tail, merged_runs}
+use Rattle.txn_journals.proofs.Runs.{tail, landing_tail, merged_runs, merged_history}
 use Rattle.txn_journals.proofs.Woven.{part_append, receipts_append, no_journal, merged_merges}
 
 module _ {T : Type 0} where
@@ -100,13 +100,14 @@ module _ {T : Type 0} (page : ℕ) (encode : T → List ℕ) (decode : List ℕ 
 
   -- the rows before others
   beginning : (clients : ℕ) (a b : Merged T) (parts : ℕ → Part T) (store : StoreState) → 1 ≤ page → clients_of b ≤ clients → IsMerged page encode decode get_epoch set_epoch (a ++ b) parts store → IsBeginning page encode decode get_epoch set_epoch clients b
-  beginning clients [] b parts store room le h = record { parts = parts; store = store; merged = h; run = merged_runs page encode decode get_epoch set_epoch clients b parts store room le h }
+  beginning clients [] b parts store room le h = record { parts = parts; store = store; merged = h; run = merged_runs page encode decode get_epoch set_epoch clients b parts store room le h; history = merged_history page encode decode get_epoch set_epoch b parts store room h }
   beginning clients (Did client row ∷ a) b parts store room le h = (let t = tail page encode decode get_epoch set_epoch client row (a ++ b) parts store h in beginning clients a b t.was t.before room le t.merged)
   beginning clients (Lands landing ∷ a) b parts store room le h = (let t = landing_tail page encode decode get_epoch set_epoch landing (a ++ b) parts store h in beginning clients a b parts t.before room le t.merged)
 
   pub share_only_the_store : (clients : ℕ) (log : List LogRow) (ds : List (Diary T)) (store : StoreState) → 1 ≤ page → clients_in ds ≤ clients → IsLog (reverse log) store → AreDiaries page encode decode get_epoch set_epoch ds → IsDue log ds (Ok tt) → ShareOnlyTheStore page encode decode get_epoch set_epoch clients log ds store
   share_only_the_store clients log ds store room le l h due =
       record {
+        histories = λ m g. merged_history page encode decode get_epoch set_epoch (reverse m) (kept_by ds) store room (is_merged log ds store m l h g);
         runs = λ m g. merged_runs page encode decode get_epoch set_epoch clients (reverse m) (kept_by ds) store room (bound m g) (is_merged log ds store m l h g);
         beginnings = λ m g k. (
             let two : reverse m ≡ reverse (drop k m) ++ reverse (take k m) = ap reverse (sym (take-append-drop k m)) ∙ reverse-append (take k m) (drop k m) in

@@ -11,7 +11,8 @@ use Rattle.txn_journals.specs.declared.rows.JournalRow.{JournalRow}
 use Rattle.txn_journals.specs.Parts.{Part}
 use Rattle.txn_journals.specs.Numbers.{count}
 use Rattle.txn_journals.specs.Merged.{Merged, begins_of, views_of}
-use Rattle.txn_journals.specs.Traces.{loose_of, failed_of, trace_of, taken_of}
+use Rattle.txn_journals.specs.Traces.{loose_of, failed_of, trace_of}
+use Rattle.txn_journals.proofs.Taken.{taken_of}
 use Rattle.txn_journals.proofs.Ties.{TiedTo}
 use Rattle.txn_journals.proofs.Lefts.{AllLeft}
 

@@ -4,6 +4,7 @@ pub mod Logs
 pub mod Numbers
 pub mod Merged
 pub mod Traces
+pub mod Histories
 pub mod Runs
 pub mod Verdict
 pub mod Shares

@@ -3,16 +3,14 @@ use Rattle.std.specs.Prelude.{◌≡◌, ◌≤◌, ℕ, List, Option, Some, len
 use Rattle.std.specs.Option.{option_map}
 use Rattle.txn_store.specs.Store.{State as StoreState}
 use Rattle.txn_history.specs.Lists.{numbered}
-use Rattle.txn_history.specs.OneHistory.{IsOneHistory}
-use Rattle.txn_history.specs.Views.{ViewsFit}
-use Rattle.txn_history.specs.Laws.{HasOneClaimer}
+use Rattle.txn_history.specs.Trace.{Event, Told}
 use Rattle.txn_machine_views.specs.Layer.{Used}
 use Rattle.txn_machine.specs.declared.doing.Operation.{Operation}
-use Rattle.txn_machine.specs.Machine.{State, opening, seen_views, RunsOrLacks}
+use Rattle.txn_machine.specs.Machine.{State, opening, RunsOrLacks}
 use Rattle.txn_journals.specs.Parts.{Part}
 use Rattle.txn_journals.specs.Numbers.{number}
 use Rattle.txn_journals.specs.Merged.{Merged, begins_of, views_of}
-use Rattle.txn_journals.specs.Traces.{trace_of, loose_of, failed_of, taken_of}
+use Rattle.txn_journals.specs.Traces.{trace_of, loose_of, failed_of}
 
 module _ {T : Type 0} where
   -- an operation of a client, by the numbers of all
@@ -24,10 +22,11 @@ module _ {T : Type 0} where
   used_in m client used = record { view = used.view; busy = option_map (number (begins_of m) client) used.busy }
 
 module _ {T : Type 0} (page : ℕ) (encode : T → List ℕ) (decode : List ℕ → Option T) (get_epoch : T → ℕ) (set_epoch : T → ℕ → T) where
-  -- The list is a run of a world of so many clients, from its opening by the events of the list, where a serve may lack memory. It ends with the list's trace, failures and loose requests, with this store, and with what each client keeps: its caches, its operations and its views, and no others. The trace is one history, and the views and claims fit it.
+  -- The list is a run of a world of so many clients: some events lead there from its opening, where a serve may lack memory. It ends with the list's trace, failures and loose requests, with this store, and with what each client keeps: its caches, its operations and its views, and no others.
   pub record IsRun (clients : ℕ) (m : Merged T) (parts : ℕ → Part T) (store : StoreState) : Type 0 where
+    pub taken : List (Event T × Told T)
     pub state : State T
-    pub runs : RunsOrLacks encode decode get_epoch set_epoch (opening clients page) (taken_of m) state
+    pub runs : RunsOrLacks encode decode get_epoch set_epoch (opening clients page) taken state
     pub trace : state.trace ≡ trace_of m
     pub failed : state.failed ≡ failed_of m
     pub loose : state.loose ≡ loose_of m
@@ -37,6 +36,3 @@ module _ {T : Type 0} (page : ℕ) (encode : T → List ℕ) (decode : List ℕ 
     pub operations : (client k : ℕ) (operation : Operation T) → numbered (parts client).operations k ≡ Some operation → numbered state.operations (number (begins_of m) client k) ≡ Some (operation_in m client operation)
     pub all_views : length state.views ≡ length (views_of m)
     pub views : (client k : ℕ) (used : Option (Used T)) → numbered (parts client).views k ≡ Some used → numbered state.views (number (views_of m) client k) ≡ Some (option_map (used_in m client) used)
-    pub one_history : IsOneHistory decode get_epoch set_epoch (failed_of m) (trace_of m)
-    pub views_fit : ViewsFit decode get_epoch (trace_of m) (seen_views state.views)
-    pub one_claimer : HasOneClaimer (trace_of m)

@@ -9,6 +9,7 @@ use Rattle.txn_journals.specs.declared.rows.JournalRow.{JournalRow}
 use Rattle.txn_journals.specs.Parts.{Part}
 use Rattle.txn_journals.specs.Journals.{Replays}
 use Rattle.txn_journals.specs.Merged.{Landing, Did, Lands, Merged, part_of, log_of, AllCanLand, IsMerged}
+use Rattle.txn_journals.specs.Histories.{OneHistoryOfMerged}
 use Rattle.txn_journals.specs.Runs.{IsRun}
 use Rattle.txn_journals.specs.Verdict.{Diary, journal_of, kept_by}
 
@@ -89,15 +90,17 @@ module _ {T : Type 0} (page : ℕ) (encode : T → List ℕ) (decode : List ℕ 
   AreDiaries [] = Unit {0}
   AreDiaries (d ∷ ds) = Replays page encode decode get_epoch set_epoch d.client (reverse d.rows) d.part × AreDiaries ds
 
-  -- A beginning of a merged list is a merged list and a run too.
+  -- A beginning of a merged list is a merged list, a run and one history too.
   pub record IsBeginning (clients : ℕ) (m : Merged T) : Type 0 where
     pub parts : ℕ → Part T
     pub store : StoreState
     pub merged : IsMerged page encode decode get_epoch set_epoch m parts store
     pub run : IsRun page encode decode get_epoch set_epoch clients m parts store
+    pub history : OneHistoryOfMerged decode get_epoch set_epoch m parts
 
-  -- Clients share only the store, in a world of so many clients: each list that merges the diaries in the order of the log is a run and one history, which ends where the diaries and the log end; so is each beginning of such a list; and there is one.
+  -- Clients share only the store, in a world of so many clients: each list that merges the diaries in the order of the log is one history, and a run that ends where the diaries and the log end; so is each beginning of such a list; and there is one.
   pub record ShareOnlyTheStore (clients : ℕ) (log : List LogRow) (ds : List (Diary T)) (store : StoreState) : Type 0 where
+    pub histories : (m : Merged T) → Merges log ds m → OneHistoryOfMerged decode get_epoch set_epoch (reverse m) (kept_by ds)
     pub runs : (m : Merged T) → Merges log ds m → IsRun page encode decode get_epoch set_epoch clients (reverse m) (kept_by ds) store
     pub beginnings : (m : Merged T) → Merges log ds m → (k : ℕ) → IsBeginning clients (reverse (take k m))
     pub merges : Merges log ds (merged log ds)

@@ -5,6 +5,7 @@ ghost use Rattle.txn_journals.specs.Parts.{Part};
 ghost use Rattle.txn_journals.specs.Logs.{IsLog};
 ghost use Rattle.txn_journals.specs.Numbers.{count, number};
 ghost use Rattle.txn_journals.specs.Merged.{Merged, clients_of, IsMerged};
+ghost use Rattle.txn_journals.specs.Histories.{OneHistoryOfMerged};
 ghost use Rattle.txn_journals.specs.Runs.{IsRun};
 ghost use Rattle.txn_journals.specs.Verdict.{Diary, HasDiaries, HaveRows, WereLeft, IsDue, clients_in};
 ghost use Rattle.txn_journals.specs.Shares.{Merges, AreDiaries, ShareOnlyTheStore};
@@ -16,10 +17,10 @@ use txn_types::epoch::EpochField;
 
 /// A list of journal rows, each with its client, and of landings, whose part of each client is that client's journal, whose
 /// receipts and landings are a log, and whose landings are of what their clients had left, is a run of a world of so many
-/// clients. It ends where the journals and the log end, and its trace is one history. Each beginning of such a list is such a
-/// list.
+/// clients, which ends where the journals and the log end. It is one history. Each beginning of such a list is such a list.
 pub fn merged_lists_are_runs<T: Drop, C: ObjectCodec<T>, E: EpochField<T>>(_codec: &C, _epochs: &E)
     ensures runs { (page clients : ℕ) (m : Merged T) (parts : ℕ → Part T) (store : StoreState) → 1 ≤ page → clients_of m ≤ clients → IsMerged page (C.encoded _codec.now) (C.decoded _codec.now) (E.epoch_of _epochs.now) (E.with_epoch _epochs.now) m parts store → IsRun page (C.encoded _codec.now) (C.decoded _codec.now) (E.epoch_of _epochs.now) (E.with_epoch _epochs.now) clients m parts store }
+    ensures histories { (page : ℕ) (m : Merged T) (parts : ℕ → Part T) (store : StoreState) → 1 ≤ page → IsMerged page (C.encoded _codec.now) (C.decoded _codec.now) (E.epoch_of _epochs.now) (E.with_epoch _epochs.now) m parts store → OneHistoryOfMerged (C.decoded _codec.now) (E.epoch_of _epochs.now) (E.with_epoch _epochs.now) m parts }
     ensures beginnings { (page : ℕ) (m : Merged T) (parts : ℕ → Part T) (store : StoreState) → IsMerged page (C.encoded _codec.now) (C.decoded _codec.now) (E.epoch_of _epochs.now) (E.with_epoch _epochs.now) m parts store → (k : ℕ) → (was : ℕ → Part T) × (before : StoreState) × IsMerged page (C.encoded _codec.now) (C.decoded _codec.now) (E.epoch_of _epochs.now) (E.with_epoch _epochs.now) (drop k m) was before }
 {}
 
