@@ -12,19 +12,40 @@ use Rattle.txn_history.specs.Seen.{view_of}
 use Rattle.txn_history.specs.Views.{View}
 use Rattle.txn_machine_views.specs.Layer.{Used}
 use Rattle.txn_machine_inner.specs.Machine.{fault_met, taken_count}
-use Rattle.txn_machine.specs.Machine.{State, WorldState, seen_calls, seen_of, used_in, refusal_of, Takes, Meets, Outcomes, RunsPast, IsReached}
-use Rattle.txn_machine.proofs.Runs.{taken_reached}
+use Rattle.txn_machine.specs.Machine.{State, WorldState, opening, seen_calls, seen_of, used_in, refusal_of, Takes, Meets, Outcomes, Runs, RunsPast, IsReached}
+use Rattle.txn_machine.proofs.Runs.{takes_same, runs_more, runs_or_lacking}
 use Rattle.txn_machine.proofs.AddedRows.{added_rows}
 use Rattle.txn_machine.proofs.Owned.{reached_owned}
 use Rattle.txn_machine.proofs.Busy.{reached_busy, reached_idle}
 use Rattle.txn_machine.proofs.Reached.{reached_replies, reached_looks, reached_range, reached_goes_on}
 use Rattle.txn_clients.specs.Views.{is_used}
 use Rattle.txn_world.specs.Answering.{IsAnswerable}
+use Rattle.txn_world.specs.Runs.{EndsRun}
 
 module _ {T : Type 0} (encode : T → List ℕ) (decode : List ℕ → Option T) (get_epoch : T → ℕ) (set_epoch : T → ℕ → T) where
+  -- where a run ends is reached
+  pub is_reached : (s : State T) → EndsRun encode decode get_epoch set_epoch s → IsReached encode decode get_epoch set_epoch s
+  is_reached s e = (e.taken, runs_or_lacking encode decode get_epoch set_epoch (opening s.clients s.page) e.taken s e.runs, e.paged)
+
+  pub opening_ends : (clients page : ℕ) → 1 ≤ page → EndsRun encode decode get_epoch set_epoch (opening clients page)
+  opening_ends clients page room = record { taken = []; runs = refl; paged = room }
+
+  taken_ends : (old : State T) (event : Event T) (said : Told T) (new : State T) → EndsRun encode decode get_epoch set_epoch old → Takes encode decode get_epoch set_epoch old event said new → EndsRun encode decode get_epoch set_epoch new
+  taken_ends old event said new e t =
+      let same = takes_same encode decode get_epoch set_epoch old event said new t in
+      let more = e.taken ++ (event, said) ∷ [] in
+      let run = runs_more encode decode get_epoch set_epoch (opening old.clients old.page) e.taken old event said new e.runs t in
+      record {
+        taken = more;
+        runs =
+            subst (λ (c : ℕ). Runs encode decode get_epoch set_epoch (opening c new.page) more new) (sym same.0)
+            (subst (λ (p : ℕ). Runs encode decode get_epoch set_epoch (opening old.clients p) more new) (sym same.1) run);
+        paged = subst (λ (p : ℕ). 1 ≤ p) (sym same.1) e.paged;
+      }
+
   -- what a reached state hands to an operation is of the kind that it takes
-  pub reached_answerable : (s : State T) → IsReached encode decode get_epoch set_epoch s → IsAnswerable s
-  reached_answerable s r =
+  pub reached_answerable : (s : State T) → EndsRun encode decode get_epoch set_epoch s → IsAnswerable s
+  reached_answerable s ends =
       record {
         replies = λ op o found request reply new asks serves. reached_replies encode decode get_epoch set_epoch s r op o found request reply new asks serves;
         looks = λ op o found asks. reached_looks encode decode get_epoch set_epoch s r op o found asks;
@@ -32,26 +53,29 @@ module _ {T : Type 0} (encode : T → List ℕ) (decode : List ℕ → Option T)
         busy = λ number. by number (numbered s.views number) refl;
       }
     where
+      r : IsReached encode decode get_epoch set_epoch s
+      r = is_reached s ends
+
       by : (number : ℕ) (found : Option (Option (Used T))) → numbered s.views number ≡ found → is_busy (seen_of s) s.trace (Some number) ≡ is_used (used_in (numbered s.views number))
       by number None there = reached_idle encode decode get_epoch set_epoch s r number (ap used_in there) ∙ ap (λ found. is_used (used_in found)) (sym there)
       by number (Some None) there = reached_idle encode decode get_epoch set_epoch s r number (ap used_in there) ∙ ap (λ found. is_used (used_in found)) (sym there)
       by number (Some (Some used)) there = reached_busy encode decode get_epoch set_epoch s r number used there ∙ ap (λ found. is_used (used_in found)) (sym there)
 
   -- a view that is seen is of one of the clients
-  pub client_within : (s : State T) → IsReached encode decode get_epoch set_epoch s → (number : ℕ) (seen : Option (View T)) → seen ≡ view_of (seen_of s) number → ForSome seen (λ view. (1 ≤ view.client) × (view.client ≤ s.clients))
-  client_within s r number seen e view is = reached_owned encode decode get_epoch set_epoch s r number view (sym e ∙ is)
+  pub client_within : (s : State T) → EndsRun encode decode get_epoch set_epoch s → (number : ℕ) (seen : Option (View T)) → seen ≡ view_of (seen_of s) number → ForSome seen (λ view. (1 ≤ view.client) × (view.client ≤ s.clients))
+  client_within s ends number seen e view is = reached_owned encode decode get_epoch set_epoch s (is_reached s ends) number view (sym e ∙ is)
 
-  pub reached_after : (r : Result (Told T) EventFault) (old : State T) (event : Event T) (new : State T) → IsReached encode decode get_epoch set_epoch old → OnErr r (new ≡ old) → IfOk r (λ said. Takes encode decode get_epoch set_epoch old event said new) → IsReached encode decode get_epoch set_epoch new
-  reached_after (Ok said) old event new reached err ok = taken_reached encode decode get_epoch set_epoch old event said new reached ok
-  reached_after (Err fault) old event new reached err ok = subst (IsReached encode decode get_epoch set_epoch) (sym err) reached
+  pub ends_after : (r : Result (Told T) EventFault) (old : State T) (event : Event T) (new : State T) → EndsRun encode decode get_epoch set_epoch old → OnErr r (new ≡ old) → IfOk r (λ said. Takes encode decode get_epoch set_epoch old event said new) → EndsRun encode decode get_epoch set_epoch new
+  ends_after (Ok said) old event new ends err ok = taken_ends old event said new ends ok
+  ends_after (Err fault) old event new ends err ok = subst (EndsRun encode decode get_epoch set_epoch) (sym err) ends
 
-  pub adds_after : (r : Result (Told T) EventFault) (old : State T) (event : Event T) (new : State T) → IsReached encode decode get_epoch set_epoch old → IfOk r (λ said. Takes encode decode get_epoch set_epoch old event said new) → IfOk r (λ said. AddsRows (seen_calls old) old.trace old.store.files event said new.trace new.store.files)
-  adds_after (Ok said) old event new reached ok = added_rows encode decode get_epoch set_epoch old event said new reached ok
-  adds_after (Err fault) old event new reached ok = tt
+  pub adds_after : (r : Result (Told T) EventFault) (old : State T) (event : Event T) (new : State T) → EndsRun encode decode get_epoch set_epoch old → IfOk r (λ said. Takes encode decode get_epoch set_epoch old event said new) → IfOk r (λ said. AddsRows (seen_calls old) old.trace old.store.files event said new.trace new.store.files)
+  adds_after (Ok said) old event new ends ok = added_rows encode decode get_epoch set_epoch old event said new (is_reached old ends) ok
+  adds_after (Err fault) old event new ends ok = tt
 
-  pub goes_after : (r : Result (Told T) EventFault) (old : State T) (event : Event T) (new : State T) → IsReached encode decode get_epoch set_epoch old → IfOk r (λ said. Takes encode decode get_epoch set_epoch old event said new) → IfOk r (λ said. GoesOn (seen_of old) event said new.trace (seen_of new))
-  goes_after (Ok said) old event new reached ok = reached_goes_on encode decode get_epoch set_epoch old event said new reached ok
-  goes_after (Err fault) old event new reached ok = tt
+  pub goes_after : (r : Result (Told T) EventFault) (old : State T) (event : Event T) (new : State T) → EndsRun encode decode get_epoch set_epoch old → IfOk r (λ said. Takes encode decode get_epoch set_epoch old event said new) → IfOk r (λ said. GoesOn (seen_of old) event said new.trace (seen_of new))
+  goes_after (Ok said) old event new ends ok = reached_goes_on encode decode get_epoch set_epoch old event said new (is_reached old ends) ok
+  goes_after (Err fault) old event new ends ok = tt
 
   -- a run past refused events, with one more
 

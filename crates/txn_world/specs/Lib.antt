@@ -1,4 +1,5 @@
 pub mod Running
+pub mod Runs
 pub mod Owning
 pub mod Acting
 pub mod Answering

@@ -13,6 +13,7 @@ ghost use Rattle.txn_machine_inner.specs.Doing.{asks_as};
 ghost use Rattle.txn_types.specs.Clones.{IsExactClone};
 ghost use Rattle.txn_machine_inner.specs.Machine.{fault_met};
 ghost use Rattle.txn_machine.specs.Machine.{opening, seen_calls, seen_views, seen_of, next_event, Takes, RunsPast};
+ghost use Rattle.txn_world.specs.Runs.{EndsRun};
 
 use crate::tables::Tables;
 use std::alloc::{AllocError, Global};
@@ -39,7 +40,7 @@ impl<T: Clone, C: ObjectCodec<T> + Drop, E: EpochField<T>> Drop for World<T, C, 
 }
 
 impl<T: Clone, C: ObjectCodec<T> + Drop, E: EpochField<T>> Model for World<T, C, E> {
-    ghost use Rattle.txn_machine.specs.Machine.{WorldState, IsReached};
+    ghost use Rattle.txn_machine.specs.Machine.{WorldState};
 
     ghost Value = { WorldState T C E };
 
@@ -48,11 +49,12 @@ impl<T: Clone, C: ObjectCodec<T> + Drop, E: EpochField<T>> Model for World<T, C,
 
     ghost coded = { Prim.hlevel (codes, files_code) };
 
+    ghost use Rattle.txn_world.specs.Runs.{EndsRun};
     ghost use Rattle.txn_world.specs.Shown.{shown, shown_world};
 
     ghost view = { λ world. shown_world world.tables };
 
-    ghost invariant = { λ world. IsReached (C.encoded world.tables.trace.layout.codec) (C.decoded world.tables.trace.layout.codec) (E.epoch_of world.tables.trace.field) (E.with_epoch world.tables.trace.field) (shown world.tables) };
+    ghost invariant = { λ world. EndsRun (C.encoded world.tables.trace.layout.codec) (C.decoded world.tables.trace.layout.codec) (E.epoch_of world.tables.trace.field) (E.with_epoch world.tables.trace.field) (shown world.tables) };
 }
 
 impl<T: Clone, C: ObjectCodec<T> + Drop, E: EpochField<T>> World<T, C, E> {
@@ -97,6 +99,13 @@ impl<T: Clone, C: ObjectCodec<T> + Drop, E: EpochField<T>> World<T, C, E> {
         self.tables.take(event)
     }
 
+    /// Why an event would be refused, want of memory aside, and none where it would not. It takes no memory.
+    pub fn refusal(&self, event: &Event<T>) -> Option<EventFault>
+        ensures { result ≡ fault_of (C.decoded self.now.codec) (E.epoch_of self.now.epochs) (seen_of self.now.state) self.now.state.trace event.now }
+    {
+        self.tables.refusal(event)
+    }
+
     /// Takes these events in order, past those that are refused, and says how many were taken. An event
     /// that is refused for want of memory is passed over too.
     pub fn run(&mut self, events: Vec<Event<T>>) -> u64
@@ -117,6 +126,8 @@ impl<T: Clone, C: ObjectCodec<T> + Drop, E: EpochField<T>> World<T, C, E> {
     /// What happened, row by row. It takes no memory.
     pub fn trace(&self) -> &[Row<T>]
         ensures rows { result.now ≡ self.now.state.trace }
+        // Events led here, one after another, from a world in which nothing had happened.
+        ensures run { EndsRun (C.encoded self.now.codec) (C.decoded self.now.codec) (E.epoch_of self.now.epochs) (E.with_epoch self.now.epochs) self.now.state }
         // Whatever events came, the versions are one history, and each answer fits it.
         ensures one_history { IsOneHistory (C.decoded self.now.codec) (E.epoch_of self.now.epochs) (E.with_epoch self.now.epochs) self.now.state.failed result.now }
         // No epoch is held by two claims.
