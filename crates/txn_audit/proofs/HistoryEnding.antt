@@ -69,7 +69,7 @@ module _ {T : Type 0} where
   steps_made m client (steps.Killed lefts) answer e = e
 
   -- a trace makes the versions that the log of its list creates
-  versions_made : (m : Merged T) → versions_of (trace_of m) ≡ versions_in (log_of m)
+  pub versions_made : (m : Merged T) → versions_of (trace_of m) ≡ versions_in (log_of m)
   versions_made [] = refl
   versions_made (Did client row ∷ m) = steps_made m client row.step row.answer (versions_made m)
   versions_made (Lands landing ∷ m) =
@@ -105,7 +105,7 @@ boundary_left (row ∷ log) = said_by (files_of log) (boundary_in log) row.reque
 
 -- what a log leaves is how the histories end
 
-ends_at : {T : Type 0} (rows : List LogRow) (entries boundary : ℕ) → entries ≡ length (versions_in (reverse rows)) → boundary ≡ boundary_in (reverse rows) → HistoriesEndAt T rows entries boundary
+pub ends_at : {T : Type 0} (rows : List LogRow) (entries boundary : ℕ) → entries ≡ length (versions_in (reverse rows)) → boundary ≡ boundary_in (reverse rows) → HistoriesEndAt T rows entries boundary
 ends_at {T = T} rows entries boundary counted stands page clients encode decode get_epoch set_epoch ds store room is_log shares m merges =
     let run = shares.runs m merges in
     let log : log_of (reverse m) ≡ reverse rows = receipts_reverse m ∙ ap reverse merges.receipts in

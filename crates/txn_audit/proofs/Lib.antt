@@ -1,2 +1,2 @@
-mod HistoryEnding
+pub mod HistoryEnding
 mod Receiving

@@ -1,4 +1,6 @@
 //! How the times of recordings are held against each other.
+ghost use Rattle.std.specs.Prelude.{◌≡◌};
+ghost use Rattle.txn_effects.specs.Clocks.{clock_of};
 
 /// How the times of a recording become times of one clock with those of the others.
 #[derive(Clone, Copy, Debug, PartialEq, Eq)]
@@ -35,8 +37,10 @@ impl Clock {
     }
 }
 
-/// The clock of a recording.
-pub(crate) fn clock_of(clocks: &[Clock], recording: usize) -> Clock {
+/// The clock of a recording: that of all where it has none here.
+pub fn clock_of(clocks: &[Clock], recording: usize) -> Clock
+    ensures { result ≡ clock_of clocks.now recording }
+{
     match clocks.get(recording) {
         Some(clock) => *clock,
         None => SHARED,

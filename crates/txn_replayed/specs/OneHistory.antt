@@ -1,7 +1,6 @@
 -- What an audit of recordings promises where it agrees. All lists have the oldest first.
 use Rattle.std.specs.Prelude.{◌≡◌, ◌⊎◌, ◌≤◌, ℕ, List, [], ◌∷◌, Option, Some, None, Ok, reverse, slice_get}
 use Rattle.txn_store.specs.Store.{State as StoreState}
-use Rattle.txn_store.specs.declared.request.Request.{Request}
 use Rattle.txn_journals.specs.declared.rows.LogRow.{LogRow}
 use Rattle.txn_journals.specs.Logs.{IsLog}
 use Rattle.txn_journals.specs.Verdict.{Diary, IsDue, clients_in}
@@ -10,7 +9,9 @@ use Rattle.txn_diary.specs.Diaries.{DiaryState}
 use Rattle.txn_lines.specs.Printed.{answered_text}
 use Rattle.txn_recorded.specs.declared.row.Row.{Row}
 use Rattle.txn_recorded.specs.declared.row.Row.TheVariants as kinds
+use Rattle.txn_effects.specs.declared.clock.Clock.{Clock}
 use Rattle.txn_replayed.specs.Told.{TellsSame, recording_tells, journal_tells}
+use Rattle.txn_replayed.specs.Calls.{StoreCall, AreCalls, HaveAllReplies, KeepTime}
 
 -- a client with its journal, as an audit sees it
 abbrev pub as_diary : {T C E : Type 0} → DiaryState T C E → Diary T
@@ -28,28 +29,6 @@ module _ {T : Type 0} (page : ℕ) (text : T → List ℕ) where
   AreOf (rows ∷ recordings) (d ∷ ds) = IsOf rows d × AreOf recordings ds
   AreOf _ _ = ⊥
 
-module _ {T : Type 0} where
-  -- A recording of this client has a row by which this operation asks this.
-  pub record WasAsked (recordings : List (List (Row T))) (client op : ℕ) (request : Request) : Type 0 where
-    pub recording : ℕ
-    pub rows : List (Row T)
-    pub is_recorded : slice_get recordings recording ≡ Some rows
-    pub page : ℕ
-    pub its : slice_get rows 0 ≡ Some (kinds.Client client page)
-    pub place : ℕ
-    pub at : ℕ
-    pub asks : slice_get rows place ≡ Some (kinds.Ask op at request)
-
-  -- A row of the log that is a landing of an operation is of what that asked.
-  abbrev pub IsRecorded : List (List (Row T)) → LogRow → Option ℕ → Type 0
-  IsRecorded recordings row None = Unit {0}
-  IsRecorded recordings row (Some op) = WasAsked recordings row.client op row.request
-
-  -- so is each
-  abbrev pub AreRecorded : List (List (Row T)) → List LogRow → Type 0
-  AreRecorded recordings [] = Unit {0}
-  AreRecorded recordings (row ∷ log) = IsRecorded recordings row row.landed × AreRecorded recordings log
-
 -- a row of the log is a landing of this operation of this client
 abbrev pub HasLanded : ℕ → ℕ → List LogRow → Type 0
 HasLanded client op [] = ⊥
@@ -66,14 +45,17 @@ LandOnce [] = Unit {0}
 LandOnce (row ∷ log) = LandsAlone row row.landed log × LandOnce log
 
 module _ {T : Type 0} (text : T → List ℕ) (encode : T → List ℕ) (decode : List ℕ → Option T) (get_epoch : T → ℕ) (set_epoch : T → ℕ → T) where
-  -- The recordings are one history: there are diaries, one for each recording, that tell what the recordings tell, and a log that an honest store has, whose rows of each client are the replies that its recording has, and whose landings are of what the clients left, each of what its recording asks, and no operation twice; and so the clients shared only the store.
-  pub record IsOneHistoryOf (recordings : List (List (Row T))) (log : List LogRow) (ds : List (Diary T)) : Type 0 where
+  -- The recordings, whose times are of these clocks, are one history: there are diaries, one for each recording, that tell what the recordings tell, and a log that an honest store has. The log's rows are calls of the recordings, among them each whose reply was seen, in an order that keeps the recorded times. Its rows of each client are the replies that its diary has, and its landings are of what the clients left, no operation twice; and so the clients shared only the store.
+  pub record IsOneHistoryOf (recordings : List (List (Row T))) (clocks : List Clock) (log : List LogRow) (ds : List (Diary T)) : Type 0 where
     pub page : ℕ
     pub paged : 1 ≤ page
     pub store : StoreState
     pub is_log : IsLog (reverse log) store
     pub told : AreOf page text recordings ds
-    pub recorded : AreRecorded recordings log
+    pub calls : List StoreCall
+    pub recorded : AreCalls recordings log calls
+    pub whole : HaveAllReplies recordings calls
+    pub in_time : KeepTime clocks calls
     pub once : LandOnce log
     pub diaries : AreDiaries page encode decode get_epoch set_epoch ds
     pub agrees : IsDue log ds (Ok tt)

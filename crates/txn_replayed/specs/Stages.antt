@@ -1,5 +1,5 @@
 -- Words of private contracts: what is known of a client between two rows of its recording.
-use Rattle.std.specs.Prelude.{◌≡◌, ◌&&◌, nat_eq, Bool, ℕ, List, [], ◌∷◌, ◌++◌, Option, Some, None, string_bytes}
+use Rattle.std.specs.Prelude.{◌≡◌, ℕ, List, [], ◌∷◌, ◌++◌, Option, Some, None, string_bytes}
 use Rattle.txn_history.specs.declared.event.ToldOf.TheVariants as told
 use Rattle.txn_history.specs.Trace.{Told}
 use Rattle.txn_history.specs.declared.event.Answer.{Answer}
@@ -10,10 +10,6 @@ use Rattle.txn_lines.specs.Printed.{answered_text}
 use Rattle.txn_replayed.specs.declared.stage.Stage.{Stage}
 use Rattle.txn_replayed.specs.declared.stage.Stage.TheVariants as stages
 use Rattle.txn_replayed.specs.Told.{RowTold, Asked, Answered, journal_tells}
-
--- they are the same operation of the same client
-abbrev pub is_same_landing : ℕ × ℕ → ℕ × ℕ → Bool
-is_same_landing a b = nat_eq a.0 b.0 && nat_eq a.1 b.1
 
 module _ {T : Type 0} where
   -- how many operations began in a journal, where so many began before it

@@ -132,7 +132,8 @@ fn has_twins<T>(alloc: Global, recordings: &[Vec<Row<T>>]) -> Result<bool, Alloc
 /// `Differs` where two recordings are of one client, before anything else, and where the diaries and the log differ; `Circle` where
 /// the calls have no order; `Row` for the first row of a recording that its client cannot have made, and for a call in the order
 /// that is not recorded, has no place there or is of an operation that landed before; `Dishonest` for the first reply in the order
-/// that no honest store gave; `NoMemory` where a growth was refused.
+/// that no honest store gave, `OutOfTime` for the first that was there before its call or an earlier one was asked; `NoMemory` where a growth
+/// was refused.
 pub fn audit_recordings<
     T: Clone + LineValue,
     C: ObjectCodec<T> + Copy + Drop,
@@ -145,7 +146,7 @@ pub fn audit_recordings<
     clocks: &[Clock],
 ) -> Result<OneHistory<T, C, E>, Refusal>
     requires { IsExactClone T.is_clone }
-    ensures { IfOk result (λ found. IsOneHistoryOf T.text (C.encoded codec) (C.decoded codec) (E.epoch_of epochs) (E.with_epoch epochs) (map (λ rows. rows.items) recordings.now) found.log (map as_diary found.diaries.items)) }
+    ensures { IfOk result (λ found. IsOneHistoryOf T.text (C.encoded codec) (C.decoded codec) (E.epoch_of epochs) (E.with_epoch epochs) (map (λ rows. rows.items) recordings.now) clocks.now found.log (map as_diary found.diaries.items)) }
 {
     if has_twins(alloc, recordings)? {
         return Err(Refusal::Differs(AuditFault::ClientTwice));
@@ -154,7 +155,7 @@ pub fn audit_recordings<
     let order = order(alloc, recordings, clocks)?;
     let places = places_of(alloc, recordings.len(), order.as_slice())?;
     let diaries = diaries_of(alloc, codec, epochs, page, recordings, places.as_slice())?;
-    let log = replay(alloc, recordings, order)?;
+    let log = replay(alloc, recordings, clocks, order)?;
     audit(&log, diaries.as_slice())?;
     let _ = log.log();
     clients_share_only_the_store::<T, C, E>(&codec, &epochs);

@@ -3,8 +3,13 @@
 #![tactic(auto)]
 
 pub mod audit;
+pub mod fates;
 pub mod fault;
+pub mod laws;
+mod placing;
 pub mod rebuild;
+mod recorded;
 pub mod refusal;
 mod replay;
 mod stage;
+mod times;

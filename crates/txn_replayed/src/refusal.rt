@@ -17,6 +17,8 @@ pub enum Refusal {
     Circle(Vec<CallPlace>),
     /// No honest store gives this reply at this place in the order, be it recorded or that of a call that landed.
     Dishonest(CallPlace, u64, LogFault),
+    /// The reply to this call, which has this place in the order, was there before it or a call before it was asked.
+    OutOfTime(CallPlace, u64),
     /// The diaries and the log differ.
     Differs(AuditFault),
     /// A growth was refused.
@@ -100,6 +102,15 @@ impl fmt::Display for Refusal {
                 write!(
                     f,
                     "recording {recording}, row {row}: no honest store replies so to call {call} of the order: {name}"
+                )
+            }
+            Refusal::OutOfTime(at, place) => {
+                let recording = at.recording.saturating_add(1);
+                let row = at.row.saturating_add(1);
+                let call = place.saturating_add(1);
+                write!(
+                    f,
+                    "recording {recording}, row {row}: call {call} of the order had its reply before it or an earlier one was asked"
                 )
             }
             Refusal::Differs(fault) => {

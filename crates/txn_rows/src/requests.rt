@@ -13,7 +13,7 @@ use txn_store::version_names::VersionNames;
 use txn_types::boundary::read_boundary;
 
 /// The id of the version that a path is.
-fn version_of(names: &VersionNames, path: &Path) -> Option<u64>
+pub fn version_of(names: &VersionNames, path: &Path) -> Option<u64>
     ensures { result ≡ version_of names.now path.now }
 {
     names.parse_id(path)

@@ -13,6 +13,7 @@ use txn_recorded::read::{TextFault, read_row};
 use txn_recorded::row::Row;
 use txn_recorded::source::{Source, read_source};
 use txn_replayed::audit::{OneHistory, audit_recordings};
+use txn_replayed::fates::undecided;
 use txn_replayed::refusal::Refusal;
 
 /// The nanoseconds of a millisecond.
@@ -313,7 +314,7 @@ fn judged(
 ) -> Result<u8, Halt> {
     let rows = recordings.rows.as_slice();
     match audit_recordings(rt.alloc(), EntryCodec, EntryEpoch, rows, clocks) {
-        Ok(found) => one_history(rt, &found),
+        Ok(found) => one_history(rt, rows, &found),
         Err(Refusal::NoMemory) => Err(Halt::NoMemory),
         Err(refusal) => not_one_history(rt, files, recordings, &refusal),
     }
@@ -386,7 +387,9 @@ fn say_rows(
     refusal: &Refusal,
 ) -> Result<(), Halt> {
     match refusal {
-        Refusal::Row(at, _) | Refusal::Dishonest(at, _, _) => say_row(rt, files, recordings, *at),
+        Refusal::Row(at, _) | Refusal::Dishonest(at, _, _) | Refusal::OutOfTime(at, _) => {
+            say_row(rt, files, recordings, *at)
+        }
         Refusal::Circle(calls) => {
             for at in calls.as_slice() {
                 say_row(rt, files, recordings, *at)?;
@@ -398,8 +401,21 @@ fn say_rows(
     }
 }
 
+/// Says how many puts have no reply and may decide how the history ends, where there are any.
+fn say_undecided(rt: &HostRuntime, rows: &[Vec<Row<Entry>>]) -> Result<(), Halt> {
+    let undecided = undecided(rt.alloc(), rows)?;
+    if undecided > 0 {
+        println!(rt;
+            "(the entries and the boundary rest on puts without a reply that no get tells of: {undecided})"
+        )?;
+    }
+    Ok(())
+}
+
+/// Says that these recordings are one history, and how it ends.
 fn one_history(
     rt: &HostRuntime,
+    rows: &[Vec<Row<Entry>>],
     found: &OneHistory<Entry, EntryCodec, EntryEpoch>,
 ) -> Result<u8, Halt> {
     let HistoryEnd { entries, boundary } = end_of_history::<Entry, _>(rt.alloc(), &found.log)?;
@@ -408,5 +424,6 @@ fn one_history(
     println!(rt;
         "one history: {entries} entries, boundary {boundary}, {clients} clients, {calls} store calls"
     )?;
+    say_undecided(rt, rows)?;
     Ok(0)
 }

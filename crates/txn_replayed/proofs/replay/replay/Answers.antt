@@ -1,16 +1,19 @@
-use Rattle.std.proofs.Common.{map, ℕ, Bool}
-use Rattle.std.specs.HashSet.{contains}
-use Rattle.txn_replayed.specs.Stages.{is_same_landing}
-use Rattle.txn_replayed.proofs.Landing.{recorded_more, once_more, noted_more}
+use Rattle.std.proofs.Common.{map, subst, sym}
+use Rattle.std.proofs.lemmas.List.{length-map}
+use Rattle.txn_replayed.specs.Places.{AllArePlaced, IsSoFar}
+use Rattle.txn_replayed.proofs.Placed.{none_so_far, so_far_more, all_replayed}
 use Rattle.txn_replayed.proofs.replay.replay.Goals as goal
+
+pub loop-placed-init : goal.loop-placed-init
+loop-placed-init g c =
+    let recordings = map (λ rows. rows.items) c.args.recordings.now in
+    subst (λ log. IsSoFar recordings c.args.clocks.now log c.new-placing.result) (sym c.new-log.ensures) (none_so_far recordings c.args.clocks.now c.new-placing.result c.new-placing.ensures.placed)
 
 pub loop-placed-preserved : goal.loop-placed-preserved
 loop-placed-preserved g c =
-    let inv = c.loop-placed.invariant in
-    let noted : ℕ × ℕ → Bool = λ q. contains is_same_landing c.loop-placed.landed q in
-    let noted' : ℕ × ℕ → Bool = λ q. contains is_same_landing c.note.new.landed q in
-    record {
-      recorded = recorded_more (map (λ rows. rows.items) c.args.recordings.now) c.in-Some-recorded.recorded.client c.in-Some-recorded.recorded.op c.in-Some-recorded.recorded.request.now c.loop-placed.log c.push.new.self c.in-Some-2.row c.in-Ok.ensures.ok inv.recorded (rw c.in-Some-2.is at c.in_ok-row.ensures) c.in-Some-recorded.ensures;
-      once = once_more noted noted' c.loop-placed.log c.push.new.self c.in-Some-2.row c.in-Ok.ensures.ok inv.noted inv.once (c.in_ok-note.ensures.new c.if-not-branch.false);
-      noted = noted_more noted noted' c.loop-placed.log c.push.new.self c.in-Some-2.row c.in-Ok.ensures.ok inv.noted c.note.ensures.kept (c.in_ok-note.ensures.new c.if-not-branch.false);
-    }
+    so_far_more (map (λ rows. rows.items) c.args.recordings.now) c.args.clocks.now c.loop-placed.log c.push.new.self c.in_ok-row.row c.loop-placed.placing c.take.new.self c.in-Ok.ensures.ok c.loop-placed.invariant c.in_ok-row.ensures
+
+pub returns-in-None-missing : goal.returns-in-None-missing
+returns-in-None-missing g c =
+    let recordings = map (λ rows. rows.items) c.args.recordings.now in
+    all_replayed recordings c.args.clocks.now c.loop-placed.log c.loop-placed.placing c.loop-placed.invariant (subst (AllArePlaced c.loop-placed.placing recordings) (sym (length-map c.args.recordings.now (λ rows. rows.items))) c.in-None-missing.ensures)
