@@ -548,9 +548,9 @@ module _ {T : Type 0} (text : T → List ℕ) (encode : T → List ℕ) (decode 
     pub ends : (m : Merged T) → Merges log ds m → EndsAt (trace_of (reverse m)) (version_shown recordings) (boundary_shown recordings)
     ends m merges =
         let trace = trace_of (reverse m) in
-        let run = one.shares.runs m merges in
+        let history_is = one.shares.histories m merges in
         let log_is : log_of (reverse m) ≡ reverse log = receipts_reverse m ∙ ap reverse merges.receipts in
-        let moves = are_moves decode get_epoch set_epoch (failed_of (reverse m)) trace run.one_history in
+        let moves = are_moves decode get_epoch set_epoch (failed_of (reverse m)) trace history_is.one_history in
         let versions_is : versions_of trace ≡ versions_in (reverse log) = versions_made (reverse m) ∙ ap versions_in log_is in
         let whole : take (length trace) trace ≡ trace = take_all (length trace) trace (omega arith) in
         let counted : AreCounted (versions_of trace) = subst (λ (rows : List (Trace T)). AreCounted (versions_of rows)) whole (fronts_of decode get_epoch trace moves (length trace)).counted in
