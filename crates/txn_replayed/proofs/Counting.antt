@@ -1,5 +1,5 @@
 -- How far replies show that puts went, and how many are lost beyond that, one row and one recording more.
-use Rattle.std.proofs.Common.{◌≡◌, ◌≤◌, ◌<◌, ◌+◌, ℕ, suc, max, min, Bool, true, false, cond, List, length, map, get_or, Option, Some, unwrap_or, slice_get, refl, sym, ap, ◌∙◌, arith}
+use Rattle.std.proofs.Common.{◌≡◌, ◌≤◌, ◌<◌, ◌+◌, ℕ, suc, max, min, Bool, true, false, cond, List, length, map, get_or, Option, Some, unwrap_or, slice_get, refl, ap, ◌∙◌, arith}
 use Rattle.std.proofs.lemmas.Option.{slice_get-map, slice_get_read}
 use Rattle.std.specs.Option.{option_map}
 use Rattle.txn_recorded.specs.declared.row.Row.{Row}

@@ -53,7 +53,7 @@ use Rattle.txn_recorded.specs.declared.row.Row.TheVariants as kinds
 use Rattle.txn_effects.specs.declared.clock.Clock.{Clock}
 use Rattle.txn_replayed.specs.Calls.{StoreCall, EndsWith, HasCall, IsCall, HasReply, AreCalls}
 use Rattle.txn_replayed.specs.OneHistory.{AreOf, IsOneHistoryOf}
-use Rattle.txn_replayed.specs.Undecided.{FilePut, file_put, file_shown, version_in, boundary_in, shown_by, shown_at, answers, lost_by, lost_at, greatest_in, greatest_at, greatest_of, version_shown, boundary_shown, goes_beyond, lost_in, lost_here, lost_of, undecided}
+use Rattle.txn_replayed.specs.Undecided.{FilePut, file_put, file_shown, version_in, boundary_in, shown_by, shown_at, answers, lost_at, greatest_in, greatest_at, greatest_of, version_shown, boundary_shown, goes_beyond, lost_in, lost_here, lost_of, undecided}
 
 -- a row of a log
 abbrev pub IsIn : LogRow → List LogRow → Type 0

@@ -1,4 +1,3 @@
-use Rattle.std.proofs.Common.{map}
 use Rattle.txn_replayed.proofs.Placed.{placed_more}
 use Rattle.txn_replayed.proofs.placing.Placing.missing.Goals as goal
 
