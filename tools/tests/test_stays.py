@@ -132,7 +132,7 @@ WRONG_BODIES = {
         diary_invents_answer one_lock_per_operation
     """,
     "txn_drivers": """
-        advance_overwrites list_always_empty put_overwrites read_answers_from_its_first_page read_trusts_cache
+        advance_overwrites list_always_empty put_overwrites read_trusts_cache
     """,
     "txn_machine_inner": """
         delete_above_boundary read_always_none reads_never_answer write_always_conflicts
