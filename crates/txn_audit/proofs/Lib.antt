@@ -1,2 +1,3 @@
 pub mod HistoryEnding
+mod Keeping
 mod Receiving

@@ -1,22 +1,17 @@
 //! A run of clients on threads that share only a store, each with a diary, and the audit of what they leave.
 
-ghost use Rattle.std.specs.Prelude.{◌≡◌, ◌≤◌, All, IfOk, IfErr, map};
-ghost use Rattle.txn_lines.specs.Record.{record_text, record_read};
-ghost use Rattle.txn_script.specs.Records.{record_epoch, record_with};
-ghost use Rattle.txn_journals.specs.Shares.{AreDiaries};
+ghost use Rattle.std.specs.Prelude.{◌≤◌, IfOk, IfErr};
 ghost use Rattle.txn_commands.specs.Tallies.{IsHaltOf};
-ghost use Rattle.txn_commands.specs.Audits.{as_diary, AreClients, IsAudited};
+ghost use Rattle.txn_commands.specs.Audits.{AreClients, Audits, IsAudited};
 
 use crate::halt::Halt;
 use crate::workers::work_off;
 use std::alloc::{AllocError, Global};
 use std::sync::{Mutex, Wait};
 use std::thread::Threads;
-use txn_audit::audit::audit;
+use txn_audit::diaries::audit_diaries;
 use txn_diary::diary::Diary;
-use txn_journals::audited::Logged;
 use txn_journals::fault::AuditFault;
-use txn_journals::laws::clients_share_only_the_store;
 use txn_lines::record::{Record, RecordCodec, RecordEpoch};
 use txn_logged::logged::LoggedStore;
 use txn_types::layout::PAGE;
@@ -35,26 +30,12 @@ fn clients(alloc: Global, workers: u64) -> Result<Vec<Records>, AllocError>
     Ok(clients)
 }
 
-/// Each diary keeps what its journal leads to, as its type says of it.
-fn are_diaries(diaries: &[Records])
-    requires { All (λ diary. diary.page ≡ 1000) diaries.now }
-    ensures { AreDiaries 1000 record_text record_read record_epoch record_with (map as_diary diaries.now) }
-{
-    for diary in diaries {
-        let _rows = diary.rows();
-    }
-}
-
 /// What an audit finds of a store's log and the diaries of its clients.
 fn audited(store: &LoggedStore, workers: u64, diaries: &[Records]) -> Result<(), AuditFault>
     requires { AreClients workers diaries.now }
-    ensures { IsAudited workers result }
+    ensures { Audits workers store.now diaries.now result }
 {
-    // The next three say what the types keep, and what follows where the audit agrees.
-    let _log = store.log();
-    are_diaries(diaries);
-    clients_share_only_the_store::<Record, _, _>(&RecordCodec, &RecordEpoch);
-    audit(store, diaries)
+    audit_diaries(PAGE, &RecordCodec, &RecordEpoch, store, diaries)
 }
 
 /// Lets so many clients work at the same time that share only a store, and audits their diaries.

@@ -21,7 +21,8 @@ use Rattle.txn_journals.specs.declared.rows.Step.TheVariants as steps
 use Rattle.txn_journals.specs.declared.rows.JournalRow.{JournalRow}
 use Rattle.txn_journals.specs.Parts.{Part, begin_fault}
 use Rattle.txn_journals.specs.Journals.{goes_on, Follows}
-use Rattle.txn_logged.specs.Logged.{IsOfKind}
+use Rattle.txn_journals.specs.Verdict.{Diary}
+use Rattle.txn_logged.specs.Logged.{IsReceiptOf}
 use Rattle.txn_takes.specs.Taking.{CanTake}
 
 -- A client with its journal: its number, how many files a page of a listing has at most, its codec, where its values keep their epochs, what it keeps, and what it did.
@@ -32,6 +33,17 @@ pub record DiaryState (T C E : Type 0) : Type 0 where
   pub epochs : E
   pub part : Part T
   pub rows : List (JournalRow T)
+
+module _ {T C E : Type 0} where
+  -- a client with its journal, as an audit reads it
+  abbrev pub as_diary : DiaryState T C E → Diary T
+  as_diary diary = record { client = diary.client; rows = diary.rows; part = diary.part }
+
+  -- the client was made with this page, this codec and this field of epochs
+  pub record IsMadeWith (page : ℕ) (codec : C) (epochs : E) (diary : DiaryState T C E) : Type 0 where
+    pub page_is : diary.page ≡ page
+    pub codec_is : diary.codec ≡ codec
+    pub epochs_are : diary.epochs ≡ epochs
 
 module _ {T : Type 0} where
   -- a client that did this last, if anything, does more
@@ -73,17 +85,12 @@ module _ {T : Type 0} where
 abbrev pub end_fault : Option Ask → Option EventFault
 end_fault ask = if is_some ask then None else Some faults.UnknownNumber
 
--- a receipt of this request, with a reply of its kind
-pub record IsReceiptFor (request : Request) (receipt : Receipt) : Type 0 where
-  pub request_is : receipt.request ≡ request
-  pub kind : IsOfKind request receipt.reply
-
 -- Why an operation that asks for this, or for nothing, is refused a receipt: it has ended, or it asks for a look, or the receipt is of another request or its reply of another kind.
 abbrev pub IsReceiptFault : Option Ask → Receipt → Option EventFault → Type 0
 IsReceiptFault None receipt fault = fault ≡ Some faults.UnknownNumber
 IsReceiptFault (Some Look) receipt fault = fault ≡ Some faults.NotAsked
-IsReceiptFault (Some (Store request)) receipt None = IsReceiptFor request receipt
-IsReceiptFault (Some (Store request)) receipt (Some faults.NotAsked) = IsReceiptFor request receipt → ⊥
+IsReceiptFault (Some (Store request)) receipt None = IsReceiptOf request receipt
+IsReceiptFault (Some (Store request)) receipt (Some faults.NotAsked) = IsReceiptOf request receipt → ⊥
 IsReceiptFault (Some (Store request)) receipt _ = ⊥
 
 -- an act that gives an operation what it asked for, or says that its store call was refused for memory

@@ -1,11 +1,12 @@
 //! A client that writes down what it did.
 ghost use Rattle.std.specs.Option.{ForSome};
 ghost use Rattle.std.specs.Prelude.{◌≡◌, ◌<◌, ℕ, Option, IfOk, IfErr, OnOk, OnErr, vec_len, vec_capacity};
-ghost use Rattle.txn_diary.specs.Diaries.{IsReceiptFor, fault_if};
+ghost use Rattle.txn_diary.specs.Diaries.{as_diary, fault_if};
 ghost use Rattle.txn_diary.specs.Room.{HasRoom};
 ghost use Rattle.txn_diary.specs.Shown.{shown};
 ghost use Rattle.txn_journals.specs.Journals.{Begins};
 ghost use Rattle.txn_journals.specs.Parts.{begin_fault};
+ghost use Rattle.txn_logged.specs.Logged.{IsReceiptOf};
 ghost use Rattle.txn_machine.specs.Doing.{refusal_in};
 ghost use Rattle.txn_machine.specs.Machine.{answered};
 ghost use Rattle.txn_machine_inner.specs.Doing.{first_of};
@@ -129,6 +130,8 @@ impl<T: Clone, C: ObjectCodec<T> + Drop, E: EpochField<T>> Diary<T, C, E> {
     /// What the client did, the oldest row first.
     pub fn rows(&self) -> &[JournalRow<T>]
         ensures rows { result.now ≡ self.now.rows }
+        ensures some { 1 ≤ self.now.client }
+        ensures paged { 1 ≤ self.now.page }
         // It leads to what the client keeps.
         ensures replays { Replays self.now.page (C.encoded self.now.codec) (C.decoded self.now.codec) (E.epoch_of self.now.epochs) (E.with_epoch self.now.epochs) self.now.client (reverse self.now.rows) self.now.part }
     {
@@ -447,14 +450,14 @@ fn serve_under<R: Wait>(
     client: u64,
     request: &Request,
 ) -> Result<(Receipt, Reply), AllocError>
-    ensures receipt { IfOk result (λ pair. IsReceiptFor request.now pair.0) }
+    ensures receipt { IfOk result (λ pair. IsReceiptOf request.now pair.0) }
     ensures again { IfOk result (λ pair. pair.1 ≡ pair.0.reply) }
 {
     store.lock(rt).serve_noted(alloc, client, request)
 }
 
 impl<T: Clone, C: ObjectCodec<T> + Drop, E: EpochField<T>> Audited<T> for Diary<T, C, E> {
-    ghost diary = { λ d. record { client = d.client; rows = d.rows; part = d.part } };
+    ghost diary = { λ d. as_diary d };
 
     fn client(&self) -> u64 {
         Diary::client(self)

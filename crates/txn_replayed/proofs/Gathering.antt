@@ -1,15 +1,13 @@
 -- The diaries of recordings, one more at a time.
-use Rattle.std.proofs.Common.{◌≡◌, ◌≤◌, ◌<◌, ◌+◌, ℕ, List, [], ◌∷◌, ◌++◌, Option, Some, map, take, length, get_or, slice_get, reverse, sym, ◌∙◌, ap, subst}
+use Rattle.std.proofs.Common.{◌≡◌, ◌≤◌, ◌<◌, ◌+◌, ℕ, List, [], ◌∷◌, ◌++◌, Some, map, take, length, get_or, slice_get, sym, ◌∙◌, ap, subst}
 use Rattle.std.proofs.lemmas.List.{take_more, take-map, take_all, map-append}
-use Rattle.txn_journals.specs.Journals.{Replays}
 use Rattle.txn_journals.specs.Verdict.{Diary}
-use Rattle.txn_journals.specs.Shares.{AreDiaries}
-use Rattle.txn_diary.specs.Diaries.{DiaryState}
+use Rattle.txn_diary.specs.Diaries.{DiaryState, as_diary}
 use Rattle.txn_lines.specs.Printed.{answered_text}
 use Rattle.txn_recorded.specs.declared.row.Row.{Row}
 use Rattle.txn_recorded.specs.declared.row.Row.TheVariants as kinds
 use Rattle.txn_replayed.specs.Told.{TellsSame, recording_tells, journal_tells}
-use Rattle.txn_replayed.specs.OneHistory.{as_diary, IsOf, AreOf}
+use Rattle.txn_replayed.specs.OneHistory.{IsOf, AreOf}
 
 -- one more of a list, as something else
 as_more : {D X : Type 0} (see : D → X) (ds next : List D) (d : D) → next ≡ ds ++ d ∷ [] → map see next ≡ map see ds ++ see d ∷ []
@@ -36,23 +34,6 @@ module _ {T : Type 0} (page : ℕ) (text : T → List ℕ) where
   pub of_all : {V D : Type 0} (rows_of : V → List (Row T)) (see : D → Diary T) (recordings : List V) (i : ℕ) (ds : List D) → length recordings ≤ i → AreOf page text (take i (map rows_of recordings)) (map see ds) → AreOf page text (map rows_of recordings) (map see ds)
   of_all rows_of see recordings i ds le are =
       subst (λ rs. AreOf page text rs (map see ds)) (take-map rows_of i recordings ∙ ap (map rows_of) (take_all i recordings le)) are
-
-module _ {T : Type 0} (page : ℕ) (encode : T → List ℕ) (decode : List ℕ → Option T) (get_epoch : T → ℕ) (set_epoch : T → ℕ → T) where
-  diary_more : (ds : List (Diary T)) (d : Diary T) → AreDiaries page encode decode get_epoch set_epoch ds → Replays page encode decode get_epoch set_epoch d.client (reverse d.rows) d.part → AreDiaries page encode decode get_epoch set_epoch (ds ++ d ∷ [])
-  diary_more [] d are is = (is, tt)
-  diary_more (e ∷ ds) d are is = (are.0, diary_more ds d are.1 is)
-
-  -- one diary more
-  pub diaries_next : {D : Type 0} (see : D → Diary T) (ds next : List D) (d : D) → next ≡ ds ++ d ∷ [] → AreDiaries page encode decode get_epoch set_epoch (map see ds) → Replays page encode decode get_epoch set_epoch (see d).client (reverse (see d).rows) (see d).part → AreDiaries page encode decode get_epoch set_epoch (map see next)
-  diaries_next see ds next d adds are is = subst (AreDiaries page encode decode get_epoch set_epoch) (sym (as_more see ds next d adds)) (diary_more (map see ds) (see d) are is)
-
-module _ {T C E : Type 0} (encoded : C → T → List ℕ) (decoded : C → List ℕ → Option T) (epoch_of : E → T → ℕ) (with_epoch : E → T → ℕ → T) where
-  -- a journal replays with the page, the codec and the field of epochs that its client has
-  pub replays_at : (d : DiaryState T C E) (page : ℕ) (codec : C) (epochs : E) → d.page ≡ page → d.codec ≡ codec → d.epochs ≡ epochs → Replays d.page (encoded d.codec) (decoded d.codec) (epoch_of d.epochs) (with_epoch d.epochs) d.client (reverse d.rows) d.part → Replays page (encoded codec) (decoded codec) (epoch_of epochs) (with_epoch epochs) d.client (reverse d.rows) d.part
-  replays_at d page codec epochs p c e r =
-      subst (λ n. Replays n (encoded codec) (decoded codec) (epoch_of epochs) (with_epoch epochs) d.client (reverse d.rows) d.part) p
-      (subst (λ k. Replays d.page (encoded k) (decoded k) (epoch_of epochs) (with_epoch epochs) d.client (reverse d.rows) d.part) c
-      (subst (λ f. Replays d.page (encoded d.codec) (decoded d.codec) (epoch_of f) (with_epoch f) d.client (reverse d.rows) d.part) e r))
 
 module _ {T C E : Type 0} where
   -- a diary that was made from these rows

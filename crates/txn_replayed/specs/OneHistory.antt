@@ -5,17 +5,12 @@ use Rattle.txn_journals.specs.declared.rows.LogRow.{LogRow}
 use Rattle.txn_journals.specs.Logs.{IsLog}
 use Rattle.txn_journals.specs.Verdict.{Diary, IsDue, clients_in}
 use Rattle.txn_journals.specs.Shares.{AreDiaries, ShareOnlyTheStore}
-use Rattle.txn_diary.specs.Diaries.{DiaryState}
 use Rattle.txn_lines.specs.Printed.{answered_text}
 use Rattle.txn_recorded.specs.declared.row.Row.{Row}
 use Rattle.txn_recorded.specs.declared.row.Row.TheVariants as kinds
 use Rattle.txn_effects.specs.declared.clock.Clock.{Clock}
 use Rattle.txn_replayed.specs.Told.{TellsSame, recording_tells, journal_tells}
 use Rattle.txn_replayed.specs.Calls.{StoreCall, AreCalls, HaveAllReplies, KeepTime}
-
--- a client with its journal, as an audit sees it
-abbrev pub as_diary : {T C E : Type 0} → DiaryState T C E → Diary T
-as_diary d = record { client = d.client; rows = d.rows; part = d.part }
 
 module _ {T : Type 0} (page : ℕ) (text : T → List ℕ) where
   -- A diary is that of a recording: its client is the one that the recording's first row names, with this page, and its journal tells what the recording tells.

@@ -1,9 +1,8 @@
 //! The audit of recordings.
-ghost use Rattle.std.specs.Prelude.{◌≡◌, ◌≤◌, IfOk, map, reverse};
+ghost use Rattle.std.specs.Prelude.{◌≤◌, All, IfOk, map};
 ghost use Rattle.txn_types.specs.Clones.{IsExactClone};
-ghost use Rattle.txn_journals.specs.Journals.{Replays};
-ghost use Rattle.txn_journals.specs.Shares.{AreDiaries};
-ghost use Rattle.txn_replayed.specs.OneHistory.{as_diary, IsOf, AreOf, IsOneHistoryOf};
+ghost use Rattle.txn_diary.specs.Diaries.{as_diary, IsMadeWith};
+ghost use Rattle.txn_replayed.specs.OneHistory.{IsOf, AreOf, IsOneHistoryOf};
 
 use crate::fault::RowFault;
 use crate::rebuild::rebuild;
@@ -11,12 +10,10 @@ use crate::refusal::Refusal;
 use crate::replay::{places_of, replay};
 use std::alloc::{AllocError, Global};
 use std::collections::HashSet;
-use txn_audit::audit::audit;
+use txn_audit::diaries::audit_diaries;
 use txn_diary::diary::Diary;
 use txn_effects::clock::Clock;
-use txn_journals::audited::Logged;
 use txn_journals::fault::AuditFault;
-use txn_journals::laws::clients_share_only_the_store;
 use txn_lines::text_form::LineValue;
 use txn_logged::honest::HonestLog;
 use txn_ordered::order::{CallPlace, order};
@@ -65,13 +62,10 @@ fn diary_of<T: Clone + LineValue, C: ObjectCodec<T> + Copy + Drop, E: EpochField
     requires exact { IsExactClone T.is_clone }
     requires paged { 1 ≤ page }
     ensures of { IfOk result (λ diary. IsOf page T.text rows.now.items (as_diary diary)) }
-    ensures replays { IfOk result (λ diary. Replays page (C.encoded codec) (C.decoded codec) (E.epoch_of epochs) (E.with_epoch epochs) diary.client (reverse diary.rows) diary.part) }
+    ensures made { IfOk result (λ diary. IsMadeWith page codec epochs diary) }
 {
     match rebuild(alloc, codec, epochs, page, rows.as_slice(), places) {
-        Ok(diary) => {
-            let _ = diary.rows();
-            Ok(diary)
-        }
+        Ok(diary) => Ok(diary),
         Err((row, fault)) => Err(refusal_of(recording, row, fault)),
     }
 }
@@ -96,7 +90,7 @@ fn diaries_of<T: Clone + LineValue, C: ObjectCodec<T> + Copy + Drop, E: EpochFie
     requires exact { IsExactClone T.is_clone }
     requires paged { 1 ≤ page }
     ensures told { IfOk result (λ diaries. AreOf page T.text (map (λ rows. rows.items) recordings.now) (map as_diary diaries.items)) }
-    ensures diaries { IfOk result (λ diaries. AreDiaries page (C.encoded codec) (C.decoded codec) (E.epoch_of epochs) (E.with_epoch epochs) (map as_diary diaries.items)) }
+    ensures made { IfOk result (λ diaries. All (IsMadeWith page codec epochs) diaries.items) }
 {
     let mut diaries = Vec::new(alloc);
     for recording in 0..recordings.len() {
@@ -156,8 +150,6 @@ pub fn audit_recordings<
     let places = places_of(alloc, recordings.len(), order.as_slice())?;
     let diaries = diaries_of(alloc, codec, epochs, page, recordings, places.as_slice())?;
     let log = replay(alloc, recordings, clocks, order)?;
-    audit(&log, diaries.as_slice())?;
-    let _ = log.log();
-    clients_share_only_the_store::<T, C, E>(&codec, &epochs);
+    audit_diaries(page, &codec, &epochs, &log, diaries.as_slice())?;
     Ok(OneHistory { log, diaries })
 }

@@ -1,10 +1,10 @@
-use Rattle.std.proofs.Common.{map, take}
-use Rattle.txn_journals.specs.Shares.{AreDiaries}
-use Rattle.txn_replayed.specs.OneHistory.{as_diary, AreOf}
+use Rattle.std.proofs.Common.{All, map, take}
+use Rattle.txn_diary.specs.Diaries.{as_diary, IsMadeWith}
+use Rattle.txn_replayed.specs.OneHistory.{AreOf}
 use Rattle.txn_replayed.proofs.audit.diaries_of.Given as goal
 
--- the diaries so far are those of the recordings so far, and replay
+-- the diaries so far are those of the recordings so far, all made with these
 abbrev pub invariant-loop-recording : goal.invariant-loop-recording
 invariant-loop-recording g l =
     AreOf l.page g.T.TextForm.text (take l.recording (map (λ rows. rows.items) l.recordings)) (map as_diary l.diaries.items)
-    × AreDiaries l.page (g.C.ObjectCodec.encoded l.codec) (g.C.ObjectCodec.decoded l.codec) (g.E.EpochField.epoch_of l.epochs) (g.E.EpochField.with_epoch l.epochs) (map as_diary l.diaries.items)
+    × All (IsMadeWith l.page l.codec l.epochs) l.diaries.items
