@@ -6,7 +6,7 @@ use Rattle.std.proofs.lemmas.Bool.{eq-eqb}
 use Rattle.txn_journals.specs.declared.rows.LogRow.{LogRow}
 use Rattle.txn_journals.specs.declared.rows.Receipt.{Receipt}
 use Rattle.txn_journals.specs.declared.rows.JournalRow.{JournalRow}
-use Rattle.txn_journals.specs.Verdict.{Diary, received_by, receipts_in, receipt_at, is_taken, rows_of, HaveRows, journal_of}
+use Rattle.txn_journals.specs.Verdict.{AuditedDiary, received_by, receipts_in, receipt_at, is_taken, rows_of, HaveRows, journal_of}
 use Rattle.txn_audit.specs.Receipts.{IsNext}
 
 abbrev head_or : Receipt → List Receipt → Receipt
@@ -56,13 +56,13 @@ log_over client log at le next e =
     omega (arith, len, Rattle.std.proofs.lemmas.List.length-drop at log, le)
 
 -- a diary more
-pub with_diary : {T D : Type 0} (f : D → Diary T) (log : List LogRow) (ds : List D) (i : ℕ) (d : D) → i < length ds → d ≡ get_or ds i d → HaveRows log (map f (drop i ds)) ≡ ((receipts_in (f d).rows ≡ rows_of (f d).client 0 log) × HaveRows log (map f (drop (i + 1) ds)))
+pub with_diary : {T D : Type 0} (f : D → AuditedDiary T) (log : List LogRow) (ds : List D) (i : ℕ) (d : D) → i < length ds → d ≡ get_or ds i d → HaveRows log (map f (drop i ds)) ≡ ((receipts_in (f d).rows ≡ rows_of (f d).client 0 log) × HaveRows log (map f (drop (i + 1) ds)))
 with_diary {T} {D} f log ds i d lt is =
     let next : suc i ≡ i + 1 = omega arith in
     ap (λ (xs : List D). HaveRows log (map f xs)) (drop-cons ds i d lt ∙ (ap (λ (x : D). x ∷ drop (suc i) ds) (sym is) ∙ ap (λ n. d ∷ drop n ds) next))
 
 -- the first diary that is the client's
-pub journal_here : {T D : Type 0} (f : D → Diary T) (client : ℕ) (ds : List D) (i : ℕ) (d : D) → i < length ds → d ≡ get_or ds i d → (f d).client ≡ client → journal_of (map f (drop i ds)) client ≡ (f d).rows
+pub journal_here : {T D : Type 0} (f : D → AuditedDiary T) (client : ℕ) (ds : List D) (i : ℕ) (d : D) → i < length ds → d ≡ get_or ds i d → (f d).client ≡ client → journal_of (map f (drop i ds)) client ≡ (f d).rows
 journal_here {T} {D} f client ds i d lt is own =
     ap (λ (xs : List D). journal_of (map f xs) client) (drop-cons ds i d lt ∙ ap (λ (x : D). x ∷ drop (suc i) ds) (sym is))
     ∙ ap (λ (b : Bool). if b then (f d).rows else journal_of (map f (drop (suc i) ds)) client) (eq-eqb (f d).client client own)

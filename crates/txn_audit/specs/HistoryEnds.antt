@@ -15,7 +15,7 @@ use Rattle.txn_journals.specs.declared.rows.LogRow.{LogRow}
 use Rattle.txn_journals.specs.Logs.{IsLog}
 use Rattle.txn_journals.specs.Merged.{Merged}
 use Rattle.txn_journals.specs.Traces.{trace_of}
-use Rattle.txn_journals.specs.Verdict.{Diary}
+use Rattle.txn_journals.specs.Verdict.{AuditedDiary}
 use Rattle.txn_journals.specs.Shares.{Merges, ShareOnlyTheStore}
 
 module _ {T : Type 0} where
@@ -27,7 +27,7 @@ module _ {T : Type 0} where
 -- Where clients of such values shared only the store of this log, each list that merges their diaries in the order of the log has a history that ends there.
 abbrev pub HistoriesEndAt : Type 0 → List LogRow → ℕ → ℕ → Type 0
 HistoriesEndAt T log entries boundary =
-    (page clients : ℕ) (encode : T → List ℕ) (decode : List ℕ → Option T) (get_epoch : T → ℕ) (set_epoch : T → ℕ → T) (ds : List (Diary T)) (store : StoreState) → 1 ≤ page → IsLog (reverse log) store → ShareOnlyTheStore page encode decode get_epoch set_epoch clients log ds store →
+    (page clients : ℕ) (encode : T → List ℕ) (decode : List ℕ → Option T) (get_epoch : T → ℕ) (set_epoch : T → ℕ → T) (ds : List (AuditedDiary T)) (store : StoreState) → 1 ≤ page → IsLog (reverse log) store → ShareOnlyTheStore page encode decode get_epoch set_epoch clients log ds store →
     (m : Merged T) → Merges log ds m → EndsAt (trace_of (reverse m)) entries boundary
 
 -- Words of private contracts. Here the newest row of a log stands first.

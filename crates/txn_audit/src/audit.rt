@@ -1,6 +1,6 @@
 //! The audit of a log and the diaries of its clients.
 ghost use Rattle.std.specs.Prelude.{◌≡◌, List, Ok, Err, map, Decides};
-ghost use Rattle.txn_journals.specs.Verdict.{Diary, HasClient, HaveDifferentClients, HasDiaries, HaveRows, WereLeft, IsDue};
+ghost use Rattle.txn_journals.specs.Verdict.{AuditedDiary, HasClient, HaveDifferentClients, HasDiaries, HaveRows, WereLeft, IsDue};
 
 use crate::landings::were_left;
 use crate::receipts::receipts_are_rows;

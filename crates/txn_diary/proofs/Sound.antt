@@ -25,14 +25,14 @@ use Rattle.txn_history.specs.Facts.{is_high}
 use Rattle.txn_history.specs.declared.event.Call.{Call}
 use Rattle.txn_history.specs.Calls.{view_used, is_holders, value_written}
 use Rattle.txn_clients.specs.Views.{IsFromOne}
-use Rattle.txn_journals.specs.Parts.{Part, seen_in, knows_base, is_low, epoch_told, is_in_use, begin_fault}
+use Rattle.txn_journals.specs.Parts.{Part, seen_in, knows_base, is_low, epoch_told, is_in_use, client_begin_fault}
 use Rattle.txn_journals.proofs.Begun.{Passed, passed}
 use Rattle.txn_journals.specs.Journals.{TakesTurn, Follows, Replays}
 use Rattle.txn_diary.specs.Diaries.{IsSound, AreSound}
 
 module _ {T : Type 0} where
   -- what a begin uses that is permitted is counted from 1
-  pub used_from_one : (get_epoch : T → ℕ) (client : ℕ) (part : Part T) (call : Call T) → begin_fault get_epoch client part call ≡ None → IsFromOne (view_used call)
+  pub used_from_one : (get_epoch : T → ℕ) (client : ℕ) (part : Part T) (call : Call T) → client_begin_fault get_epoch client part call ≡ None → IsFromOne (view_used call)
   used_from_one get_epoch client part call permits = by (view_used call) (own (is_client client client) (may_use (seen_in client part) client (is_holders call) (view_used call)) ok.one_is)
     where
       base : Option ℕ

@@ -13,8 +13,8 @@ use Rattle.txn_machine.specs.declared.doing.Ending.TheVariants as endings
 use Rattle.txn_machine.specs.Doing.{refusal_in, started, ReadsBack, FitsWord, IsMadeSo}
 use Rattle.txn_machine_views.specs.Parts.{is_claim_call}
 use Rattle.txn_machine.specs.Machine.{seen_view, used_by, let_go, views_changed, views_after, views_taken, new_operation, answered}
-use Rattle.txn_journals.specs.Parts.{Part, begin_fault, epoch_written}
-use Rattle.txn_journals.specs.Journals.{Begins}
+use Rattle.txn_journals.specs.Parts.{Part, client_begin_fault, epoch_written}
+use Rattle.txn_journals.specs.Journals.{BeginsCall}
 
 module _ {T : Type 0} where
   -- an answer that is not of the view lets the view go
@@ -36,10 +36,10 @@ module _ {T : Type 0} where
       e ∙ (ap (λ w. operations ++ record { client = client; view = w; claims = claims; doing = doing } ∷ []) v ∙ ap (λ b. operations ++ record { client = client; view = view_used call; claims = b; doing = doing } ∷ []) c)
 
 module _ {T : Type 0} (page : ℕ) (encode : T → List ℕ) (decode : List ℕ → Option T) (get_epoch : T → ℕ) (set_epoch : T → ℕ → T) where
-  pub begins_so : (client : ℕ) (old : Part T) (call : Call T) (doing : Doing T) (refusal : Option ℕ) (view : Option (View T)) (operations : List (Operation T)) (views : List (Option (Used T))) (writes : List (Option ℕ)) → begin_fault get_epoch client old call ≡ None → ReadsBack encode decode call → FitsWord call →
+  pub begins_so : (client : ℕ) (old : Part T) (call : Call T) (doing : Doing T) (refusal : Option ℕ) (view : Option (View T)) (operations : List (Operation T)) (views : List (Option (Used T))) (writes : List (Option ℕ)) → client_begin_fault get_epoch client old call ≡ None → ReadsBack encode decode call → FitsWord call →
       (doing, refusal_in refusal) ≡ started page encode get_epoch set_epoch call view → view ≡ seen_view (used_by old.views (view_used call)) → IsMadeSo encode decode get_epoch doing → operations ≡ old.operations ++ new_operation client call doing ∷ [] →
       views ≡ views_after (views_taken old.views (view_used call) (length old.operations + 1)) client (view_used call) (is_claim_call call) (refusal_in refusal) → writes ≡ old.writes ++ epoch_written get_epoch call ∷ [] →
-      Begins page encode decode get_epoch set_epoch client old call (answered (length old.views) (view_used call) (refusal_in refusal)) (record { caches = old.caches; operations = operations; views = views; writes = writes; told = old.told })
+      BeginsCall page encode decode get_epoch set_epoch client old call (answered (length old.views) (view_used call) (refusal_in refusal)) (record { caches = old.caches; operations = operations; views = views; writes = writes; told = old.told })
   begins_so client old call doing refusal view operations views writes permits reads word starts is made ops vs ws = record {
     permits = permits;
     reads_back = reads;

@@ -19,9 +19,9 @@ use Rattle.txn_journals.specs.declared.rows.Receipt.{Receipt}
 use Rattle.txn_journals.specs.declared.rows.Step.{Step}
 use Rattle.txn_journals.specs.declared.rows.Step.TheVariants as steps
 use Rattle.txn_journals.specs.declared.rows.JournalRow.{JournalRow}
-use Rattle.txn_journals.specs.Parts.{Part, begin_fault}
+use Rattle.txn_journals.specs.Parts.{Part, client_begin_fault}
 use Rattle.txn_journals.specs.Journals.{goes_on, Follows}
-use Rattle.txn_journals.specs.Verdict.{Diary}
+use Rattle.txn_journals.specs.Verdict.{AuditedDiary}
 use Rattle.txn_logged.specs.Logged.{IsReceiptOf}
 use Rattle.txn_takes.specs.Taking.{CanTake}
 
@@ -36,7 +36,7 @@ pub record DiaryState (T C E : Type 0) : Type 0 where
 
 module _ {T C E : Type 0} where
   -- a client with its journal, as an audit reads it
-  abbrev pub as_diary : DiaryState T C E → Diary T
+  abbrev pub as_diary : DiaryState T C E → AuditedDiary T
   as_diary diary = record { client = diary.client; rows = diary.rows; part = diary.part }
 
   -- the client was made with this page, this codec and this field of epochs
@@ -74,7 +74,7 @@ module _ {T C E : Type 0} where
 
   -- why a begin is refused
   abbrev pub refusal_of : (T → ℕ) → DiaryState T C E → Call T → Option EventFault
-  refusal_of get_epoch diary call = fault_if (lives diary.rows) (begin_fault get_epoch diary.client diary.part call)
+  refusal_of get_epoch diary call = fault_if (lives diary.rows) (client_begin_fault get_epoch diary.client diary.part call)
 
 module _ {T : Type 0} where
   -- why a kill is refused: the client was killed before

@@ -13,7 +13,7 @@ impl<T: Clone, C: ObjectCodec<T> + Drop, E: EpochField<T>> Tables<T, C, E> {
     ghost use Rattle.txn_history.specs.Facts.{is_high};
     ghost use Rattle.txn_history.specs.Calls.{value_written};
     ghost use Rattle.txn_machine.specs.Machine.{used_by};
-    ghost use Rattle.txn_journals.specs.Parts.{is_low, epoch_told, is_in_use, begin_fault};
+    ghost use Rattle.txn_journals.specs.Parts.{is_low, epoch_told, is_in_use, client_begin_fault};
     ghost use Rattle.txn_diary.specs.Shown.{shown};
 
     /// Whether an operation runs on the view of a call, if it has one.
@@ -51,7 +51,7 @@ impl<T: Clone, C: ObjectCodec<T> + Drop, E: EpochField<T>> Tables<T, C, E> {
     /// Why the client does not permit a begin, if it does not: its number and its view, whether that is free, its base, its
     /// boundary and its epoch are tested, in this order. It takes no memory.
     pub fn begin_refusal(&self, call: &Call<T>) -> Option<EventFault>
-        ensures { result ≡ begin_fault (E.epoch_of self.now.epochs) self.now.client (shown self.now) call.now }
+        ensures { result ≡ client_begin_fault (E.epoch_of self.now.epochs) self.now.client (shown self.now) call.now }
     {
         let view = view_used(call);
         if self.client == 0 || !may_use(&self.views, self.client, is_holders(call), view) {

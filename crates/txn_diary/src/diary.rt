@@ -4,8 +4,8 @@ ghost use Rattle.std.specs.Prelude.{◌≡◌, ◌<◌, ℕ, Option, IfOk, IfErr
 ghost use Rattle.txn_diary.specs.Diaries.{as_diary, fault_if};
 ghost use Rattle.txn_diary.specs.Room.{HasRoom};
 ghost use Rattle.txn_diary.specs.Shown.{shown};
-ghost use Rattle.txn_journals.specs.Journals.{Begins};
-ghost use Rattle.txn_journals.specs.Parts.{begin_fault};
+ghost use Rattle.txn_journals.specs.Journals.{BeginsCall};
+ghost use Rattle.txn_journals.specs.Parts.{client_begin_fault};
 ghost use Rattle.txn_logged.specs.Logged.{IsReceiptOf};
 ghost use Rattle.txn_machine.specs.Doing.{refusal_in};
 ghost use Rattle.txn_machine.specs.Machine.{answered};
@@ -407,14 +407,14 @@ fn start<T: Clone, C: ObjectCodec<T> + Drop, E: EpochField<T>>(
     call: &Call<T>,
 ) -> Result<Option<Answers<T>>, EventFault>
     requires { IsExactClone T.is_clone }
-    ensures refused { fault_met result ≡ fault_if alive (begin_fault (E.epoch_of tables.old.epochs) tables.old.client (shown tables.old) call.now) }
+    ensures refused { fault_met result ≡ fault_if alive (client_begin_fault (E.epoch_of tables.old.epochs) tables.old.client (shown tables.old) call.now) }
     ensures client { tables.new.client ≡ tables.old.client }
     ensures layout { tables.new.layout ≡ tables.old.layout }
     ensures epochs { tables.new.epochs ≡ tables.old.epochs }
     ensures rows { rows.new.items ≡ rows.old.items }
     ensures room { OnOk result (vec_len rows.new < vec_capacity rows.new) }
     ensures err { OnErr result (shown tables.new ≡ shown tables.old) }
-    ensures ok { IfOk result (λ answers. Begins tables.old.layout.page (C.encoded tables.old.layout.codec) (C.decoded tables.old.layout.codec) (E.epoch_of tables.old.epochs) (E.with_epoch tables.old.epochs) tables.old.client (shown tables.old) call.now (first_of answers) (shown tables.new)) }
+    ensures ok { IfOk result (λ answers. BeginsCall tables.old.layout.page (C.encoded tables.old.layout.codec) (C.decoded tables.old.layout.codec) (E.epoch_of tables.old.epochs) (E.with_epoch tables.old.epochs) tables.old.client (shown tables.old) call.now (first_of answers) (shown tables.new)) }
     ensures twice { IfOk result (λ answers. ForSome answers (λ pair. pair.1 ≡ pair.0)) }
 {
     if !alive {

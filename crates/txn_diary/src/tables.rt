@@ -54,8 +54,8 @@ impl<T: Clone, C: ObjectCodec<T> + Drop, E: EpochField<T>> Tables<T, C, E> {
     ghost use Rattle.txn_machine.specs.declared.doing.Operation.{Operation};
     ghost use Rattle.txn_clients.specs.Operations.{asked_by, TakesReply};
     ghost use Rattle.txn_clients.specs.Views.{IsFromOne};
-    ghost use Rattle.txn_journals.specs.Parts.{no_part, begin_fault, answer_in, note_of, written_in, turned_with};
-    ghost use Rattle.txn_journals.specs.Journals.{Begins, TakesTurn, GivesUp};
+    ghost use Rattle.txn_journals.specs.Parts.{no_part, client_begin_fault, answer_in, note_of, written_in, turned_with};
+    ghost use Rattle.txn_journals.specs.Journals.{BeginsCall, TakesTurn, GivesUp};
     ghost use Rattle.txn_diary.specs.Diaries.{AreSound};
     ghost use Rattle.txn_diary.specs.Room.{HasRoom};
     ghost use Rattle.txn_diary.specs.Shown.{shown};
@@ -114,7 +114,7 @@ impl<T: Clone, C: ObjectCodec<T> + Drop, E: EpochField<T>> Tables<T, C, E> {
     /// once. The only error is want of memory, and then nothing changes.
     pub fn begin(&mut self, call: &Call<T>) -> Result<Option<u8>, AllocError>
         requires exact { IsExactClone T.is_clone }
-        requires permits { begin_fault (E.epoch_of self.old.epochs) self.old.client (shown self.old) call.now ≡ None }
+        requires permits { client_begin_fault (E.epoch_of self.old.epochs) self.old.client (shown self.old) call.now ≡ None }
         requires view { IsFromOne (view_used call.now) }
         requires room_operations { vec_len self.old.operations < vec_capacity self.old.operations }
         requires room_writes { vec_len self.old.writes < vec_capacity self.old.writes }
@@ -122,7 +122,7 @@ impl<T: Clone, C: ObjectCodec<T> + Drop, E: EpochField<T>> Tables<T, C, E> {
         ensures layout { self.new.layout ≡ self.old.layout }
         ensures epochs { self.new.epochs ≡ self.old.epochs }
         ensures err { OnErr result (shown self.new ≡ shown self.old) }
-        ensures ok { IfOk result (λ refusal. Begins self.old.layout.page (C.encoded self.old.layout.codec) (C.decoded self.old.layout.codec) (E.epoch_of self.old.epochs) (E.with_epoch self.old.epochs) self.old.client (shown self.old) call.now (answered (length self.old.views.items) (view_used call.now) (refusal_in refusal)) (shown self.new)) }
+        ensures ok { IfOk result (λ refusal. BeginsCall self.old.layout.page (C.encoded self.old.layout.codec) (C.decoded self.old.layout.codec) (E.epoch_of self.old.epochs) (E.with_epoch self.old.epochs) self.old.client (shown self.old) call.now (answered (length self.old.views.items) (view_used call.now) (refusal_in refusal)) (shown self.new)) }
     {
         let of = Usage {
             client: self.client,

@@ -3,7 +3,7 @@
 use crate::clock::{Clock, clock_of};
 use bytes::Bytes;
 use std::alloc::{AllocError, Global};
-use txn_recorded::row::Row;
+use txn_recorded::row::RecordedRow;
 use txn_store::digits::read_digits;
 use txn_store::page::Page;
 use txn_store::path::Path;
@@ -71,9 +71,9 @@ pub fn version_of(path: &Path) -> Option<u64> {
 }
 
 /// When the reply to the call of a row was there, and the reply, where one was seen.
-fn reply_after<T>(rows: &[Row<T>], row: usize) -> Option<(u64, &Reply)> {
+fn reply_after<T>(rows: &[RecordedRow<T>], row: usize) -> Option<(u64, &Reply)> {
     match rows.get(row.saturating_add(1)) {
-        Some(Row::Reply(_, at, reply)) => Some((*at, reply)),
+        Some(RecordedRow::Reply(_, at, reply)) => Some((*at, reply)),
         _ => None,
     }
 }
@@ -81,13 +81,13 @@ fn reply_after<T>(rows: &[Row<T>], row: usize) -> Option<(u64, &Reply)> {
 /// The call of a row, where it asks for one, which comes after that of this place.
 fn call_at<'a, T>(
     recording: usize,
-    rows: &'a [Row<T>],
+    rows: &'a [RecordedRow<T>],
     row: usize,
     clock: Clock,
     before: Option<usize>,
 ) -> Option<Asked<'a>> {
     match rows.get(row) {
-        Some(Row::Ask(_, at, request)) => {
+        Some(RecordedRow::Ask(_, at, request)) => {
             let (until, told, reply) = match reply_after(rows, row) {
                 Some((at, reply)) => (clock.latest(at), clock.exactly(at), Some(reply)),
                 None => (u64::MAX, u64::MAX, None),
@@ -113,7 +113,7 @@ fn call_at<'a, T>(
 fn add_calls<'a, T>(
     calls: &mut Vec<Asked<'a>>,
     recording: usize,
-    rows: &'a [Row<T>],
+    rows: &'a [RecordedRow<T>],
     clock: Clock,
 ) -> Result<(), AllocError> {
     let mut before = None;
@@ -131,7 +131,7 @@ fn add_calls<'a, T>(
 /// The calls of all recordings, whose times are of these clocks.
 pub(crate) fn calls<'a, T>(
     alloc: Global,
-    recordings: &'a [Vec<Row<T>>],
+    recordings: &'a [Vec<RecordedRow<T>>],
     clocks: &[Clock],
 ) -> Result<Vec<Asked<'a>>, AllocError> {
     let mut calls = Vec::new(alloc);

@@ -7,7 +7,7 @@ use crate::landings::{Fate, fates};
 use crate::lives::{Lives, lived};
 use crate::removals::{Concern, remove};
 use std::alloc::{AllocError, Global};
-use txn_recorded::row::Row;
+use txn_recorded::row::RecordedRow;
 
 /// What became of the calls of recordings.
 pub struct Effects<'a> {
@@ -38,7 +38,7 @@ impl<'a> Drop for Effects<'a> {
 /// error is want of memory.
 pub fn effects_of<'a, T>(
     alloc: Global,
-    recordings: &'a [Vec<Row<T>>],
+    recordings: &'a [Vec<RecordedRow<T>>],
     clocks: &[Clock],
 ) -> Result<Effects<'a>, AllocError> {
     let calls = calls(alloc, recordings, clocks)?;

@@ -106,7 +106,7 @@ module _ {T : Type 0} where
       record { above = omega (arith, i.0, same); below = omega (arith, i.1, same, is) }
 
 module _ {T : Type 0} (encode : T → List ℕ) (decode : List ℕ → Option T) (get_epoch : T → ℕ) (set_epoch : T → ℕ → T) (s : State T) (reached : IsReached encode decode get_epoch set_epoch s) (client : ℕ) (part : Part T) (begins views : List ℕ) (t : TiedTo decode get_epoch s client part begins views)
-    (call : Call T) (permits : diary.begin_fault get_epoch client part call ≡ None) where
+    (call : Call T) (permits : diary.client_begin_fault get_epoch client part call ≡ None) where
   abbrev names : ℕ → ℕ
   names = number views client
 

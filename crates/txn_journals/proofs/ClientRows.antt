@@ -35,7 +35,7 @@ use Rattle.txn_journals.specs.declared.rows.Step.{Step}
 use Rattle.txn_journals.specs.declared.rows.Step.TheVariants as steps
 use Rattle.txn_journals.specs.declared.rows.JournalRow.{JournalRow}
 use Rattle.txn_journals.specs.Parts.{Part, answer_in, turned_with}
-use Rattle.txn_journals.specs.Journals.{Begins, TakesTurn, FailsAt, LacksAt, GivesUp, IsKilled}
+use Rattle.txn_journals.specs.Journals.{BeginsCall, TakesTurn, FailsAt, LacksAt, GivesUp, IsKilled}
 use Rattle.txn_journals.specs.Logs.{IsLog, files_of}
 use Rattle.txn_journals.specs.Numbers.{count, number}
 use Rattle.txn_journals.specs.Merged.{Did, Merged, log_of, begins_of, views_of, with_view}
@@ -437,7 +437,7 @@ module _ {T : Type 0} (page : ℕ) (encode : T → List ℕ) (decode : List ℕ 
 
   -- a begin
 
-  module _ (call : Call T) (answer : Option (Answer T)) (v : Begins page encode decode get_epoch set_epoch client part call answer (parts client)) where
+  module _ (call : Call T) (answer : Option (Answer T)) (v : BeginsCall page encode decode get_epoch set_epoch client part call answer (parts client)) where
     abbrev new_call : Call T
     new_call = named_call (number views client) call
 

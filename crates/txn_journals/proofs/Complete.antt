@@ -12,7 +12,7 @@ use Rattle.txn_journals.specs.declared.rows.JournalRow.{JournalRow}
 use Rattle.txn_journals.specs.Parts.{Part}
 use Rattle.txn_journals.specs.Journals.{Replays, left_of}
 use Rattle.txn_journals.specs.Merged.{Landing, Did, Lands, Merged, part_of, landing_row, with_receipt, log_of, AllCanLand}
-use Rattle.txn_journals.specs.Verdict.{Diary, receipts_in, receipt_at, is_taken, rows_of, HasDiaries, HaveRows, journal_of, kept_by, stops_at, left_at, WereLeft}
+use Rattle.txn_journals.specs.Verdict.{AuditedDiary, receipts_in, receipt_at, is_taken, rows_of, HasDiaries, HaveRows, journal_of, kept_by, stops_at, left_at, WereLeft}
 use Rattle.txn_journals.specs.Shares.{is_receipt, Merges, AreDiaries}
 use Rattle.txn_journals.proofs.Woven.{tail_of, head_or, taken_own, taken_other, pushed, pushed_reverse, LandsAfter, no_receipt, no_logged, no_stop, goes_past, own_rows, no_rows, no_journal, decides}
 use Rattle.txn_journals.proofs.Once.{left_stays}
@@ -31,7 +31,7 @@ module _ {T : Type 0} where
   abbrev RowsFrom : ℕ → Merged T → Type 0
   RowsFrom place m = (c : ℕ) → receipts_in (part_of c m) ≡ rows_of c place (log_of m)
 
-  abbrev FollowFrom : List (Diary T) → ℕ → Merged T → Merged T → Type 0
+  abbrev FollowFrom : List (AuditedDiary T) → ℕ → Merged T → Merged T → Type 0
   FollowFrom ds place before m = (c p op : ℕ) → place ≤ p → left_at p op None (journal_of ds c) ≡ left_at p op (left_of op (part_of c before)) (part_of c m)
 
   -- one row more before
@@ -51,7 +51,7 @@ module _ {T : Type 0} where
   whole_more : (d c : ℕ) (row : JournalRow T) (before m : Merged T) → pushed (part_of c (Did d row ∷ m)) (part_of c before) ≡ pushed (part_of c m) (part_of c (Did d row ∷ before))
   whole_more d c row before m = elim (cases_Bool (d == c)) [ inl h ↦ rw h refl | inr h ↦ rw h refl ]
 
-  module _ (ds : List (Diary T)) (place d : ℕ) (row : JournalRow T) (before m : Merged T) (rest : (place' : ℕ) → RowsFrom place' m → FollowFrom ds place' (Did d row ∷ before) m → WereLeft place' (log_of m) ds) (rows : RowsFrom place (Did d row ∷ m)) (follow : FollowFrom ds place before (Did d row ∷ m)) where
+  module _ (ds : List (AuditedDiary T)) (place d : ℕ) (row : JournalRow T) (before m : Merged T) (rest : (place' : ℕ) → RowsFrom place' m → FollowFrom ds place' (Did d row ∷ before) m → WereLeft place' (log_of m) ds) (rows : RowsFrom place (Did d row ∷ m)) (follow : FollowFrom ds place before (Did d row ∷ m)) where
     -- a row without a receipt
     quiet : is_receipt row.step ≡ false → WereLeft place (log_of (Did d row ∷ m)) ds
     quiet none =
@@ -59,7 +59,7 @@ module _ {T : Type 0} where
         subst (λ (log : List LogRow). WereLeft place log ds) (sym same)
         (rest place (λ c. sym (no_more d c row m none) ∙ (rows c ∙ ap (rows_of c place) same)) (λ c p op le. follow c p op le ∙ passes d c p op row before m (λ e. no_stop p row.step none)))
 
-  module _ (ds : List (Diary T)) (place d k : ℕ) (receipt : Receipt) (answer : Option (Answer T)) (before m : Merged T) where
+  module _ (ds : List (AuditedDiary T)) (place d k : ℕ) (receipt : Receipt) (answer : Option (Answer T)) (before m : Merged T) where
     abbrev row : JournalRow T
     row = record { step = steps.Act k (acts.Receive receipt); answer = answer }
 
@@ -88,7 +88,7 @@ module _ {T : Type 0} where
         follow_after : FollowFrom ds (place + 1) (Did d row ∷ before) m
         follow_after c p op le = follow c p op (omega (arith, le)) ∙ passes d c p op row before m (λ e. ap not (lt-ltb receipt.place p (omega (arith, at, le))))
 
-  did : (ds : List (Diary T)) (place d : ℕ) (step : Step T) (answer : Option (Answer T)) (before m : Merged T) → ((place' : ℕ) → RowsFrom place' m → FollowFrom ds place' (Did d (record { step = step; answer = answer }) ∷ before) m → WereLeft place' (log_of m) ds) → RowsFrom place (Did d (record { step = step; answer = answer }) ∷ m) →
+  did : (ds : List (AuditedDiary T)) (place d : ℕ) (step : Step T) (answer : Option (Answer T)) (before m : Merged T) → ((place' : ℕ) → RowsFrom place' m → FollowFrom ds place' (Did d (record { step = step; answer = answer }) ∷ before) m → WereLeft place' (log_of m) ds) → RowsFrom place (Did d (record { step = step; answer = answer }) ∷ m) →
       FollowFrom ds place before (Did d (record { step = step; answer = answer }) ∷ m) → WereLeft place (with_receipt d step (log_of m)) ds
   did ds place d (steps.Begin call) answer before m rest rows follow = quiet ds place d (record { step = steps.Begin call; answer = answer }) before m rest rows follow refl
   did ds place d (steps.Act k acts.Look) answer before m rest rows follow = quiet ds place d (record { step = steps.Act k acts.Look; answer = answer }) before m rest rows follow refl
@@ -102,7 +102,7 @@ module _ {T : Type 0} (page : ℕ) (encode : T → List ℕ) (decode : List ℕ 
   abbrev Whole : Merged T → Merged T → Type 0
   Whole before m = (c : ℕ) → (part : Part T) × Replays page encode decode get_epoch set_epoch c (pushed (part_of c m) (part_of c before)) part
 
-  complete : (ds : List (Diary T)) (place : ℕ) (before m : Merged T) → Whole before m → LandsAfter before m → RowsFrom place m → FollowFrom ds place before m → WereLeft place (log_of m) ds
+  complete : (ds : List (AuditedDiary T)) (place : ℕ) (before m : Merged T) → Whole before m → LandsAfter before m → RowsFrom place m → FollowFrom ds place before m → WereLeft place (log_of m) ds
   complete ds place before [] whole lands rows follow = tt
   complete ds place before (Did d row ∷ m) whole lands rows follow =
       let whole' : Whole (Did d row ∷ before) m = λ c. (let w = whole c in (w.0, subst (λ (rs : List (JournalRow T)). Replays page encode decode get_epoch set_epoch c rs w.0) (whole_more d c row before m) w.1)) in
@@ -117,7 +117,7 @@ module _ {T : Type 0} (page : ℕ) (encode : T → List ℕ) (decode : List ℕ 
             (λ c p op le. follow c p op (omega (arith, le))),
       )
 
-  pub merged_left : (log : List LogRow) (ds : List (Diary T)) (m : Merged T) → AreDiaries page encode decode get_epoch set_epoch ds → HasDiaries log ds → HaveRows log ds → Merges log ds m → WereLeft 0 log ds
+  pub merged_left : (log : List LogRow) (ds : List (AuditedDiary T)) (m : Merged T) → AreDiaries page encode decode get_epoch set_epoch ds → HasDiaries log ds → HaveRows log ds → Merges log ds m → WereLeft 0 log ds
   merged_left log ds m kept there rows g =
       let lands : LandsAfter [] m = (after_all [] m (subst (λ (n : Merged T). AllCanLand n) (sym (pushed_reverse m [] ∙ append-nil (reverse m))) g.landings)).0 in
       let own : (c : ℕ) → receipts_in (journal_of ds c) ≡ rows_of c 0 log = λ c. elim (decides ds c) [

@@ -25,7 +25,7 @@ use Rattle.txn_machine.specs.Machine.{seen_view, used_by, answered}
 use Rattle.txn_history.specs.Calls.{view_used}
 use Rattle.std.proofs.Common.{reverse, ◌≢◌}
 use Rattle.txn_journals.specs.declared.fault.AuditFault.TheVariants as faults
-use Rattle.txn_journals.specs.Verdict.{Diary, HasClient, IsDue}
+use Rattle.txn_journals.specs.Verdict.{AuditedDiary, HasClient, IsDue}
 use Rattle.txn_journals.specs.Shares.{merged}
 use Rattle.txn_journals.specs.Runs.{IsRun}
 use Rattle.txn_journals.proofs.Runs.{merged_runs}
@@ -54,7 +54,7 @@ use Rattle.txn_journals.specs.declared.rows.Left.{Left}
 use Rattle.txn_journals.specs.declared.rows.Step.{Step}
 use Rattle.txn_journals.specs.declared.rows.Step.TheVariants as steps
 use Rattle.txn_journals.specs.declared.rows.JournalRow.{JournalRow}
-use Rattle.txn_journals.specs.Parts.{begin_fault, answer_in}
+use Rattle.txn_journals.specs.Parts.{client_begin_fault, answer_in}
 use Rattle.txn_journals.specs.Journals.{Follows, Lives, Replays}
 use Rattle.txn_journals.specs.Logs.{IsLog}
 use Rattle.txn_journals.specs.Merged.{Landing, Did, Lands, Merged, part_of, landing_row, with_receipt, log_of, CanLand, IsMerged}
@@ -207,7 +207,7 @@ Asks part op ask = (numbered part.operations op ≡ Some (operation part op)) ×
 
 -- when a client can do so
 abbrev May : Move → Scene → StoreState → Type 0
-May (Calls client call) s store = (begin_fault get_epoch client (s.parts client) call ≡ None) × ReadsBack encode decode call × FitsWord call × IsMadeSo encode decode get_epoch (start (s.parts client) call).0 × Lives (part_of client s.list)
+May (Calls client call) s store = (client_begin_fault get_epoch client (s.parts client) call ≡ None) × ReadsBack encode decode call × FitsWord call × IsMadeSo encode decode get_epoch (start (s.parts client) call).0 × Lives (part_of client s.list)
 May (Looks client op) s store = Asks (s.parts client) op Look × Lives (part_of client s.list)
 May (Receives client op place request reply after) s store = Asks (s.parts client) op (Store request) × Serves request store reply after × (after.failures ≡ 0) × Lives (part_of client s.list)
 
@@ -305,7 +305,7 @@ runs = merged_runs 1000 encode decode get_epoch set_epoch 2 whole.list whole.par
 abbrev log : List LogRow
 log = reverse (log_of whole.list)
 
-abbrev diary_of : ℕ → Diary ℕ
+abbrev diary_of : ℕ → AuditedDiary ℕ
 diary_of client = record { client = client; rows = reverse (part_of client whole.list); part = whole.parts client }
 
 other : (client d : ℕ) → client ≢ d → HasClient {T = ℕ} (diary_of d ∷ []) client → ⊥
@@ -387,7 +387,7 @@ runs_landed = merged_runs 1000 encode decode get_epoch set_epoch 2 k5.list k5.pa
 abbrev landed_log : List LogRow
 landed_log = reverse (log_of k5.list)
 
-abbrev landed_diary : ℕ → Diary ℕ
+abbrev landed_diary : ℕ → AuditedDiary ℕ
 landed_diary client = record { client = client; rows = reverse (part_of client k5.list); part = k5.parts client }
 
 pub agrees_landed : IsDue landed_log (landed_diary 1 ∷ landed_diary 2 ∷ []) (Ok tt)

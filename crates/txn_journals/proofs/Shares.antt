@@ -12,7 +12,7 @@ use Rattle.txn_journals.specs.Parts.{Part}
 use Rattle.txn_journals.specs.Journals.{Replays}
 use Rattle.txn_journals.specs.Logs.{IsLog}
 use Rattle.txn_journals.specs.Merged.{Did, Lands, Merged, part_of, clients_of, landing_row, with_receipt, log_of, IsMerged}
-use Rattle.txn_journals.specs.Verdict.{Diary, IsDue, HasClient, journal_of, kept_by, clients_in}
+use Rattle.txn_journals.specs.Verdict.{AuditedDiary, IsDue, HasClient, journal_of, kept_by, clients_in}
 use Rattle.txn_journals.specs.Shares.{Merges, AreDiaries, IsBeginning, ShareOnlyTheStore}
 use Rattle.txn_journals.proofs.Runs.{tail, landing_tail, merged_runs, merged_history}
 use Rattle.txn_journals.proofs.Woven.{part_append, receipts_append, no_journal, merged_merges}
@@ -77,12 +77,12 @@ module _ {T : Type 0} where
           by true e = absurd (cc)
           by false e = e
 
-  no_client : (ds : List (Diary T)) (c : ℕ) → clients_in ds < c → HasClient ds c → ⊥
+  no_client : (ds : List (AuditedDiary T)) (c : ℕ) → clients_in ds < c → HasClient ds c → ⊥
   no_client [] c lt h = h
   no_client (d ∷ ds) c lt h = elim h [ inl e ↦ absurd (omega (arith, e, lt)) | inr i ↦ no_client ds c (omega (arith, lt)) i ]
 
 module _ {T : Type 0} (page : ℕ) (encode : T → List ℕ) (decode : List ℕ → Option T) (get_epoch : T → ℕ) (set_epoch : T → ℕ → T) where
-  pub are_journals : (ds : List (Diary T)) → AreDiaries page encode decode get_epoch set_epoch ds → (c : ℕ) → Replays page encode decode get_epoch set_epoch c (reverse (journal_of ds c)) (kept_by ds c)
+  pub are_journals : (ds : List (AuditedDiary T)) → AreDiaries page encode decode get_epoch set_epoch ds → (c : ℕ) → Replays page encode decode get_epoch set_epoch c (reverse (journal_of ds c)) (kept_by ds c)
   are_journals [] h c = refl
   are_journals (d ∷ ds) h c =
       elim (cases_eq d.client c) [
@@ -90,7 +90,7 @@ module _ {T : Type 0} (page : ℕ) (encode : T → List ℕ) (decode : List ℕ 
         | inr ne ↦ rw (ne_eqb d.client c ne) (are_journals ds h.1 c)
       ]
 
-  is_merged : (log : List LogRow) (ds : List (Diary T)) (store : StoreState) (m : Merged T) → IsLog (reverse log) store → AreDiaries page encode decode get_epoch set_epoch ds → Merges log ds m → IsMerged page encode decode get_epoch set_epoch (reverse m) (kept_by ds) store
+  is_merged : (log : List LogRow) (ds : List (AuditedDiary T)) (store : StoreState) (m : Merged T) → IsLog (reverse log) store → AreDiaries page encode decode get_epoch set_epoch ds → Merges log ds m → IsMerged page encode decode get_epoch set_epoch (reverse m) (kept_by ds) store
   is_merged log ds store m l h g =
       record {
         journals = λ c. subst (λ (rows : List (JournalRow T)). Replays page encode decode get_epoch set_epoch c rows (kept_by ds c)) (sym (part_reverse c m ∙ ap reverse (g.parts c))) (are_journals ds h c);
@@ -104,7 +104,7 @@ module _ {T : Type 0} (page : ℕ) (encode : T → List ℕ) (decode : List ℕ 
   beginning clients (Did client row ∷ a) b parts store room le h = (let t = tail page encode decode get_epoch set_epoch client row (a ++ b) parts store h in beginning clients a b t.was t.before room le t.merged)
   beginning clients (Lands landing ∷ a) b parts store room le h = (let t = landing_tail page encode decode get_epoch set_epoch landing (a ++ b) parts store h in beginning clients a b parts t.before room le t.merged)
 
-  pub share_only_the_store : (clients : ℕ) (log : List LogRow) (ds : List (Diary T)) (store : StoreState) → 1 ≤ page → clients_in ds ≤ clients → IsLog (reverse log) store → AreDiaries page encode decode get_epoch set_epoch ds → IsDue log ds (Ok tt) → ShareOnlyTheStore page encode decode get_epoch set_epoch clients log ds store
+  pub share_only_the_store : (clients : ℕ) (log : List LogRow) (ds : List (AuditedDiary T)) (store : StoreState) → 1 ≤ page → clients_in ds ≤ clients → IsLog (reverse log) store → AreDiaries page encode decode get_epoch set_epoch ds → IsDue log ds (Ok tt) → ShareOnlyTheStore page encode decode get_epoch set_epoch clients log ds store
   share_only_the_store clients log ds store room le l h due =
       record {
         histories = λ m g. merged_history page encode decode get_epoch set_epoch (reverse m) (kept_by ds) store room (is_merged log ds store m l h g);

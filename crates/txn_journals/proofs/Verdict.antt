@@ -3,10 +3,10 @@ use Rattle.std.proofs.Common.{◌≡◌, List, Result, Ok, Err, refl}
 use Rattle.txn_journals.specs.declared.rows.LogRow.{LogRow}
 use Rattle.txn_journals.specs.declared.fault.AuditFault.{AuditFault}
 use Rattle.txn_journals.specs.declared.fault.AuditFault.TheVariants as faults
-use Rattle.txn_journals.specs.Verdict.{Diary, IsDue}
+use Rattle.txn_journals.specs.Verdict.{AuditedDiary, IsDue}
 
 module _ {T : Type 0} where
-  pub one_due : (log : List LogRow) (ds : List (Diary T)) (v w : Result (Unit {0}) AuditFault) → IsDue log ds v → IsDue log ds w → v ≡ w
+  pub one_due : (log : List LogRow) (ds : List (AuditedDiary T)) (v w : Result (Unit {0}) AuditFault) → IsDue log ds v → IsDue log ds w → v ≡ w
   one_due log ds (Ok a) (Ok b) p q = refl
   one_due log ds (Err faults.ClientTwice) (Err faults.ClientTwice) p q = refl
   one_due log ds (Err faults.ClientMissing) (Err faults.ClientMissing) p q = refl

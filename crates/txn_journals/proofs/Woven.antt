@@ -12,8 +12,8 @@ use Rattle.txn_journals.specs.declared.rows.Step.TheVariants as steps
 use Rattle.txn_journals.specs.declared.rows.JournalRow.{JournalRow}
 use Rattle.txn_journals.specs.Journals.{left_of}
 use Rattle.txn_journals.specs.Merged.{Did, Lands, Merged, part_of, with_receipt, landing_row, log_of, CanLand, AllCanLand}
-use Rattle.txn_journals.specs.Verdict.{Diary, received_by, receipts_in, receipt_at, rows_of, HasClient, HaveDifferentClients, HasDiaries, HaveRows, journal_of, is_taken, stops_at, left_at, WasLeft, WereLeft}
-use Rattle.txn_journals.specs.Shares.{Merges, is_receipt, up_to, after, ahead, behind, landing_of, turn_of, left_after, of_client, with_journal, rests, merged_from, merged}
+use Rattle.txn_journals.specs.Verdict.{AuditedDiary, received_by, receipts_in, receipt_at, rows_of, HasClient, HaveDifferentClients, HasDiaries, HaveRows, journal_of, is_taken, stops_at, left_at, WasLeft, WereLeft}
+use Rattle.txn_journals.specs.Shares.{Merges, is_receipt, up_to, after, ahead, behind, landing_of, turn_of, rows_after, of_client, with_journal, rests, merged_from, merged}
 
 abbrev pub tail_of : List Receipt → List Receipt
 tail_of [] = []
@@ -173,10 +173,10 @@ module _ {T : Type 0} where
 
   -- what a row of the log takes of its client's journal
   record Turns (row : LogRow) (landed : Option ℕ) (place : ℕ) (log : List LogRow) (es : List (JournalRow T)) : Type 0 where
-    own : part_of row.client (turn_of row landed es) ++ left_after landed es ≡ es
+    own : part_of row.client (turn_of row landed es) ++ rows_after landed es ≡ es
     others : (c : ℕ) → row.client ≢ c → part_of c (turn_of row landed es) ≡ []
     receipts : log_of (turn_of row landed es) ≡ row ∷ []
-    rest : receipts_in (left_after landed es) ≡ rows_of row.client (place + 1) log
+    rest : receipts_in (rows_after landed es) ≡ rows_of row.client (place + 1) log
 
   a_turn : (row : LogRow) (landed : Option ℕ) (place : ℕ) (log : List LogRow) (es : List (JournalRow T)) → row.landed ≡ landed → receipts_in es ≡ rows_of row.client place (row ∷ log) → Turns row landed place log es
   a_turn row None place log es is h =
@@ -198,17 +198,17 @@ module _ {T : Type 0} where
         rest = all_behind es ∙ (h ∙ ap (λ (b : Bool). if b then receipt_at place row ∷ rows_of row.client (place + 1) log else rows_of row.client (place + 1) log) (landed_own row op is));
       }
 
-  none_after : (landed : Option ℕ) (es : List (JournalRow T)) → es ≡ [] → left_after landed es ≡ []
+  none_after : (landed : Option ℕ) (es : List (JournalRow T)) → es ≡ [] → rows_after landed es ≡ []
   none_after None es e = ap (λ (xs : List (JournalRow T)). after xs) e
   none_after (Some op) es e = ap (λ (xs : List (JournalRow T)). behind xs) e
 
   -- the rests
 
-  no_part : (ds : List (Diary T)) (journals : ℕ → List (JournalRow T)) (c : ℕ) → (HasClient ds c → ⊥) → part_of c (rests ds journals) ≡ []
+  no_part : (ds : List (AuditedDiary T)) (journals : ℕ → List (JournalRow T)) (c : ℕ) → (HasClient ds c → ⊥) → part_of c (rests ds journals) ≡ []
   no_part [] journals c none = refl
   no_part (d ∷ ds) journals c none = part_append c (of_client d.client (journals d.client)) (rests ds journals) ∙ rw (part_else d.client c (journals d.client) (λ e. none (inl e)), no_part ds journals c (λ h. none (inr h))) refl
 
-  one_part : (ds : List (Diary T)) (journals : ℕ → List (JournalRow T)) (c : ℕ) → HaveDifferentClients ds → HasClient ds c → part_of c (rests ds journals) ≡ journals c
+  one_part : (ds : List (AuditedDiary T)) (journals : ℕ → List (JournalRow T)) (c : ℕ) → HaveDifferentClients ds → HasClient ds c → part_of c (rests ds journals) ≡ journals c
   one_part [] journals c h has = absurd has
   one_part (d ∷ ds) journals c h has =
       part_append c (of_client d.client (journals d.client)) (rests ds journals) ∙ elim (cases_eq d.client c) [
@@ -216,11 +216,11 @@ module _ {T : Type 0} where
         | inr ne ↦ rw (part_else d.client c (journals d.client) ne) (one_part ds journals c h.1 (elim has [ inl e ↦ absurd (ne e) | inr i ↦ i ]))
       ]
 
-  rests_receipts : (ds : List (Diary T)) (journals : ℕ → List (JournalRow T)) → ((c : ℕ) → receipts_in (journals c) ≡ []) → log_of (rests ds journals) ≡ []
+  rests_receipts : (ds : List (AuditedDiary T)) (journals : ℕ → List (JournalRow T)) → ((c : ℕ) → receipts_in (journals c) ≡ []) → log_of (rests ds journals) ≡ []
   rests_receipts [] journals h = refl
   rests_receipts (d ∷ ds) journals h = receipts_append (of_client d.client (journals d.client)) (rests ds journals) ∙ rw (no_receipts d.client (journals d.client) (h d.client), rests_receipts ds journals h) refl
 
-  pub decides : (ds : List (Diary T)) (c : ℕ) → HasClient ds c ⊎ (HasClient ds c → ⊥)
+  pub decides : (ds : List (AuditedDiary T)) (c : ℕ) → HasClient ds c ⊎ (HasClient ds c → ⊥)
   decides [] c = inr (λ h. absurd h)
   decides (d ∷ ds) c =
       elim (cases_eq d.client c) [
@@ -235,11 +235,11 @@ module _ {T : Type 0} where
     receipts : log_of m ≡ log
 
   -- the journals' receipts are the log's rows, and those of no diary are empty
-  record CanWeave (ds : List (Diary T)) (place : ℕ) (log : List LogRow) (journals : ℕ → List (JournalRow T)) : Type 0 where
+  record CanWeave (ds : List (AuditedDiary T)) (place : ℕ) (log : List LogRow) (journals : ℕ → List (JournalRow T)) : Type 0 where
     rows : (c : ℕ) → receipts_in (journals c) ≡ rows_of c place log
     none : (c : ℕ) → (HasClient ds c → ⊥) → journals c ≡ []
 
-  weaves : (ds : List (Diary T)) (place : ℕ) (log : List LogRow) (journals : ℕ → List (JournalRow T)) → HaveDifferentClients ds → CanWeave ds place log journals → Weaves log journals (merged_from ds log journals)
+  weaves : (ds : List (AuditedDiary T)) (place : ℕ) (log : List LogRow) (journals : ℕ → List (JournalRow T)) → HaveDifferentClients ds → CanWeave ds place log journals → Weaves log journals (merged_from ds log journals)
   weaves ds place [] journals different h =
       record {
         parts = λ c. elim (decides ds c) [ inl has ↦ one_part ds journals c different has | inr none ↦ no_part ds journals c none ∙ sym (h.none c none) ];
@@ -250,7 +250,7 @@ module _ {T : Type 0} where
       let es = journals client in
       let turn = turn_of row row.landed es in
       let f = a_turn row row.landed place log es refl (h.rows client) in
-      let left = with_journal journals client (left_after row.landed es) in
+      let left = with_journal journals client (rows_after row.landed es) in
       let w = weaves ds (place + 1) log left different (record {
         rows = λ c. elim (cases_eq c client) [
           | inl e ↦ subst (λ (n : ℕ). receipts_in (left n) ≡ rows_of n (place + 1) log) (sym e) (rw (eq-eqb client client refl) f.rest)
@@ -271,15 +271,15 @@ module _ {T : Type 0} where
 
   -- the rows of a client
 
-  pub no_rows : (place : ℕ) (log : List LogRow) (ds : List (Diary T)) (c : ℕ) → HasDiaries log ds → (HasClient ds c → ⊥) → rows_of c place log ≡ []
+  pub no_rows : (place : ℕ) (log : List LogRow) (ds : List (AuditedDiary T)) (c : ℕ) → HasDiaries log ds → (HasClient ds c → ⊥) → rows_of c place log ≡ []
   no_rows place [] ds c h none = refl
   no_rows place (row ∷ log) ds c h none = rw (taken_other row c (λ e. none (subst (λ (n : ℕ). HasClient ds n) e h.0))) (no_rows (place + 1) log ds c h.1 none)
 
-  pub no_journal : (ds : List (Diary T)) (c : ℕ) → (HasClient ds c → ⊥) → journal_of ds c ≡ []
+  pub no_journal : (ds : List (AuditedDiary T)) (c : ℕ) → (HasClient ds c → ⊥) → journal_of ds c ≡ []
   no_journal [] c none = refl
   no_journal (d ∷ ds) c none = rw (ne_eqb d.client c (λ e. none (inl e))) (no_journal ds c (λ h. none (inr h)))
 
-  pub own_rows : (log : List LogRow) (ds : List (Diary T)) (c : ℕ) → HaveRows log ds → HasClient ds c → receipts_in (journal_of ds c) ≡ rows_of c 0 log
+  pub own_rows : (log : List LogRow) (ds : List (AuditedDiary T)) (c : ℕ) → HaveRows log ds → HasClient ds c → receipts_in (journal_of ds c) ≡ rows_of c 0 log
   own_rows log [] c h has = absurd has
   own_rows log (d ∷ ds) c h has =
       elim (cases_eq d.client c) [
@@ -309,7 +309,7 @@ module _ {T : Type 0} where
   none_land before client [] = tt
   none_land before client (row ∷ rows) = none_land (Did client row ∷ before) client rows
 
-  rests_land : (before : Merged T) (ds : List (Diary T)) (journals : ℕ → List (JournalRow T)) → LandsAfter before (rests ds journals)
+  rests_land : (before : Merged T) (ds : List (AuditedDiary T)) (journals : ℕ → List (JournalRow T)) → LandsAfter before (rests ds journals)
   rests_land before [] journals = tt
   rests_land before (d ∷ ds) journals = lands_append before (of_client d.client (journals d.client)) (rests ds journals) (none_land before d.client (journals d.client)) (rests_land (pushed (of_client d.client (journals d.client)) before) ds journals)
 
@@ -377,12 +377,12 @@ module _ {T : Type 0} where
     | inr h ↦ goes_past place op x es base (no_stop place x.step h) ∙ (at_ahead place op es (x ∷ base) (subst (StartsFrom place) (no_receipt x.step (receipts_in es) h) from) ∙ rw h refl)
   ]
 
-  abbrev Follow : List (Diary T) → ℕ → (ℕ → List (JournalRow T)) → Merged T → Type 0
+  abbrev Follow : List (AuditedDiary T) → ℕ → (ℕ → List (JournalRow T)) → Merged T → Type 0
   Follow ds place journals before = (c p op : ℕ) → place ≤ p → left_at p op None (journal_of ds c) ≡ left_at p op (left_of op (part_of c before)) (journals c)
 
   -- what a row of the log makes of a client's journal, for later places
   turn_past : (row : LogRow) (landed : Option ℕ) (place p op : ℕ) (log : List LogRow) (es : List (JournalRow T)) (before : Merged T) → row.landed ≡ landed → receipts_in es ≡ rows_of row.client place (row ∷ log) → place + 1 ≤ p →
-      left_at p op (left_of op (part_of row.client before)) es ≡ left_at p op (left_of op (part_of row.client (pushed (turn_of row landed es) before))) (left_after landed es)
+      left_at p op (left_of op (part_of row.client before)) es ≡ left_at p op (left_of op (part_of row.client (pushed (turn_of row landed es) before))) (rows_after landed es)
   turn_past row None place p op log es before is h le =
       let own : receipts_in es ≡ receipt_at place row ∷ rows_of row.client (place + 1) log = h ∙ ap (λ (b : Bool). if b then receipt_at place row ∷ rows_of row.client (place + 1) log else rows_of row.client (place + 1) log) (taken_own row is) in
       past_turn p op es (part_of row.client before) (receipt_at place row) (rows_of row.client (place + 1) log) own (omega (arith, le)) ∙ ap (λ (rows : List (JournalRow T)). left_at p op (left_of op rows) (after es)) (sym (pushed_own before row.client (up_to es)))
@@ -402,7 +402,7 @@ module _ {T : Type 0} where
       by (x ∷ a) before = by a (x ∷ before)
 
   -- a row's landing
-  turn_lands : (ds : List (Diary T)) (row : LogRow) (landed : Option ℕ) (place : ℕ) (log : List LogRow) (journals : ℕ → List (JournalRow T)) (before : Merged T) → row.landed ≡ landed → receipts_in (journals row.client) ≡ rows_of row.client place (row ∷ log) → Follow ds place journals before → WasLeft place row landed ds →
+  turn_lands : (ds : List (AuditedDiary T)) (row : LogRow) (landed : Option ℕ) (place : ℕ) (log : List LogRow) (journals : ℕ → List (JournalRow T)) (before : Merged T) → row.landed ≡ landed → receipts_in (journals row.client) ≡ rows_of row.client place (row ∷ log) → Follow ds place journals before → WasLeft place row landed ds →
       LandsAfter before (turn_of row landed (journals row.client))
   turn_lands ds row None place log journals before is h follow known = none_land before row.client (up_to (journals row.client))
   turn_lands ds row (Some op) place log journals before is h follow known =
@@ -411,14 +411,14 @@ module _ {T : Type 0} where
       let left : left_of op (part_of row.client (pushed (of_client row.client (ahead es)) before)) ≡ Some row.request = ap (left_of op) (pushed_own before row.client (ahead es)) ∙ (sym (at_ahead place op es (part_of row.client before) from) ∙ (sym (follow row.client place op (omega arith)) ∙ known.0)) in
       lands_append before (of_client row.client (ahead es)) (Lands (landing_of row op) ∷ []) (none_land before row.client (ahead es)) ((left, known.1), tt)
 
-  lands_from : (ds : List (Diary T)) (place : ℕ) (log : List LogRow) (journals : ℕ → List (JournalRow T)) (before : Merged T) → ((c : ℕ) → receipts_in (journals c) ≡ rows_of c place log) → Follow ds place journals before → WereLeft place log ds → LandsAfter before (merged_from ds log journals)
+  lands_from : (ds : List (AuditedDiary T)) (place : ℕ) (log : List LogRow) (journals : ℕ → List (JournalRow T)) (before : Merged T) → ((c : ℕ) → receipts_in (journals c) ≡ rows_of c place log) → Follow ds place journals before → WereLeft place log ds → LandsAfter before (merged_from ds log journals)
   lands_from ds place [] journals before rows follow known = rests_land before ds journals
   lands_from ds place (row ∷ log) journals before rows follow known =
       let client = row.client in
       let es = journals client in
       let turn = turn_of row row.landed es in
       let f = a_turn row row.landed place log es refl (rows client) in
-      let left = with_journal journals client (left_after row.landed es) in
+      let left = with_journal journals client (rows_after row.landed es) in
       lands_append before turn (merged_from ds log left) (turn_lands ds row row.landed place log journals before refl (rows client) follow known.0)
       (lands_from ds (place + 1) log left (pushed turn before)
       (λ c. elim (cases_eq c client) [
@@ -431,7 +431,7 @@ module _ {T : Type 0} where
       ])
       known.1)
 
-  pub merged_merges : (log : List LogRow) (ds : List (Diary T)) → HaveDifferentClients ds → HasDiaries log ds → HaveRows log ds → WereLeft 0 log ds → Merges log ds (merged log ds)
+  pub merged_merges : (log : List LogRow) (ds : List (AuditedDiary T)) → HaveDifferentClients ds → HasDiaries log ds → HaveRows log ds → WereLeft 0 log ds → Merges log ds (merged log ds)
   merged_merges log ds different there rows landings =
       let own : (c : ℕ) → receipts_in (journal_of ds c) ≡ rows_of c 0 log = λ c. elim (decides ds c) [
         | inl has ↦ own_rows log ds c rows has

@@ -17,7 +17,7 @@ use Rattle.txn_journals.specs.declared.rows.Left.{Left}
 use Rattle.txn_journals.specs.declared.rows.Step.{Step}
 use Rattle.txn_journals.specs.declared.rows.Step.TheVariants as steps
 use Rattle.txn_journals.specs.declared.rows.JournalRow.{JournalRow}
-use Rattle.txn_journals.specs.Parts.{Part, no_part, begin_fault, begun, answer_in, turned_with, turned, given_up, killed}
+use Rattle.txn_journals.specs.Parts.{Part, no_part, client_begin_fault, begun, answer_in, turned_with, turned, given_up, killed}
 
 -- an operation's number, and the request that it left
 abbrev pub as_pair : Left → ℕ × Request
@@ -61,8 +61,8 @@ module _ {T : Type 0} (get_epoch : T → ℕ) where
 
 module _ {T : Type 0} (page : ℕ) (encode : T → List ℕ) (decode : List ℕ → Option T) (get_epoch : T → ℕ) (set_epoch : T → ℕ → T) where
   -- A call begins, which the client permits.
-  pub record Begins (client : ℕ) (old : Part T) (call : Call T) (answer : Option (Answer T)) (new : Part T) : Type 0 where
-    pub permits : begin_fault get_epoch client old call ≡ None
+  pub record BeginsCall (client : ℕ) (old : Part T) (call : Call T) (answer : Option (Answer T)) (new : Part T) : Type 0 where
+    pub permits : client_begin_fault get_epoch client old call ≡ None
     pub reads_back : ReadsBack encode decode call
     pub word : FitsWord call
     pub next : Next T
@@ -83,7 +83,7 @@ module _ {T : Type 0} (page : ℕ) (encode : T → List ℕ) (decode : List ℕ 
 
   -- a step, with the answer that it tells, leads from one part to another
   abbrev pub Follows : ℕ → Part T → Step T → Option (Answer T) → Part T → Type 0
-  Follows client old (steps.Begin call) answer new = Begins client old call answer new
+  Follows client old (steps.Begin call) answer new = BeginsCall client old call answer new
   Follows client old (steps.Act op acts.Look) answer new = TakesTurn old op Look None answer new
   Follows client old (steps.Act op (acts.Receive receipt)) answer new = TakesTurn old op (Store receipt.request) (Some receipt.reply) answer new
   Follows client old (steps.Act op acts.Lacks) answer new = LacksAt get_epoch old op answer new

@@ -105,8 +105,8 @@ module _ {T : Type 0} (get_epoch : T → ℕ) where
   note_of written (Some (answers.Held view id value epoch)) = (id, get_epoch value) ∷ []
 
   -- Why a client does not permit a begin, where it does not, tested in this order: its number and the view, a busy view, the base, the boundary, the epoch of the value.
-  abbrev pub begin_fault : ℕ → Part T → Call T → Option EventFault
-  begin_fault client part call = first_fault (
+  abbrev pub client_begin_fault : ℕ → Part T → Call T → Option EventFault
+  client_begin_fault client part call = first_fault (
       (is_client client client && may_use (seen_in client part) client (is_holders call) (view_used call), faults.UnknownNumber)
       ∷ (not (is_in_use (used_by part.views (view_used call))), faults.ViewBusy)
       ∷ (knows_base part.told (base_seen (seen_in client part) call), faults.UnknownBase)

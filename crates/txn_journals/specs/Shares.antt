@@ -11,7 +11,7 @@ use Rattle.txn_journals.specs.Journals.{Replays}
 use Rattle.txn_journals.specs.Merged.{Landing, Did, Lands, Merged, part_of, log_of, AllCanLand, IsMerged}
 use Rattle.txn_journals.specs.Histories.{OneHistoryOfMerged}
 use Rattle.txn_journals.specs.Runs.{IsRun}
-use Rattle.txn_journals.specs.Verdict.{Diary, journal_of, kept_by}
+use Rattle.txn_journals.specs.Verdict.{AuditedDiary, journal_of, kept_by}
 
 -- a row of the log that is a landing of this operation of its client
 abbrev pub landing_of : LogRow → ℕ → Landing
@@ -19,7 +19,7 @@ landing_of row op = record { client = row.client; op = op; request = row.request
 
 module _ {T : Type 0} where
   -- A list of journal rows, each with its client, and of landings, merges these diaries in the order of the log: its part of each client is that client's journal, its receipts and landings are the log's rows, and each landing is of what was left before it.
-  pub record Merges (log : List LogRow) (ds : List (Diary T)) (m : Merged T) : Type 0 where
+  pub record Merges (log : List LogRow) (ds : List (AuditedDiary T)) (m : Merged T) : Type 0 where
     pub parts : (client : ℕ) → part_of client m ≡ journal_of ds client
     pub receipts : log_of m ≡ log
     pub landings : AllCanLand (reverse m)
@@ -61,7 +61,7 @@ module _ {T : Type 0} where
   with_journal journals client rows d = if d == client then rows else journals d
 
   -- what is left of each diary
-  abbrev pub rests : List (Diary T) → (ℕ → List (JournalRow T)) → Merged T
+  abbrev pub rests : List (AuditedDiary T) → (ℕ → List (JournalRow T)) → Merged T
   rests [] journals = []
   rests (d ∷ ds) journals = of_client d.client (journals d.client) ++ rests ds journals
 
@@ -71,22 +71,22 @@ module _ {T : Type 0} where
   turn_of row (Some op) rows = of_client row.client (ahead rows) ++ Lands (landing_of row op) ∷ []
 
   -- the rows that the client has left then
-  abbrev pub left_after : Option ℕ → List (JournalRow T) → List (JournalRow T)
-  left_after None rows = after rows
-  left_after (Some op) rows = behind rows
+  abbrev pub rows_after : Option ℕ → List (JournalRow T) → List (JournalRow T)
+  rows_after None rows = after rows
+  rows_after (Some op) rows = behind rows
 
   -- the list for these rows of the log, of what is left of the journals
-  abbrev pub merged_from : List (Diary T) → List LogRow → (ℕ → List (JournalRow T)) → Merged T
+  abbrev pub merged_from : List (AuditedDiary T) → List LogRow → (ℕ → List (JournalRow T)) → Merged T
   merged_from ds [] journals = rests ds journals
-  merged_from ds (row ∷ log) journals = turn_of row row.landed (journals row.client) ++ merged_from ds log (with_journal journals row.client (left_after row.landed (journals row.client)))
+  merged_from ds (row ∷ log) journals = turn_of row row.landed (journals row.client) ++ merged_from ds log (with_journal journals row.client (rows_after row.landed (journals row.client)))
 
   -- the list for a log and its diaries
-  abbrev pub merged : List LogRow → List (Diary T) → Merged T
+  abbrev pub merged : List LogRow → List (AuditedDiary T) → Merged T
   merged log ds = merged_from ds log (journal_of ds)
 
 module _ {T : Type 0} (page : ℕ) (encode : T → List ℕ) (decode : List ℕ → Option T) (get_epoch : T → ℕ) (set_epoch : T → ℕ → T) where
   -- each diary keeps what its journal leads to
-  abbrev pub AreDiaries : List (Diary T) → Type 0
+  abbrev pub AreDiaries : List (AuditedDiary T) → Type 0
   AreDiaries [] = Unit {0}
   AreDiaries (d ∷ ds) = Replays page encode decode get_epoch set_epoch d.client (reverse d.rows) d.part × AreDiaries ds
 
@@ -99,7 +99,7 @@ module _ {T : Type 0} (page : ℕ) (encode : T → List ℕ) (decode : List ℕ 
     pub history : OneHistoryOfMerged decode get_epoch set_epoch m parts
 
   -- Clients share only the store, in a world of so many clients: each list that merges the diaries in the order of the log is one history, and a run that ends where the diaries and the log end; so is each beginning of such a list; and there is one.
-  pub record ShareOnlyTheStore (clients : ℕ) (log : List LogRow) (ds : List (Diary T)) (store : StoreState) : Type 0 where
+  pub record ShareOnlyTheStore (clients : ℕ) (log : List LogRow) (ds : List (AuditedDiary T)) (store : StoreState) : Type 0 where
     pub histories : (m : Merged T) → Merges log ds m → OneHistoryOfMerged decode get_epoch set_epoch (reverse m) (kept_by ds)
     pub runs : (m : Merged T) → Merges log ds m → IsRun page encode decode get_epoch set_epoch clients (reverse m) (kept_by ds) store
     pub beginnings : (m : Merged T) → Merges log ds m → (k : ℕ) → IsBeginning clients (reverse (take k m))

@@ -14,7 +14,7 @@ use Rattle.txn_journals.specs.Parts.{Part, no_part}
 use Rattle.txn_journals.specs.Journals.{left_in}
 
 -- A client's diary: its number, its journal, and what it keeps.
-pub record Diary (T : Type 0) : Type 0 where
+pub record AuditedDiary (T : Type 0) : Type 0 where
   pub client : ℕ
   pub rows : List (JournalRow T)
   pub part : Part T
@@ -45,37 +45,37 @@ rows_of client place (row ∷ log) = if is_taken client row then receipt_at plac
 
 module _ {T : Type 0} where
   -- some diary is of this client
-  abbrev pub HasClient : List (Diary T) → ℕ → Type 0
+  abbrev pub HasClient : List (AuditedDiary T) → ℕ → Type 0
   HasClient [] client = ⊥
   HasClient (d ∷ ds) client = (d.client ≡ client) ⊎ HasClient ds client
 
   -- no two diaries are of one client
-  abbrev pub HaveDifferentClients : List (Diary T) → Type 0
+  abbrev pub HaveDifferentClients : List (AuditedDiary T) → Type 0
   HaveDifferentClients [] = Unit {0}
   HaveDifferentClients (d ∷ ds) = (HasClient ds d.client → ⊥) × HaveDifferentClients ds
 
   -- each row of the log is of a diary's client
-  abbrev pub HasDiaries : List LogRow → List (Diary T) → Type 0
+  abbrev pub HasDiaries : List LogRow → List (AuditedDiary T) → Type 0
   HasDiaries [] ds = Unit {0}
   HasDiaries (row ∷ log) ds = HasClient ds row.client × HasDiaries log ds
 
   -- each diary's receipts are, in order, with place, request and reply, the rows of its client
-  abbrev pub HaveRows : List LogRow → List (Diary T) → Type 0
+  abbrev pub HaveRows : List LogRow → List (AuditedDiary T) → Type 0
   HaveRows log [] = Unit {0}
   HaveRows log (d ∷ ds) = (receipts_in d.rows ≡ rows_of d.client 0 log) × HaveRows log ds
 
   -- the journal of a client, by the first diary that is its
-  abbrev pub journal_of : List (Diary T) → ℕ → List (JournalRow T)
+  abbrev pub journal_of : List (AuditedDiary T) → ℕ → List (JournalRow T)
   journal_of [] client = []
   journal_of (d ∷ ds) client = if d.client == client then d.rows else journal_of ds client
 
   -- what a client keeps, by the first diary that is its
-  abbrev pub kept_by : List (Diary T) → ℕ → Part T
+  abbrev pub kept_by : List (AuditedDiary T) → ℕ → Part T
   kept_by [] client = no_part
   kept_by (d ∷ ds) client = if d.client == client then d.part else kept_by ds client
 
   -- the greatest client of the diaries
-  abbrev pub clients_in : List (Diary T) → ℕ
+  abbrev pub clients_in : List (AuditedDiary T) → ℕ
   clients_in [] = 0
   clients_in (d ∷ ds) = max d.client (clients_in ds)
 
@@ -92,17 +92,17 @@ module _ {T : Type 0} where
   left_at place op found (row ∷ rows) = if stops_at place row.step then found else left_at place op (left_in op row.step found) rows
 
   -- A landing is of what its client's operation had left before the client's next receipt, and the store did not refuse it for memory.
-  abbrev pub WasLeft : ℕ → LogRow → Option ℕ → List (Diary T) → Type 0
+  abbrev pub WasLeft : ℕ → LogRow → Option ℕ → List (AuditedDiary T) → Type 0
   WasLeft place row None ds = Unit {0}
   WasLeft place row (Some op) ds = (left_at place op None (journal_of ds row.client) ≡ Some row.request) × (lacks_memory row.reply ≡ false)
 
   -- each landing of the log is, the first row being at this place
-  abbrev pub WereLeft : ℕ → List LogRow → List (Diary T) → Type 0
+  abbrev pub WereLeft : ℕ → List LogRow → List (AuditedDiary T) → Type 0
   WereLeft place [] ds = Unit {0}
   WereLeft place (row ∷ log) ds = WasLeft place row row.landed ds × WereLeft (place + 1) log ds
 
   -- The verdict that is due. The faults are tested in this order: where one is due, none before it is.
-  abbrev pub IsDue : List LogRow → List (Diary T) → Result (Unit {0}) AuditFault → Type 0
+  abbrev pub IsDue : List LogRow → List (AuditedDiary T) → Result (Unit {0}) AuditFault → Type 0
   IsDue log ds (Ok agrees) = HaveDifferentClients ds × HasDiaries log ds × HaveRows log ds × WereLeft 0 log ds
   IsDue log ds (Err faults.ClientTwice) = HaveDifferentClients ds → ⊥
   IsDue log ds (Err faults.ClientMissing) = HaveDifferentClients ds × (HasDiaries log ds → ⊥)

@@ -22,10 +22,10 @@ pub trait Logged {
 /// A client's diary, which an audit reads.
 pub trait Audited<T> {
     ghost use Rattle.std.specs.Prelude.{◌≡◌};
-    ghost use Rattle.txn_journals.specs.Verdict.{Diary};
+    ghost use Rattle.txn_journals.specs.Verdict.{AuditedDiary};
 
     /// The diary that it is.
-    ghost diary: { Self → Diary T };
+    ghost diary: { Self → AuditedDiary T };
 
     /// The client's number.
     fn client(&self) -> u64

@@ -7,7 +7,7 @@ ghost use Rattle.txn_journals.specs.Numbers.{count, number};
 ghost use Rattle.txn_journals.specs.Merged.{Merged, clients_of, IsMerged};
 ghost use Rattle.txn_journals.specs.Histories.{OneHistoryOfMerged};
 ghost use Rattle.txn_journals.specs.Runs.{IsRun};
-ghost use Rattle.txn_journals.specs.Verdict.{Diary, HasDiaries, HaveRows, WereLeft, IsDue, clients_in};
+ghost use Rattle.txn_journals.specs.Verdict.{AuditedDiary, HasDiaries, HaveRows, WereLeft, IsDue, clients_in};
 ghost use Rattle.txn_journals.specs.Shares.{Merges, AreDiaries, ShareOnlyTheStore};
 ghost use Rattle.txn_journals.specs.declared.rows.LogRow.{LogRow};
 ghost use Rattle.txn_journals.specs.declared.fault.AuditFault.{AuditFault};
@@ -32,7 +32,7 @@ pub fn numbers_are_one_to_one()
 
 /// Of a log and diaries one verdict is due.
 pub fn one_verdict_is_due<T: Drop>(_value: &T)
-    ensures { (log : List LogRow) (diaries : List (Diary T)) (verdict other : Result (Unit {0}) AuditFault) → IsDue log diaries verdict → IsDue log diaries other → verdict ≡ other }
+    ensures { (log : List LogRow) (diaries : List (AuditedDiary T)) (verdict other : Result (Unit {0}) AuditFault) → IsDue log diaries verdict → IsDue log diaries other → verdict ≡ other }
 {}
 
 /// Where an audit of a log and diaries agrees, the clients shared only the store: each list that merges the diaries in the
@@ -42,7 +42,7 @@ pub fn clients_share_only_the_store<T: Drop, C: ObjectCodec<T>, E: EpochField<T>
     _codec: &C,
     _epochs: &E,
 )
-    ensures { (page clients : ℕ) (log : List LogRow) (diaries : List (Diary T)) (store : StoreState) → 1 ≤ page → clients_in diaries ≤ clients → IsLog (reverse log) store → AreDiaries page (C.encoded _codec.now) (C.decoded _codec.now) (E.epoch_of _epochs.now) (E.with_epoch _epochs.now) diaries → IsDue log diaries (Ok tt) →
+    ensures { (page clients : ℕ) (log : List LogRow) (diaries : List (AuditedDiary T)) (store : StoreState) → 1 ≤ page → clients_in diaries ≤ clients → IsLog (reverse log) store → AreDiaries page (C.encoded _codec.now) (C.decoded _codec.now) (E.epoch_of _epochs.now) (E.with_epoch _epochs.now) diaries → IsDue log diaries (Ok tt) →
         ShareOnlyTheStore page (C.encoded _codec.now) (C.decoded _codec.now) (E.epoch_of _epochs.now) (E.with_epoch _epochs.now) clients log diaries store }
 {}
 
@@ -52,5 +52,5 @@ pub fn merged_lists_show_what_was_left<T: Drop, C: ObjectCodec<T>, E: EpochField
     _codec: &C,
     _epochs: &E,
 )
-    ensures { (page : ℕ) (log : List LogRow) (diaries : List (Diary T)) (m : Merged T) → AreDiaries page (C.encoded _codec.now) (C.decoded _codec.now) (E.epoch_of _epochs.now) (E.with_epoch _epochs.now) diaries → HasDiaries log diaries → HaveRows log diaries → Merges log diaries m → WereLeft 0 log diaries }
+    ensures { (page : ℕ) (log : List LogRow) (diaries : List (AuditedDiary T)) (m : Merged T) → AreDiaries page (C.encoded _codec.now) (C.decoded _codec.now) (E.epoch_of _epochs.now) (E.with_epoch _epochs.now) diaries → HasDiaries log diaries → HaveRows log diaries → Merges log diaries m → WereLeft 0 log diaries }
 {}

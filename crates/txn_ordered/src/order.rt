@@ -10,7 +10,7 @@ use txn_effects::clock::Clock;
 use txn_effects::effects::{Effects, effects_of};
 use txn_effects::landings::{Fate, fate_of};
 use txn_effects::lives::Lives;
-use txn_recorded::row::Row;
+use txn_recorded::row::RecordedRow;
 use txn_store::request::{Reply, Request};
 use txn_store::store::Token;
 
@@ -216,7 +216,7 @@ fn ordered(alloc: Global, effects: &Effects<'_>) -> Result<Vec<Placed>, OrderFau
 /// refused.
 pub fn order<T>(
     alloc: Global,
-    recordings: &[Vec<Row<T>>],
+    recordings: &[Vec<RecordedRow<T>>],
     clocks: &[Clock],
 ) -> Result<Vec<Placed>, OrderFault> {
     let effects = effects_of(alloc, recordings, clocks)?;

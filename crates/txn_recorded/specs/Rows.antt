@@ -1,11 +1,11 @@
 -- The text of a row, by the text of a value.
 use Rattle.std.specs.Prelude.{ℕ, List, codes, decimal, string_bytes}
-use Rattle.txn_recorded.specs.declared.row.Row.{Row}
-use Rattle.txn_recorded.specs.declared.row.Row.TheVariants as kinds
+use Rattle.txn_recorded.specs.declared.row.RecordedRow.{RecordedRow}
+use Rattle.txn_recorded.specs.declared.row.RecordedRow.TheVariants as kinds
 use Rattle.txn_recorded.specs.Written.{◌then◌, client_row_text, ask_row_text, reply_row_text, failed_row_text, give_up_row_text, begin_row_text}
 
 module _ {T : Type 0} (text : T → List ℕ) where
-  abbrev pub row_text : Row T → List ℕ
+  abbrev pub row_text : RecordedRow T → List ℕ
   row_text (kinds.Client client page) = client_row_text client page
   row_text (kinds.Begin op call) = begin_row_text text op call
   row_text (kinds.Ask op at request) = ask_row_text op at request

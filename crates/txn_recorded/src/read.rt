@@ -2,7 +2,7 @@
 ghost use Rattle.std.specs.Prelude.{◌≡◌, IfOk, Decides, string_bytes};
 ghost use Rattle.txn_recorded.specs.Rows.{row_text};
 
-use crate::row::Row;
+use crate::row::RecordedRow;
 use crate::written::{ask_row, begin_row, client_row, failed_row, give_up_row, reply_row};
 use bytes::Bytes;
 use hex::FromHexError;
@@ -215,28 +215,32 @@ fn read_reply(alloc: Global, text: &str) -> Result<Reply, TextFault> {
 }
 
 /// The client and the page of a first row.
-fn read_client<T>(text: &str) -> Result<Row<T>, TextFault> {
+fn read_client<T>(text: &str) -> Result<RecordedRow<T>, TextFault> {
     let (client, rest) = cut(text)?;
     let (_, page) = cut(rest)?;
-    Ok(Row::Client(number(client)?, number(page)?))
+    Ok(RecordedRow::Client(number(client)?, number(page)?))
 }
 
 /// The time and the request of a call.
-fn read_ask<T>(alloc: Global, op: u64, text: &str) -> Result<Row<T>, TextFault> {
+fn read_ask<T>(alloc: Global, op: u64, text: &str) -> Result<RecordedRow<T>, TextFault> {
     let (at, request) = cut(text)?;
-    Ok(Row::Ask(op, number(at)?, read_request(alloc, request)?))
+    Ok(RecordedRow::Ask(op, number(at)?, read_request(alloc, request)?))
 }
 
 /// The time and the reply of a call.
-fn read_replied<T>(alloc: Global, op: u64, text: &str) -> Result<Row<T>, TextFault> {
+fn read_replied<T>(alloc: Global, op: u64, text: &str) -> Result<RecordedRow<T>, TextFault> {
     let (at, reply) = cut(text)?;
-    Ok(Row::Reply(op, number(at)?, read_reply(alloc, reply)?))
+    Ok(RecordedRow::Reply(op, number(at)?, read_reply(alloc, reply)?))
 }
 
 /// A call that begins.
-fn read_begin<T: LineValue>(alloc: Global, op: u64, text: &str) -> Result<Row<T>, TextFault> {
+fn read_begin<T: LineValue>(
+    alloc: Global,
+    op: u64,
+    text: &str,
+) -> Result<RecordedRow<T>, TextFault> {
     match Call::<T>::read_text(alloc, text)? {
-        Some(call) => Ok(Row::Begin(op, call)),
+        Some(call) => Ok(RecordedRow::Begin(op, call)),
         None => Err(TextFault::BadRow),
     }
 }
@@ -247,23 +251,23 @@ fn read_of<T: LineValue>(
     word: &str,
     op: u64,
     rest: &str,
-) -> Result<Row<T>, TextFault> {
+) -> Result<RecordedRow<T>, TextFault> {
     match word {
         "begin" => read_begin(alloc, op, rest),
         "ask" => read_ask(alloc, op, rest),
         "reply" => read_replied(alloc, op, rest),
-        "failed" => Ok(Row::Failed(op, number(rest)?)),
-        "answer" => Ok(Row::Answer(op, String::from_str(alloc, rest)?)),
+        "failed" => Ok(RecordedRow::Failed(op, number(rest)?)),
+        "answer" => Ok(RecordedRow::Answer(op, String::from_str(alloc, rest)?)),
         _ => Err(TextFault::BadRow),
     }
 }
 
 /// The row that a text may be: a text that is not what is written of a row is read as some row, or as none.
-fn guess<T: LineValue>(alloc: Global, text: &str) -> Result<Row<T>, TextFault> {
+fn guess<T: LineValue>(alloc: Global, text: &str) -> Result<RecordedRow<T>, TextFault> {
     let (word, rest) = cut(text)?;
     match word {
         "client" => read_client(rest),
-        "giveup" => Ok(Row::GiveUp(number(rest)?)),
+        "giveup" => Ok(RecordedRow::GiveUp(number(rest)?)),
         _ => {
             let (op, rest) = cut(rest)?;
             read_of(alloc, word, number(op)?, rest)
@@ -272,17 +276,17 @@ fn guess<T: LineValue>(alloc: Global, text: &str) -> Result<Row<T>, TextFault> {
 }
 
 /// The text of a row, without its line feed. The only error is want of memory.
-pub fn text_of<T: LineValue>(alloc: Global, row: &Row<T>) -> Result<String, AllocError>
+pub fn text_of<T: LineValue>(alloc: Global, row: &RecordedRow<T>) -> Result<String, AllocError>
     ensures { IfOk result (λ words. string_bytes words ≡ row_text T.text row.now) }
 {
     match row {
-        Row::Client(client, page) => client_row(alloc, *client, *page),
-        Row::Begin(op, call) => begin_row(alloc, *op, call),
-        Row::Ask(op, at, request) => ask_row(alloc, *op, *at, request),
-        Row::Reply(op, at, reply) => reply_row(alloc, *op, *at, reply),
-        Row::Failed(op, at) => failed_row(alloc, *op, *at),
-        Row::GiveUp(op) => give_up_row(alloc, *op),
-        Row::Answer(op, words) => format!(in alloc; "answer {op} {words}"),
+        RecordedRow::Client(client, page) => client_row(alloc, *client, *page),
+        RecordedRow::Begin(op, call) => begin_row(alloc, *op, call),
+        RecordedRow::Ask(op, at, request) => ask_row(alloc, *op, *at, request),
+        RecordedRow::Reply(op, at, reply) => reply_row(alloc, *op, *at, reply),
+        RecordedRow::Failed(op, at) => failed_row(alloc, *op, *at),
+        RecordedRow::GiveUp(op) => give_up_row(alloc, *op),
+        RecordedRow::Answer(op, words) => format!(in alloc; "answer {op} {words}"),
     }
 }
 
@@ -298,7 +302,7 @@ pub(crate) fn is_text(written: &str, text: &str) -> bool
 /// # Errors
 ///
 /// `BadRow` where the text is not what is written of the row that it seems to be, `NoMemory` where a growth was refused.
-pub fn read_row<T: LineValue>(alloc: Global, text: &str) -> Result<Row<T>, TextFault>
+pub fn read_row<T: LineValue>(alloc: Global, text: &str) -> Result<RecordedRow<T>, TextFault>
     // What is read is the row that the text is written of.
     ensures { IfOk result (λ row. text.now ≡ row_text T.text row) }
 {

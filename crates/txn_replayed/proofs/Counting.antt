@@ -2,7 +2,7 @@
 use Rattle.std.proofs.Common.{◌≡◌, ◌≤◌, ◌<◌, ◌+◌, ℕ, suc, max, min, Bool, true, false, cond, List, length, map, get_or, Option, Some, unwrap_or, slice_get, refl, ap, ◌∙◌, arith}
 use Rattle.std.proofs.lemmas.Option.{slice_get-map, slice_get_read}
 use Rattle.std.specs.Option.{option_map}
-use Rattle.txn_recorded.specs.declared.row.Row.{Row}
+use Rattle.txn_recorded.specs.declared.row.RecordedRow.{RecordedRow}
 use Rattle.txn_replayed.specs.Undecided.{FilePut, shown_at, lost_at, greatest_in, greatest_at, greatest_of, goes_beyond, lost_in, lost_here, lost_of}
 
 one_more : (n : ℕ) → n + 1 ≡ suc n
@@ -13,14 +13,14 @@ counted b = cond b 1 0
 
 module _ {T : Type 0} where
   -- one row more
-  pub shown_more : (measure : FilePut → ℕ) (rows : List (Row T)) (place start before now : ℕ) (file : Option FilePut) → file ≡ shown_at rows place → before ≡ max start (greatest_in measure rows place) → now ≡ max before (unwrap_or (option_map measure file) 0) → now ≡ max start (greatest_in measure rows (place + 1))
+  pub shown_more : (measure : FilePut → ℕ) (rows : List (RecordedRow T)) (place start before now : ℕ) (file : Option FilePut) → file ≡ shown_at rows place → before ≡ max start (greatest_in measure rows place) → now ≡ max before (unwrap_or (option_map measure file) 0) → now ≡ max start (greatest_in measure rows (place + 1))
   shown_more measure rows place start before now file is so_far next =
       let here : unwrap_or (option_map measure file) 0 ≡ unwrap_or (option_map measure (shown_at rows place)) 0 = ap (λ file. unwrap_or (option_map measure file) 0) is in
       let more : greatest_in measure rows (place + 1) ≡ greatest_in measure rows (suc place) = ap (greatest_in measure rows) (one_more place) in
       omega (arith, here, so_far, next, more)
 
   -- one row more of which nothing is lost beyond, or one
-  pub lost_more : (version boundary : ℕ) (rows : List (Row T)) (place before now : ℕ) (file : Option FilePut) (is : Bool) → file ≡ lost_at rows place → is ≡ goes_beyond version boundary file → before ≡ lost_in version boundary rows place → before ≤ place → now ≡ before + counted is → (now ≡ lost_in version boundary rows (place + 1)) × (now ≤ place + 1)
+  pub lost_more : (version boundary : ℕ) (rows : List (RecordedRow T)) (place before now : ℕ) (file : Option FilePut) (is : Bool) → file ≡ lost_at rows place → is ≡ goes_beyond version boundary file → before ≡ lost_in version boundary rows place → before ≤ place → now ≡ before + counted is → (now ≡ lost_in version boundary rows (place + 1)) × (now ≤ place + 1)
   lost_more version boundary rows place before now file is at beyond so_far le next =
       let here : counted is ≡ counted (goes_beyond version boundary (lost_at rows place)) = ap counted (beyond ∙ ap (goes_beyond version boundary) at) in
       let more : lost_in version boundary rows (place + 1) ≡ lost_in version boundary rows (suc place) = ap (lost_in version boundary rows) (one_more place) in
@@ -30,7 +30,7 @@ module _ {T : Type 0} where
       one true = omega arith
       one false = omega arith
 
-  module _ {V : Type 0} (rows_of : V → List (Row T)) (recordings : List V) (i : ℕ) (v : V) (lt : i < length recordings) (at : v ≡ get_or recordings i v) where
+  module _ {V : Type 0} (rows_of : V → List (RecordedRow T)) (recordings : List V) (i : ℕ) (v : V) (lt : i < length recordings) (at : v ≡ get_or recordings i v) where
     found : slice_get (map rows_of recordings) i ≡ Some (rows_of v)
     found = slice_get-map rows_of recordings i ∙ ap (option_map rows_of) (slice_get_read recordings (length recordings) i v refl lt at)
 

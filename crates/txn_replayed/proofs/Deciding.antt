@@ -42,14 +42,14 @@ use Rattle.txn_journals.specs.declared.rows.Step.TheVariants as steps
 use Rattle.txn_journals.specs.Logs.{IsLog, files_after, files_of}
 use Rattle.txn_journals.specs.Merged.{Did, Lands, Merged, log_of, with_receipt}
 use Rattle.txn_journals.specs.Traces.{call_in, told_in, next_in, op_in, trace_of, with_rows, failed_of}
-use Rattle.txn_journals.specs.Verdict.{Diary, clients_in}
+use Rattle.txn_journals.specs.Verdict.{AuditedDiary, clients_in}
 use Rattle.txn_journals.specs.Shares.{Merges}
 use Rattle.txn_journals.proofs.Files.{log_files}
 use Rattle.txn_journals.proofs.Shares.{receipts_reverse}
 use Rattle.txn_audit.specs.HistoryEnds.{EndsAt, created_by, versions_in, boundary_by, boundary_in as log_boundary}
 use Rattle.txn_audit.proofs.HistoryEnding.{versions_made, ends_at}
-use Rattle.txn_recorded.specs.declared.row.Row.{Row}
-use Rattle.txn_recorded.specs.declared.row.Row.TheVariants as kinds
+use Rattle.txn_recorded.specs.declared.row.RecordedRow.{RecordedRow}
+use Rattle.txn_recorded.specs.declared.row.RecordedRow.TheVariants as kinds
 use Rattle.txn_effects.specs.declared.clock.Clock.{Clock}
 use Rattle.txn_replayed.specs.Calls.{StoreCall, EndsWith, HasCall, IsCall, HasReply, AreCalls}
 use Rattle.txn_replayed.specs.OneHistory.{AreOf, IsOneHistoryOf}
@@ -300,7 +300,7 @@ abbrev measured : (FilePut → ℕ) → Option FilePut → ℕ
 measured measure file = unwrap_or (option_map measure file) 0
 
 module _ {T : Type 0} (measure : FilePut → ℕ) where
-  shown_bound : (rows : List (Row T)) (n place : ℕ) (file : FilePut) → place < n → shown_at rows place ≡ Some file → measure file ≤ greatest_in measure rows n
+  shown_bound : (rows : List (RecordedRow T)) (n place : ℕ) (file : FilePut) → place < n → shown_at rows place ≡ Some file → measure file ≤ greatest_in measure rows n
   shown_bound rows zero place file lt at = absurd (omega (arith, lt))
   shown_bound rows (suc n) place file lt at = elim (cases_lt place n) [
     | inl less ↦ let rest = shown_bound rows n place file less at in omega (arith, rest)
@@ -310,14 +310,14 @@ module _ {T : Type 0} (measure : FilePut → ℕ) where
         omega (arith, here)
   ]
 
-  shown_within : (rows : List (Row T)) (place : ℕ) (file : FilePut) → shown_at rows place ≡ Some file → place < length rows
+  shown_within : (rows : List (RecordedRow T)) (place : ℕ) (file : FilePut) → shown_at rows place ≡ Some file → place < length rows
   shown_within rows place file at = by (slice_get rows place) refl at
     where
-      by : (row : Option (Row T)) → slice_get rows place ≡ row → shown_by row (slice_get rows (place + 1)) ≡ Some file → place < length rows
+      by : (row : Option (RecordedRow T)) → slice_get rows place ≡ row → shown_by row (slice_get rows (place + 1)) ≡ Some file → place < length rows
       by None e shown = cc
       by (Some row) e shown = slice_get_within rows place row e
 
-  greatest_bound : (recordings : List (List (Row T))) (n recording place : ℕ) (rows : List (Row T)) (file : FilePut) → recording < n → slice_get recordings recording ≡ Some rows → shown_at rows place ≡ Some file → measure file ≤ greatest_of measure recordings n
+  greatest_bound : (recordings : List (List (RecordedRow T))) (n recording place : ℕ) (rows : List (RecordedRow T)) (file : FilePut) → recording < n → slice_get recordings recording ≡ Some rows → shown_at rows place ≡ Some file → measure file ≤ greatest_of measure recordings n
   greatest_bound recordings zero recording place rows file lt is at = absurd (omega (arith, lt))
   greatest_bound recordings (suc n) recording place rows file lt is at = elim (cases_lt recording n) [
     | inl less ↦ let rest = greatest_bound recordings n recording place rows file less is at in omega (arith, rest)
@@ -329,10 +329,10 @@ module _ {T : Type 0} (measure : FilePut → ℕ) where
   ]
 
   -- a reply shows as much
-  abbrev IsShown : List (Row T) → ℕ → Type 0
+  abbrev IsShown : List (RecordedRow T) → ℕ → Type 0
   IsShown rows greatest = (place : ℕ) × (file : FilePut) × (shown_at rows place ≡ Some file) × (measure file ≡ greatest)
 
-  attained_in : (rows : List (Row T)) (n : ℕ) → (greatest_in measure rows n ≡ 0) ⊎ IsShown rows (greatest_in measure rows n)
+  attained_in : (rows : List (RecordedRow T)) (n : ℕ) → (greatest_in measure rows n ≡ 0) ⊎ IsShown rows (greatest_in measure rows n)
   attained_in rows zero = inl refl
   attained_in rows (suc n) = by (shown_at rows n) refl (attained_in rows n)
     where
@@ -347,14 +347,14 @@ module _ {T : Type 0} (measure : FilePut → ℕ) where
         ]
       ]
 
-  abbrev IsShownIn : List (List (Row T)) → ℕ → Type 0
-  IsShownIn recordings greatest = (recording : ℕ) × (rows : List (Row T)) × (slice_get recordings recording ≡ Some rows) × IsShown rows greatest
+  abbrev IsShownIn : List (List (RecordedRow T)) → ℕ → Type 0
+  IsShownIn recordings greatest = (recording : ℕ) × (rows : List (RecordedRow T)) × (slice_get recordings recording ≡ Some rows) × IsShown rows greatest
 
-  attained : (recordings : List (List (Row T))) (n : ℕ) → (greatest_of measure recordings n ≡ 0) ⊎ IsShownIn recordings (greatest_of measure recordings n)
+  attained : (recordings : List (List (RecordedRow T))) (n : ℕ) → (greatest_of measure recordings n ≡ 0) ⊎ IsShownIn recordings (greatest_of measure recordings n)
   attained recordings zero = inl refl
   attained recordings (suc n) = by (slice_get recordings n) refl (attained recordings n)
     where
-      by : (found : Option (List (Row T))) → slice_get recordings n ≡ found → (greatest_of measure recordings n ≡ 0) ⊎ IsShownIn recordings (greatest_of measure recordings n) → (max (greatest_of measure recordings n) (greatest_at measure found) ≡ 0) ⊎ IsShownIn recordings (max (greatest_of measure recordings n) (greatest_at measure found))
+      by : (found : Option (List (RecordedRow T))) → slice_get recordings n ≡ found → (greatest_of measure recordings n ≡ 0) ⊎ IsShownIn recordings (greatest_of measure recordings n) → (max (greatest_of measure recordings n) (greatest_at measure found) ≡ 0) ⊎ IsShownIn recordings (max (greatest_of measure recordings n) (greatest_at measure found))
       by None at (inl none) = inl (omega (arith, none))
       by None at (inr shown) = let is = shown.3.3 in inr (shown.0, shown.1, shown.2, (shown.3.0, shown.3.1, shown.3.2, omega (arith, is)))
       by (Some rows) at before = elim (cases_lt (greatest_of measure recordings n) (greatest_in measure rows (length rows))) [
@@ -368,7 +368,7 @@ module _ {T : Type 0} (measure : FilePut → ℕ) where
         ]
       ]
 
-module _ {T : Type 0} (recordings : List (List (Row T))) where
+module _ {T : Type 0} (recordings : List (List (RecordedRow T))) where
   calls_is : (log : List LogRow) (calls : List StoreCall) (row : LogRow) → AreCalls recordings log calls → IsIn row log → (call : StoreCall) × HasCall recordings call × IsCall call row
   calls_is [] [] row are is = absurd is
   calls_is [] (c ∷ calls) row are is = absurd is
@@ -398,10 +398,10 @@ not_beyond version boundary file none = by (nat_lt version (version_in file)) (n
 module _ {T : Type 0} where
   -- what a call shows, and what is lost
 
-  shown_here : (rows : List (Row T)) (place op asked at : ℕ) (request : Request) (reply : Reply) (file : FilePut) → slice_get rows place ≡ Some (kinds.Ask op asked request) → slice_get rows (place + 1) ≡ Some (kinds.Reply op at reply) → file_shown request reply ≡ Some file → shown_at rows place ≡ Some file
+  shown_here : (rows : List (RecordedRow T)) (place op asked at : ℕ) (request : Request) (reply : Reply) (file : FilePut) → slice_get rows place ≡ Some (kinds.Ask op asked request) → slice_get rows (place + 1) ≡ Some (kinds.Reply op at reply) → file_shown request reply ≡ Some file → shown_at rows place ≡ Some file
   shown_here rows place op asked at request reply file asks ends shown = rw asks (rw ends (rw (eq-eqb op op refl) shown))
 
-  unanswered : (op : ℕ) (next : Option (Row T)) → EndsWith next op None → answers op next ≡ false
+  unanswered : (op : ℕ) (next : Option (RecordedRow T)) → EndsWith next op None → answers op next ≡ false
   unanswered op (Some (kinds.Reply of at reply)) none = by (of == op) refl
     where
       by : (b : Bool) → (of == op) ≡ b → (of == op) ≡ false
@@ -409,13 +409,13 @@ module _ {T : Type 0} where
       by false e = e
   unanswered op next none = refl
 
-  lost_here_is : (rows : List (Row T)) (place op asked : ℕ) (request : Request) (file : FilePut) → slice_get rows place ≡ Some (kinds.Ask op asked request) → EndsWith (slice_get rows (place + 1)) op None → file_put request ≡ Some file → lost_at rows place ≡ Some file
+  lost_here_is : (rows : List (RecordedRow T)) (place op asked : ℕ) (request : Request) (file : FilePut) → slice_get rows place ≡ Some (kinds.Ask op asked request) → EndsWith (slice_get rows (place + 1)) op None → file_put request ≡ Some file → lost_at rows place ≡ Some file
   lost_here_is rows place op asked request file asks none puts = rw asks (rw (unanswered op (slice_get rows (place + 1)) none) puts)
 
   -- what is lost goes no further where nothing may decide
 
   module _ (version boundary : ℕ) where
-    lost_within : (rows : List (Row T)) (n place : ℕ) → place < n → lost_in version boundary rows n ≡ 0 → goes_beyond version boundary (lost_at rows place) ≡ false
+    lost_within : (rows : List (RecordedRow T)) (n place : ℕ) → place < n → lost_in version boundary rows n ≡ 0 → goes_beyond version boundary (lost_at rows place) ≡ false
     lost_within rows zero place lt none = absurd (omega (arith, lt))
     lost_within rows (suc n) place lt none = elim (cases_lt place n) [
       | inl less ↦ lost_within rows n place less (omega (arith, none))
@@ -424,7 +424,7 @@ module _ {T : Type 0} where
           ap (λ place. goes_beyond version boundary (lost_at rows place)) (sym same) ∙ not_one (goes_beyond version boundary (lost_at rows n)) (lost_in version boundary rows n) none
     ]
 
-    lost_among : (recordings : List (List (Row T))) (n recording place : ℕ) (rows : List (Row T)) → recording < n → slice_get recordings recording ≡ Some rows → place < length rows → lost_of version boundary recordings n ≡ 0 → goes_beyond version boundary (lost_at rows place) ≡ false
+    lost_among : (recordings : List (List (RecordedRow T))) (n recording place : ℕ) (rows : List (RecordedRow T)) → recording < n → slice_get recordings recording ≡ Some rows → place < length rows → lost_of version boundary recordings n ≡ 0 → goes_beyond version boundary (lost_at rows place) ≡ false
     lost_among recordings zero recording place rows lt is within none = absurd (omega (arith, lt))
     lost_among recordings (suc n) recording place rows lt is within none = elim (cases_lt recording n) [
       | inl less ↦ lost_among recordings n recording place rows less is within (omega (arith, none))
@@ -435,7 +435,7 @@ module _ {T : Type 0} where
     ]
 
   -- a file that a row of the log puts goes no further than what replies show
-  row_decided : (recordings : List (List (Row T))) (log : List LogRow) (calls : List StoreCall) (row : LogRow) (file : FilePut) → AreCalls recordings log calls → undecided recordings ≡ 0 → IsIn row log → PutsFile row file → (version_in file ≤ version_shown recordings) × (boundary_in file ≤ boundary_shown recordings)
+  row_decided : (recordings : List (List (RecordedRow T))) (log : List LogRow) (calls : List StoreCall) (row : LogRow) (file : FilePut) → AreCalls recordings log calls → undecided recordings ≡ 0 → IsIn row log → PutsFile row file → (version_in file ≤ version_shown recordings) × (boundary_in file ≤ boundary_shown recordings)
   row_decided recordings log calls row file are none is puts =
       let found = calls_is recordings log calls row are is in
       by found.0 found.1 found.2 found.0.reply refl
@@ -463,7 +463,7 @@ module _ {T : Type 0} where
 
   -- what a reply shows, a row of the log put
 
-  record Shown (row next : Option (Row T)) (file : FilePut) : Type 0 where
+  record Shown (row next : Option (RecordedRow T)) (file : FilePut) : Type 0 where
     op : ℕ
     asked : ℕ
     request : Request
@@ -473,7 +473,7 @@ module _ {T : Type 0} where
     ends : next ≡ Some (kinds.Reply op at reply)
     shows : file_shown request reply ≡ Some file
 
-  shown_is : (row next : Option (Row T)) (file : FilePut) → shown_by row next ≡ Some file → Shown row next file
+  shown_is : (row next : Option (RecordedRow T)) (file : FilePut) → shown_by row next ≡ Some file → Shown row next file
   shown_is (Some (kinds.Ask op asked request)) (Some (kinds.Reply of at reply)) file shown = by (of == op) refl shown
     where
       by : (b : Bool) → (of == op) ≡ b → cond b (file_shown request reply) None ≡ Some file → Shown (Some (kinds.Ask op asked request)) (Some (kinds.Reply of at reply)) file
@@ -481,15 +481,15 @@ module _ {T : Type 0} where
       by false e shows = cc
   shown_is row next file shown = cc
 
-  first_row : (page : ℕ) (text : T → List ℕ) (recordings : List (List (Row T))) (ds : List (Diary T)) (recording : ℕ) (rows : List (Row T)) → AreOf page text recordings ds → slice_get recordings recording ≡ Some rows → (client : ℕ) × (slice_get rows 0 ≡ Some (kinds.Client client page))
+  first_row : (page : ℕ) (text : T → List ℕ) (recordings : List (List (RecordedRow T))) (ds : List (AuditedDiary T)) (recording : ℕ) (rows : List (RecordedRow T)) → AreOf page text recordings ds → slice_get recordings recording ≡ Some rows → (client : ℕ) × (slice_get rows 0 ≡ Some (kinds.Client client page))
   first_row page text [] [] recording rows are at = cc
   first_row page text [] (d ∷ ds) recording rows are at = absurd are
   first_row page text (r ∷ rs) [] recording rows are at = absurd are
-  first_row page text (r ∷ rs) (d ∷ ds) zero rows are at = subst (λ (rows : List (Row T)). (client : ℕ) × (slice_get rows 0 ≡ Some (kinds.Client client page))) (same_Some r rows at) (d.client, are.0.client)
+  first_row page text (r ∷ rs) (d ∷ ds) zero rows are at = subst (λ (rows : List (RecordedRow T)). (client : ℕ) × (slice_get rows 0 ≡ Some (kinds.Client client page))) (same_Some r rows at) (d.client, are.0.client)
   first_row page text (r ∷ rs) (d ∷ ds) (suc recording) rows are at = first_row page text rs ds recording rows are.1 at
 
-module _ {T : Type 0} (text : T → List ℕ) (encode : T → List ℕ) (decode : List ℕ → Option T) (get_epoch : T → ℕ) (set_epoch : T → ℕ → T) (recordings : List (List (Row T))) (clocks : List Clock) (log : List LogRow) (ds : List (Diary T)) (one : IsOneHistoryOf text encode decode get_epoch set_epoch recordings clocks log ds) where
-  shown_put : (measure : FilePut → ℕ) (recording place : ℕ) (rows : List (Row T)) (file : FilePut) → slice_get recordings recording ≡ Some rows → shown_at rows place ≡ Some file → IsPutIn (reverse log) file
+module _ {T : Type 0} (text : T → List ℕ) (encode : T → List ℕ) (decode : List ℕ → Option T) (get_epoch : T → ℕ) (set_epoch : T → ℕ → T) (recordings : List (List (RecordedRow T))) (clocks : List Clock) (log : List LogRow) (ds : List (AuditedDiary T)) (one : IsOneHistoryOf text encode decode get_epoch set_epoch recordings clocks log ds) where
+  shown_put : (measure : FilePut → ℕ) (recording place : ℕ) (rows : List (RecordedRow T)) (file : FilePut) → slice_get recordings recording ≡ Some rows → shown_at rows place ≡ Some file → IsPutIn (reverse log) file
   shown_put measure recording place rows file is at =
       let shown = shown_is (slice_get rows place) (slice_get rows (place + 1)) file at in
       let first = first_row one.page text recordings ds recording rows one.told is in

@@ -9,8 +9,8 @@ use Rattle.txn_store.specs.declared.request.Request.{Request}
 use Rattle.txn_store.specs.declared.request.Reply.{Reply}
 use Rattle.txn_history.proofs.Lists.{get_more, get_kept, get_last}
 use Rattle.txn_journals.specs.declared.rows.LogRow.{LogRow}
-use Rattle.txn_recorded.specs.declared.row.Row.{Row}
-use Rattle.txn_recorded.specs.declared.row.Row.TheVariants as kinds
+use Rattle.txn_recorded.specs.declared.row.RecordedRow.{RecordedRow}
+use Rattle.txn_recorded.specs.declared.row.RecordedRow.TheVariants as kinds
 use Rattle.txn_effects.specs.declared.clock.Clock.{Clock}
 use Rattle.txn_effects.specs.Clocks.{clock_of, MayPrecede}
 use Rattle.txn_replayed.specs.declared.placing.Placing.{Placing}
@@ -18,7 +18,7 @@ use Rattle.txn_replayed.specs.Calls.{StoreCall, EndsWith, HasCall, IsCall, IsRow
 use Rattle.txn_replayed.specs.Places.{is_same_pair, seen_reply, is_placed, HasAsked, IsReplied, ArePlaced, AllArePlaced, IsTaken, IsSoFar, IsReplayed}
 use Rattle.txn_replayed.proofs.Landing.{once_more, noted_more}
 
-module _ {T : Type 0} (recordings : List (List (Row T))) where
+module _ {T : Type 0} (recordings : List (List (RecordedRow T))) where
   calls_at_end : (log : List LogRow) (calls : List StoreCall) (row : LogRow) (call : StoreCall) → AreCalls recordings log calls → HasCall recordings call → IsCall call row → AreCalls recordings (log ++ row ∷ []) (calls ++ call ∷ [])
   calls_at_end [] [] row call are has is = (has, is, tt)
   calls_at_end [] (c ∷ calls) row call are has is = absurd are
@@ -90,7 +90,7 @@ module _ {T : Type 0} (recordings : List (List (Row T))) where
   same_pair : (at at' : ℕ) (reply reply' : Reply) → at ≡ at' → reply ≡ reply' → ◌≡◌ {A = Option (ℕ × Reply)} (Some (at, reply)) (Some (at', reply'))
   same_pair at at' reply reply' one other = rw (one, other) refl
 
-  same_reply : (next : Option (Row T)) (op : ℕ) (one other : Option (ℕ × Reply)) → EndsWith next op one → EndsWith next op other → IsSome other → one ≡ other
+  same_reply : (next : Option (RecordedRow T)) (op : ℕ) (one other : Option (ℕ × Reply)) → EndsWith next op one → EndsWith next op other → IsSome other → one ≡ other
   same_reply next op (Some one) (Some other) ends ends' some =
       let told = sym ends ∙ ends' in
       let at : one.0 ≡ other.0 = cc in
@@ -106,7 +106,7 @@ module _ {T : Type 0} (recordings : List (List (Row T))) where
   same_call one other has has' recording place some =
       let rows : has.rows ≡ has'.rows = same_Some has.rows has'.rows (sym has.is_recorded ∙ (ap (slice_get recordings) recording ∙ has'.is_recorded)) in
       let client : one.client ≡ other.client = cc in
-      let asks : Some (kinds.Ask one.op one.asked one.request) ≡ Some (kinds.Ask other.op other.asked other.request) = sym has.asks ∙ (ap (slice_get has.rows) place ∙ (ap (λ (rows : List (Row T)). slice_get rows other.place) rows ∙ has'.asks)) in
+      let asks : Some (kinds.Ask one.op one.asked one.request) ≡ Some (kinds.Ask other.op other.asked other.request) = sym has.asks ∙ (ap (slice_get has.rows) place ∙ (ap (λ (rows : List (RecordedRow T)). slice_get rows other.place) rows ∙ has'.asks)) in
       let op : one.op ≡ other.op = cc in
       let asked : one.asked ≡ other.asked = cc in
       let request : one.request ≡ other.request = cc in
@@ -170,7 +170,7 @@ pub in_time_by : (clocks : List Clock) (first call : StoreCall) (clock : Clock) 
 in_time_by clocks first call clock at seen reply is of may = rw is (rw (← of) may)
 
 -- one recording more of which each reply has a place
-pub placed_more : {T V : Type 0} (rows_of : V → List (Row T)) (kept : Placing) (recordings : List V) (i : ℕ) (v : V) → i < length recordings → v ≡ get_or recordings i v → AllArePlaced kept (map rows_of recordings) i → ArePlaced kept i (rows_of v) (length (rows_of v)) → AllArePlaced kept (map rows_of recordings) (i + 1)
+pub placed_more : {T V : Type 0} (rows_of : V → List (RecordedRow T)) (kept : Placing) (recordings : List V) (i : ℕ) (v : V) → i < length recordings → v ≡ get_or recordings i v → AllArePlaced kept (map rows_of recordings) i → ArePlaced kept i (rows_of v) (length (rows_of v)) → AllArePlaced kept (map rows_of recordings) (i + 1)
 placed_more rows_of kept recordings i v lt is before here recording rows below at = elim (cases_lt recording i) [
   | inl less ↦ before recording rows less at
   | inr le ↦

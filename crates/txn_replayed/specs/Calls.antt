@@ -3,8 +3,8 @@ use Rattle.std.specs.Prelude.{◌≡◌, ◌≤◌, ◌<◌, ◌+◌, ℕ, List,
 use Rattle.txn_store.specs.declared.request.Request.{Request}
 use Rattle.txn_store.specs.declared.request.Reply.{Reply}
 use Rattle.txn_journals.specs.declared.rows.LogRow.{LogRow}
-use Rattle.txn_recorded.specs.declared.row.Row.{Row}
-use Rattle.txn_recorded.specs.declared.row.Row.TheVariants as kinds
+use Rattle.txn_recorded.specs.declared.row.RecordedRow.{RecordedRow}
+use Rattle.txn_recorded.specs.declared.row.RecordedRow.TheVariants as kinds
 use Rattle.txn_effects.specs.declared.clock.Clock.{Clock}
 use Rattle.txn_effects.specs.Clocks.{clock_of, MayPrecede}
 
@@ -20,13 +20,13 @@ pub record StoreCall : Type 0 where
 
 module _ {T : Type 0} where
   -- how an operation's call ended, by the row behind it: that has this reply, at this time, or none to it
-  abbrev pub EndsWith : Option (Row T) → ℕ → Option (ℕ × Reply) → Type 0
+  abbrev pub EndsWith : Option (RecordedRow T) → ℕ → Option (ℕ × Reply) → Type 0
   EndsWith next op (Some reply) = next ≡ Some (kinds.Reply op reply.0 reply.1)
   EndsWith next op None = (at : ℕ) (reply : Reply) → next ≡ Some (kinds.Reply op at reply) → ⊥
 
   -- The recordings have this call: its client's recording has a row by which its operation asks this then, and ends it so.
-  pub record HasCall (recordings : List (List (Row T))) (call : StoreCall) : Type 0 where
-    pub rows : List (Row T)
+  pub record HasCall (recordings : List (List (RecordedRow T))) (call : StoreCall) : Type 0 where
+    pub rows : List (RecordedRow T)
     pub is_recorded : slice_get recordings call.recording ≡ Some rows
     pub page : ℕ
     pub its : slice_get rows 0 ≡ Some (kinds.Client call.client page)
@@ -52,7 +52,7 @@ IsRowAt log place call = (row : LogRow) × (slice_get log place ≡ Some row) ×
 abbrev pub StandsBehind : List LogRow → StoreCall → StoreCall → Type 0
 StandsBehind log first second = (i j : ℕ) × (i < j) × IsRowAt log i first × IsRowAt log j second
 
-module _ {T : Type 0} (recordings : List (List (Row T))) where
+module _ {T : Type 0} (recordings : List (List (RecordedRow T))) where
   -- the rows of a log are these calls of the recordings, one by one
   abbrev pub AreCalls : List LogRow → List StoreCall → Type 0
   AreCalls [] [] = Unit {0}

@@ -3,23 +3,23 @@ use Rattle.std.specs.Prelude.{◌≡◌, ◌⊎◌, ◌≤◌, ℕ, List, [], �
 use Rattle.txn_store.specs.Store.{State as StoreState}
 use Rattle.txn_journals.specs.declared.rows.LogRow.{LogRow}
 use Rattle.txn_journals.specs.Logs.{IsLog}
-use Rattle.txn_journals.specs.Verdict.{Diary, IsDue, clients_in}
+use Rattle.txn_journals.specs.Verdict.{AuditedDiary, IsDue, clients_in}
 use Rattle.txn_journals.specs.Shares.{AreDiaries, ShareOnlyTheStore}
 use Rattle.txn_lines.specs.Printed.{answered_text}
-use Rattle.txn_recorded.specs.declared.row.Row.{Row}
-use Rattle.txn_recorded.specs.declared.row.Row.TheVariants as kinds
+use Rattle.txn_recorded.specs.declared.row.RecordedRow.{RecordedRow}
+use Rattle.txn_recorded.specs.declared.row.RecordedRow.TheVariants as kinds
 use Rattle.txn_effects.specs.declared.clock.Clock.{Clock}
 use Rattle.txn_replayed.specs.Told.{TellsSame, recording_tells, journal_tells}
 use Rattle.txn_replayed.specs.Calls.{StoreCall, AreCalls, HaveAllReplies, KeepTime}
 
 module _ {T : Type 0} (page : ℕ) (text : T → List ℕ) where
   -- A diary is that of a recording: its client is the one that the recording's first row names, with this page, and its journal tells what the recording tells.
-  pub record IsOf (rows : List (Row T)) (d : Diary T) : Type 0 where
+  pub record IsOf (rows : List (RecordedRow T)) (d : AuditedDiary T) : Type 0 where
     pub client : slice_get rows 0 ≡ Some (kinds.Client d.client page)
     pub tells : TellsSame (recording_tells rows) (journal_tells (answered_text text) 0 d.rows)
 
   -- the diaries are those of the recordings, one by one
-  abbrev pub AreOf : List (List (Row T)) → List (Diary T) → Type 0
+  abbrev pub AreOf : List (List (RecordedRow T)) → List (AuditedDiary T) → Type 0
   AreOf [] [] = Unit {0}
   AreOf (rows ∷ recordings) (d ∷ ds) = IsOf rows d × AreOf recordings ds
   AreOf _ _ = ⊥
@@ -41,7 +41,7 @@ LandOnce (row ∷ log) = LandsAlone row row.landed log × LandOnce log
 
 module _ {T : Type 0} (text : T → List ℕ) (encode : T → List ℕ) (decode : List ℕ → Option T) (get_epoch : T → ℕ) (set_epoch : T → ℕ → T) where
   -- The recordings, whose times are of these clocks, are one history: there are diaries, one for each recording, that tell what the recordings tell, and a log that an honest store has. The log's rows are calls of the recordings, among them each whose reply was seen, in an order that keeps the recorded times. Its rows of each client are the replies that its diary has, and its landings are of what the clients left, no operation twice; and so the clients shared only the store.
-  pub record IsOneHistoryOf (recordings : List (List (Row T))) (clocks : List Clock) (log : List LogRow) (ds : List (Diary T)) : Type 0 where
+  pub record IsOneHistoryOf (recordings : List (List (RecordedRow T))) (clocks : List Clock) (log : List LogRow) (ds : List (AuditedDiary T)) : Type 0 where
     pub page : ℕ
     pub paged : 1 ≤ page
     pub store : StoreState

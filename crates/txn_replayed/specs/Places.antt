@@ -8,8 +8,8 @@ use Rattle.txn_store.specs.Paths.{Segments}
 use Rattle.txn_store.specs.declared.request.Request.{Request}
 use Rattle.txn_store.specs.declared.request.Reply.{Reply}
 use Rattle.txn_journals.specs.declared.rows.LogRow.{LogRow}
-use Rattle.txn_recorded.specs.declared.row.Row.{Row}
-use Rattle.txn_recorded.specs.declared.row.Row.TheVariants as kinds
+use Rattle.txn_recorded.specs.declared.row.RecordedRow.{RecordedRow}
+use Rattle.txn_recorded.specs.declared.row.RecordedRow.TheVariants as kinds
 use Rattle.txn_effects.specs.declared.clock.Clock.{Clock}
 use Rattle.txn_effects.specs.Clocks.{clock_of}
 use Rattle.txn_replayed.specs.declared.times.AskedSoFar.{AskedSoFar}
@@ -63,7 +63,7 @@ pub record KeepsPlaced (old new : Placing) : Type 0 where
 
 module _ {T : Type 0} where
   -- a row asks, and its reply stands behind it
-  pub record IsReplied (rows : List (Row T)) (place : ℕ) : Type 0 where
+  pub record IsReplied (rows : List (RecordedRow T)) (place : ℕ) : Type 0 where
     pub op : ℕ
     pub asked : ℕ
     pub request : Request
@@ -72,14 +72,14 @@ module _ {T : Type 0} where
     pub ends : slice_get rows (place + 1) ≡ Some (kinds.Reply op reply.0 reply.1)
 
   -- each of the first rows that has a reply is placed
-  abbrev pub ArePlaced : Placing → ℕ → List (Row T) → ℕ → Type 0
+  abbrev pub ArePlaced : Placing → ℕ → List (RecordedRow T) → ℕ → Type 0
   ArePlaced kept recording rows end = (place : ℕ) → place < end → IsReplied rows place → is_placed kept recording place ≡ true
 
   -- so is each of the first recordings
-  abbrev pub AllArePlaced : Placing → List (List (Row T)) → ℕ → Type 0
-  AllArePlaced kept recordings end = (recording : ℕ) (rows : List (Row T)) → recording < end → slice_get recordings recording ≡ Some rows → ArePlaced kept recording rows (length rows)
+  abbrev pub AllArePlaced : Placing → List (List (RecordedRow T)) → ℕ → Type 0
+  AllArePlaced kept recordings end = (recording : ℕ) (rows : List (RecordedRow T)) → recording < end → slice_get recordings recording ≡ Some rows → ArePlaced kept recording rows (length rows)
 
-module _ {T : Type 0} (recordings : List (List (Row T))) (clocks : List Clock) where
+module _ {T : Type 0} (recordings : List (List (RecordedRow T))) (clocks : List Clock) where
   -- A row of the log is a recorded call, it was noted, and it may stand behind all that were noted.
   pub record IsTaken (old : Placing) (row : LogRow) (new : Placing) : Type 0 where
     pub call : StoreCall

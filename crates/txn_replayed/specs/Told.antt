@@ -10,8 +10,8 @@ use Rattle.txn_journals.specs.declared.rows.Step.{Step}
 use Rattle.txn_journals.specs.declared.rows.Step.TheVariants as steps
 use Rattle.txn_journals.specs.declared.rows.JournalRow.{JournalRow}
 use Rattle.txn_diary.specs.Reading.{op_of, begun_by}
-use Rattle.txn_recorded.specs.declared.row.Row.{Row}
-use Rattle.txn_recorded.specs.declared.row.Row.TheVariants as kinds
+use Rattle.txn_recorded.specs.declared.row.RecordedRow.{RecordedRow}
+use Rattle.txn_recorded.specs.declared.row.RecordedRow.TheVariants as kinds
 
 -- One thing that is told of an operation, which has this number: it began with this call, it asked the store this, it had this reply, its store call failed, its client gave it up, or it was answered, in these words.
 pub data RowTold (T : Type 0) : Type 0 where
@@ -24,7 +24,7 @@ pub data RowTold (T : Type 0) : Type 0 where
 
 module _ {T : Type 0} where
   -- what a row of a recording tells; times aside
-  abbrev pub row_tells : Row T → List (RowTold T)
+  abbrev pub row_tells : RecordedRow T → List (RowTold T)
   row_tells (kinds.Client client page) = []
   row_tells (kinds.Begin op call) = Began op call ∷ []
   row_tells (kinds.Ask op at request) = Asked op request ∷ []
@@ -34,7 +34,7 @@ module _ {T : Type 0} where
   row_tells (kinds.Answer op words) = Answered op (string_bytes words) ∷ []
 
   -- what a recording tells
-  abbrev pub recording_tells : List (Row T) → List (RowTold T)
+  abbrev pub recording_tells : List (RecordedRow T) → List (RowTold T)
   recording_tells [] = []
   recording_tells (row ∷ rows) = row_tells row ++ recording_tells rows
 

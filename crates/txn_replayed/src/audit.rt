@@ -17,7 +17,7 @@ use txn_journals::fault::AuditFault;
 use txn_lines::text_form::LineValue;
 use txn_logged::honest::HonestLog;
 use txn_ordered::order::{CallPlace, order};
-use txn_recorded::row::Row;
+use txn_recorded::row::RecordedRow;
 use txn_types::codec::ObjectCodec;
 use txn_types::epoch::EpochField;
 
@@ -29,14 +29,14 @@ pub struct OneHistory<T: Clone, C: ObjectCodec<T> + Drop, E: EpochField<T>> {
 }
 
 /// The page that the first row of the first recording names, 1 where there is none.
-fn page_of<T>(recordings: &[Vec<Row<T>>]) -> u64
+fn page_of<T>(recordings: &[Vec<RecordedRow<T>>]) -> u64
     ensures { 1 ≤ result }
 {
     let Some(rows) = recordings.first() else {
         return 1;
     };
     match rows.first() {
-        Some(Row::Client(_, page)) => { if *page == 0 { 1 } else { *page } }
+        Some(RecordedRow::Client(_, page)) => { if *page == 0 { 1 } else { *page } }
         _ => 1,
     }
 }
@@ -56,7 +56,7 @@ fn diary_of<T: Clone + LineValue, C: ObjectCodec<T> + Copy + Drop, E: EpochField
     epochs: E,
     page: u64,
     recording: usize,
-    rows: &Vec<Row<T>>,
+    rows: &Vec<RecordedRow<T>>,
     places: &[u64],
 ) -> Result<Diary<T, C, E>, Refusal>
     requires exact { IsExactClone T.is_clone }
@@ -84,7 +84,7 @@ fn diaries_of<T: Clone + LineValue, C: ObjectCodec<T> + Copy + Drop, E: EpochFie
     codec: C,
     epochs: E,
     page: u64,
-    recordings: &[Vec<Row<T>>],
+    recordings: &[Vec<RecordedRow<T>>],
     places: &[Vec<u64>],
 ) -> Result<Vec<Diary<T, C, E>>, Refusal>
     requires exact { IsExactClone T.is_clone }
@@ -103,10 +103,10 @@ fn diaries_of<T: Clone + LineValue, C: ObjectCodec<T> + Copy + Drop, E: EpochFie
 }
 
 /// Whether two recordings are of one client.
-fn has_twins<T>(alloc: Global, recordings: &[Vec<Row<T>>]) -> Result<bool, AllocError> {
+fn has_twins<T>(alloc: Global, recordings: &[Vec<RecordedRow<T>>]) -> Result<bool, AllocError> {
     let mut clients = HashSet::new(alloc);
     for rows in recordings {
-        if let Some(Row::Client(client, _)) = rows.as_slice().first() {
+        if let Some(RecordedRow::Client(client, _)) = rows.as_slice().first() {
             if !clients.insert(*client)? {
                 return Ok(true);
             }
@@ -136,7 +136,7 @@ pub fn audit_recordings<
     alloc: Global,
     codec: C,
     epochs: E,
-    recordings: &[Vec<Row<T>>],
+    recordings: &[Vec<RecordedRow<T>>],
     clocks: &[Clock],
 ) -> Result<OneHistory<T, C, E>, Refusal>
     requires { IsExactClone T.is_clone }

@@ -1,5 +1,5 @@
 //! Which puts without a reply may decide how a history ends.
-ghost use Rattle.std.specs.Prelude.{◌≡◌, ◌<◌, ◌+◌, ℕ, IfOk, length, map, max, min, unwrap_or};
+ghost use Rattle.std.specs.Prelude.{◌≡◌, ◌<◌, ◌+◌, IfOk, length, map, max, min, unwrap_or};
 ghost use Rattle.std.specs.Option.{option_map};
 ghost use Rattle.txn_store.specs.VersionOf.{version_of};
 ghost use Rattle.txn_history.specs.Names.{world_names, world_boundary};
@@ -9,7 +9,7 @@ ghost use Rattle.txn_replayed.specs.Undecided.{version_in, boundary_in, file_put
 use bytes::Bytes;
 use std::alloc::{AllocError, Global};
 use txn_clients::layout::world_layout;
-use txn_recorded::row::Row;
+use txn_recorded::row::RecordedRow;
 use txn_rows::requests::version_of;
 use txn_store::path::Path;
 use txn_store::request::{Reply, Request};
@@ -78,11 +78,14 @@ fn file_shown<'a>(request: &'a Request, reply: &'a Reply) -> Option<FilePut<'a>>
 }
 
 /// The file that the call of a row shows to have been put, by the reply in the row behind it.
-fn shown_by<'a, T>(row: Option<&'a Row<T>>, next: Option<&'a Row<T>>) -> Option<FilePut<'a>>
+fn shown_by<'a, T>(
+    row: Option<&'a RecordedRow<T>>,
+    next: Option<&'a RecordedRow<T>>,
+) -> Option<FilePut<'a>>
     ensures { option_map as_file result ≡ shown_by (option_map (λ row. row.now) row.entry) (option_map (λ row. row.now) next.entry) }
 {
     match (row, next) {
-        (Some(Row::Ask(op, _, request)), Some(Row::Reply(of, _, reply))) => {
+        (Some(RecordedRow::Ask(op, _, request)), Some(RecordedRow::Reply(of, _, reply))) => {
             if *of == *op {
                 file_shown(request, reply)
             } else {
@@ -94,21 +97,24 @@ fn shown_by<'a, T>(row: Option<&'a Row<T>>, next: Option<&'a Row<T>>) -> Option<
 }
 
 /// Whether a row is a reply to an operation.
-fn answers<T>(op: u64, next: Option<&Row<T>>) -> bool
+fn answers<T>(op: u64, next: Option<&RecordedRow<T>>) -> bool
     ensures { result ≡ answers op (option_map (λ row. row.now) next.entry) }
 {
     match next {
-        Some(Row::Reply(of, _, _)) => *of == op,
+        Some(RecordedRow::Reply(of, _, _)) => *of == op,
         _ => false,
     }
 }
 
 /// The file that the call of a row puts, where the row behind it is no reply.
-fn lost_by<'a, T>(row: Option<&'a Row<T>>, next: Option<&Row<T>>) -> Option<FilePut<'a>>
+fn lost_by<'a, T>(
+    row: Option<&'a RecordedRow<T>>,
+    next: Option<&RecordedRow<T>>,
+) -> Option<FilePut<'a>>
     ensures { option_map as_file result ≡ lost_by (option_map (λ row. row.now) row.entry) (option_map (λ row. row.now) next.entry) }
 {
     match row {
-        Some(Row::Ask(op, _, request)) => {
+        Some(RecordedRow::Ask(op, _, request)) => {
             if answers(*op, next) {
                 None
             } else {
@@ -120,7 +126,7 @@ fn lost_by<'a, T>(row: Option<&'a Row<T>>, next: Option<&Row<T>>) -> Option<File
 }
 
 /// The file that the call of the row at this place shows to have been put.
-fn shown_at<T>(rows: &[Row<T>], place: usize) -> Option<FilePut<'_>>
+fn shown_at<T>(rows: &[RecordedRow<T>], place: usize) -> Option<FilePut<'_>>
     requires { place < length rows.now }
     ensures { option_map as_file result ≡ shown_at rows.now place }
 {
@@ -128,7 +134,7 @@ fn shown_at<T>(rows: &[Row<T>], place: usize) -> Option<FilePut<'_>>
 }
 
 /// The file that the call of the row at this place puts, where that has no reply.
-fn lost_at<T>(rows: &[Row<T>], place: usize) -> Option<FilePut<'_>>
+fn lost_at<T>(rows: &[RecordedRow<T>], place: usize) -> Option<FilePut<'_>>
     requires { place < length rows.now }
     ensures { option_map as_file result ≡ lost_at rows.now place }
 {
@@ -153,7 +159,7 @@ impl Reach {
     }
 
     /// As far as this, or as the replies of a recording show.
-    fn with_all<T>(self, layout: &Layout<()>, rows: &[Row<T>]) -> Reach
+    fn with_all<T>(self, layout: &Layout<()>, rows: &[RecordedRow<T>]) -> Reach
         requires names { layout.now.names ≡ world_names }
         requires boundary { layout.now.boundary ≡ world_boundary }
         ensures version { result.version ≡ max self.version (greatest_in version_in rows.now (length rows.now)) }
@@ -182,7 +188,7 @@ impl Reach {
     }
 
     /// How many puts of a recording have no reply and go beyond this.
-    fn lost_in<T>(self, layout: &Layout<()>, rows: &[Row<T>]) -> u64
+    fn lost_in<T>(self, layout: &Layout<()>, rows: &[RecordedRow<T>]) -> u64
         requires names { layout.now.names ≡ world_names }
         requires boundary { layout.now.boundary ≡ world_boundary }
         ensures { result ≡ lost_in self.version self.boundary rows.now (length rows.now) }
@@ -198,7 +204,7 @@ impl Reach {
 }
 
 /// How far the replies of recordings show that the puts went.
-fn reach_of<T>(layout: &Layout<()>, recordings: &[Vec<Row<T>>]) -> Reach
+fn reach_of<T>(layout: &Layout<()>, recordings: &[Vec<RecordedRow<T>>]) -> Reach
     requires names { layout.now.names ≡ world_names }
     requires boundary { layout.now.boundary ≡ world_boundary }
     ensures version { result.version ≡ version_shown (map (λ rows. rows.items) recordings.now) }
@@ -217,7 +223,7 @@ fn reach_of<T>(layout: &Layout<()>, recordings: &[Vec<Row<T>>]) -> Reach
 /// How many puts have no reply and may decide how the history of the recordings ends: they would make a version above all that
 /// replies show, or raise the boundary above all that these show. It goes over the rows twice. The count ends at the greatest
 /// number of 64 bits; the only error is want of memory.
-pub fn undecided<T>(alloc: Global, recordings: &[Vec<Row<T>>]) -> Result<u64, AllocError>
+pub fn undecided<T>(alloc: Global, recordings: &[Vec<RecordedRow<T>>]) -> Result<u64, AllocError>
     ensures { IfOk result (λ count. count ≡ min (undecided (map (λ rows. rows.items) recordings.now)) 18446744073709551615) }
 {
     let layout = world_layout(alloc, (), 1)?;

@@ -14,7 +14,7 @@ use std::collections::HashSet;
 use txn_effects::clock::{Clock, clock_of};
 use txn_journals::rows::LogRow;
 use txn_ordered::order::{CallPlace, Placed};
-use txn_recorded::row::Row;
+use txn_recorded::row::RecordedRow;
 
 /// What is kept of the calls of an order while they are replayed.
 #[derive(Drop)]
@@ -69,7 +69,7 @@ impl Placing {
     /// `OutOfTime` where its reply was there before it or a call before it was asked; `NoMemory` where a growth was refused.
     pub fn take<T>(
         &mut self,
-        recordings: &[Vec<Row<T>>],
+        recordings: &[Vec<RecordedRow<T>>],
         clocks: &[Clock],
         placed: Placed,
         at: u64,
@@ -96,14 +96,14 @@ impl Placing {
     }
 
     /// Whether the row at a place of a recording has a reply and no place in the order.
-    fn is_missing<T>(&self, recording: usize, rows: &[Row<T>], place: usize) -> bool
+    fn is_missing<T>(&self, recording: usize, rows: &[RecordedRow<T>], place: usize) -> bool
         ensures { result ≡ false → IsReplied rows.now place → is_placed self.now recording place ≡ true }
     {
         is_replied(rows, place) && !self.placed.contains(&(recording, place))
     }
 
     /// The first row of a recording that has a reply and no place in the order.
-    fn missing_in<T>(&self, recording: usize, rows: &[Row<T>]) -> Option<usize>
+    fn missing_in<T>(&self, recording: usize, rows: &[RecordedRow<T>]) -> Option<usize>
         ensures { IfNone result (ArePlaced self.now recording rows.now (length rows.now)) }
     {
         for place in 0..rows.len() {
@@ -115,7 +115,7 @@ impl Placing {
     }
 
     /// The first call that has a reply and no place in the order.
-    pub fn missing<T>(&self, recordings: &[Vec<Row<T>>]) -> Option<CallPlace>
+    pub fn missing<T>(&self, recordings: &[Vec<RecordedRow<T>>]) -> Option<CallPlace>
         ensures { IfNone result (AllArePlaced self.now (map (λ rows. rows.items) recordings.now) (length recordings.now)) }
     {
         for recording in 0..recordings.len() {

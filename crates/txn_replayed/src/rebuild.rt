@@ -2,7 +2,7 @@
 ghost use Rattle.std.specs.Prelude.{◌≡◌, ◌≤◌, Some, IfOk, OnOk, slice_get, drop};
 ghost use Rattle.txn_types.specs.Clones.{IsExactClone};
 ghost use Rattle.txn_lines.specs.Printed.{answered_text};
-ghost use Rattle.txn_recorded.specs.declared.row.Row.TheVariants as kinds;
+ghost use Rattle.txn_recorded.specs.declared.row.RecordedRow.TheVariants as kinds;
 ghost use Rattle.txn_replayed.specs.Told.{recording_tells, journal_tells, TellsSame};
 ghost use Rattle.txn_replayed.specs.Stages.{Goes, IsSameClient, IsOpened};
 
@@ -11,17 +11,17 @@ use crate::stage::{Rebuilding, Stage};
 use std::alloc::Global;
 use txn_diary::diary::Diary;
 use txn_lines::text_form::LineValue;
-use txn_recorded::row::Row;
+use txn_recorded::row::RecordedRow;
 use txn_types::codec::ObjectCodec;
 use txn_types::epoch::EpochField;
 
 /// The client that the first row names, at least 1, with this page.
-fn client_of<T>(rows: &[Row<T>], page: u64) -> Result<u64, RowFault>
+fn client_of<T>(rows: &[RecordedRow<T>], page: u64) -> Result<u64, RowFault>
     ensures client { IfOk result (λ client. slice_get rows.now 0 ≡ Some (kinds.Client client page)) }
     ensures some { IfOk result (λ client. 1 ≤ client) }
 {
     match rows.first() {
-        Some(Row::Client(client, named)) => {
+        Some(RecordedRow::Client(client, named)) => {
             if *client == 0 {
                 return Err(RowFault::NoClient);
             }
@@ -72,7 +72,7 @@ pub fn rebuild<T: Clone + LineValue, C: ObjectCodec<T> + Drop, E: EpochField<T>>
     codec: C,
     epochs: E,
     page: u64,
-    rows: &[Row<T>],
+    rows: &[RecordedRow<T>],
     places: &[u64],
 ) -> Result<Diary<T, C, E>, (usize, RowFault)>
     requires exact { IsExactClone T.is_clone }
@@ -107,7 +107,7 @@ pub fn rebuild<T: Clone + LineValue, C: ObjectCodec<T> + Drop, E: EpochField<T>>
 fn follow<'a, T: Clone + LineValue, C: ObjectCodec<T> + Drop, E: EpochField<T>>(
     alloc: Global,
     rebuilding: &mut Rebuilding<'a, T, C, E>,
-    rows: &'a [Row<T>],
+    rows: &'a [RecordedRow<T>],
     places: &[u64],
 ) -> Result<(), (usize, RowFault)>
     requires { IsExactClone T.is_clone }
@@ -127,9 +127,9 @@ fn follow<'a, T: Clone + LineValue, C: ObjectCodec<T> + Drop, E: EpochField<T>>(
 }
 
 /// So many replies, and one more where a row is a reply.
-fn counted<T>(replies: usize, row: &Row<T>) -> usize {
+fn counted<T>(replies: usize, row: &RecordedRow<T>) -> usize {
     match row {
-        Row::Reply(_, _, _) => replies.saturating_add(1),
+        RecordedRow::Reply(_, _, _) => replies.saturating_add(1),
         _ => replies,
     }
 }

@@ -3,14 +3,14 @@ ghost use Rattle.std.specs.Option.{option_map};
 ghost use Rattle.std.specs.Prelude.{◌≡◌, ◌<◌, ◌+◌, ℕ, true, None, Some, IfOk, IfSome, IfNone, length, map, slice_get};
 ghost use Rattle.txn_store.specs.declared.request.Reply.{Reply};
 ghost use Rattle.txn_store.specs.declared.request.Request.{Request};
-ghost use Rattle.txn_recorded.specs.declared.row.Row.TheVariants as kinds;
+ghost use Rattle.txn_recorded.specs.declared.row.RecordedRow.TheVariants as kinds;
 ghost use Rattle.txn_replayed.specs.Calls.{EndsWith, HasCall, IsCall};
 ghost use Rattle.txn_replayed.specs.Places.{seen_reply, as_call, IsReplied};
 
 use crate::refusal::Refusal;
 use txn_journals::rows::LogRow;
 use txn_ordered::order::CallPlace;
-use txn_recorded::row::Row;
+use txn_recorded::row::RecordedRow;
 use txn_store::request::{Reply, Request};
 
 /// A recorded call: where it is, its client, its operation, when and what it asked, and its reply where one was seen, with the
@@ -26,39 +26,41 @@ pub(crate) struct RecordedCall<'a> {
 }
 
 /// The client that the first row names, and its page.
-fn named_by<T>(rows: &[Row<T>]) -> Option<(u64, u64)>
+fn named_by<T>(rows: &[RecordedRow<T>]) -> Option<(u64, u64)>
     ensures { IfSome result (λ named. slice_get rows.now 0 ≡ Some (kinds.Client named.0 named.1)) }
 {
     match rows.first() {
-        Some(Row::Client(client, page)) => Some((*client, *page)),
+        Some(RecordedRow::Client(client, page)) => Some((*client, *page)),
         _ => None,
     }
 }
 
 /// The operation that asks in a row, when, and what.
-fn asked_at<T>(rows: &[Row<T>], place: usize) -> Option<(u64, u64, &Request)>
+fn asked_at<T>(rows: &[RecordedRow<T>], place: usize) -> Option<(u64, u64, &Request)>
     ensures some { IfSome result (λ asked. slice_get rows.now place ≡ Some (kinds.Ask asked.0 asked.1 asked.2.now)) }
     ensures none { IfNone result ((op at : ℕ) (request : Request) → slice_get rows.now place ≡ Some (kinds.Ask op at request) → ⊥) }
     ensures within { IfSome result (λ asked. place < length rows.now) }
 {
     match rows.get(place) {
-        Some(Row::Ask(op, at, request)) => Some((*op, *at, request)),
+        Some(RecordedRow::Ask(op, at, request)) => Some((*op, *at, request)),
         _ => None,
     }
 }
 
 /// The reply to an operation that the row behind its call has, and when it was there.
-fn reply_of<T>(next: Option<&Row<T>>, op: u64) -> Option<(u64, &Reply)>
+fn reply_of<T>(next: Option<&RecordedRow<T>>, op: u64) -> Option<(u64, &Reply)>
     ensures { EndsWith (option_map (λ row. row.now) next.entry) op (seen_reply result) }
 {
     match next {
-        Some(Row::Reply(of, at, reply)) => { if *of == op { Some((*at, reply)) } else { None } }
+        Some(RecordedRow::Reply(of, at, reply)) => {
+            if *of == op { Some((*at, reply)) } else { None }
+        }
         _ => None,
     }
 }
 
 /// The reply to the call of the row at this place, and when it was there.
-fn reply_after<T>(rows: &[Row<T>], place: usize, op: u64) -> Option<(u64, &Reply)>
+fn reply_after<T>(rows: &[RecordedRow<T>], place: usize, op: u64) -> Option<(u64, &Reply)>
     requires { place < length rows.now }
     ensures { EndsWith (slice_get rows.now (place + 1)) op (seen_reply result) }
 {
@@ -66,7 +68,10 @@ fn reply_after<T>(rows: &[Row<T>], place: usize, op: u64) -> Option<(u64, &Reply
 }
 
 /// The recorded call at a place.
-pub(crate) fn recorded<T>(recordings: &[Vec<Row<T>>], call: CallPlace) -> Option<RecordedCall<'_>>
+pub(crate) fn recorded<T>(
+    recordings: &[Vec<RecordedRow<T>>],
+    call: CallPlace,
+) -> Option<RecordedCall<'_>>
     ensures has { IfSome result (λ found. HasCall (map (λ rows. rows.items) recordings.now) (as_call found)) }
     ensures place { IfSome result (λ found. found.place ≡ call) }
 {
@@ -109,7 +114,7 @@ pub(crate) fn log_row(
 }
 
 /// Whether a row asks, and its reply stands behind it.
-pub(crate) fn is_replied<T>(rows: &[Row<T>], place: usize) -> bool
+pub(crate) fn is_replied<T>(rows: &[RecordedRow<T>], place: usize) -> bool
     ensures { IsReplied rows.now place → result ≡ true }
 {
     match asked_at(rows, place) {

@@ -11,7 +11,7 @@ use txn_journals::audited::Logged;
 use txn_logged::fault::LogFault;
 use txn_logged::honest::HonestLog;
 use txn_ordered::order::Placed;
-use txn_recorded::row::Row;
+use txn_recorded::row::RecordedRow;
 
 /// For each recording the places of its replies in an order.
 pub(crate) fn places_of(
@@ -43,7 +43,7 @@ pub(crate) fn places_of(
 /// without a place, `NoMemory` where a growth was refused.
 pub(crate) fn replay<T>(
     alloc: Global,
-    recordings: &[Vec<Row<T>>],
+    recordings: &[Vec<RecordedRow<T>>],
     clocks: &[Clock],
     order: Vec<Placed>,
 ) -> Result<HonestLog, Refusal>

@@ -21,7 +21,7 @@ use txn_journals::rows::Receipt;
 use txn_journals::same::same_request;
 use txn_lines::printed;
 use txn_lines::text_form::LineValue;
-use txn_recorded::row::Row;
+use txn_recorded::row::RecordedRow;
 use txn_store::request::{Reply, Request};
 use txn_types::codec::ObjectCodec;
 use txn_types::epoch::EpochField;
@@ -284,19 +284,24 @@ impl<'a, T: Clone + LineValue, C: ObjectCodec<T> + Drop, E: EpochField<T>> Rebui
     }
 
     /// The client makes a row, but for the looks after it. Of a reply, this is its place in the order, if it has one.
-    fn make(&mut self, alloc: Global, row: &'a Row<T>, place: Option<u64>) -> Result<(), RowFault>
+    fn make(
+        &mut self,
+        alloc: Global,
+        row: &'a RecordedRow<T>,
+        place: Option<u64>,
+    ) -> Result<(), RowFault>
         requires { IsExactClone T.is_clone }
         ensures told { OnOk result (Goes T.text (row_tells row.now) self.old.diary.rows self.old.begun self.old.stage self.new.diary.rows self.new.begun self.new.stage) }
         ensures same { OnOk result (IsSameClient self.old.diary self.new.diary) }
     {
         match row {
-            Row::Client(_, _) => Err(RowFault::NoClient),
-            Row::Begin(op, call) => self.begin(alloc, *op, call),
-            Row::Ask(op, _, request) => self.ask(*op, request),
-            Row::Reply(op, _, reply) => self.reply(alloc, *op, reply, place),
-            Row::Failed(op, _) => self.fail(alloc, *op),
-            Row::GiveUp(op) => self.give_up(*op),
-            Row::Answer(op, words) => self.answer(*op, words.as_str()),
+            RecordedRow::Client(_, _) => Err(RowFault::NoClient),
+            RecordedRow::Begin(op, call) => self.begin(alloc, *op, call),
+            RecordedRow::Ask(op, _, request) => self.ask(*op, request),
+            RecordedRow::Reply(op, _, reply) => self.reply(alloc, *op, reply, place),
+            RecordedRow::Failed(op, _) => self.fail(alloc, *op),
+            RecordedRow::GiveUp(op) => self.give_up(*op),
+            RecordedRow::Answer(op, words) => self.answer(*op, words.as_str()),
         }
     }
 
@@ -305,7 +310,7 @@ impl<'a, T: Clone + LineValue, C: ObjectCodec<T> + Drop, E: EpochField<T>> Rebui
     pub fn take(
         &mut self,
         alloc: Global,
-        row: &'a Row<T>,
+        row: &'a RecordedRow<T>,
         place: Option<u64>,
     ) -> Result<(), RowFault>
         requires { IsExactClone T.is_clone }

@@ -1,5 +1,5 @@
 //! Whether an order of calls keeps the recorded times.
-ghost use Rattle.std.specs.Prelude.{◌≡◌, ◌≤◌, ◌+◌, ℕ, true, IfOk, OnOk};
+ghost use Rattle.std.specs.Prelude.{◌≡◌, ◌+◌, ℕ, true, OnOk};
 ghost use Rattle.txn_effects.specs.declared.clock.Clock.{Clock};
 ghost use Rattle.txn_effects.specs.Clocks.{MayPrecede};
 ghost use Rattle.txn_replayed.specs.Places.{latest_of, HasAsked, KeepsAsked};

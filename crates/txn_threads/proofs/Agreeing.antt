@@ -1,12 +1,12 @@
 -- Shares that are held against the counts are held against the journal.
 use Rattle.std.proofs.Common.{◌≡◌, ◌↔◌, ℕ, ◌-◌, ◌<◌, ◌≤◌, List, length, get_or, slice_index, sym, ◌∙◌, subst}
 use Rattle.std.proofs.lemmas.Option.{get_or_from_slice_get, slice_get-get_or, slice_get_within}
-use Rattle.txn_threads.specs.declared.kept.JournalRow.{JournalRow}
+use Rattle.txn_threads.specs.declared.kept.EventRow.{EventRow}
 use Rattle.txn_threads.specs.declared.kept.Share.{Share}
 use Rattle.txn_threads.specs.Kept.{Agree, AreAmong, AreCounted, AreCounts}
 use Rattle.txn_threads.proofs.Counting.{count_at}
 
-module _ {T : Type 0} (workers : ℕ) (journal : List (JournalRow T)) where
+module _ {T : Type 0} (workers : ℕ) (journal : List (EventRow T)) where
   from_counts : (shares : List Share) (counts : List ℕ) → AreAmong workers shares → AreCounts workers journal counts → AreCounted counts shares → Agree journal shares
   from_counts shares counts among are held k share at =
       let is : get_or shares k share ≡ share = get_or_from_slice_get shares k share share at in

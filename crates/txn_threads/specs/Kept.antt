@@ -3,7 +3,7 @@ use Rattle.std.specs.Prelude.{◌≡◌, ◌⊎◌, ◌+◌, ◌-◌, ◌^◌, �
 use Rattle.txn_history.specs.Trace.{Event, Told}
 use Rattle.txn_history.specs.declared.event.EventFault.{EventFault}
 use Rattle.txn_history.specs.declared.event.EventFault.TheVariants as faults
-use Rattle.txn_threads.specs.declared.kept.JournalRow.{JournalRow}
+use Rattle.txn_threads.specs.declared.kept.EventRow.{EventRow}
 use Rattle.txn_threads.specs.declared.kept.Share.{Share}
 use Rattle.txn_machine.specs.Machine.{State, WorldState, opening, refusal_of, Takes, Runs}
 use Rattle.txn_threads.specs.Lists.{AreEach}
@@ -12,20 +12,20 @@ use Rattle.txn_threads.specs.Lists.{AreEach}
 pub record KeptState (T C E : Type 0) : Type 0 where
   pub world : WorldState T C E
   pub workers : ℕ
-  pub journal : List (JournalRow T)
+  pub journal : List (EventRow T)
 
 module _ {T : Type 0} where
   -- the events of a journal, each with what it told
-  abbrev pub taken_of : List (JournalRow T) → List (Event T × Told T)
+  abbrev pub taken_of : List (EventRow T) → List (Event T × Told T)
   taken_of journal = map (λ row. (row.event, row.told)) journal
 
   -- how many rows of a journal are this worker's
-  abbrev pub rows_of : List (JournalRow T) → ℕ → ℕ
+  abbrev pub rows_of : List (EventRow T) → ℕ → ℕ
   rows_of journal worker = count_by (λ row. nat_eq row.worker worker) journal
 
   -- what the last row of a journal tells
-  abbrev pub IsLastTold : List (JournalRow T) → Told T → Type 0
-  IsLastTold journal told = (rows : List (JournalRow T)) × (row : JournalRow T) × (journal ≡ rows ++ row ∷ []) × (row.told ≡ told)
+  abbrev pub IsLastTold : List (EventRow T) → Told T → Type 0
+  IsLastTold journal told = (rows : List (EventRow T)) × (row : EventRow T) × (journal ≡ rows ++ row ∷ []) × (row.told ≡ told)
 
 -- An event that is due this fault, where it is due one, is refused with it, or for want of memory.
 abbrev pub IsRefusedAs : {A : Type 0} → Option EventFault → Result A EventFault → Type 0
@@ -51,7 +51,7 @@ module _ {T : Type 0} (encode : T → List ℕ) (decode : List ℕ → Option T)
 
   -- Taking the journal's events in order, from a world in which nothing has happened, tells what the
   -- journal says and ends here.
-  abbrev pub Replays : List (JournalRow T) → State T → Type 0
+  abbrev pub Replays : List (EventRow T) → State T → Type 0
   Replays journal state = Runs encode decode get_epoch set_epoch (opening state.clients state.page) (taken_of journal) state
 
   -- One row more, of this worker, event and what the world told of it; and the world took the event.
@@ -81,9 +81,9 @@ pub record CameOnce (workers : ℕ) (shares : List Share) : Type 0 where
 
 module _ {T : Type 0} where
   -- each share has the count of its worker's rows
-  abbrev pub Agree : List (JournalRow T) → List Share → Type 0
+  abbrev pub Agree : List (EventRow T) → List Share → Type 0
   Agree journal shares = (k : ℕ) (share : Share) → slice_get shares k ≡ Some share → share.count ≡ rows_of journal share.worker
 
   -- the count of each worker's rows, worker 1 first
-  abbrev pub AreCounts : ℕ → List (JournalRow T) → List ℕ → Type 0
+  abbrev pub AreCounts : ℕ → List (EventRow T) → List ℕ → Type 0
   AreCounts workers journal counts = AreEach (λ k. rows_of journal (k + 1)) workers counts

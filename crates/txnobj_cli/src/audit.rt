@@ -10,7 +10,7 @@ use txn_journals::audited::Logged;
 use txn_journals::fault::AuditFault;
 use txn_ordered::order::CallPlace;
 use txn_recorded::read::{TextFault, read_row};
-use txn_recorded::row::Row;
+use txn_recorded::row::RecordedRow;
 use txn_recorded::source::{Source, read_source};
 use txn_replayed::audit::{OneHistory, audit_recordings};
 use txn_replayed::fates::undecided;
@@ -55,7 +55,7 @@ struct Begin {
 /// What files of recordings have.
 #[derive(Drop)]
 struct Recordings {
-    rows: Vec<Vec<Row<Entry>>>,
+    rows: Vec<Vec<RecordedRow<Entry>>>,
     /// Where each begins.
     begins: Vec<Begin>,
     /// The clocks of the times, each as it was named first.
@@ -146,9 +146,9 @@ impl Recordings {
         &mut self,
         alloc: Global,
         place: (usize, usize),
-        row: Row<Entry>,
+        row: RecordedRow<Entry>,
     ) -> Result<Option<&'static str>, AllocError> {
-        if matches!(&row, Row::Client(_, _)) {
+        if matches!(&row, RecordedRow::Client(_, _)) {
             if !self.begin(alloc, place)? {
                 return Ok(Some(NO_SOURCE));
             }
@@ -334,15 +334,16 @@ fn held(
 }
 
 /// Whether recordings are of one client.
-fn are_twins(one: &[Row<Entry>], other: &[Row<Entry>]) -> bool {
+fn are_twins(one: &[RecordedRow<Entry>], other: &[RecordedRow<Entry>]) -> bool {
     match (one.first(), other.first()) {
-        (Some(Row::Client(client, _)), Some(Row::Client(number, _))) => client == number,
+        (Some(RecordedRow::Client(client, _)), Some(RecordedRow::Client(number, _))) => client
+            == number,
         _ => false,
     }
 }
 
 /// Whether several of these recordings are of the client of one.
-fn has_twin(rows: &[Vec<Row<Entry>>], one: &[Row<Entry>]) -> bool {
+fn has_twin(rows: &[Vec<RecordedRow<Entry>>], one: &[RecordedRow<Entry>]) -> bool {
     let mut of_client: usize = 0;
     for other in rows {
         if are_twins(one, other.as_slice()) {
@@ -402,7 +403,7 @@ fn say_rows(
 }
 
 /// Says how many puts have no reply and may decide how the history ends, where there are any.
-fn say_undecided(rt: &HostRuntime, rows: &[Vec<Row<Entry>>]) -> Result<(), Halt> {
+fn say_undecided(rt: &HostRuntime, rows: &[Vec<RecordedRow<Entry>>]) -> Result<(), Halt> {
     let undecided = undecided(rt.alloc(), rows)?;
     if undecided > 0 {
         println!(rt;
@@ -415,7 +416,7 @@ fn say_undecided(rt: &HostRuntime, rows: &[Vec<Row<Entry>>]) -> Result<(), Halt>
 /// Says that these recordings are one history, and how it ends.
 fn one_history(
     rt: &HostRuntime,
-    rows: &[Vec<Row<Entry>>],
+    rows: &[Vec<RecordedRow<Entry>>],
     found: &OneHistory<Entry, EntryCodec, EntryEpoch>,
 ) -> Result<u8, Halt> {
     let HistoryEnd { entries, boundary } = end_of_history::<Entry, _>(rt.alloc(), &found.log)?;
