@@ -5,7 +5,7 @@ use txn_store::request::{Reply, Request};
 
 /// One row of a client's recording. The client counts its operations from 1, in the order in which they begin, and has one at
 /// a time. Times are nanoseconds of one clock, which all clients of a machine read.
-pub enum Row<T> {
+pub enum RecordedRow<T> {
     /// The recording is of the client of this number, at least 1, whose listings have pages of at most so many files, at least 1.
     Client(u64, u64),
     /// The client begins a call as its operation of this number.
@@ -22,17 +22,17 @@ pub enum Row<T> {
     Answer(u64, String),
 }
 
-impl<T: Drop> Drop for Row<T> {
+impl<T: Drop> Drop for RecordedRow<T> {
     /// Drops what the row has: here, so that no crate above has to prove how each part is dropped.
     fn drop(self) {
         match self {
-            Row::Client(_, _) => {}
-            Row::Begin(_, _) => {}
-            Row::Ask(_, _, _) => {}
-            Row::Reply(_, _, _) => {}
-            Row::Failed(_, _) => {}
-            Row::GiveUp(_) => {}
-            Row::Answer(_, _) => {}
+            RecordedRow::Client(_, _) => {}
+            RecordedRow::Begin(_, _) => {}
+            RecordedRow::Ask(_, _, _) => {}
+            RecordedRow::Reply(_, _, _) => {}
+            RecordedRow::Failed(_, _) => {}
+            RecordedRow::GiveUp(_) => {}
+            RecordedRow::Answer(_, _) => {}
         }
     }
 }

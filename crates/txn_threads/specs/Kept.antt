@@ -55,7 +55,7 @@ module _ {T : Type 0} (encode : T → List ℕ) (decode : List ℕ → Option T)
   Replays journal state = Runs encode decode get_epoch set_epoch (opening state.clients state.page) (taken_of journal) state
 
   -- One row more, of this worker, event and what the world told of it; and the world took the event.
-  pub record AddsJournalRow {C E : Type 0} (old new : KeptState T C E) (worker : ℕ) (event : Event T) (told : Told T) : Type 0 where
+  pub record AddsEventRow {C E : Type 0} (old new : KeptState T C E) (worker : ℕ) (event : Event T) (told : Told T) : Type 0 where
     pub row : new.journal ≡ old.journal ++ record { worker = worker; event = event; told = told } ∷ []
     pub step : Takes encode decode get_epoch set_epoch old.world.state event told new.world.state
     pub codec : new.world.codec ≡ old.world.codec

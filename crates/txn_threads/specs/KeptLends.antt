@@ -7,7 +7,7 @@ use Rattle.txn_types.specs.declared.codec.ObjectCodec as codec
 use Rattle.txn_types.specs.declared.epoch.EpochField as epochs
 use Rattle.txn_history.specs.Trace.{Event, Told}
 use Rattle.txn_history.specs.declared.event.EventFault.{EventFault}
-use Rattle.txn_threads.specs.Kept.{KeptState, AddsJournalRow}
+use Rattle.txn_threads.specs.Kept.{KeptState, AddsEventRow}
 use Rattle.txn_threads.specs.contracts.kept.Kept.{the_row}
 
 module _ (T C E : RattleType) (clone : clone.Ghosts T.Denot) (codec : codec.Ghosts C.Denot T.Denot) (field : epochs.Ghosts E.Denot T.Denot) where
@@ -17,7 +17,7 @@ module _ (T C E : RattleType) (clone : clone.Ghosts T.Denot) (codec : codec.Ghos
 
   -- one row more, with what is lent; or all as it was
   abbrev pub Rests : KeptState T.Denot C.Denot E.Denot → ℕ → Event T.Denot → Result (Bor (Told T.Denot)) EventFault → KeptState T.Denot C.Denot E.Denot → Type 0
-  Rests old worker event r new = MatchResult r (λ told. AddsJournalRow (codec.encoded old.world.codec) (codec.decoded old.world.codec) (field.epoch_of old.world.epochs) (field.with_epoch old.world.epochs) old new worker event told.now) (λ _. new ≡ old)
+  Rests old worker event r new = MatchResult r (λ told. AddsEventRow (codec.encoded old.world.codec) (codec.decoded old.world.codec) (field.epoch_of old.world.epochs) (field.with_epoch old.world.epochs) old new worker event told.now) (λ _. new ≡ old)
 
   abbrev pub ends_taken : MutBor (KeptState T.Denot C.Denot E.Denot) → ℕ → Event T.Denot → Result (Bor (Told T.Denot)) EventFault → Fml
   ends_taken kept worker event r = follows_so kept_row kept_row kept.ghost_name none (λ _ _. ⊤) (Rests kept.now worker event r)

@@ -18,7 +18,7 @@ use txn_world::world::World;
 
 /// One event that a worker took, and what it told.
 #[derive(Debug, Drop)]
-pub struct JournalRow<T> {
+pub struct EventRow<T> {
     pub worker: u64,
     pub event: Event<T>,
     pub told: Told<T>,
@@ -57,7 +57,7 @@ impl Share {
 pub struct Kept<T: Clone, C: ObjectCodec<T> + Drop, E: EpochField<T>> {
     world: World<T, C, E>,
     workers: u64,
-    journal: Vec<JournalRow<T>>,
+    journal: Vec<EventRow<T>>,
     /// Room for the count of each worker's rows: all 0 until the end of the run.
     counts: Vec<u64>,
 }
@@ -105,7 +105,7 @@ fn count_row(counts: &mut [u64], worker: u64)
 }
 
 /// Counts the rows of each worker, where nothing is counted yet.
-fn count_rows<T>(counts: &mut [u64], journal: &[JournalRow<T>])
+fn count_rows<T>(counts: &mut [u64], journal: &[EventRow<T>])
     requires { AreZeros (length counts.old) counts.old }
     ensures { AreCounts (length counts.old) journal.now counts.new }
 {
@@ -122,7 +122,7 @@ impl<T: Clone, C: ObjectCodec<T> + Drop, E: EpochField<T>> Kept<T, C, E> {
     ghost use Rattle.txn_history.specs.Trace.{Told};
     ghost use Rattle.txn_machine_inner.specs.Doing.{asks_as};
     ghost use Rattle.txn_machine.specs.Machine.{opening, seen_calls, next_event};
-    ghost use Rattle.txn_threads.specs.Kept.{IsRefusedAs, due_fault, one_more, AreFirst, AddsJournalRow, IsLastTold, Replays, AreCounts};
+    ghost use Rattle.txn_threads.specs.Kept.{IsRefusedAs, due_fault, one_more, AreFirst, AddsEventRow, IsLastTold, Replays, AreCounts};
     ghost use Rattle.txn_threads.specs.KeptLends.{ends_taken};
 
     /// Keeps a world in which nothing has happened, for workers 1 to `workers`, of which there are as
@@ -153,7 +153,7 @@ impl<T: Clone, C: ObjectCodec<T> + Drop, E: EpochField<T>> Kept<T, C, E> {
     /// the world takes it.
     fn add(&mut self, worker: u64, event: Event<T>) -> Result<(), EventFault>
         requires { IsExactClone T.is_clone }
-        ensures ok { OnOk result ((told : Told T) × AddsJournalRow (C.encoded self.old.world.codec) (C.decoded self.old.world.codec) (E.epoch_of self.old.world.epochs) (E.with_epoch self.old.world.epochs) self.old self.new worker event told) }
+        ensures ok { OnOk result ((told : Told T) × AddsEventRow (C.encoded self.old.world.codec) (C.decoded self.old.world.codec) (E.epoch_of self.old.world.epochs) (E.with_epoch self.old.world.epochs) self.old self.new worker event told) }
         ensures refused { IsRefusedAs (due_fault (C.encoded self.old.world.codec) (C.decoded self.old.world.codec) (E.epoch_of self.old.world.epochs) (E.with_epoch self.old.world.epochs) self.old.world event) result }
         ensures err { OnErr result (self.new ≡ self.old) }
     {
@@ -166,7 +166,7 @@ impl<T: Clone, C: ObjectCodec<T> + Drop, E: EpochField<T>> Kept<T, C, E> {
         let told = self.world.take(event)?;
         push_within(
             &mut self.journal,
-            JournalRow {
+            EventRow {
                 worker,
                 event: copy,
                 told,
@@ -243,7 +243,7 @@ impl<T: Clone, C: ObjectCodec<T> + Drop, E: EpochField<T>> Kept<T, C, E> {
     }
 
     /// What the workers did, event by event.
-    pub fn journal(&self) -> &[JournalRow<T>]
+    pub fn journal(&self) -> &[EventRow<T>]
         ensures { result.now ≡ self.now.journal }
     {
         self.journal.as_slice()
