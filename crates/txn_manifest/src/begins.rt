@@ -27,7 +27,7 @@ pub(crate) fn is_manifest_call(call: &Call<Manifest>) -> bool
 }
 
 /// An update of a view by a value, or of a holder, whichever it is.
-fn update(view: &View<Manifest>, number: u64, value: Manifest) -> Call<Manifest>
+pub(crate) fn update(view: &View<Manifest>, number: u64, value: Manifest) -> Call<Manifest>
     ensures { result ≡ update_call view.now number value }
 {
     if view.epoch.is_some() {
@@ -38,7 +38,7 @@ fn update(view: &View<Manifest>, number: u64, value: Manifest) -> Call<Manifest>
 }
 
 /// A view's object with other pins.
-fn with_pins(view: &View<Manifest>, pins: Pins) -> Manifest
+pub(crate) fn with_pins(view: &View<Manifest>, pins: Pins) -> Manifest
     ensures { result ≡ with_pins view.now.object pins }
 {
     Manifest {

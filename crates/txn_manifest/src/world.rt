@@ -3,16 +3,19 @@ ghost use Rattle.std.specs.Prelude.{◌≡◌, ◌≤◌, ℕ, [], true, nat_eq,
 ghost use Rattle.std.specs.Option.{option_copied};
 ghost use Rattle.txn_machine.specs.Machine.{opening, seen_of};
 ghost use Rattle.std.specs.List.{list_any};
+ghost use Rattle.txn_history.specs.Allowed.{fault_of};
 ghost use Rattle.txn_history.specs.History.{newest, IsEntry};
+ghost use Rattle.txn_history.specs.declared.event.EventOf.TheVariants as events;
 ghost use Rattle.txn_manifest.specs.declared.manifest.Manifest.{Manifest};
 ghost use Rattle.txn_manifest.specs.declared.event.ManifestEvent.TheVariants.{Checkpoint, Release, SetPayload, Fence, Sweep};
 ghost use Rattle.txn_manifest.specs.declared.event.ManifestEvent.TheVariants as made;
 ghost use Rattle.txn_manifest.specs.Text.{manifest_text, manifest_read};
-ghost use Rattle.txn_manifest.specs.Events.{manifest_fault, IsRefusedAs};
+ghost use Rattle.txn_manifest.specs.Events.{manifest_fault, manifest_fault_met, update_call};
+ghost use Rattle.txn_manifest.specs.Manifest.{epoch_of};
 ghost use Rattle.txn_manifest.specs.Runs.{ManifestTakes, IsMadeAs, IsOwnView};
 ghost use Rattle.txn_manifest.specs.Laws.{PinsAreOlder, PinnedAreKept, IsKept};
 
-use crate::begins::{checkpoint, is_manifest_call, release, set_payload};
+use crate::begins::{checkpoint, is_manifest_call, release, set_payload, update, with_pins};
 use crate::event::{ManifestEvent, ManifestFault};
 use crate::manifest::{Manifest, ManifestCodec, ManifestEpoch};
 use crate::pins::Pins;
@@ -40,7 +43,7 @@ fn own_view(world: &Manifests, client: u64, number: u64) -> Option<&View<Manifes
 
 /// An event of the world, unless it is the begin of a call that is not of manifests.
 fn make_plain(world: &Manifests, event: Event<Manifest>) -> Made
-    ensures { IsMadeAs world.now.state (made.World event) result }
+    ensures { IsMadeAs manifest_read world.now.state (made.World event) result }
 {
     if let Event::Begin(_, call) = &event {
         if !is_manifest_call(call) {
@@ -50,12 +53,35 @@ fn make_plain(world: &Manifests, event: Event<Manifest>) -> Made
     Ok(event)
 }
 
+/// Why the client's update of this view would be refused, where it would, by any object of the same epoch.
+fn update_refusal(
+    alloc: Global,
+    world: &Manifests,
+    view: &View<Manifest>,
+    client: u64,
+    number: u64,
+) -> Option<EventFault>
+    ensures { (value : Manifest) → value.epoch ≡ view.now.object.epoch → result ≡ fault_of manifest_read epoch_of (seen_of world.now.state) world.now.state.trace (events.Begin client (update_call view.now number value)) }
+{
+    let event = Event::Begin(
+        client,
+        update(view, number, with_pins(view, Pins::none(alloc))),
+    );
+    let fault = world.refusal(&event);
+    // By a call: in place, the proof would follow each call that may be dropped here.
+    drop(event);
+    fault
+}
+
 fn make_checkpoint(alloc: Global, world: &Manifests, client: u64, number: u64) -> Made
-    ensures { IsMadeAs world.now.state (Checkpoint client number) result }
+    ensures { IsMadeAs manifest_read world.now.state (Checkpoint client number) result }
 {
     let Some(view) = own_view(world, client, number) else {
         return Err(ManifestFault::World(EventFault::UnknownNumber));
     };
+    if let Some(fault) = update_refusal(alloc, world, view, client, number) {
+        return Err(ManifestFault::World(fault));
+    }
     match checkpoint(alloc, view, client, number) {
         Ok(event) => Ok(event),
         Err(_) => Err(ManifestFault::World(EventFault::NoMemory)),
@@ -63,7 +89,7 @@ fn make_checkpoint(alloc: Global, world: &Manifests, client: u64, number: u64) -
 }
 
 fn make_release(alloc: Global, world: &Manifests, client: u64, number: u64, id: u64) -> Made
-    ensures { IsMadeAs world.now.state (Release client number id) result }
+    ensures { IsMadeAs manifest_read world.now.state (Release client number id) result }
 {
     let Some(view) = own_view(world, client, number) else {
         return Err(ManifestFault::World(EventFault::UnknownNumber));
@@ -72,18 +98,24 @@ fn make_release(alloc: Global, world: &Manifests, client: u64, number: u64, id: 
     if !pinned && !world.is_busy(number) {
         return Err(ManifestFault::NotPinned);
     }
+    if let Some(fault) = update_refusal(alloc, world, view, client, number) {
+        return Err(ManifestFault::World(fault));
+    }
     match release(alloc, view, client, number, id) {
         Ok(event) => Ok(event),
         Err(_) => Err(ManifestFault::World(EventFault::NoMemory)),
     }
 }
 
-fn make_payload(world: &Manifests, client: u64, number: u64, payload: u64) -> Made
-    ensures { IsMadeAs world.now.state (SetPayload client number payload) result }
+fn make_payload(alloc: Global, world: &Manifests, client: u64, number: u64, payload: u64) -> Made
+    ensures { IsMadeAs manifest_read world.now.state (SetPayload client number payload) result }
 {
     let Some(view) = own_view(world, client, number) else {
         return Err(ManifestFault::World(EventFault::UnknownNumber));
     };
+    if let Some(fault) = update_refusal(alloc, world, view, client, number) {
+        return Err(ManifestFault::World(fault));
+    }
     match set_payload(view, client, number, payload) {
         Ok(event) => Ok(event),
         Err(_) => Err(ManifestFault::World(EventFault::NoMemory)),
@@ -91,7 +123,7 @@ fn make_payload(world: &Manifests, client: u64, number: u64, payload: u64) -> Ma
 }
 
 fn make_fence(world: &Manifests, client: u64, number: u64) -> Made
-    ensures { IsMadeAs world.now.state (Fence client number) result }
+    ensures { IsMadeAs manifest_read world.now.state (Fence client number) result }
 {
     let Some(view) = own_view(world, client, number) else {
         return Err(ManifestFault::World(EventFault::UnknownNumber));
@@ -101,7 +133,7 @@ fn make_fence(world: &Manifests, client: u64, number: u64) -> Made
 }
 
 fn make_sweep(world: &Manifests, client: u64, number: u64, id: u64) -> Made
-    ensures { IsMadeAs world.now.state (Sweep client number id) result }
+    ensures { IsMadeAs manifest_read world.now.state (Sweep client number id) result }
 {
     let Some(view) = own_view(world, client, number) else {
         return Err(ManifestFault::World(EventFault::UnknownNumber));
@@ -114,7 +146,7 @@ fn make_sweep(world: &Manifests, client: u64, number: u64, id: u64) -> Made
 
 /// The event of the world that an event of manifests is.
 fn make(alloc: Global, world: &Manifests, event: ManifestEvent) -> Made
-    ensures { IsMadeAs world.now.state event result }
+    ensures { IsMadeAs manifest_read world.now.state event result }
 {
     match event {
         ManifestEvent::World(event) => make_plain(world, event),
@@ -123,7 +155,7 @@ fn make(alloc: Global, world: &Manifests, event: ManifestEvent) -> Made
             alloc, world, client, number, id,
         ),
         ManifestEvent::SetPayload(client, number, payload) => {
-            make_payload(world, client, number, payload)
+            make_payload(alloc, world, client, number, payload)
         }
         ManifestEvent::Fence(client, number) => make_fence(world, client, number),
         ManifestEvent::Sweep(client, number, id) => make_sweep(world, client, number, id),
@@ -180,9 +212,9 @@ impl ManifestWorld {
     /// ([`ManifestFault::NotOfManifest`]); the view is there and is the client's (`UnknownNumber`); no operation uses a view
     /// that is updated (`ViewBusy`); the id of a release is pinned ([`ManifestFault::NotPinned`]); the id of a sweep is
     /// below that of the view and not pinned ([`ManifestFault::Needed`]); and then those of the world. `NoMemory` comes only
-    /// where a growth was refused, and may stand in the place of another fault.
+    /// where a growth was refused, and where no other fault is due.
     pub fn take(&mut self, event: ManifestEvent) -> Result<Told<Manifest>, ManifestFault>
-        ensures refused { IsRefusedAs (manifest_fault manifest_read (seen_of self.old.state) self.old.state.trace event) result }
+        ensures refused { manifest_fault_met result ≡ manifest_fault manifest_read (seen_of self.old.state) self.old.state.trace event }
         ensures err { OnErr result (self.new ≡ self.old) }
         // The step, by that of the world.
         ensures ok { IfOk result (λ told. ManifestTakes manifest_text manifest_read self.old.state event told self.new.state) }
