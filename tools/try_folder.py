@@ -236,10 +236,16 @@ def claims(program, root, _seconds):
     for shell in (older, newer):
         shell.end()
     expect(it.run("put", "--epoch", "1", "old")[0] == 16, "a put of the older epoch is not fenced")
+    expect(it.run("put", "--epoch", "3", "early")[0] == 17, "a put of an epoch that nobody claimed is not refused")
     expect(it.run("put", "--epoch", "2", "newer") == (0, "5\n"), "a put of the newer epoch is refused")
     expect(it.run("get") == (0, "newer"), "the newest value is not read")
+    expect(it.run("get", "--id") == (0, "5 2\n"), "the newest id and epoch are not printed")
     expect(it.run("put", "--base", "4", "late")[0] == 15, "a put on an old base is no conflict")
-    agrees(it, 5)
+    expect(it.run("put", "--base", "5", "--epoch", "1", "old")[0] == 16, "a put of the older epoch on the newest is not fenced")
+    expect(it.run("put", "--base", "5", "--epoch", "2", "on") == (0, "6\n"), "a put of the newer epoch on the newest is refused")
+    expect(it.run("claim", "--epoch", "2")[0] == 16, "a claim of an epoch that stands is not refused")
+    expect(it.run("claim", "--epoch", "7") == (0, "7 7\n"), "a claim of a greater epoch is refused")
+    agrees(it, 7)
     return ["the older of two claimers is fenced, and audited"]
 
 
