@@ -3,7 +3,7 @@ use Rattle.std.proofs.lemmas.List.{take_all}
 use Rattle.txn_clients.specs.Operations.{loose_of}
 use Rattle.txn_world.specs.Running.{requests_left}
 use Rattle.txn_world.proofs.Running.{one_left}
-use Rattle.txn_world.proofs.clients.left_of.Goals as goal
+use Rattle.txn_world.proofs.clients.requests_left.Goals as goal
 
 pub loop-op-preserved : goal.loop-op-preserved
 loop-op-preserved g c =

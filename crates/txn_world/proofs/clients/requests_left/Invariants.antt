@@ -1,6 +1,6 @@
 use Rattle.std.proofs.Common.{◌≡◌, take}
 use Rattle.txn_world.specs.Running.{requests_left}
-use Rattle.txn_world.proofs.clients.left_of.Given as goal
+use Rattle.txn_world.proofs.clients.requests_left.Given as goal
 
 -- the requests of the operations so far
 abbrev pub invariant-loop-op : goal.invariant-loop-op
