@@ -8,12 +8,13 @@ use Rattle.std.proofs.lemmas.Option.{same_Some}
 use Rattle.std.proofs.Math.Bool.{or-true}
 use Rattle.txn_types.specs.Numbers.{number_of}
 use Rattle.txn_history.specs.declared.event.PlainCall.{PlainCall}
+use Rattle.txn_history.specs.declared.event.PlainCall.TheVariants as plain_calls
 use Rattle.txn_history.specs.declared.event.EventOf.TheVariants as events
 use Rattle.txn_history.specs.declared.event.EventFault.TheVariants as faults
 use Rattle.txn_history.specs.declared.trace.RowOf.TheVariants.{Effect, Begun, Answered}
 use Rattle.txn_history.specs.Lists.{numbered}
 use Rattle.txn_history.specs.History.{versions_of, epoch_at, epoch_in}
-use Rattle.txn_history.specs.Calls.{begun_count, view_used, is_holders, tells, tells_id, was_told}
+use Rattle.txn_history.specs.Calls.{begun_count, plain_has_low_boundary, view_used, is_holders, tells, tells_id, was_told}
 use Rattle.txn_history.specs.Facts.{is_high}
 use Rattle.txn_history.specs.Allowed.{first_fault, is_client, is_own, may_use, is_busy, id_seen, base_seen, fault_of}
 use Rattle.txn_history.proofs.Entries.{Front, fronts_of, read_within}
@@ -44,6 +45,22 @@ passed true true true true false e = cc
 passed true true true true true e = record { one_is = refl; three_is = refl; four_is = refl; five_is = refl }
 
 module _ {T : Type 0} where
+  -- a boundary that is low by one test is so by another that whatever passes the one passes
+  pub plain_low : (one other : ℕ → Bool) → ((to : ℕ) → one to ≡ true → other to ≡ true) → (call : PlainCall T) → plain_has_low_boundary one call ≡ true → plain_has_low_boundary other call ≡ true
+  plain_low one other passes (plain_calls.Advance to) e = either (to == 0) (one to) (other to) (passes to) e
+    where
+      either : (a b c : Bool) → (b ≡ true → c ≡ true) → (a || b) ≡ true → (a || c) ≡ true
+      either true b c f h = refl
+      either false b c f h = f h
+  plain_low one other passes (plain_calls.Write base value) e = refl
+  plain_low one other passes (plain_calls.WriteUnchecked base value) e = refl
+  plain_low one other passes plain_calls.Read e = refl
+  plain_low one other passes (plain_calls.ReadUnchecked id) e = refl
+  plain_low one other passes (plain_calls.ReadSeen id) e = refl
+  plain_low one other passes (plain_calls.ListIds from to) e = refl
+  plain_low one other passes (plain_calls.Delete id) e = refl
+  plain_low one other passes (plain_calls.Check id) e = refl
+
   shown_told : (view n : ℕ) (answer : Answer T) → id_shown view answer ≡ Some n → tells_id (nat_eq n) answer ≡ true
   shown_told view n (answers.View shown id value) e = (let q = if_some (shown == view) id n e in eq-eqb n id (sym q))
     where

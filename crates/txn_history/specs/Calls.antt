@@ -1,6 +1,7 @@
 -- The calls of a trace: when each began and ended, which views it uses, what it writes, and which ids were answered.
-use Rattle.std.specs.Prelude.{◌≡◌, ℕ, List, [], ◌∷◌, ◌+◌, ◌≤◌, ◌==◌, nat_eq, nat_lt, Bool, true, false, Option, Some, None, length, take, slice_get, if◌then◌else◌}
+use Rattle.std.specs.Prelude.{◌≡◌, ℕ, List, [], ◌∷◌, ◌+◌, ◌≤◌, ◌==◌, ◌||◌, nat_eq, nat_lt, Bool, true, false, Option, Some, None, length, take, slice_get, if◌then◌else◌}
 use Rattle.std.specs.List.{list_any}
+use Rattle.txn_history.specs.declared.event.PlainCall.{PlainCall}
 use Rattle.txn_history.specs.declared.event.PlainCall.TheVariants as plain_calls
 use Rattle.txn_history.specs.declared.event.PlainAnswer.{PlainAnswer}
 use Rattle.txn_history.specs.declared.event.PlainAnswer.TheVariants as plain_answers
@@ -59,6 +60,42 @@ module _ {C A : Type 0} where
   answers_so test (Begun op call) = false
 
 module _ {T : Type 0} where
+  -- the base that a plain call writes on
+  abbrev pub plain_base_of : PlainCall T → Option ℕ
+  plain_base_of (plain_calls.Write base value) = base
+  plain_base_of (plain_calls.WriteUnchecked base value) = base
+  plain_base_of plain_calls.Read = None
+  plain_base_of (plain_calls.ReadUnchecked id) = None
+  plain_base_of (plain_calls.ReadSeen id) = None
+  plain_base_of (plain_calls.ListIds from to) = None
+  plain_base_of (plain_calls.Delete id) = None
+  plain_base_of (plain_calls.Check id) = None
+  plain_base_of (plain_calls.Advance to) = None
+
+  -- the value that a plain call asks to write on its base
+  abbrev pub plain_value_written : PlainCall T → Option T
+  plain_value_written (plain_calls.Write base value) = Some value
+  plain_value_written (plain_calls.WriteUnchecked base value) = Some value
+  plain_value_written plain_calls.Read = None
+  plain_value_written (plain_calls.ReadUnchecked id) = None
+  plain_value_written (plain_calls.ReadSeen id) = None
+  plain_value_written (plain_calls.ListIds from to) = None
+  plain_value_written (plain_calls.Delete id) = None
+  plain_value_written (plain_calls.Check id) = None
+  plain_value_written (plain_calls.Advance to) = None
+
+  -- a boundary that a plain call advances to is 0, or passes the test
+  abbrev pub plain_has_low_boundary : (ℕ → Bool) → PlainCall T → Bool
+  plain_has_low_boundary low (plain_calls.Advance to) = to == 0 || low to
+  plain_has_low_boundary low (plain_calls.Write base value) = true
+  plain_has_low_boundary low (plain_calls.WriteUnchecked base value) = true
+  plain_has_low_boundary low plain_calls.Read = true
+  plain_has_low_boundary low (plain_calls.ReadUnchecked id) = true
+  plain_has_low_boundary low (plain_calls.ReadSeen id) = true
+  plain_has_low_boundary low (plain_calls.ListIds from to) = true
+  plain_has_low_boundary low (plain_calls.Delete id) = true
+  plain_has_low_boundary low (plain_calls.Check id) = true
+
   -- an answer of a plain call tells an id that passes the test
   abbrev pub plain_tells_id : (ℕ → Bool) → PlainAnswer T → Bool
   plain_tells_id test (plain_answers.Wrote id) = test id
@@ -102,16 +139,8 @@ module _ {T : Type 0} where
 
   -- the value that a call asks to write on its base, but for a holder, whose value has to have its epoch
   abbrev pub value_written : Call T → Option T
-  value_written (calls.Plain (plain_calls.Write base value)) = Some value
-  value_written (calls.Plain (plain_calls.WriteUnchecked base value)) = Some value
+  value_written (calls.Plain call) = plain_value_written call
   value_written (calls.View (view_calls.Update view value)) = Some value
-  value_written (calls.Plain plain_calls.Read) = None
-  value_written (calls.Plain (plain_calls.ReadUnchecked id)) = None
-  value_written (calls.Plain (plain_calls.ReadSeen id)) = None
-  value_written (calls.Plain (plain_calls.ListIds from to)) = None
-  value_written (calls.Plain (plain_calls.Delete id)) = None
-  value_written (calls.Plain (plain_calls.Check id)) = None
-  value_written (calls.Plain (plain_calls.Advance to)) = None
   value_written (calls.View (view_calls.Init value)) = None
   value_written (calls.View view_calls.Load) = None
   value_written (calls.View (view_calls.Refresh view)) = None

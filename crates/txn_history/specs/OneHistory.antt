@@ -1,12 +1,12 @@
 -- One history: when a row fits the rows before it.
-use Rattle.std.specs.Prelude.{◌≡◌, ◌≢◌, ℕ, List, ◌+◌, ◌<◌, ◌≤◌, ◌⊎◌, ◌==◌, ◌&&◌, ◌||◌, not, Bool, true, false, if◌then◌else◌, Option, Some, None, is_some, take, slice_get}
+use Rattle.std.specs.Prelude.{◌≡◌, ◌≢◌, ℕ, List, ◌+◌, ◌<◌, ◌≤◌, ◌⊎◌, ◌&&◌, not, Bool, true, false, if◌then◌else◌, Option, Some, None, is_some, take, slice_get}
 use Rattle.txn_store.specs.declared.request.Request.{Request}
 use Rattle.txn_types.specs.Numbers.{number_of}
 use Rattle.txn_history.specs.declared.event.PlainCall.TheVariants as plain_calls
 use Rattle.txn_history.specs.declared.event.PlainAnswer.TheVariants as plain_answers
 use Rattle.txn_history.specs.declared.trace.RowOf.TheVariants.{Effect, Begun, Answered}
 use Rattle.txn_history.specs.History.{newest, IsEntry, epoch_at}
-use Rattle.txn_history.specs.Calls.{was_answered, IsCall, begun_count, before_begin, view_used, is_holders, value_written, was_told, is_below_told}
+use Rattle.txn_history.specs.Calls.{was_answered, IsCall, begun_count, before_begin, plain_base_of, plain_has_low_boundary, view_used, is_holders, value_written, was_told, is_below_told}
 use Rattle.txn_history.specs.Facts.{base_on, is_high, greatest, Entered, WasNewest, WasEmpty, NoTokens, WriteRefused, FailureFits, PlainSucceeds, PlainRefuses}
 use Rattle.txn_history.specs.declared.event.ViewCall.TheVariants as view_calls
 use Rattle.txn_history.specs.declared.event.Call.{Call}
@@ -29,15 +29,7 @@ is_known_base rows (Some n) = was_told rows n
 module _ {T : Type 0} where
   -- the base that a call writes on, by where its view stands: the view's id for an update
   abbrev pub base_of : Option ℕ → Call T → Option ℕ
-  base_of at (calls.Plain (plain_calls.Write base value)) = base
-  base_of at (calls.Plain (plain_calls.WriteUnchecked base value)) = base
-  base_of at (calls.Plain plain_calls.Read) = None
-  base_of at (calls.Plain (plain_calls.ReadUnchecked id)) = None
-  base_of at (calls.Plain (plain_calls.ReadSeen id)) = None
-  base_of at (calls.Plain (plain_calls.ListIds from to)) = None
-  base_of at (calls.Plain (plain_calls.Delete id)) = None
-  base_of at (calls.Plain (plain_calls.Check id)) = None
-  base_of at (calls.Plain (plain_calls.Advance to)) = None
+  base_of at (calls.Plain call) = plain_base_of call
   base_of at (calls.View (view_calls.Update view value)) = at
   base_of at (calls.View (view_calls.HolderUpdate view value)) = at
   base_of at (calls.View (view_calls.Init value)) = None
@@ -62,15 +54,7 @@ module _ {T : Type 0} where
 
   -- a boundary to advance to is 0, or below an id that some call answered
   abbrev pub has_low_boundary : List (Row T) → Call T → Bool
-  has_low_boundary rows (calls.Plain (plain_calls.Advance to)) = to == 0 || is_below_told rows to
-  has_low_boundary rows (calls.Plain (plain_calls.Write base value)) = true
-  has_low_boundary rows (calls.Plain (plain_calls.WriteUnchecked base value)) = true
-  has_low_boundary rows (calls.Plain plain_calls.Read) = true
-  has_low_boundary rows (calls.Plain (plain_calls.ReadUnchecked id)) = true
-  has_low_boundary rows (calls.Plain (plain_calls.ReadSeen id)) = true
-  has_low_boundary rows (calls.Plain (plain_calls.ListIds from to)) = true
-  has_low_boundary rows (calls.Plain (plain_calls.Delete id)) = true
-  has_low_boundary rows (calls.Plain (plain_calls.Check id)) = true
+  has_low_boundary rows (calls.Plain call) = plain_has_low_boundary (is_below_told rows) call
   has_low_boundary rows (calls.View call) = true
 
   -- the view that a call uses was shown, and is a holder exactly where the call is a holder's

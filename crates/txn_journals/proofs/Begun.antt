@@ -1,9 +1,8 @@
 -- A begin: what a client permits the world allows, and the new operation is the client's.
-use Rattle.std.proofs.Common.{◌≡◌, ℕ, zero, suc, ◌≤◌, List, [], ◌∷◌, length, slice_get, ◌==◌, ◌&&◌, ◌||◌, not, is_some, Bool, true, false, Option, Some, None, option_map, refl, sym, ◌∙◌, ap, arith}
+use Rattle.std.proofs.Common.{◌≡◌, ℕ, zero, suc, ◌≤◌, List, [], ◌∷◌, length, slice_get, ◌&&◌, not, is_some, Bool, true, false, Option, Some, None, option_map, refl, sym, ◌∙◌, ap, arith}
 use Rattle.std.proofs.lemmas.Bool.{lt-ltb, le-leb}
 use Rattle.std.proofs.lemmas.Option.{same_Some, slice_get-map}
 use Rattle.txn_types.specs.Numbers.{number_of}
-use Rattle.txn_history.specs.declared.event.PlainCall.TheVariants as calls
 use Rattle.txn_history.specs.declared.event.EventOf.TheVariants as events
 use Rattle.txn_history.specs.declared.event.EventFault.{EventFault}
 use Rattle.txn_history.specs.declared.event.EventFault.TheVariants as faults
@@ -15,9 +14,10 @@ use Rattle.txn_machine_inner.proofs.Lists.{within}
 use Rattle.txn_history.specs.declared.event.Call.{Call}
 use Rattle.txn_history.specs.declared.event.Call.TheVariants as any
 use Rattle.txn_history.specs.Views.{View}
-use Rattle.txn_history.specs.Calls.{view_used, is_holders, value_written}
+use Rattle.txn_history.specs.Calls.{is_below_told, view_used, is_holders, value_written}
 use Rattle.txn_history.specs.Seen.{view_in, view_of}
 use Rattle.txn_history.specs.OneHistory.{base_of, is_known_base, has_low_boundary, keeps_epoch}
+use Rattle.txn_history.proofs.Begins.{plain_low}
 use Rattle.txn_machine_views.specs.Layer.{Used}
 use Rattle.txn_machine.specs.Machine.{State, seen_view, seen_views, seen_of, used_in, used_by, view_now, refusal_of, IsReached}
 use Rattle.txn_machine.proofs.Busy.{reached_busy}
@@ -179,20 +179,8 @@ module _ {T : Type 0} (encode : T → List ℕ) (decode : List ℕ → Option T)
   low : has_low_boundary s.trace call' ≡ true
   low = (by_client.same names call).low s.trace ∙ by call ok.four_is
     where
-      either : (a b c : Bool) → (b ≡ true → c ≡ true) → (a || b) ≡ true → (a || c) ≡ true
-      either true b c f h = refl
-      either false b c f h = f h
-
       by : (c : Call T) → is_low part.told c ≡ true → has_low_boundary s.trace c ≡ true
-      by (any.Plain (calls.Advance to)) h = either (to == 0) (is_below_known part.told to) (Rattle.txn_history.specs.Calls.is_below_told s.trace to) (below_known decode get_epoch s.trace part.told to t.told) h
-      by (any.Plain (calls.Write b v)) h = refl
-      by (any.Plain (calls.WriteUnchecked b v)) h = refl
-      by (any.Plain calls.Read) h = refl
-      by (any.Plain (calls.ReadUnchecked id)) h = refl
-      by (any.Plain (calls.ReadSeen id)) h = refl
-      by (any.Plain (calls.ListIds from to)) h = refl
-      by (any.Plain (calls.Delete id)) h = refl
-      by (any.Plain (calls.Check id)) h = refl
+      by (any.Plain c) h = plain_low (is_below_known part.told) (is_below_told s.trace) (λ to. below_known decode get_epoch s.trace part.told to t.told) c h
       by (any.View c) h = refl
 
   keeps : keeps_epoch decode get_epoch s.trace (base_seen (seen_of s) call') call' ≡ true

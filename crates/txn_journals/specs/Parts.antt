@@ -16,7 +16,7 @@ use Rattle.txn_history.specs.declared.event.Call.{Call}
 use Rattle.txn_history.specs.declared.event.Call.TheVariants as any
 use Rattle.txn_history.specs.declared.event.Answer.{Answer}
 use Rattle.txn_history.specs.declared.event.Answer.TheVariants as answers
-use Rattle.txn_history.specs.Calls.{view_used, is_holders, value_written}
+use Rattle.txn_history.specs.Calls.{plain_has_low_boundary, view_used, is_holders, value_written}
 use Rattle.txn_history.specs.Seen.{AllSeen}
 use Rattle.txn_machine_views.specs.Layer.{Used}
 use Rattle.txn_machine_views.specs.Steps.{view_without}
@@ -73,8 +73,8 @@ written_in (Some written) = written
 module _ {T : Type 0} where
   -- a boundary to advance to is 0, or below an id that a checked call answered
   abbrev pub is_low : List (ℕ × ℕ) → Call T → Bool
-  is_low told (any.Plain (calls.Advance to)) = to == 0 || is_below_known told to
-  is_low told _ = true
+  is_low told (any.Plain call) = plain_has_low_boundary (is_below_known told) call
+  is_low told (any.View call) = true
 
   -- an operation runs on the view
   abbrev pub is_in_use : Option (Used T) → Bool

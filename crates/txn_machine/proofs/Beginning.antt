@@ -1,9 +1,9 @@
 -- A begin that is allowed keeps a world joined.
-use Rattle.std.proofs.Common.{◌≡◌, ◌≢◌, ℕ, ◌+◌, ◌-◌, ◌<◌, ◌≤◌, List, [], ◌∷◌, ◌++◌, length, set, slice_set, nat_eq, nat_lt, nat_le, not, is_some, Bool, true, false, ◌==◌, ◌&&◌, Option, Some, None, inl, inr, refl, sym, ◌∙◌, ap, subst, arith}
+use Rattle.std.proofs.Common.{◌≡◌, ◌≢◌, ℕ, ◌+◌, ◌-◌, ◌<◌, ◌≤◌, List, [], ◌∷◌, ◌++◌, length, set, slice_set, nat_eq, nat_lt, not, is_some, Bool, true, false, ◌==◌, ◌&&◌, Option, Some, None, inl, inr, refl, sym, ◌∙◌, ap, subst, arith}
 use Rattle.std.specs.List.{list_any}
 use Rattle.std.specs.Option.{option_map}
 use Rattle.std.proofs.lemmas.List.{length-append, length-set, length-map}
-use Rattle.std.proofs.lemmas.Bool.{cases_Bool, both_ways, or_cases, eqb-true}
+use Rattle.std.proofs.lemmas.Bool.{cases_Bool, both_ways, eqb-true}
 use Rattle.std.proofs.lemmas.Option.{same_Some}
 use Rattle.txn_store.specs.declared.request.Request.{Request}
 use Rattle.txn_types.specs.Numbers.{number_of}
@@ -18,7 +18,8 @@ use Rattle.txn_history.specs.Lists.{numbered}
 use Rattle.txn_history.specs.Allowed.{is_client, first_fault, is_own, may_use, is_busy, base_seen, fault_of}
 use Rattle.txn_history.specs.History.{epoch_at}
 use Rattle.txn_machine_inner.specs.PlainHistory.{tells as plain_tells}
-use Rattle.txn_history.specs.Calls.{was_begun, begun_count, tells as any_tells, view_used, is_holders}
+use Rattle.txn_history.specs.Calls.{was_begun, begun_count, plain_base_of, plain_value_written, is_below_told, view_used, is_holders}
+use Rattle.txn_history.specs.Facts.{is_high}
 use Rattle.txn_machine_inner.specs.PlainHistory as plain_history
 use Rattle.txn_history.specs.Added.{answer_rows}
 use Rattle.txn_machine_inner.specs.Doing as plain
@@ -33,7 +34,7 @@ use Rattle.txn_history.specs.Seen.{view_in}
 use Rattle.txn_history.specs.Views.{View, ViewsFit, ViewFits}
 use Rattle.txn_history.specs.OneHistory as history
 use Rattle.txn_history.specs.OneHistory.{agree}
-use Rattle.txn_history.proofs.Begins.{opens_next}
+use Rattle.txn_history.proofs.Begins.{opens_next, plain_low}
 use Rattle.txn_machine_views.specs.Layer.{Used, Inner, Starts, Layer, Next, Goes, look_up, local_of, with_busy, set_used, starting, opened, turned}
 use Rattle.txn_machine_views.specs.Parts as parts
 use Rattle.txn_machine_views.specs.Parts.{plain_inner, HasEpoch, OrLacking}
@@ -54,7 +55,6 @@ use Rattle.txn_machine.proofs.Matched.{HasView, NextAs, Answered as IsAnswered}
 use Rattle.txn_machine.proofs.PlainTurns.{plain_start}
 use Rattle.txn_machine.proofs.Starts.{every_start}
 use Rattle.txn_machine.proofs.Joined.{Past, as_laid, IsTold, ToldBy, ViewTold, At, LooseAt, Joined, Open}
-use Rattle.txn_machine.proofs.Renamed.{or_left, or_right}
 use Rattle.txn_machine.proofs.Rows.{core_row, core_views, does_row}
 use Rattle.txn_machine.proofs.Moved.{at_on, loose_on, local_left}
 use Rattle.txn_machine.proofs.Telling.{NextOnly, UsedOnly, started_only}
@@ -331,31 +331,14 @@ module _ {T : Type 0} where
   plain_known fine rows told None e = refl
   plain_known fine rows told (Some n) e = told (nat_eq n) e
 
-  plain_low : (fine : List (PlainRow T)) (rows : List (Row T)) → ToldBy fine rows → (call : PlainCall T) → history.has_low_boundary rows (any.Plain call) ≡ true → plain_history.has_low_boundary fine call ≡ true
-  plain_low fine rows told (calls.Advance to) e = elim (or_cases (to == 0) (list_any (any_tells (nat_lt to)) rows) e) [ inl z ↦ or_left (to == 0) (list_any (plain_tells (nat_lt to)) fine) z | inr below ↦ or_right (to == 0) (list_any (plain_tells (nat_lt to)) fine) (told (nat_lt to) below) ]
-  plain_low fine rows told (calls.Write base value) e = refl
-  plain_low fine rows told (calls.WriteUnchecked base value) e = refl
-  plain_low fine rows told calls.Read e = refl
-  plain_low fine rows told (calls.ReadUnchecked id) e = refl
-  plain_low fine rows told (calls.ReadSeen id) e = refl
-  plain_low fine rows told (calls.ListIds from to) e = refl
-  plain_low fine rows told (calls.Delete id) e = refl
-  plain_low fine rows told (calls.Check id) e = refl
-
-  plain_epoch : (decode : List ℕ → Option T) (get_epoch : T → ℕ) (fine : List (PlainRow T)) (rows : List (Row T)) → ((n : ℕ) → epoch_at decode get_epoch rows n ≡ epoch_at decode get_epoch fine n) → (base : Option ℕ) (value : T) → nat_le (epoch_at decode get_epoch rows (number_of base)) (get_epoch value) ≡ true → nat_le (epoch_at decode get_epoch fine (number_of base)) (get_epoch value) ≡ true
-  plain_epoch decode get_epoch fine rows same base value e = subst (λ (n : ℕ). nat_le n (get_epoch value) ≡ true) (same (number_of base)) e
-
   -- what a call without a view opens in the layer, it opens in the machine
   plain_opens : (decode : List ℕ → Option T) (get_epoch : T → ℕ) (fine : List (PlainRow T)) (rows : List (Row T)) → ToldBy fine rows → ((n : ℕ) → epoch_at decode get_epoch rows n ≡ epoch_at decode get_epoch fine n) → (number n : ℕ) → n ≡ begun_count fine + 1 → (call : PlainCall T) → history.Opens decode get_epoch rows number (any.Plain call) → plain_history.PlainOpens decode get_epoch fine n call
-  plain_opens decode get_epoch fine rows told same number n next (calls.Write base value) o = record { next = next; known = plain_known fine rows told base o.known; low = refl; keeps = plain_epoch decode get_epoch fine rows same base value o.keeps }
-  plain_opens decode get_epoch fine rows told same number n next (calls.WriteUnchecked base value) o = record { next = next; known = plain_known fine rows told base o.known; low = refl; keeps = plain_epoch decode get_epoch fine rows same base value o.keeps }
-  plain_opens decode get_epoch fine rows told same number n next calls.Read o = record { next = next; known = refl; low = refl; keeps = refl }
-  plain_opens decode get_epoch fine rows told same number n next (calls.ReadUnchecked id) o = record { next = next; known = refl; low = refl; keeps = refl }
-  plain_opens decode get_epoch fine rows told same number n next (calls.ReadSeen id) o = record { next = next; known = refl; low = refl; keeps = refl }
-  plain_opens decode get_epoch fine rows told same number n next (calls.ListIds from to) o = record { next = next; known = refl; low = refl; keeps = refl }
-  plain_opens decode get_epoch fine rows told same number n next (calls.Delete id) o = record { next = next; known = refl; low = refl; keeps = refl }
-  plain_opens decode get_epoch fine rows told same number n next (calls.Check id) o = record { next = next; known = refl; low = refl; keeps = refl }
-  plain_opens decode get_epoch fine rows told same number n next (calls.Advance to) o = record { next = next; known = refl; low = plain_low fine rows told (calls.Advance to) o.low; keeps = refl }
+  plain_opens decode get_epoch fine rows told same number n next call o = record {
+    next = next;
+    known = plain_known fine rows told (plain_base_of call) o.known;
+    low = plain_low (is_below_told rows) (λ to. list_any (plain_tells (nat_lt to)) fine) (λ to. told (nat_lt to)) call o.low;
+    keeps = subst (λ (n : ℕ). is_high get_epoch n (plain_value_written call) ≡ true) (same (number_of (plain_base_of call))) o.keeps;
+  }
 
   abbrev goes_as : Inner T → Next T
   goes_as inner = Goes inner

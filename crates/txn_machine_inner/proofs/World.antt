@@ -18,8 +18,8 @@ use Rattle.txn_history.specs.declared.trace.RowOf.TheVariants.{Begun, Answered}
 use Rattle.txn_history.specs.Lists.{numbered}
 use Rattle.txn_history.specs.Names.{world_names, world_boundary}
 use Rattle.txn_history.specs.History.{boundary_said, boundary}
-use Rattle.txn_history.specs.Calls.{begun_count}
-use Rattle.txn_machine_inner.specs.PlainHistory.{base_of, is_known_base, has_low_boundary, keeps_epoch, PlainOpens}
+use Rattle.txn_history.specs.Calls.{begun_count, plain_base_of}
+use Rattle.txn_machine_inner.specs.PlainHistory.{is_known_base, has_low_boundary, keeps_epoch, PlainOpens}
 use Rattle.txn_history.specs.Allowed.{is_client, first_fault}
 use Rattle.txn_machine_inner.specs.PlainAllowed.{fault_of}
 use Rattle.txn_history.proofs.Lists.{numbered_more}
@@ -134,7 +134,7 @@ module _ {T : Type 0} (encode : T → List ℕ) (decode : List ℕ → Option T)
 
   begin_keeps : (old : State T) (client : ℕ) (call : PlainCall T) (said : PlainTold T) (new : State T) → fault_of decode get_epoch (seen_of old) old.trace (events.Begin client call) ≡ None → PlainBegins encode decode old client call said new → Stands decode get_epoch old → Stands decode get_epoch new
   begin_keeps old client call said new allowed v st =
-      let is = client_within old.clients client (first_true (is_client old.clients client) faults.UnknownNumber ((is_known_base old.trace (base_of call), faults.UnknownBase) ∷ (has_low_boundary old.trace call, faults.BoundaryTooHigh) ∷ (keeps_epoch decode get_epoch old.trace call, faults.EpochLowered) ∷ []) allowed) in
+      let is = client_within old.clients client (first_true (is_client old.clients client) faults.UnknownNumber ((is_known_base old.trace (plain_base_of call), faults.UnknownBase) ∷ (has_low_boundary old.trace call, faults.BoundaryTooHigh) ∷ (keeps_epoch decode get_epoch old.trace call, faults.EpochLowered) ∷ []) allowed) in
       let opens' = opens_next decode get_epoch old.trace (seen_of old) client call allowed in
       let same : begun_count old.trace + 1 ≡ next_op old = ap (λ n. n + 1) (sym st.count) in
       opened_keeps old client call said new is.0 is.1 (subst (λ (n : ℕ). PlainOpens decode get_epoch old.trace n call) same opens') v st

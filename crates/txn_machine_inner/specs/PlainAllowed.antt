@@ -6,14 +6,15 @@ use Rattle.txn_history.specs.declared.event.EventFault.TheVariants as faults
 use Rattle.txn_history.specs.Seen.{Seen}
 use Rattle.txn_history.specs.Allowed.{is_client, first_fault, event_fault}
 use Rattle.txn_history.specs.Trace.{PlainRow, PlainEvent}
-use Rattle.txn_machine_inner.specs.PlainHistory.{base_of, is_known_base, has_low_boundary, keeps_epoch}
+use Rattle.txn_history.specs.Calls.{plain_base_of}
+use Rattle.txn_machine_inner.specs.PlainHistory.{is_known_base, has_low_boundary, keeps_epoch}
 
 module _ {T : Type 0} (decode : List ℕ → Option T) (get_epoch : T → ℕ) where
   -- a begin is tested in this order
   abbrev pub plain_begin_fault : Seen → List (PlainRow T) → ℕ → PlainCall T → Option EventFault
   plain_begin_fault seen rows client call = first_fault (
       (is_client seen.clients client, faults.UnknownNumber)
-      ∷ (is_known_base rows (base_of call), faults.UnknownBase)
+      ∷ (is_known_base rows (plain_base_of call), faults.UnknownBase)
       ∷ (has_low_boundary rows call, faults.BoundaryTooHigh)
       ∷ (keeps_epoch decode get_epoch rows call, faults.EpochLowered)
       ∷ [])

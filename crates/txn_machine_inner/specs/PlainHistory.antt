@@ -1,5 +1,5 @@
 -- One history of plain calls: when a row fits the rows before it. What an auditor reads is `OneHistory` of `txn_history`, of all calls; this is what the machine of plain calls keeps, of which that follows.
-use Rattle.std.specs.Prelude.{◌≡◌, ℕ, List, ◌+◌, ◌⊎◌, ◌==◌, ◌||◌, nat_eq, nat_lt, Bool, true, false, Option, Some, None, take, slice_get}
+use Rattle.std.specs.Prelude.{◌≡◌, ℕ, List, ◌+◌, ◌⊎◌, nat_eq, nat_lt, Bool, true, false, Option, Some, None, take, slice_get}
 use Rattle.std.specs.List.{list_any}
 use Rattle.txn_store.specs.declared.request.Request.{Request}
 use Rattle.txn_types.specs.Numbers.{number_of}
@@ -10,7 +10,7 @@ use Rattle.txn_history.specs.declared.event.PlainAnswer.TheVariants as answers
 use Rattle.txn_history.specs.declared.trace.RowOf.{RowOf}
 use Rattle.txn_history.specs.declared.trace.RowOf.TheVariants.{Effect, Begun, Answered}
 use Rattle.txn_history.specs.History.{epoch_at}
-use Rattle.txn_history.specs.Calls.{was_answered, IsCall, begun_count, answers_so, plain_tells_id}
+use Rattle.txn_history.specs.Calls.{was_answered, IsCall, begun_count, answers_so, plain_base_of, plain_value_written, plain_has_low_boundary, plain_tells_id}
 use Rattle.txn_history.specs.Facts.{base_on, is_high, PlainSucceeds, PlainRefuses, FailureFits}
 use Rattle.txn_history.specs.Trace.{PlainRow}
 use Rattle.txn_history.specs.Effects as effects
@@ -29,51 +29,19 @@ module _ {T : Type 0} where
   abbrev pub alone : PlainCall T → PlainCall T
   alone call = call
 
-  -- the base that a call writes on
-  abbrev pub base_of : PlainCall T → Option ℕ
-  base_of (calls.Write base value) = base
-  base_of (calls.WriteUnchecked base value) = base
-  base_of calls.Read = None
-  base_of (calls.ReadUnchecked id) = None
-  base_of (calls.ReadSeen id) = None
-  base_of (calls.ListIds from to) = None
-  base_of (calls.Delete id) = None
-  base_of (calls.Check id) = None
-  base_of (calls.Advance to) = None
-
-  -- the value that a call asks to write on its base
-  abbrev pub value_written : PlainCall T → Option T
-  value_written (calls.Write base value) = Some value
-  value_written (calls.WriteUnchecked base value) = Some value
-  value_written calls.Read = None
-  value_written (calls.ReadUnchecked id) = None
-  value_written (calls.ReadSeen id) = None
-  value_written (calls.ListIds from to) = None
-  value_written (calls.Delete id) = None
-  value_written (calls.Check id) = None
-  value_written (calls.Advance to) = None
-
   -- a boundary to advance to is 0, or below an id that some call answered
   abbrev pub has_low_boundary : List (PlainRow T) → PlainCall T → Bool
-  has_low_boundary rows (calls.Advance to) = to == 0 || list_any (tells (nat_lt to)) rows
-  has_low_boundary rows (calls.Write base value) = true
-  has_low_boundary rows (calls.WriteUnchecked base value) = true
-  has_low_boundary rows calls.Read = true
-  has_low_boundary rows (calls.ReadUnchecked id) = true
-  has_low_boundary rows (calls.ReadSeen id) = true
-  has_low_boundary rows (calls.ListIds from to) = true
-  has_low_boundary rows (calls.Delete id) = true
-  has_low_boundary rows (calls.Check id) = true
+  has_low_boundary rows = plain_has_low_boundary (λ to. list_any (tells (nat_lt to)) rows)
 
 module _ {T : Type 0} (decode : List ℕ → Option T) (get_epoch : T → ℕ) where
   -- the value that a call writes has an epoch of at least that of its base's entry
   abbrev pub keeps_epoch : List (PlainRow T) → PlainCall T → Bool
-  keeps_epoch rows call = is_high get_epoch (epoch_at decode get_epoch rows (number_of (base_of call))) (value_written call)
+  keeps_epoch rows call = is_high get_epoch (epoch_at decode get_epoch rows (number_of (plain_base_of call))) (plain_value_written call)
 
   -- An operation has the next number, a base that is known, a boundary that is low enough, and a value that keeps the epoch.
   pub record PlainOpens (before : List (PlainRow T)) (op : ℕ) (call : PlainCall T) : Type 0 where
     pub next : op ≡ begun_count before + 1
-    pub known : is_known_base before (base_of call) ≡ true
+    pub known : is_known_base before (plain_base_of call) ≡ true
     pub low : has_low_boundary before call ≡ true
     pub keeps : keeps_epoch before call ≡ true
 
