@@ -26,6 +26,7 @@ pub trait SequencedStorageProtocol<T, S: ObjectStore>: BoundaryObject<S> {
     ghost use Rattle.txn_types.specs.declared.error.TransactionalObjectError.TheVariants.{ObjectVersionExists};
     ghost use Rattle.txn_types.specs.declared.identified.IdentifiedObjectMetadata.{IdentifiedObjectMetadata};
     ghost use Rattle.txn_drivers.specs.Calls.{HasCause, HasCauseOfPut, Spends, SpendsTurns};
+    ghost use Rattle.txn_drivers.specs.ListRuns.{AreTold};
     ghost use Rattle.slatedb_txn_obj.specs.Checked.{CheckedDelete};
     ghost use Rattle.slatedb_txn_obj.specs.Leaves.{SameFiles, MayCreate, MayRemove, SameOwn};
     ghost use Rattle.slatedb_txn_obj.specs.Protocol.{base_number, LatestOrFenced, IsEntry, AreListed, EntryStands, Overtaken, MayAppend, Stays, IsWarmRead, Unheld, HasCauseOfLatestUnchecked, ReadsVersion, HasCauseOfDelete};
@@ -59,6 +60,9 @@ pub trait SequencedStorageProtocol<T, S: ObjectStore>: BoundaryObject<S> {
 
     /// The version of this id is held, and none above it.
     ghost at_hand: { Self → ℕ → Type 0 };
+
+    /// The version of this id is held.
+    ghost has_version: { Self → ℕ → Type 0 };
 
     /// How many calls of the store an unchecked read makes that answers, where the newest version has this id and is at hand.
     ghost warm_calls: { ℕ → ℕ };
@@ -131,16 +135,17 @@ pub trait SequencedStorageProtocol<T, S: ObjectStore>: BoundaryObject<S> {
         ensures absent { lacks self.old store.old id → IfOk result (λ r. r ≡ None) }
         ensures read { ReadsVersion (stands self.old store.old) (stands self.new store.new) (place self.old) (place self.new) (pages self.old store.old) (pages self.new store.new) (S.state store.old) (S.state store.new) result };
 
-    /// The same, with the same errors, and without a call of the store where the version is held.
+    /// The same, with the same errors, and without a call of the store where the version is held, also after an error.
     fn try_read_seen(
         &mut self,
         store: &mut S,
         id: MonotonicId,
     ) -> Result<Option<T>, TransactionalObjectError>
         ensures found { IfOk result (λ r. (h : List T) (b : ℕ) → stands self.old store.old h b → IsEntry h b id r) }
+        ensures unasked { has_version self.old id → S.state store.new ≡ S.state store.old }
         ensures read { ReadsVersion (stands self.old store.old) (stands self.new store.new) (place self.old) (place self.new) (pages self.old store.old) (pages self.new store.new) (S.state store.old) (S.state store.new) result };
 
-    /// The versions whose ids are within the bounds, in ascending ids, with what the store tells of their files. It makes at
+    /// The versions whose ids are within the bounds, in ascending ids, each with the path, the size and the token of its file. It makes at
     /// most one call of the store a page, and is lent no turns. Its errors are `ObjectStoreError` and `NoMemory`; what it
     /// stood for stands, and no file is changed, also after an error.
     fn list(
@@ -150,6 +155,7 @@ pub trait SequencedStorageProtocol<T, S: ObjectStore>: BoundaryObject<S> {
         to: Bound<MonotonicId>,
     ) -> Result<Vec<IdentifiedObjectMetadata<MonotonicId>>, TransactionalObjectError>
         ensures listed { IfOk result (λ r. (h : List T) (b : ℕ) → stands self.old store.old h b → AreListed h b from to (map (λ v. v.id) r.items)) }
+        ensures told { IfOk result (λ r. AreTold (version_file (place self.old)) (S.state store.old).files r.items) }
         ensures kept { Stays (stands self.old store.old) (stands self.new store.new) }
         ensures spends { Spends (pages self.old store.old) 0 (S.state store.old) (S.state store.new) }
         ensures paged { pages self.new store.new ≡ pages self.old store.old }

@@ -133,6 +133,8 @@ impl<S: ObjectStore> SequencedStorageProtocol<u64, S> for TestBoundary {
 
     ghost at_hand = { λ _ _. Unit {0} };
 
+    ghost has_version = { λ _ _. Unit {0} };
+
     ghost at_hand_checked = { λ _ _ _ _ _ _ _ at. at };
 
     ghost warm_calls = { λ _. 0 };

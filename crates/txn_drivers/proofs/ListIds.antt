@@ -1,19 +1,20 @@
 -- The ids of the versions within bounds, of all files below the directory.
-use Rattle.std.proofs.Common.{◌≡◌, ◌⊎◌, ℕ, ◌<◌, ◌^◌, ◌==◌, Bool, true, false, T, List, [], ◌∷◌, Option, Some, None, refl, sym, ap, subst, ◌∙◌, inl, inr, arith}
+use Rattle.std.proofs.Common.{◌≡◌, ◌⊎◌, ℕ, ◌<◌, ◌^◌, ◌==◌, Bool, true, false, T, List, [], ◌∷◌, cond, Option, Some, None, refl, sym, ap, subst, ◌∙◌, inl, inr, arith}
 use Rattle.std.specs.List.{list_any, AllByRecursion}
 use Rattle.std.specs.List.Sorted.{IsStrictlySortedBy}
-use Rattle.std.specs.FinMap.{entries, is_sorted, entries_sorted, contains_key-keys}
-use Rattle.std.specs.FinMap.Entries.{below_all}
-use Rattle.std.specs.Ordering.{nat_cmp}
-use Rattle.std.specs.Cmp.{nat_cmp_is}
-use Rattle.std.specs.declared.cmp.Ordering.TheVariants.{Less}
+use Rattle.std.specs.FinMap.{entries, get, is_sorted, entries_sorted, get-entries, contains_key-keys}
+use Rattle.std.specs.FinMap.Entries.{below_all, find}
+use Rattle.std.specs.Ordering.{nat_cmp, eq_by_cmp, is_eq}
+use Rattle.std.specs.Cmp.{nat_cmp_is, tied_itself}
+use Rattle.std.specs.declared.cmp.Ordering.TheVariants.{Less, Equal}
 use Rattle.std.specs.declared.ops.Bound.{Bound}
 use Rattle.std.proofs.lemmas.Bool.{cases_Bool, or_cases, or_left, or_right, eqb-true, eq-eqb}
 use Rattle.txn_store.specs.Paths.{Segments, path_cmp, is_below}
 use Rattle.txn_store.specs.VersionName.{Names, version_path}
 use Rattle.txn_store.specs.VersionOf.{version_of}
-use Rattle.txn_store.specs.Store.{Files, listing}
+use Rattle.txn_store.specs.Store.{Files, listing, meta_of}
 use Rattle.txn_store.specs.declared.store.Got.{Got}
+use Rattle.txn_store.proofs.FileLemmas.{path_cmp_total}
 use Rattle.txn_store.proofs.EntryLemmas.{is_at, at_first, at_rest, at_cases, later, first_sorted, rest_sorted}
 use Rattle.txn_store.proofs.VersionOfLemmas.{version_of_path, path_of_version, version_below, one_path}
 use Rattle.txn_store.proofs.VersionOrder.{path_up}
@@ -21,7 +22,7 @@ use Rattle.txn_types.specs.Numbers.{is_within}
 use Rattle.txn_steps.specs.Listed.{Listed}
 use Rattle.txn_steps.specs.Picked.{picked}
 use Rattle.txn_drivers.specs.PageCount.{files_below}
-use Rattle.txn_drivers.specs.ListRuns.{ids_of, is_listed, AreStored}
+use Rattle.txn_drivers.specs.ListRuns.{ids_of, is_listed, AreStored, AreTold}
 
 -- an id among others
 
@@ -37,6 +38,35 @@ in_cases n id ids h = elim (or_cases (n == id) (list_any (λ m. n == m) ids) h) 
 all_in : (low : ℕ) (ids : List ℕ) → ((n : ℕ) → list_any (λ m. n == m) ids ≡ true → low < n) → AllByRecursion (λ n. nat_cmp low n ≡ Less) ids
 all_in low [] up = tt
 all_in low (id ∷ ids) up = (sym (nat_cmp_is low id Less (up id (in_first id id ids refl))), all_in low ids (λ n h. up n (in_rest n id ids h)))
+
+-- what is got of each entry is what stands there
+
+abbrev AllGot : (Segments → Option Got) → List (Segments × Got) → Type 0
+AllGot gets [] = Unit {0}
+AllGot gets (e ∷ es) = (gets e.0 ≡ Some e.1) × AllGot gets es
+
+carried : (gets gets' : Segments → Option Got) (es : List (Segments × Got)) → ((q : Segments) → is_at q es ≡ true → gets' q ≡ gets q) → AllGot gets es → AllGot gets' es
+carried gets gets' [] same all = tt
+carried gets gets' (e ∷ es) same all = (same e.0 (at_first e es e.0 refl) ∙ all.0, carried gets gets' es (λ q at. same q (at_rest e es q at)) all.1)
+
+apart : (e : Segments × Got) (es : List (Segments × Got)) → T (below_all path_cmp e.0 es) → (q : Segments) → is_at q es ≡ true → eq_by_cmp path_cmp q e.0 ≡ false
+apart e es below q at = elim (cases_Bool (eq_by_cmp path_cmp q e.0)) [
+  | inl ties ↦ elim (at_cases e [] q (or_left (eq_by_cmp path_cmp q e.0) false ties)) [
+    | inl same ↦ (let clash : Less ≡ Equal = sym (later e.0 es below q at) ∙ (ap (path_cmp e.0) same ∙ tied_itself path_cmp_total e.0) in absurd (cc))
+    | inr none ↦ absurd (cc)
+  ]
+  | inr other ↦ other
+]
+
+all_got : (es : List (Segments × Got)) → T (is_sorted path_cmp es) → AllGot (λ q. find path_cmp q es) es
+all_got [] sorted = tt
+all_got (e ∷ es) sorted = (
+  ap (λ o. cond (is_eq o) (Some e.1) (find path_cmp e.0 es)) (tied_itself path_cmp_total e.0),
+  carried (λ q. find path_cmp q es) (λ q. find path_cmp q (e ∷ es)) es (λ q at. ap (λ b. cond b (Some e.1) (find path_cmp q es)) (apart e es (first_sorted e es sorted) q at)) (all_got es (rest_sorted e es sorted)),
+)
+
+files_got : (files : Files) → AllGot (get files) (entries files)
+files_got files = carried (λ q. find path_cmp q (entries files)) (get files) (entries files) (λ q at. get-entries files q) (all_got (entries files) (entries_sorted files))
 
 module _ (names : Names) (from to : Bound ℕ) where
   abbrev chosen : List (Segments × Got) → List Listed
@@ -125,6 +155,28 @@ module _ (names : Names) (from to : Bound ℕ) where
             (all_in one.id (ids_of (chosen es)) (λ n h. path_up names one.id n one.fits (ap (λ p. path_cmp p (version_path names n)) (sym one.path) ∙ later e.0 es first (version_path names n) (each_stored es n h).2)), rest)
         | inr none ↦ subst (IsStrictlySortedBy nat_cmp) (sym none.ids) rest
       ]
+
+  -- what is told of each is so
+  told_so : (files : Files) (e : Segments × Got) (es : List (Segments × Got)) → is_below names.dir e.0 ≡ true → AllGot (get files) (e ∷ es) → AreTold (version_path names) files (chosen es) → (version : Option ℕ) → version_of names e.0 ≡ version → AreTold (version_path names) files (chosen (e ∷ es))
+  told_so files e es below got rest None is = rw (below, is) rest
+  told_so files e es below got rest (Some id) is =
+      let path = path_of_version names e.0 id is in
+      elim (cases_Bool (is_within from to id)) [
+        | inl within ↦ rw (below, is, within) (record { got = e.1; stands = ap (get files) (sym path.0) ∙ got.0; metadata = ap (λ (p : Segments). meta_of (p, e.1)) path.0 }, rest)
+        | inr outside ↦ rw (below, is, outside) rest
+      ]
+
+  told_all : (files : Files) (es : List (Segments × Got)) → AllGot (get files) es → AreTold (version_path names) files (chosen es)
+  told_all files [] got = tt
+  told_all files (e ∷ es) got =
+      let rest = told_all files es got.1 in
+      elim (cases_Bool (is_below names.dir e.0)) [
+        | inl below ↦ told_so files e es below got rest (version_of names e.0) refl
+        | inr other ↦ rw other rest
+      ]
+
+  pub are_told : (files : Files) → AreTold (version_path names) files (picked names from to (files_below names files))
+  are_told files = told_all files (entries files) (files_got files)
 
   pub are_stored : (files : Files) → AreStored names from to files (picked names from to (files_below names files))
   are_stored files = record {

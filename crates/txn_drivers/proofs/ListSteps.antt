@@ -31,9 +31,9 @@ use Rattle.txn_drivers.specs.Asked.{Replies}
 use Rattle.txn_drivers.specs.Calls.{Spends, HasCause}
 use Rattle.txn_drivers.specs.PageCount.{files_below, pages_below}
 use Rattle.txn_drivers.specs.Standing.{FilesStand}
-use Rattle.txn_drivers.specs.ListRuns.{ListRuns, list_rank, IsListStep, ListEnds, AreStored, AreIds, VersionsListed}
+use Rattle.txn_drivers.specs.ListRuns.{ListRuns, list_rank, IsListStep, ListEnds, AreStored, AreIds, AreTold, VersionsListed}
 use Rattle.txn_drivers.proofs.Frames.{kept-trans}
-use Rattle.txn_drivers.proofs.ListIds.{are_stored}
+use Rattle.txn_drivers.proofs.ListIds.{are_stored, are_told}
 use Rattle.txn_drivers.proofs.NextPages.{next_page, page_within, page_last}
 use Rattle.txn_drivers.proofs.Refusals.{error_is, goes, answers, tells_store}
 
@@ -222,5 +222,5 @@ are_ids names decode from to files found h b ids stand = record {
 pub listed : {T : Type 0} (names : Names) (page : ℕ) (decode : List ℕ → Option T) (from to : Bound ℕ) (old new : State) (result : Result (List Listed) TransactionalObjectError) → ListEnds names page from to old new result → VersionsListed names page decode from to old new result
 listed names page decode from to old new (Ok found) ends =
     let ids : AreStored names from to old.files found = subst (AreStored names from to old.files) (sym ends.listed) (are_stored names from to old.files) in
-    record { ends = ends; stored = ids; stands = λ h b stand. are_ids names decode from to old.files found h b ids stand }
-listed names page decode from to old new (Err error) ends = record { ends = ends; stored = tt; stands = λ h b stand. tt }
+    record { ends = ends; stored = ids; told = subst (AreTold (version_path names) old.files) (sym ends.listed) (are_told names from to old.files); stands = λ h b stand. are_ids names decode from to old.files found h b ids stand }
+listed names page decode from to old new (Err error) ends = record { ends = ends; stored = tt; told = tt; stands = λ h b stand. tt }

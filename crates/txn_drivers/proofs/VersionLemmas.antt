@@ -1,5 +1,5 @@
 -- Reads of one version: what they answer and leave.
-use Rattle.std.proofs.Common.{◌≡◌, ℕ, ◌+◌, ◌-◌, ◌<◌, ◌≤◌, ◌^◌, Bool, true, false, List, length, slice_get, Option, Some, None, Result, Ok, Err, refl, sym, ap, subst, ◌∙◌, inl, inr, arith}
+use Rattle.std.proofs.Common.{◌≡◌, ℕ, ◌+◌, ◌-◌, ◌<◌, ◌≤◌, ◌^◌, Bool, true, false, is_some, List, length, slice_get, Option, Some, None, Result, Ok, Err, refl, sym, ap, subst, ◌∙◌, inl, inr, arith}
 use Rattle.std.proofs.lemmas.Bool.{cases_lt}
 use Rattle.std.proofs.lemmas.Option.{same_Some, slice_get_past}
 use Rattle.std.specs.FinMap as map
@@ -192,6 +192,13 @@ module _ {T : Type 0} (names : Names) (decode : List ℕ → Option T) where
       rw (window, look.0) (record { kept_all = g'.kept; rise = omega (arith, c); most = omega (arith, c); failures = g'.failures; grown = grown_kept names old.files first version first (got_stored old new id version value small g') (grown_none names old.files first) }, kept_seen old new first id version value none g', (inr (inr refl), λ e. absurd (omega (arith, e))))
   seen_move old mid new first latest id Ended reply small at replied = absurd at
 
+  -- where the version is held, no step calls the store
+  seen_unasked : (old mid new : State) (first latest : List Cached) (id : ℕ) (op : ReadSeenOp T) (reply : Option Reply) → HoldsSeen names decode old mid first latest id op → Replies (seen_asked op) mid reply new → is_some (held id first) ≡ true → new ≡ old
+  seen_unasked old mid new first latest id (Looks sought) reply (at, same, window) replied is = (asked_look mid new reply replied).1 ∙ same
+  seen_unasked old mid new first latest id (Gets sought request) reply (at, same, window, none, asks) replied is = absurd (let not : is_some (held id first) ≡ false = ap is_some none in cc)
+  seen_unasked old mid new first latest id (Keeps version value) reply (window, none, g) replied is = absurd (let not : is_some (held id first) ≡ false = ap is_some none in cc)
+  seen_unasked old mid new first latest id Ended reply at replied is = absurd at
+
   lifted : {X A : Type 0} (P : X × Turned (Result A ℕ) → Type 0) (lacks : Bool) (old : X) (x : X × Turned (Result A ℕ)) → P (old, Done (Err 9)) → P x → P (unless_lacking lacks old x)
   lifted P true old x err told = err
   lifted P false old x err told = told
@@ -232,6 +239,7 @@ module _ {T : Type 0} (names : Names) (decode : List ℕ → Option T) where
       kept = (move (Done (Ok answer)) s).0.kept_all;
       spends = seen_spends (Done (Ok answer)) s;
       answer = leaves (Done (Ok answer)) s;
+      unasked = seen_unasked old mid new first latest id op s.reply r.holds s.replied;
       cause = tt;
       refused = tt;
       grown = seen_grown (Done (Ok answer)) s;
@@ -241,6 +249,7 @@ module _ {T : Type 0} (names : Names) (decode : List ℕ → Option T) where
       kept = (move (Done (Err error)) s).0.kept_all;
       spends = seen_spends (Done (Err error)) s;
       answer = tt;
+      unasked = seen_unasked old mid new first latest id op s.reply r.holds s.replied;
       cause = cause_of_get old old new (reply_told s.reply) error (omega arith) (leaves (Done (Err error)) s).0 s.store_error;
       refused = (leaves (Done (Err error)) s).1;
       grown = seen_grown (Done (Err error)) s;

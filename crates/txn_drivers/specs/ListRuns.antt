@@ -1,5 +1,5 @@
 -- A listing of versions while it runs, and what it answers.
-use Rattle.std.specs.Prelude.{◌≡◌, ◌⊎◌, ℕ, ◌+◌, ◌*◌, ◌^◌, ◌<◌, ◌≤◌, ◌==◌, List, length, map, take, drop, true, Bool, Option, Some, IsSome, Result, IfOk, IfErr, OnOk}
+use Rattle.std.specs.Prelude.{◌≡◌, ◌⊎◌, ℕ, ◌+◌, ◌*◌, ◌^◌, ◌<◌, ◌≤◌, ◌==◌, List, [], ◌∷◌, length, map, take, drop, true, Bool, Option, Some, IsSome, Result, IfOk, IfErr, OnOk}
 use Rattle.std.specs.FinMap as finmap
 use Rattle.std.specs.List.{list_any}
 use Rattle.std.specs.List.Sorted.{IsStrictlySortedBy}
@@ -8,6 +8,7 @@ use Rattle.std.specs.declared.ops.Bound.{Bound}
 use Rattle.txn_store.specs.Paths.{Segments}
 use Rattle.txn_store.specs.VersionName.{Names, version_path}
 use Rattle.txn_store.specs.Store.{Files, State, Kept, listing}
+use Rattle.txn_store.specs.declared.store.Got.{Got}
 use Rattle.txn_store.specs.declared.request.Request.{Request}
 use Rattle.txn_store.specs.declared.request.Request.TheVariants as requests
 use Rattle.txn_store.specs.declared.request.Reply.{Reply}
@@ -84,8 +85,19 @@ pub record AreIds (from to : Bound ℕ) (newest b : ℕ) (found : List Listed) :
   pub known : (n : ℕ) → is_listed n found ≡ true → (1 ≤ n) × (n ≤ newest)
   pub there : (n : ℕ) → b < n → n ≤ newest → is_within from to n ≡ true → is_listed n found ≡ true
 
+-- What a listing told of a version is so: its path is that of the version's file, and its size and its token are those of what stands there.
+pub record IsTold (file : ℕ → Segments) (files : Files) (listed : Listed) : Type 0 where
+  pub got : Got
+  pub stands : finmap.get files (file listed.id) ≡ Some got
+  pub metadata : listed.metadata ≡ record { location = file listed.id; size = length got.bytes; token = got.token }
+
+abbrev pub AreTold : (ℕ → Segments) → Files → List Listed → Type 0
+AreTold file files [] = Unit {0}
+AreTold file files (listed ∷ rest) = IsTold file files listed × AreTold file files rest
+
 -- what a listing of versions leaves and answers
 pub record VersionsListed {T : Type 0} (names : Names) (page : ℕ) (decode : List ℕ → Option T) (from to : Bound ℕ) (old new : State) (result : Result (List Listed) TransactionalObjectError) : Type 0 where
   pub ends : ListEnds names page from to old new result
   pub stored : IfOk result (AreStored names from to old.files)
+  pub told : IfOk result (AreTold (version_path names) old.files)
   pub stands : (h : List T) (b : ℕ) → FilesStand names decode old.files h b → IfOk result (AreIds from to (length h) b)

@@ -1,5 +1,5 @@
 -- What reads of one version answer, and what they leave.
-use Rattle.std.specs.Prelude.{◌≡◌, ℕ, ◌+◌, ◌-◌, ◌^◌, ◌<◌, ◌≤◌, Bool, List, Option, Some, None, IsSome, Result, IfOk, IfErr, slice_get}
+use Rattle.std.specs.Prelude.{◌≡◌, ℕ, ◌+◌, ◌-◌, ◌^◌, ◌<◌, ◌≤◌, Bool, true, is_some, List, Option, Some, None, IsSome, Result, IfOk, IfErr, slice_get}
 use Rattle.std.specs.FinMap as map
 use Rattle.txn_store.specs.VersionName.{Names, version_path}
 use Rattle.txn_store.specs.Store.{Files, State, Kept}
@@ -53,6 +53,8 @@ module _ {T : Type 0} (names : Names) (decode : List ℕ → Option T) where
     pub kept : Kept old new
     pub spends : Spends 1 0 old new
     pub answer : IfOk result (IsSeen old new first latest id (held id first))
+    -- where the version is held, the store is not called
+    pub unasked : is_some (held id first) ≡ true → new ≡ old
     pub cause : IfErr result (HasCauseOfGet old new)
     pub refused : IfErr result (λ error. error_number error ≡ 8 → IsRefused names decode old.files first)
     pub grown : HasGrown names old.files first latest

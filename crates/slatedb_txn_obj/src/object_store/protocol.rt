@@ -212,11 +212,12 @@ impl<T: Drop, S: ObjectStore, C: ObjectCodec<T>, B: BoundaryObject<S>> Sequenced
     T,
     S,
 > for ObjectStoreSequencedStorageProtocol<T, C, B> {
-    ghost use Rattle.std.specs.Prelude.{ℕ, List, [], length, map, ◌≡◌, ◌+◌, ◌^◌, ◌<◌, ◌≤◌, None, Ok, Err, IfOk, IfErr, IfSome, IsErrOf, OnOk};
+    ghost use Rattle.std.specs.Prelude.{ℕ, List, [], length, map, true, is_some, ◌≡◌, ◌+◌, ◌^◌, ◌<◌, ◌≤◌, None, Ok, Err, IfOk, IfErr, IfSome, IsErrOf, OnOk};
+    ghost use Rattle.txn_caches.specs.Windows.{held};
     ghost use Rattle.txn_types.specs.declared.error.TransactionalObjectError.TheVariants.{ObjectVersionExists};
     ghost use Rattle.txn_drivers.specs.Calls.{HasCause, HasCauseOfPut, Spends, SpendsTurns};
     ghost use Rattle.txn_drivers.specs.LatestReads.{UpTo, Ended};
-    ghost use Rattle.txn_drivers.specs.ListRuns.{VersionsListed};
+    ghost use Rattle.txn_drivers.specs.ListRuns.{VersionsListed, AreTold};
     ghost use Rattle.txn_drivers.specs.RemovalRuns.{Deleted};
     ghost use Rattle.txn_drivers.specs.VersionReads.{SeenRead, VersionRead};
     ghost use Rattle.txn_drivers.specs.WriteRuns.{Written};
@@ -248,6 +249,8 @@ impl<T: Drop, S: ObjectStore, C: ObjectCodec<T>, B: BoundaryObject<S>> Sequenced
     ghost freshens = { λ p id. UpTo id p.latest };
 
     ghost at_hand = { λ p id. IsGreatestHeld p.latest id };
+
+    ghost has_version = { λ p id. is_some (held id p.latest) ≡ true };
 
     ghost warm_calls = { λ n. probe_calls n };
 
@@ -374,6 +377,7 @@ impl<T: Drop, S: ObjectStore, C: ObjectCodec<T>, B: BoundaryObject<S>> Sequenced
     ) -> Result<Option<T>, TransactionalObjectError>
         ensures found { IfOk result (λ r. (h : List T) (b : ℕ) → (StandsFor (B.bounds self.old.boundary store.old) (B.file self.old.boundary) C.decoded self.old (S.state store.old).files) h b → IsEntry h b id r) }
         ensures read { ReadsVersion (StandsFor (B.bounds self.old.boundary store.old) (B.file self.old.boundary) C.decoded self.old (S.state store.old).files) (StandsFor (B.bounds self.new.boundary store.new) (B.file self.new.boundary) C.decoded self.new (S.state store.new).files) (laid self.old (B.file self.old.boundary)) (laid self.new (B.file self.new.boundary)) (pages_below self.old.layout.names self.old.layout.page (S.state store.old).files) (pages_below self.new.layout.names self.new.layout.page (S.state store.new).files) (S.state store.old) (S.state store.new) result }
+        ensures unasked { is_some (held id self.old.latest) ≡ true → S.state store.new ≡ S.state store.old }
         ensures exact { SeenRead self.old.layout.names (C.decoded self.old.layout.codec) (S.state store.old) (S.state store.new) self.old.latest self.new.latest id result }
         ensures unmoved { self.new ≡ record { layout = self.old.layout; latest = self.new.latest; boundary = self.old.boundary } }
     {
@@ -388,6 +392,7 @@ impl<T: Drop, S: ObjectStore, C: ObjectCodec<T>, B: BoundaryObject<S>> Sequenced
         to: Bound<MonotonicId>,
     ) -> Result<Vec<IdentifiedObjectMetadata<MonotonicId>>, TransactionalObjectError>
         ensures listed { IfOk result (λ r. (h : List T) (b : ℕ) → (StandsFor (B.bounds self.old.boundary store.old) (B.file self.old.boundary) C.decoded self.old (S.state store.old).files) h b → AreListed h b from to (map (λ v. v.id) r.items)) }
+        ensures told { IfOk result (λ r. AreTold (λ n. version_path self.old.layout.names n) (S.state store.old).files r.items) }
         ensures kept { Stays (StandsFor (B.bounds self.old.boundary store.old) (B.file self.old.boundary) C.decoded self.old (S.state store.old).files) (StandsFor (B.bounds self.new.boundary store.new) (B.file self.new.boundary) C.decoded self.new (S.state store.new).files) }
         ensures spends { Spends (pages_below self.old.layout.names self.old.layout.page (S.state store.old).files) 0 (S.state store.old) (S.state store.new) }
         ensures paged { pages_below self.new.layout.names self.new.layout.page (S.state store.new).files ≡ pages_below self.old.layout.names self.old.layout.page (S.state store.old).files }
