@@ -11,9 +11,11 @@ use Rattle.txn_client.specs.declared.work.Heard.TheVariants as heards
 use Rattle.txn_store.specs.declared.request.Request.{Request}
 use Rattle.txn_store.specs.declared.request.Reply.{Reply}
 use Rattle.txn_client.specs.Noted.{Noted, Begun}
-use Rattle.txn_client.specs.Happenings.{Happening, answer_happens, HappensAll}
+use Rattle.txn_client.specs.Happenings.{Happening, Handed, answer_happens, HappensAll, HappensUntil}
 use Rattle.txn_client.specs.Calling.{Does}
-use Rattle.txn_client.specs.Working.{heard_of, heard_in, told_happens, BeginsWith}
+use Rattle.txn_client.specs.declared.stop.Stop.{Stop}
+use Rattle.txn_client.specs.Working.{heard_of, heard_in, told_happens, IsUnrecorded, BeginsWith, CutsBegin}
+use Rattle.txn_client.proofs.Stopping.{until_failed, until_more}
 use Rattle.txn_client.proofs.Hearing.{heard_began, happens_began}
 
 module _ {T : Type 0} where
@@ -50,4 +52,30 @@ module _ {T C E R S : Type 0} (hands : R → Noted T → R → Type 0) (serves :
           happened = (between, store, (subst (λ note. hands recorder note between) (ap (λ b. Begun b handed) begun_is ∙ ap (Begun (begun + 1)) call_is) first, refl), subst (λ (all : List (Happening T)). HappensAll hands serves between store all recorder' store') rest second);
           begun_is = end_is ∙ begun_is;
         };
+      }
+
+  -- the client stopped before its recorder had the begin
+  pub cuts_begun : (call : Call T) (found : Option (Answer T)) (stop : Stop) (old new : DiaryState T C E) (recorder recorder' : R) (store store' : S) (begun : ℕ)
+      → Does old (record { step = steps.Begin call; answer = found } ∷ []) new → IsUnrecorded stop → store' ≡ store → CutsBegin hands serves call begun stop old recorder store new recorder' store'
+  cuts_begun call found stop old new recorder recorder' store store' begun does is same = record {
+    row = record { step = steps.Begin call; answer = found };
+    does = does;
+    begins = refl;
+    until = until_failed hands serves stop (Begun (begun + 1) call) (answer_happens (begun + 1) found ++ []) recorder recorder' store store' is same;
+  }
+
+  -- the recorder had the begin, and failed at the answer
+  pub cuts_answered : (call handed : Call T) (found : Option (Answer T)) (said : Told T) (op : ℕ) (stop : Stop) (old new : DiaryState T C E) (recorder between recorder' : R) (store store' : S) (begun begun' : ℕ)
+      → Does old (record { step = steps.Begin call; answer = found } ∷ []) new → handed ≡ call → begun' ≡ begun + 1 → hands recorder (Begun begun' handed) between
+      → said ≡ told_of (told.Began op) op found → HappensUntil hands serves stop (told_happens begun' said) between store recorder' store' → CutsBegin hands serves call begun stop old recorder store new recorder' store'
+  cuts_answered call handed found said op stop old new recorder between recorder' store store' begun begun' does call_is begun_is first told_is until =
+      let rest : told_happens begun' said ≡ answer_happens (begun + 1) found ++ [] =
+      ap (λ b. told_happens b said) begun_is ∙ (ap (told_happens (begun + 1)) told_is ∙ (happens_began op (begun + 1) found ∙ sym (append-nil (answer_happens (begun + 1) found)))) in
+      record {
+        row = record { step = steps.Begin call; answer = found };
+        does = does;
+        begins = refl;
+        until = until_more hands serves stop (Handed (Begun (begun + 1) call) ∷ []) (answer_happens (begun + 1) found ++ []) recorder between recorder' store store store'
+            (between, store, (subst (λ note. hands recorder note between) (ap (λ b. Begun b handed) begun_is ∙ ap (Begun (begun + 1)) call_is) first, refl), (refl, refl))
+            (subst (λ (all : List (Happening T)). HappensUntil hands serves stop all between store recorder' store') rest until);
       }

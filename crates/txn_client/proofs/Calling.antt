@@ -1,5 +1,5 @@
 -- A call that goes on.
-use Rattle.std.proofs.Common.{inl, inr, arith, lit≤, All, length, ◌≡◌, ◌≤◌, ◌+◌, ℕ, List, [], ◌∷◌, ◌++◌, Option, Some, None, refl, sym, ap, subst, ◌∙◌, append-nil, length-append}
+use Rattle.std.proofs.Common.{inl, inr, arith, lit≤, All, length, ◌≡◌, ◌≤◌, ◌+◌, ℕ, List, [], ◌∷◌, ◌++◌, Option, Some, None, refl, sym, ap, subst, ◌∙◌, append_assoc, append-nil, length-append}
 use Rattle.std.proofs.lemmas.List.Elements.{All-nil, All-push, All-append}
 use Rattle.txn_store.specs.declared.request.Request.{Request}
 use Rattle.txn_store.specs.declared.request.Reply.{Reply}
@@ -11,12 +11,13 @@ use Rattle.txn_journals.specs.declared.rows.Step.{Step}
 use Rattle.txn_journals.specs.declared.rows.Step.TheVariants as steps
 use Rattle.txn_diary.specs.Diaries.{DiaryState}
 use Rattle.txn_diary.specs.Reading.{op_of, with_answer, answers_from}
+use Rattle.txn_client.specs.declared.stop.Stop.{Stop}
 use Rattle.txn_client.specs.declared.work.Heard.{Heard}
 use Rattle.txn_client.specs.declared.work.Heard.TheVariants as heards
 use Rattle.txn_client.specs.Noted.{Noted}
-use Rattle.txn_client.specs.Happenings.{begun_with}
-use Rattle.txn_client.specs.Calling.{IsLookOrCall, IsGiveUp, IsActOf}
-use Rattle.txn_client.specs.Working.{heard_in, IsOneOrNone, IsFurther, HasBegun, DoesCutOff, BeginsWith, TakesStep, CallsAs, Calls}
+use Rattle.txn_client.specs.Happenings.{happens_from, begun_with, HappensUntil}
+use Rattle.txn_client.specs.Calling.{IsLookOrCall, IsGiveUp, IsActOf, IsCutOff, AreUntold, CutsOff}
+use Rattle.txn_client.specs.Working.{heard_in, IsOneOrNone, CutsStep, CutsBegin, BeginsWith, TakesStep, CallsAs, Calls}
 use Rattle.txn_client.proofs.Adding.{answers_added, does_more, advances_more}
 
 module _ {T : Type 0} where
@@ -139,66 +140,90 @@ module _ {T : Type 0} where
   few_length such op (row ∷ []) one = lit≤ tt
   few_length such op (row ∷ next ∷ rows) one = absurd one
 
-module _ {T C E : Type 0} where
+module _ {T C E R S : Type 0} (hands : R → Noted T → R → Type 0) (serves : S → Request → Reply → S → Type 0) where
   -- a call that was cut off as it began
-  pub cut_first : (begun limit : ℕ) (call : Call T) (old new : DiaryState T C E) → HasBegun call old new → DoesCutOff begun limit call old new
-  cut_first begun limit call old new h = (
-    h.0 ∷ [],
-    h.1,
-    record {
-      first = h.0;
+  pub cut_first : (begun limit : ℕ) (call : Call T) (stop : Stop) (old new : DiaryState T C E) (recorder recorder' : R) (store store' : S) → CutsBegin hands serves call begun stop old recorder store new recorder' store' → CutsOff hands serves begun limit call stop old recorder store new recorder' store'
+  cut_first begun limit call stop old new recorder recorder' store store' h = record {
+    rows = h.row ∷ [];
+    does = h.does;
+    untold = [];
+    are_untold = tt;
+    cut_off = record {
+      first = h.row;
       turns = [];
       end = [];
       rows_are = refl;
-      begins = h.2;
+      begins = h.begins;
       acts = All-nil (λ row. IsActOf (begun + 1) IsLookOrCall row.step);
       few = omega arith;
       gives_up = All-nil (λ row. IsActOf (begun + 1) IsGiveUp row.step);
       spent = inl refl;
-    },
-  )
+    };
+    before = [];
+    last = h.row ∷ [];
+    rows_are = refl;
+    one = lit≤ tt;
+    between = recorder;
+    beneath = store;
+    happened = (refl, refl);
+    until = h.until;
+  }
 
-module _ {T C E R S : Type 0} (hands : R → Noted T → R → Type 0) (serves : S → Request → Reply → S → Type 0) where
+  -- what was cut off of a call in its next act, by what that leaves of the call's rows
+  cuts_so : (such : Act → Type 0) (op taken limit : ℕ) (call : Call T) (stop : Stop) (a b c : DiaryState T C E) (m n o : R) (p q r : S) (i j : ℕ)
+      → (so : CallsAs hands serves op taken call None a m p i b n q j) → (more : CutsStep hands serves such op j stop b n q c o r) → IsCutOff i limit call (so.rows ++ (more.rows ++ more.untold)) → CutsOff hands serves i limit call stop a m p c o r
+  cuts_so such op taken limit call stop a b c m n o p q r i j so more cut = record {
+    rows = so.rows ++ more.rows;
+    does = does_more a b c so.rows more.rows so.advances.does more.does;
+    untold = more.untold;
+    are_untold = subst (λ at. AreUntold c at more.untold) so.is_call.own more.are_untold;
+    cut_off = subst (λ (rows : List (JournalRow T)). IsCutOff i limit call rows) (sym (append_assoc so.rows more.rows more.untold)) cut;
+    before = so.rows;
+    last = more.rows ++ more.untold;
+    rows_are = append_assoc so.rows more.rows more.untold;
+    one = few_length such op (more.rows ++ more.untold) more.acts;
+    between = n;
+    beneath = q;
+    happened = so.advances.happened;
+    until = subst (λ at. HappensUntil hands serves stop (happens_from at (more.rows ++ more.untold)) n q o r) so.advances.begun_is more.until;
+  }
+
   -- a call that was cut off in its next look or store call
-  pub cut_step : (op limit taken : ℕ) (call : Call T) (a b c : DiaryState T C E) (m n : R) (p q : S) (i j : ℕ)
-      → CallsAs hands serves op taken call None a m p i b n q j → IsFurther IsLookOrCall op b c → taken + 1 ≤ limit → DoesCutOff i limit call a c
-  cut_step op limit taken call a b c m n p q i j so more few =
+  pub cut_step : (op limit taken : ℕ) (call : Call T) (stop : Stop) (a b c : DiaryState T C E) (m n o : R) (p q r : S) (i j : ℕ)
+      → CallsAs hands serves op taken call None a m p i b n q j → CutsStep hands serves IsLookOrCall op j stop b n q c o r → taken + 1 ≤ limit → CutsOff hands serves i limit call stop a m p c o r
+  cut_step op limit taken call stop a b c m n o p q r i j so more few =
       let so_far = so.is_call in
-      let one = few_length IsLookOrCall op more.0 more.2 in
-      let sum = length-append so_far.turns more.0 in
-      let taken_is = so_far.taken_is in (
-        so.rows ++ more.0,
-        does_more a b c so.rows more.0 so.advances.does more.1,
-        record {
-          first = so_far.first;
-          turns = so_far.turns ++ more.0;
-          end = [];
-          rows_are = ap (λ (rows : List (JournalRow T)). rows ++ more.0) so_far.rows_are ∙ ap (λ (rows : List (JournalRow T)). so_far.first ∷ rows) (sym (append-nil (so_far.turns ++ more.0)));
-          begins = so_far.begins;
-          acts = subst (λ o. All (λ row. IsActOf o IsLookOrCall row.step) (so_far.turns ++ more.0)) so_far.own (All-append (λ row. IsActOf op IsLookOrCall row.step) so_far.turns more.0 so_far.acts (few_all IsLookOrCall op more.0 more.2));
-          few = omega (arith, one, sum, taken_is, few);
-          gives_up = All-nil (λ row. IsActOf (i + 1) IsGiveUp row.step);
-          spent = inl refl;
-        },
-      )
+      let rows : List (JournalRow T) = more.rows ++ more.untold in
+      let one = few_length IsLookOrCall op rows more.acts in
+      let sum = length-append so_far.turns rows in
+      let taken_is = so_far.taken_is in
+      cuts_so IsLookOrCall op taken limit call stop a b c m n o p q r i j so more (record {
+        first = so_far.first;
+        turns = so_far.turns ++ rows;
+        end = [];
+        rows_are = ap (λ (before : List (JournalRow T)). before ++ rows) so_far.rows_are ∙ ap (λ (all : List (JournalRow T)). so_far.first ∷ all) (sym (append-nil (so_far.turns ++ rows)));
+        begins = so_far.begins;
+        acts = subst (λ o. All (λ row. IsActOf o IsLookOrCall row.step) (so_far.turns ++ rows)) so_far.own (All-append (λ row. IsActOf op IsLookOrCall row.step) so_far.turns rows so_far.acts (few_all IsLookOrCall op rows more.acts));
+        few = omega (arith, one, sum, taken_is, few);
+        gives_up = All-nil (λ row. IsActOf (i + 1) IsGiveUp row.step);
+        spent = inl refl;
+      })
 
   -- a call that was cut off as its operation was given up
-  pub cut_spent : (op limit : ℕ) (call : Call T) (a b c : DiaryState T C E) (m n : R) (p q : S) (i j : ℕ)
-      → CallsAs hands serves op limit call None a m p i b n q j → IsFurther IsGiveUp op b c → DoesCutOff i limit call a c
-  cut_spent op limit call a b c m n p q i j so more =
+  pub cut_spent : (op limit : ℕ) (call : Call T) (stop : Stop) (a b c : DiaryState T C E) (m n o : R) (p q r : S) (i j : ℕ)
+      → CallsAs hands serves op limit call None a m p i b n q j → CutsStep hands serves IsGiveUp op j stop b n q c o r → CutsOff hands serves i limit call stop a m p c o r
+  cut_spent op limit call stop a b c m n o p q r i j so more =
       let so_far = so.is_call in
-      let taken_is = so_far.taken_is in (
-        so.rows ++ more.0,
-        does_more a b c so.rows more.0 so.advances.does more.1,
-        record {
-          first = so_far.first;
-          turns = so_far.turns;
-          end = more.0;
-          rows_are = ap (λ (rows : List (JournalRow T)). rows ++ more.0) so_far.rows_are;
-          begins = so_far.begins;
-          acts = subst (λ o. All (λ row. IsActOf o IsLookOrCall row.step) so_far.turns) so_far.own so_far.acts;
-          few = omega (arith, taken_is);
-          gives_up = subst (λ o. All (λ row. IsActOf o IsGiveUp row.step) more.0) so_far.own (few_all IsGiveUp op more.0 more.2);
-          spent = inr taken_is;
-        },
-      )
+      let rows : List (JournalRow T) = more.rows ++ more.untold in
+      let taken_is = so_far.taken_is in
+      cuts_so IsGiveUp op limit limit call stop a b c m n o p q r i j so more (record {
+        first = so_far.first;
+        turns = so_far.turns;
+        end = rows;
+        rows_are = ap (λ (before : List (JournalRow T)). before ++ rows) so_far.rows_are;
+        begins = so_far.begins;
+        acts = subst (λ o. All (λ row. IsActOf o IsLookOrCall row.step) so_far.turns) so_far.own so_far.acts;
+        few = omega (arith, taken_is);
+        gives_up = subst (λ o. All (λ row. IsActOf o IsGiveUp row.step) rows) so_far.own (few_all IsGiveUp op rows more.acts);
+        spent = inr taken_is;
+      })

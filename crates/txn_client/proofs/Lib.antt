@@ -3,5 +3,6 @@ pub mod Hearing
 pub mod Beginning
 pub mod Calling
 pub mod Asking
+pub mod Stopping
 pub mod Recording
 pub mod Retrying

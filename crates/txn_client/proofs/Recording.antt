@@ -12,8 +12,8 @@ use Rattle.txn_client.specs.declared.work.Done.{Done}
 use Rattle.txn_client.specs.declared.work.Done.TheVariants as dones
 use Rattle.txn_client.specs.Noted.{Noted}
 use Rattle.txn_client.specs.Happenings.{happens_from, begun_with, HappensAll}
-use Rattle.txn_client.specs.Calling.{ClientState, IsCall, IsCutOff, Ends, MakesCall, Stops}
-use Rattle.txn_client.specs.Working.{IsEnding, DoesCutOff, Calls, IsDone, settled}
+use Rattle.txn_client.specs.Calling.{ClientState, IsCall, CutsOff, Ends, MakesCall, Stops}
+use Rattle.txn_client.specs.Working.{Calls, IsDone, settled}
 use Rattle.txn_client.proofs.Adding.{begun_added}
 
 module _ {T C E R S : Type 0} (hands : R → Noted T → R → Type 0) (serves : S → Request → Reply → S → Type 0) where
@@ -52,21 +52,19 @@ module _ {T C E R S : Type 0} (hands : R → Noted T → R → Type 0) (serves :
   done_err refusal limit call old new recorder recorder' store store' begun begun' dones.Spent b d = made limit call None old new recorder recorder' store store' begun begun' b d
   done_err refusal limit call old new recorder recorder' store store' begun begun' (dones.Refused fault) b d = (same_client old new recorder recorder' store store' d.same d.recorder_is d.store_is, refl, d.reason)
 
-  ends : (limit : ℕ) (call : Call T) (old new : DiaryState T C E) (recorder recorder' : R) (store store' : S) (begun : ℕ) → begun ≡ begun_with 0 old.rows → DoesCutOff begun limit call old new
-      → Ends limit call (record { diary = old; recorder = recorder; store = store; goes_on = true }) (record { diary = new; recorder = recorder'; store = store'; goes_on = false })
-  ends limit call old new recorder recorder' store store' begun b d = record {
+  ends : (limit : ℕ) (call : Call T) (old new : DiaryState T C E) (recorder recorder' : R) (store store' : S) (begun : ℕ) (stop : Stop) → begun ≡ begun_with 0 old.rows → CutsOff hands serves begun limit call stop old recorder store new recorder' store'
+      → Ends hands serves limit call stop (record { diary = old; recorder = recorder; store = store; goes_on = true }) (record { diary = new; recorder = recorder'; store = store'; goes_on = false })
+  ends limit call old new recorder recorder' store store' begun stop b d = record {
     went_on = refl;
-    rows = d.0;
-    cut_off = subst (λ at. IsCutOff at limit call d.0) b d.2;
-    does = d.1;
+    cuts_off = subst (λ at. CutsOff hands serves at limit call stop old recorder store new recorder' store') b d;
     ended = refl;
   }
 
   -- what a call leaves that was cut off
-  pub done_cut : (refusal : Option EventFault) (limit : ℕ) (call : Call T) (old new : DiaryState T C E) (recorder recorder' : R) (store store' : S) (begun : ℕ) (stop : Stop) → begun ≡ begun_with 0 old.rows → IsEnding stop → DoesCutOff begun limit call old new
+  pub done_cut : (refusal : Option EventFault) (limit : ℕ) (call : Call T) (old new : DiaryState T C E) (recorder recorder' : R) (store store' : S) (begun : ℕ) (stop : Stop) → begun ≡ begun_with 0 old.rows → CutsOff hands serves begun limit call stop old recorder store new recorder' store'
       → Stops hands serves refusal limit call (record { diary = old; recorder = recorder; store = store; goes_on = true }) (record { diary = new; recorder = recorder'; store = store'; goes_on = false }) stop
-  done_cut refusal limit call old new recorder recorder' store store' begun (stops.Refused fault) b e d = absurd e
-  done_cut refusal limit call old new recorder recorder' store store' begun stops.StepsSpent b e d = absurd e
-  done_cut refusal limit call old new recorder recorder' store store' begun (stops.Unrecorded error) b e d = ends limit call old new recorder recorder' store store' begun b d
-  done_cut refusal limit call old new recorder recorder' store store' begun stops.NoMemory b e d = ends limit call old new recorder recorder' store store' begun b d
-  done_cut refusal limit call old new recorder recorder' store store' begun stops.Ended b e d = absurd e
+  done_cut refusal limit call old new recorder recorder' store store' begun (stops.Refused fault) b d = absurd d.until.stopped
+  done_cut refusal limit call old new recorder recorder' store store' begun stops.StepsSpent b d = absurd d.until.stopped
+  done_cut refusal limit call old new recorder recorder' store store' begun (stops.Unrecorded error) b d = ends limit call old new recorder recorder' store store' begun (stops.Unrecorded error) b d
+  done_cut refusal limit call old new recorder recorder' store store' begun stops.NoMemory b d = ends limit call old new recorder recorder' store store' begun stops.NoMemory b d
+  done_cut refusal limit call old new recorder recorder' store store' begun stops.Ended b d = absurd d.until.stopped

@@ -2,6 +2,7 @@
 use Rattle.std.specs.Prelude.{◌≡◌, ◌≤◌, ◌⊎◌, ◌+◌, ℕ, List, [], ◌∷◌, ◌++◌, length, Bool, true, false, Option, Some, None, All}
 use Rattle.txn_store.specs.declared.request.Request.{Request}
 use Rattle.txn_store.specs.declared.request.Reply.{Reply}
+use Rattle.txn_history.specs.Seen.{Store}
 use Rattle.txn_history.specs.declared.event.EventFault.{EventFault}
 use Rattle.txn_history.specs.declared.event.EventFault.TheVariants as faults
 use Rattle.txn_history.specs.declared.event.Call.{Call}
@@ -11,12 +12,12 @@ use Rattle.txn_journals.specs.declared.rows.Act.TheVariants as acts
 use Rattle.txn_journals.specs.declared.rows.Step.{Step}
 use Rattle.txn_journals.specs.declared.rows.Step.TheVariants as steps
 use Rattle.txn_journals.specs.declared.rows.JournalRow.{JournalRow}
-use Rattle.txn_diary.specs.Diaries.{DiaryState}
+use Rattle.txn_diary.specs.Diaries.{DiaryState, asked_in}
 use Rattle.txn_diary.specs.Reading.{with_answer, answers_from}
 use Rattle.txn_client.specs.declared.stop.Stop.{Stop}
 use Rattle.txn_client.specs.declared.stop.Stop.TheVariants as stops
 use Rattle.txn_client.specs.Noted.{Noted}
-use Rattle.txn_client.specs.Happenings.{happens_from, begun_with, HappensAll}
+use Rattle.txn_client.specs.Happenings.{happens_from, begun_with, HappensAll, HappensUntil}
 
 -- A client: its diary, its recorder, its store, and whether it goes on. It ends where its recorder failed or memory was wanting in the middle of a call.
 pub record ClientState (T C E R S : Type 0) : Type 0 where
@@ -83,13 +84,44 @@ module _ {T C E : Type 0} where
     pub codec : new.codec ≡ old.codec
     pub epochs : new.epochs ≡ old.epochs
 
-module _ {T C E R S : Type 0} where
-  -- The client went on before, and ended in the middle of this call, of at most so many looks and store calls: what it did of it stands in its diary, and it makes no further call.
-  pub record Ends (limit : ℕ) (call : Call T) (old new : ClientState T C E R S) : Type 0 where
-    pub went_on : old.goes_on ≡ true
+module _ {T C E : Type 0} where
+  -- a store call of this operation, for what it asks
+  abbrev pub IsStoreCall : DiaryState T C E → ℕ → Step T → Type 0
+  IsStoreCall diary op (steps.Act o (acts.Receive receipt)) = (o ≡ op) × (asked_in diary op ≡ Some (Store receipt.request))
+  IsStoreCall diary op (steps.Act o (acts.Fails request)) = (o ≡ op) × (asked_in diary op ≡ Some (Store request))
+  IsStoreCall diary op (steps.Act o acts.Look) = ⊥
+  IsStoreCall diary op (steps.Act o (acts.GiveUp left)) = ⊥
+  IsStoreCall diary op (steps.Act o acts.Lacks) = ⊥
+  IsStoreCall diary op (steps.Begin call) = ⊥
+  IsStoreCall diary op (steps.Killed lefts) = ⊥
+
+  -- these rows, which the diary has not, are none, or the one of a store call of this operation, for what it asks
+  abbrev pub AreUntold : DiaryState T C E → ℕ → List (JournalRow T) → Type 0
+  AreUntold diary op [] = Unit {0}
+  AreUntold diary op (row ∷ []) = IsStoreCall diary op row.step
+  AreUntold diary op (row ∷ next ∷ rows) = ⊥
+
+module _ {T C E R S : Type 0} (hands : R → Noted T → R → Type 0) (serves : S → Request → Reply → S → Type 0) where
+  -- This stopped a client in the middle of a call, of at most so many looks and store calls, before which so many operations began. What it did of the call stands in its diary, but perhaps for one store call, which no row tells. What happened to its recorder and its store is all that the rows before the last tell, and of what the last one tells the first things.
+  pub record CutsOff (begun limit : ℕ) (call : Call T) (stop : Stop) (old : DiaryState T C E) (recorder : R) (store : S) (new : DiaryState T C E) (recorder' : R) (store' : S) : Type 0 where
     pub rows : List (JournalRow T)
-    pub cut_off : IsCutOff (begun_with 0 old.diary.rows) limit call rows
-    pub does : Does old.diary rows new.diary
+    pub does : Does old rows new
+    pub untold : List (JournalRow T)
+    pub are_untold : AreUntold new (begun + 1) untold
+    pub cut_off : IsCutOff begun limit call (rows ++ untold)
+    pub before : List (JournalRow T)
+    pub last : List (JournalRow T)
+    pub rows_are : rows ++ untold ≡ before ++ last
+    pub one : length last ≤ 1
+    pub between : R
+    pub beneath : S
+    pub happened : HappensAll hands serves recorder store (happens_from begun before) between beneath
+    pub until : HappensUntil hands serves stop (happens_from (begun_with begun before) last) between beneath recorder' store'
+
+  -- The client went on before, and this stopped it in the middle of this call, of at most so many looks and store calls: it makes no further call.
+  pub record Ends (limit : ℕ) (call : Call T) (stop : Stop) (old new : ClientState T C E R S) : Type 0 where
+    pub went_on : old.goes_on ≡ true
+    pub cuts_off : CutsOff (begun_with 0 old.diary.rows) limit call stop old.diary old.recorder old.store new.diary new.recorder new.store
     pub ended : new.goes_on ≡ false
 
 module _ {T C E R S : Type 0} (hands : R → Noted T → R → Type 0) (serves : S → Request → Reply → S → Type 0) where
@@ -108,6 +140,6 @@ module _ {T C E R S : Type 0} (hands : R → Noted T → R → Type 0) (serves :
     abbrev pub Stops : ℕ → Call T → ClientState T C E R S → ClientState T C E R S → Stop → Type 0
     Stops limit call old new (stops.Refused fault) = (new ≡ old) × (old.goes_on ≡ true) × ((refusal ≡ Some fault) ⊎ (fault ≡ faults.NoMemory))
     Stops limit call old new stops.StepsSpent = MakesCall limit call None old new
-    Stops limit call old new (stops.Unrecorded error) = Ends limit call old new
-    Stops limit call old new stops.NoMemory = Ends limit call old new
+    Stops limit call old new (stops.Unrecorded error) = Ends hands serves limit call (stops.Unrecorded error) old new
+    Stops limit call old new stops.NoMemory = Ends hands serves limit call stops.NoMemory old new
     Stops limit call old new stops.Ended = (new ≡ old) × (old.goes_on ≡ false)

@@ -10,6 +10,8 @@ use Rattle.txn_journals.specs.declared.rows.Step.TheVariants as steps
 use Rattle.txn_journals.specs.declared.rows.JournalRow.{JournalRow}
 use Rattle.txn_logged.specs.Honest.{SaysFailed}
 use Rattle.txn_diary.specs.Reading.{op_of, begun_by}
+use Rattle.txn_client.specs.declared.stop.Stop.{Stop}
+use Rattle.txn_client.specs.declared.stop.Stop.TheVariants as stops
 use Rattle.txn_client.specs.Noted.{Noted, Begun, Asked, Replied, Failed, GaveUp, Answered}
 
 pub data Happening (T : Type 0) : Type 0 where
@@ -64,3 +66,30 @@ module _ {T R S : Type 0} (hands : R → Noted T → R → Type 0) (serves : S �
   abbrev pub HappensAll : R → S → List (Happening T) → R → S → Type 0
   HappensAll recorder store [] recorder' store' = (recorder' ≡ recorder) × (store' ≡ store)
   HappensAll recorder store (happening ∷ rest) recorder' store' = (between : R) × (beneath : S) × Happens recorder store happening between beneath × HappensAll between beneath rest recorder' store'
+
+module _ {T : Type 0} where
+  -- the first of these is handed to the recorder
+  abbrev pub IsHandedFirst : List (Happening T) → Type 0
+  IsHandedFirst (Handed note ∷ rest) = Unit {0}
+  IsHandedFirst (Served request reply ∷ rest) = ⊥
+  IsHandedFirst (CallFailed request ∷ rest) = ⊥
+  IsHandedFirst [] = ⊥
+
+module _ {T R : Type 0} where
+  -- How a client stops before these, which were to happen next: its recorder failed at the first of them, and what that leaves of the recorder no trait says; or memory was wanting, and the recorder is as it was.
+  abbrev pub StopsBefore : Stop → List (Happening T) → R → R → Type 0
+  StopsBefore (stops.Unrecorded error) rest recorder recorder' = IsHandedFirst rest
+  StopsBefore stops.NoMemory rest recorder recorder' = recorder' ≡ recorder
+  StopsBefore (stops.Refused fault) rest recorder recorder' = ⊥
+  StopsBefore stops.StepsSpent rest recorder recorder' = ⊥
+  StopsBefore stops.Ended rest recorder recorder' = ⊥
+
+module _ {T R S : Type 0} (hands : R → Noted T → R → Type 0) (serves : S → Request → Reply → S → Type 0) where
+  -- Of these the first happened, one after another, and nothing else, and then this stopped the client.
+  pub record HappensUntil (stop : Stop) (all : List (Happening T)) (recorder : R) (store : S) (recorder' : R) (store' : S) : Type 0 where
+    pub done : List (Happening T)
+    pub rest : List (Happening T)
+    pub all_are : all ≡ done ++ rest
+    pub between : R
+    pub happened : HappensAll hands serves recorder store done between store'
+    pub stopped : StopsBefore stop rest between recorder'

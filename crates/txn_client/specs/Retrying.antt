@@ -1,5 +1,5 @@
 -- An update that is made again after each conflict.
-use Rattle.std.specs.Prelude.{◌≡◌, ◌⊎◌, ◌<◌, ℕ, zero, suc, nat_eq, if◌then◌else◌, Option, Some, None, Result, Ok, Err}
+use Rattle.std.specs.Prelude.{◌≡◌, ◌⊎◌, ◌<◌, ℕ, zero, suc, nat_eq, if◌then◌else◌, Option, Some, None, option_map, Result, Ok, Err}
 use Rattle.txn_store.specs.declared.request.Request.{Request}
 use Rattle.txn_store.specs.declared.request.Reply.{Reply}
 use Rattle.txn_history.specs.declared.event.PlainAnswer.{PlainAnswer}
@@ -10,6 +10,7 @@ use Rattle.txn_history.specs.declared.event.Call.TheVariants as calls
 use Rattle.txn_history.specs.declared.event.Answer.{Answer}
 use Rattle.txn_history.specs.declared.event.Answer.TheVariants as answers
 use Rattle.txn_history.specs.declared.event.ViewCall.TheVariants as view_calls
+use Rattle.txn_machine.specs.Machine.{seen_view, used_by}
 use Rattle.txn_diary.specs.Diaries.{refusal_of}
 use Rattle.txn_client.specs.declared.retry.Applied.{Applied}
 use Rattle.txn_client.specs.declared.retry.Applied.TheVariants as applied
@@ -42,6 +43,17 @@ module _ {T : Type 0} where
   abbrev pub refresh_of : Viewed T → Call T
   refresh_of viewed = calls.View (view_calls.Refresh viewed.view)
 
+module _ {T C E R S : Type 0} where
+  -- a view of a client as the client has it: where it stands, it is at this version, which says this
+  abbrev pub viewed_in : ClientState T C E R S → ℕ → Option (Viewed T)
+  viewed_in client view = option_map (λ v. record { view = view; id = v.id; value = v.object }) (seen_view (used_by client.diary.part.views (Some view)))
+
+  -- Why a view was not taken from a client: it has none of this number, or memory was wanting for the copy of its value.
+  pub data NotViewed (client : ClientState T C E R S) (view : ℕ) (stop : Stop) : Type 0 where
+    NoView : viewed_in client view ≡ None → stop ≡ stops.Refused faults.UnknownNumber → NotViewed client view stop
+    NoCopy : stop ≡ stops.Refused faults.NoMemory → NotViewed client view stop
+
+module _ {T : Type 0} where
   -- A word of private contracts: what an answer to an update or a refresh says.
   abbrev pub tried_plain : PlainAnswer T → Tried T
   tried_plain (plain.Refused number) = if nat_eq number 5 then trials.Conflict else trials.Answered (answers.Plain (plain.Refused number))
@@ -109,3 +121,11 @@ module _ {T C E R S F : Type 0} (hands : R → Noted T → R → Type 0) (serves
     -- an update that is made at most so many times stopped, after rounds alone
     abbrev pub IsStopped : ℕ → Viewed T → ClientState T C E R S → Stop → ClientState T C E R S → Type 0
     IsStopped attempts viewed old stop new = AfterRounds attempts viewed old (λ last between. StopsAt last between stop new)
+
+    -- why an update of the view of this number stopped: the view was not taken, and the client is as it was, or as above
+    abbrev pub IsStoppedOf : ℕ → ℕ → ClientState T C E R S → Stop → ClientState T C E R S → Type 0
+    IsStoppedOf attempts view old stop new = (NotViewed old view stop × (new ≡ old)) ⊎ ((viewed : Viewed T) × (viewed_in old view ≡ Some viewed) × IsStopped attempts viewed old stop new)
+
+  -- what became of an update of the view of this number, from where the client had it
+  abbrev pub IsAppliedTo : ℕ → ℕ → ClientState T C E R S → Applied T → ClientState T C E R S → Type 0
+  IsAppliedTo attempts view old applied new = (viewed : Viewed T) × (viewed_in old view ≡ Some viewed) × IsApplied attempts viewed old applied new

@@ -1,5 +1,5 @@
 -- Words of private contracts: how a client's diary, its recorder and its store go on together.
-use Rattle.std.specs.Prelude.{◌≡◌, ◌⊎◌, ◌+◌, ◌-◌, ℕ, All, slice_get, length, List, [], ◌∷◌, Option, Some, None, Result, Ok, Err}
+use Rattle.std.specs.Prelude.{◌≡◌, ◌⊎◌, ◌+◌, ◌-◌, ℕ, All, slice_get, length, List, [], ◌∷◌, ◌++◌, Option, Some, None, Result, Ok, Err}
 use Rattle.txn_history.specs.declared.event.ToldOf.TheVariants as told
 use Rattle.txn_history.specs.declared.event.EventFault.{EventFault}
 use Rattle.txn_history.specs.declared.event.EventFault.TheVariants as faults
@@ -22,9 +22,9 @@ use Rattle.txn_client.specs.declared.work.Begun.TheVariants as begins
 use Rattle.txn_client.specs.declared.work.Done.{Done}
 use Rattle.txn_client.specs.declared.work.Done.TheVariants as dones
 use Rattle.txn_client.specs.Noted.{Noted, Asked, Answered}
-use Rattle.txn_client.specs.Happenings.{Happening, Handed, row_happens, happens_from, begun_with, HappensAll}
+use Rattle.txn_client.specs.Happenings.{Happening, Handed, row_happens, happens_from, begun_with, HappensAll, HappensUntil}
 use Rattle.txn_diary.specs.Reading.{with_answer, answers_from}
-use Rattle.txn_client.specs.Calling.{IsLookOrCall, IsActOf, IsCall, IsCutOff, Does}
+use Rattle.txn_client.specs.Calling.{IsLookOrCall, IsActOf, IsCall, AreUntold, Does}
 
 module _ {T : Type 0} where
   -- what is heard of what was told
@@ -73,11 +73,13 @@ module _ {T : Type 0} where
   settled (dones.Refused fault) = Err (stops.Refused fault)
   settled dones.Spent = Err stops.StepsSpent
 
--- a stop after which the client makes no further call
-abbrev pub IsEnding : Stop → Type 0
-IsEnding (stops.Unrecorded error) = Unit {0}
-IsEnding stops.NoMemory = Unit {0}
-IsEnding _ = ⊥
+-- the recorder failed
+abbrev pub IsUnrecorded : Stop → Type 0
+IsUnrecorded (stops.Unrecorded error) = Unit {0}
+IsUnrecorded stops.NoMemory = ⊥
+IsUnrecorded (stops.Refused fault) = ⊥
+IsUnrecorded stops.StepsSpent = ⊥
+IsUnrecorded stops.Ended = ⊥
 
 module _ {T : Type 0} where
   -- there is no row, or one alone, which is such an act of this operation
@@ -85,19 +87,6 @@ module _ {T : Type 0} where
   IsOneOrNone such op [] = Unit {0}
   IsOneOrNone such op (row ∷ []) = IsActOf op such row.step
   IsOneOrNone such op (row ∷ next ∷ rows) = ⊥
-
-module _ {T C E : Type 0} where
-  -- the same client did nothing more, or one such act of this operation
-  abbrev pub IsFurther : (Act → Type 0) → ℕ → DiaryState T C E → DiaryState T C E → Type 0
-  IsFurther such op old new = (rows : List (JournalRow T)) × Does old rows new × IsOneOrNone such op rows
-
-  -- the same client began this call, and did nothing else
-  abbrev pub HasBegun : Call T → DiaryState T C E → DiaryState T C E → Type 0
-  HasBegun call old new = (row : JournalRow T) × Does old (row ∷ []) new × (row.step ≡ steps.Begin call)
-
-  -- the same client did this of a call that was cut off
-  abbrev pub DoesCutOff : ℕ → ℕ → Call T → DiaryState T C E → DiaryState T C E → Type 0
-  DoesCutOff begun limit call old new = (rows : List (JournalRow T)) × Does old rows new × IsCutOff begun limit call rows
 
 module _ {T C E R S : Type 0} (hands : R → Noted T → R → Type 0) (serves : S → Request → Reply → S → Type 0) where
   -- The same client did these things, what happens with them happened to its recorder and its store, and its count of begins went on.
@@ -123,6 +112,35 @@ module _ {T C E R S : Type 0} (hands : R → Noted T → R → Type 0) (serves :
     pub row_is : row_happens op row ≡ Handed (Asked op request) ∷ called ∷ rest
     pub happened : HappensAll hands serves recorder store rest recorder' store'
     pub begun_is : begun' ≡ begun
+
+  -- This stopped a client as one of its operations was to act, by such an act: of it the diary has a row, or none, and none perhaps though the store was called.
+  pub record CutsStep (such : Act → Type 0) (op begun : ℕ) (stop : Stop) (old : DiaryState T C E) (recorder : R) (store : S) (new : DiaryState T C E) (recorder' : R) (store' : S) : Type 0 where
+    pub rows : List (JournalRow T)
+    pub does : Does old rows new
+    pub untold : List (JournalRow T)
+    pub are_untold : AreUntold new op untold
+    pub acts : IsOneOrNone such op (rows ++ untold)
+    pub until : HappensUntil hands serves stop (happens_from begun (rows ++ untold)) recorder store recorder' store'
+
+  -- The same after what the operation asks for was handed over, and the store was called for it, which happened before.
+  pub record CutsAsked (op : ℕ) (request : Request) (called : Happening T) (stop : Stop) (old : DiaryState T C E) (recorder : R) (store : S) (new : DiaryState T C E) (recorder' : R) (store' : S) : Type 0 where
+    pub rows : List (JournalRow T)
+    pub does : Does old rows new
+    pub untold : List (JournalRow T)
+    pub are_untold : AreUntold new op untold
+    pub row : JournalRow T
+    pub rows_are : rows ++ untold ≡ row ∷ []
+    pub acts : IsActOf op IsLookOrCall row.step
+    pub rest : List (Happening T)
+    pub row_is : row_happens op row ≡ Handed (Asked op request) ∷ called ∷ rest
+    pub until : HappensUntil hands serves stop rest recorder store recorder' store'
+
+  -- This stopped a client in the begin of a call.
+  pub record CutsBegin (call : Call T) (begun : ℕ) (stop : Stop) (old : DiaryState T C E) (recorder : R) (store : S) (new : DiaryState T C E) (recorder' : R) (store' : S) : Type 0 where
+    pub row : JournalRow T
+    pub does : Does old (row ∷ []) new
+    pub begins : row.step ≡ steps.Begin call
+    pub until : HappensUntil hands serves stop (happens_from begun (row ∷ [])) recorder store recorder' store'
 
   -- A call is this operation's so far, of so many looks and store calls, with this answer, if one.
   pub record CallsAs (op taken : ℕ) (call : Call T) (answer : Option (Answer T)) (old : DiaryState T C E) (recorder : R) (store : S) (begun : ℕ) (new : DiaryState T C E) (recorder' : R) (store' : S) (begun' : ℕ) : Type 0 where

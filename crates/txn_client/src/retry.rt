@@ -94,20 +94,58 @@ impl<
     S: Serve + Drop,
     R: Recorder<T> + Drop,
 > Client<T, C, E, S, R> {
-    ghost use Rattle.std.specs.Prelude.{IfOk, IfErr};
+    ghost use Rattle.std.specs.Prelude.{◌≡◌, Some, IfOk, IfErr};
     ghost use Rattle.std.specs.Fn.{FnReturnsAt};
     ghost use Rattle.txn_types.specs.Clones.{IsExactClone};
-    ghost use Rattle.txn_client.specs.Retrying.{IsApplied, IsStopped};
+    ghost use Rattle.txn_client.specs.Retrying.{viewed_in, NotViewed, IsApplied, IsAppliedTo, IsStopped, IsStoppedOf};
 
-    /// Asks the mutator for a candidate made of the version that is viewed, and updates the view by it. After a conflict it
-    /// refreshes the view and asks once more, of what the refresh gave, `attempts` times at most. Each call takes at most `steps`
-    /// looks and store calls. What is `viewed` is to be what a call told of that view last: the candidate is made of its value
-    /// and written on the version that the view is at, and nothing holds the two against each other.
+    /// The view of this number as the client has it. The errors leave all as it was: `UnknownNumber` where it has none, and want
+    /// of memory for the copy of its value.
+    fn viewed(&self, view: u64) -> Result<Viewed<T>, Stop>
+        requires { IsExactClone T.is_clone }
+        ensures ok { IfOk result (λ viewed. viewed_in self.now view ≡ Some viewed) }
+        ensures err { IfErr result (NotViewed self.now view) }
+    {
+        let Some(found) = self.diary().view(view) else {
+            return Err(Stop::Refused(EventFault::UnknownNumber));
+        };
+        match found.object.clone() {
+            Ok(value) => Ok(Viewed {
+                view,
+                id: found.id,
+                value,
+            }),
+            Err(_) => Err(Stop::Refused(EventFault::NoMemory)),
+        }
+    }
+
+    /// Asks the mutator for a candidate made of the value of the version that the view is at, and updates the view by it. After a
+    /// conflict it refreshes the view and asks once more, of what the refresh gave, `attempts` times at most. Each call takes at
+    /// most `steps` looks and store calls.
     ///
     /// # Errors
     ///
-    /// As those of [`Client::call`], and [`Stop::Refused`] with want of memory where the mutator finds none: no call is made then.
+    /// As those of [`Client::call`]. Besides, [`Stop::Refused`] with `UnknownNumber` where the client has no view of this number,
+    /// and with want of memory where none is there for a copy of its value: the client is as it was. The same where the mutator
+    /// finds no memory: no call is made then.
     pub fn maybe_apply_update<F: Fn(&T) -> Result<Option<T>, AllocError>>(
+        &mut self,
+        view: u64,
+        attempts: u64,
+        steps: u64,
+        mutator: &F,
+    ) -> Result<Applied<T>, Stop>
+        requires exact { IsExactClone T.is_clone }
+        requires callable { F.IsAlwaysCallable mutator.now }
+        ensures ok { IfOk result (λ applied. IsAppliedTo R.hands S.serves steps (λ value answer. FnReturnsAt F.Fn mutator.now value answer) attempts view self.old applied self.new) }
+        ensures err { IfErr result (λ stop. IsStoppedOf R.hands S.serves steps (λ value answer. FnReturnsAt F.Fn mutator.now value answer) E.epoch_of attempts view self.old stop self.new) }
+    {
+        let viewed = self.viewed(view)?;
+        self.update_viewed(viewed, attempts, steps, mutator)
+    }
+
+    /// The same from what is viewed on.
+    fn update_viewed<F: Fn(&T) -> Result<Option<T>, AllocError>>(
         &mut self,
         viewed: Viewed<T>,
         attempts: u64,

@@ -120,9 +120,10 @@ impl<T: Clone, C: ObjectCodec<T> + Drop, E: EpochField<T>, S: Serve, R: Recorder
     ghost use Rattle.txn_types.specs.Clones.{IsExactClone};
     ghost use Rattle.txn_history.specs.Seen.{Store};
     ghost use Rattle.txn_diary.specs.Diaries.{asked_in, refusal_of};
-    ghost use Rattle.txn_client.specs.Happenings.{HappensAll, Served, CallFailed};
-    ghost use Rattle.txn_client.specs.Calling.{IsLookOrCall, IsGiveUp};
-    ghost use Rattle.txn_client.specs.Working.{heard_of, told_happens, IsEnding, IsFurther, HasBegun, DoesCutOff, TakesStep, TakesAsked, IsBegun, IsDone};
+    ghost use Rattle.txn_client.specs.Happenings.{HappensAll, HappensUntil, Served, CallFailed};
+    ghost use Rattle.txn_client.specs.Calling.{IsLookOrCall, IsGiveUp, CutsOff};
+    ghost use Rattle.txn_client.specs.Working.{heard_of, told_happens, CutsStep, CutsAsked, CutsBegin, TakesStep, TakesAsked, IsBegun, IsDone};
+    ghost use Rattle.txn_client.specs.declared.stop.Stop.TheVariants.{NoMemory};
 
     /// Hands an operation's answer to the recorder, where one was told.
     fn hear(&mut self, op: u64, told: Told<T>) -> Result<Heard<T>, Stop>
@@ -130,7 +131,7 @@ impl<T: Clone, C: ObjectCodec<T> + Drop, E: EpochField<T>, S: Serve, R: Recorder
         ensures begun { self.new.begun ≡ self.old.begun }
         ensures heard { IfOk result (λ heard. heard ≡ heard_of told) }
         ensures happened { OnOk result (HappensAll R.hands S.serves self.old.recorder self.old.store (told_happens op told) self.new.recorder self.new.store) }
-        ensures err { IfErr result IsEnding }
+        ensures err { IfErr result (λ stop. HappensUntil R.hands S.serves stop (told_happens op told) self.old.recorder self.old.store self.new.recorder self.new.store) }
     {
         match told {
             Told::Answered(_, answer) => {
@@ -148,7 +149,7 @@ impl<T: Clone, C: ObjectCodec<T> + Drop, E: EpochField<T>, S: Serve, R: Recorder
     fn look(&mut self, op: u64) -> Result<Heard<T>, Stop>
         requires { IsExactClone T.is_clone }
         ensures ok { IfOk result (λ heard. TakesStep R.hands S.serves IsLookOrCall op self.old.diary self.old.recorder self.old.store self.old.begun heard self.new.diary self.new.recorder self.new.store self.new.begun) }
-        ensures err { IfErr result (λ stop. IsEnding stop × IsFurther IsLookOrCall op self.old.diary self.new.diary) }
+        ensures err { IfErr result (λ stop. CutsStep R.hands S.serves IsLookOrCall op self.old.begun stop self.old.diary self.old.recorder self.old.store self.new.diary self.new.recorder self.new.store) }
     {
         match self.diary.look(op) {
             Ok(told) => self.hear(op, told),
@@ -160,7 +161,7 @@ impl<T: Clone, C: ObjectCodec<T> + Drop, E: EpochField<T>, S: Serve, R: Recorder
     fn fail(&mut self, op: u64, request: &Request) -> Result<Heard<T>, Stop>
         requires { asked_in self.old.diary op ≡ Some (Store request.now) }
         ensures ok { IfOk result (λ heard. TakesAsked R.hands S.serves op request.now (CallFailed request.now) self.old.diary self.old.recorder self.old.store self.old.begun heard self.new.diary self.new.recorder self.new.store self.new.begun) }
-        ensures err { IfErr result (λ stop. IsEnding stop × IsFurther IsLookOrCall op self.old.diary self.new.diary) }
+        ensures err { IfErr result (λ stop. CutsAsked R.hands S.serves op request.now (CallFailed request.now) stop self.old.diary self.old.recorder self.old.store self.new.diary self.new.recorder self.new.store) }
     {
         match self.diary.failed(op) {
             Ok(told) => {
@@ -173,9 +174,10 @@ impl<T: Clone, C: ObjectCodec<T> + Drop, E: EpochField<T>, S: Serve, R: Recorder
 
     /// The operation takes the store's reply to what the recorder was told of.
     fn take(&mut self, op: u64, request: Request, reply: Reply) -> Result<Heard<T>, Stop>
-        requires { IsExactClone T.is_clone }
+        requires exact { IsExactClone T.is_clone }
+        requires asks { asked_in self.old.diary op ≡ Some (Store request) }
         ensures ok { IfOk result (λ heard. TakesAsked R.hands S.serves op request (Served request reply) self.old.diary self.old.recorder self.old.store self.old.begun heard self.new.diary self.new.recorder self.new.store self.new.begun) }
-        ensures err { IfErr result (λ stop. IsEnding stop × IsFurther IsLookOrCall op self.old.diary self.new.diary) }
+        ensures err { IfErr result (λ stop. CutsAsked R.hands S.serves op request (Served request reply) stop self.old.diary self.old.recorder self.old.store self.new.diary self.new.recorder self.new.store) }
     {
         self.recorder.replied(op, &reply)?;
         // Which place it has among the store's calls is found when they are put into an order.
@@ -195,7 +197,7 @@ impl<T: Clone, C: ObjectCodec<T> + Drop, E: EpochField<T>, S: Serve, R: Recorder
         requires exact { IsExactClone T.is_clone }
         requires asks { asked_in self.old.diary op ≡ Some (Store request) }
         ensures ok { IfOk result (λ heard. TakesStep R.hands S.serves IsLookOrCall op self.old.diary self.old.recorder self.old.store self.old.begun heard self.new.diary self.new.recorder self.new.store self.new.begun) }
-        ensures err { IfErr result (λ stop. IsEnding stop × IsFurther IsLookOrCall op self.old.diary self.new.diary) }
+        ensures err { IfErr result (λ stop. CutsStep R.hands S.serves IsLookOrCall op self.old.begun stop self.old.diary self.old.recorder self.old.store self.new.diary self.new.recorder self.new.store) }
     {
         self.recorder.asked(op, &request)?;
         let reply = self.store.serve(self.alloc, &request);
@@ -209,7 +211,7 @@ impl<T: Clone, C: ObjectCodec<T> + Drop, E: EpochField<T>, S: Serve, R: Recorder
     /// What the operation asks the store for, where it does. The only error is want of memory.
     fn request(&self, op: u64) -> Result<Option<Request>, Stop>
         ensures ok { IfOk result (λ request. IfSome request (λ asked. asked_in self.now.diary op ≡ Some (Store asked))) }
-        ensures err { IfErr result IsEnding }
+        ensures err { IfErr result (λ stop. stop ≡ NoMemory) }
     {
         match request_of(self.diary.asks(op)) {
             Some(request) => Ok(Some(request.try_clone()?)),
@@ -221,7 +223,7 @@ impl<T: Clone, C: ObjectCodec<T> + Drop, E: EpochField<T>, S: Serve, R: Recorder
     fn step(&mut self, op: u64) -> Result<Heard<T>, Stop>
         requires { IsExactClone T.is_clone }
         ensures ok { IfOk result (λ heard. TakesStep R.hands S.serves IsLookOrCall op self.old.diary self.old.recorder self.old.store self.old.begun heard self.new.diary self.new.recorder self.new.store self.new.begun) }
-        ensures err { IfErr result (λ stop. IsEnding stop × IsFurther IsLookOrCall op self.old.diary self.new.diary) }
+        ensures err { IfErr result (λ stop. CutsStep R.hands S.serves IsLookOrCall op self.old.begun stop self.old.diary self.old.recorder self.old.store self.new.diary self.new.recorder self.new.store) }
     {
         match self.request(op)? {
             Some(request) => self.ask(op, request),
@@ -232,7 +234,7 @@ impl<T: Clone, C: ObjectCodec<T> + Drop, E: EpochField<T>, S: Serve, R: Recorder
     /// Gives the operation up.
     fn give_up(&mut self, op: u64) -> Result<(), Stop>
         ensures ok { OnOk result (TakesStep R.hands S.serves IsGiveUp op self.old.diary self.old.recorder self.old.store self.old.begun Heard.Goes self.new.diary self.new.recorder self.new.store self.new.begun) }
-        ensures err { IfErr result (λ stop. IsEnding stop × IsFurther IsGiveUp op self.old.diary self.new.diary) }
+        ensures err { IfErr result (λ stop. CutsStep R.hands S.serves IsGiveUp op self.old.begun stop self.old.diary self.old.recorder self.old.store self.new.diary self.new.recorder self.new.store) }
     {
         match self.diary.give_up(op) {
             Ok(told) => {
@@ -248,7 +250,7 @@ impl<T: Clone, C: ObjectCodec<T> + Drop, E: EpochField<T>, S: Serve, R: Recorder
     fn begin(&mut self, call: Call<T>) -> Result<Begun<T>, Stop>
         requires { IsExactClone T.is_clone }
         ensures ok { IfOk result (λ begun. IsBegun R.hands S.serves (refusal_of (E.epoch_of self.old.diary.epochs) self.old.diary call) call self.old.diary self.old.recorder self.old.store self.old.begun begun self.new.diary self.new.recorder self.new.store self.new.begun) }
-        ensures err { IfErr result (λ stop. IsEnding stop × HasBegun call self.old.diary self.new.diary) }
+        ensures err { IfErr result (λ stop. CutsBegin R.hands S.serves call self.old.begun stop self.old.diary self.old.recorder self.old.store self.new.diary self.new.recorder self.new.store) }
     {
         let Some(op) = self.begun.checked_add(1) else {
             drop(call);
@@ -273,7 +275,7 @@ impl<T: Clone, C: ObjectCodec<T> + Drop, E: EpochField<T>, S: Serve, R: Recorder
     pub fn call(&mut self, call: Call<T>, steps: u64) -> Result<Done<T>, Stop>
         requires { IsExactClone T.is_clone }
         ensures ok { IfOk result (λ done. IsDone R.hands S.serves (refusal_of (E.epoch_of self.old.diary.epochs) self.old.diary call) steps call self.old.diary self.old.recorder self.old.store self.old.begun done self.new.diary self.new.recorder self.new.store self.new.begun) }
-        ensures err { IfErr result (λ stop. IsEnding stop × DoesCutOff self.old.begun steps call self.old.diary self.new.diary) }
+        ensures err { IfErr result (λ stop. CutsOff R.hands S.serves self.old.begun steps call stop self.old.diary self.old.recorder self.old.store self.new.diary self.new.recorder self.new.store) }
     {
         let op = match self.begin(call)? {
             Begun::Refused(fault) => return Ok(Done::Refused(fault)),

@@ -22,8 +22,9 @@ use std::sync::{Mutex, Wait};
 use txn_caches::ask::Ask;
 use txn_clients::operations::request_of;
 use txn_clients::refusals::{ask_refusal, end_refusal};
-use txn_clients::views::Answers;
+use txn_clients::views::{Answers, get};
 use txn_history::event::{Answer, Call, EventFault, PlainAnswer, Told};
+use txn_history::view::View;
 use txn_journals::audited::Audited;
 use txn_journals::rows::{Act, JournalRow, Receipt, Step};
 use txn_logged::logged::LoggedStore;
@@ -72,7 +73,9 @@ impl<T: Clone, C: ObjectCodec<T> + Drop, E: EpochField<T>> Model for Diary<T, C,
 }
 
 impl<T: Clone, C: ObjectCodec<T> + Drop, E: EpochField<T>> Diary<T, C, E> {
-    ghost use Rattle.std.specs.Prelude.{◌≡◌, ◌≤◌, [], None, Option, true, false, IfOk, OnOk, OnErr, map, reverse};
+    ghost use Rattle.std.specs.Prelude.{◌≡◌, ◌≤◌, [], None, Some, Option, true, false, IfOk, OnOk, OnErr, map, reverse};
+    ghost use Rattle.std.specs.Option.{option_copied};
+    ghost use Rattle.txn_machine.specs.Machine.{seen_view, used_by};
     ghost use Rattle.txn_journals.specs.Verdict.{receipts_in};
     ghost use Rattle.txn_diary.specs.Reading.{answers_from};
     ghost use Rattle.txn_types.specs.Clones.{IsExactClone};
@@ -125,6 +128,13 @@ impl<T: Clone, C: ObjectCodec<T> + Drop, E: EpochField<T>> Diary<T, C, E> {
         } else {
             None
         }
+    }
+
+    /// The view of this number as it stands: none where it is not there, or has ended. It takes no memory.
+    pub fn view(&self, number: u64) -> Option<&View<T>>
+        ensures { option_copied result ≡ seen_view (used_by self.now.part.views (Some number)) }
+    {
+        get(&self.tables.views, number)
     }
 
     /// What the client did, the oldest row first.

@@ -226,13 +226,13 @@ impl Session {
 
     /// Writes a version on the newest, in its epoch, again after each conflict: its id. A holder's is of its own epoch.
     pub fn put(&mut self, epoch: Option<u64>, payload: &Bytes) -> Result<u64, Halt> {
-        let newest = self.load()?;
+        let view = self.viewed(ViewCall::Load)?.view;
         let candidate = |now: &Entry| -> Result<Option<Entry>, AllocError> {
             candidate_of(epoch, payload, now)
         };
         let applied = self
             .client
-            .maybe_apply_update(newest, ATTEMPTS, STEPS, &candidate)?;
+            .maybe_apply_update(view, ATTEMPTS, STEPS, &candidate)?;
         let id = self.applied(epoch, &applied);
         drop(applied);
         id

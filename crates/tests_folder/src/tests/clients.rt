@@ -1,12 +1,15 @@
-//! A client over a store in memory, with a recorder that keeps a word for each thing that it is handed.
+//! A client over a store in memory and with a recorder, of which a letter is kept for each thing that happens to either.
 
 use std::alloc::{AllocError, AllocGlobal, Global};
+use std::cell::Cell;
 use std::io;
+use std::io::ErrorKind;
 use std::test::Fail;
 use txn_client::client::Client;
 use txn_client::recorder::Recorder;
 use txn_client::retry::{Applied, Viewed};
 use txn_client::serve::Serve;
+use txn_client::stop::Stop;
 use txn_history::event::{Answer, Call};
 use txn_lines::printed::Answered;
 use txn_lines::record::{Record, RecordCodec, RecordEpoch};
@@ -17,70 +20,97 @@ use txn_store::request::{Reply, Request};
 /// The most looks and store calls of a call.
 const STEPS: u64 = 50;
 
-/// A store in memory, as what a client calls.
+/// What happens, a letter for each thing: what a recorder is handed, and the calls of a store. None while one is added.
+type Letters = Cell<Option<String>>;
+
+/// Adds a letter.
+fn add(letters: &Letters, letter: char) -> Result<(), AllocError> {
+    let Some(mut text) = letters.take() else {
+        return Err(AllocError);
+    };
+    let added = text.push(letter);
+    letters.set(Some(text));
+    added
+}
+
+/// A store in memory, as what a client calls, which adds a letter for each call.
 #[derive(Drop)]
-struct Memory(InMemory);
+struct Memory<'a> {
+    store: InMemory,
+    letters: &'a Letters,
+}
 
 // What a call leaves in it follows from the request and the reply.
-impl Serve for Memory {
+impl Serve for Memory<'_> {
     ghost use Rattle.std.specs.Prelude.{◌≡◌};
     ghost use Rattle.txn_store.specs.MemoryServes.{memory_after};
 
-    ghost serves = { λ old request reply new. new.0.memory ≡ memory_after request reply old.0.memory };
+    ghost serves = { λ old request reply new. new.store.memory ≡ memory_after request reply old.store.memory };
 
     fn serve(&mut self, alloc: Global, request: &Request) -> Reply {
-        self.0.serve(alloc, request)
+        let _ = add(self.letters, 's');
+        self.store.serve(alloc, request)
     }
 }
 
-/// A letter for each thing that it was handed.
+/// Adds a letter for each thing that it is handed, and fails at the one before which so many others come.
 #[derive(Drop)]
-struct Letters(String);
+struct Noting<'a> {
+    letters: &'a Letters,
+    left: u64,
+}
 
-impl Recorder<Record> for Letters {
+impl Noting<'_> {
+    fn note(&mut self, letter: char) -> io::Result<()> {
+        match self.left.checked_sub(1) {
+            Some(left) => self.left = left,
+            None => return Err(io::Error::from(ErrorKind::Other)),
+        }
+        add(self.letters, letter)?;
+        Ok(())
+    }
+}
+
+impl Recorder<Record> for Noting<'_> {
     ghost hands = { λ _ _ _. Unit {0} };
 
     fn begun(&mut self, _op: u64, _call: &Call<Record>) -> io::Result<()> {
-        self.0.push('b')?;
-        Ok(())
+        self.note('b')
     }
 
     fn asked(&mut self, _op: u64, _request: &Request) -> io::Result<()> {
-        self.0.push('?')?;
-        Ok(())
+        self.note('?')
     }
 
     fn replied(&mut self, _op: u64, _reply: &Reply) -> io::Result<()> {
-        self.0.push('!')?;
-        Ok(())
+        self.note('!')
     }
 
     fn failed(&mut self, _op: u64) -> io::Result<()> {
-        self.0.push('f')?;
-        Ok(())
+        self.note('f')
     }
 
     fn gave_up(&mut self, _op: u64) -> io::Result<()> {
-        self.0.push('g')?;
-        Ok(())
+        self.note('g')
     }
 
     fn answered(&mut self, _op: u64, _answer: &Answer<Record>) -> io::Result<()> {
-        self.0.push('a')?;
-        Ok(())
+        self.note('a')
     }
 }
 
-type Recorded = Client<Record, RecordCodec, RecordEpoch, Memory, Letters>;
+type Recorded<'a> = Client<Record, RecordCodec, RecordEpoch, Memory<'a>, Noting<'a>>;
 
-fn client(alloc: Global) -> Result<Recorded, AllocError> {
-    let store = Memory(InMemory::new(alloc));
-    let letters = Letters(String::new(alloc));
-    Client::new(alloc, 1, RecordCodec, RecordEpoch, 1_000, store, letters)
+/// A client whose recorder fails after so many things.
+fn client<'a>(alloc: Global, letters: &'a Letters, left: u64) -> Result<Recorded<'a>, AllocError> {
+    let store = InMemory::new(alloc);
+    let store = Memory { store, letters };
+    let recorder = Noting { letters, left };
+    Client::new(alloc, 1, RecordCodec, RecordEpoch, 1_000, store, recorder)
 }
 
 /// What a call is answered.
-fn told(alloc: Global, client: &mut Recorded, words: &str) -> Result<String, AllocError> {
+fn told(alloc: Global, client: &mut Recorded<'_>, words: &str) -> Result<String, AllocError> {
     let Some(call) = Call::read_text(alloc, words)? else {
         return String::from_str(alloc, "no call");
     };
@@ -94,7 +124,7 @@ fn told(alloc: Global, client: &mut Recorded, words: &str) -> Result<String, All
 }
 
 /// The calls of a table, a line each, with what they are answered.
-fn played(alloc: Global, client: &mut Recorded, table: &str) -> Result<String, AllocError> {
+fn played(alloc: Global, client: &mut Recorded<'_>, table: &str) -> Result<String, AllocError> {
     let mut text = String::new(alloc);
     for line in table.lines() {
         let (call, _) = line.split_once(" = ").unwrap_or((line, ""));
@@ -110,32 +140,74 @@ claim 1 = holder 1 at 2 1:1 epoch 1
 write - 0:1 = refused 5 ObjectVersionExists
 ";
 
-/// What is recorded of these: a put and a get of the boundary for each of the first two; the third finds the name taken.
-const LETTERS: &str = "b?!?!ab?!?!ab?!a";
+/// What happens with these, the store called after each thing that is asked: a put and a get of the boundary for each of the
+/// first two; the third finds the name taken.
+const LETTERS: &str = "b?s!?s!ab?s!?s!ab?s!a";
 
 /// The view stays at version 1, while version 2 is written.
 const OVERTAKEN: &str = "init 0:1 = view 1 at 1 0:1
 write 1 0:7 = wrote 2
 ";
 
-/// What the calls of a table are answered, what is recorded then, and whether the client goes on.
-fn recorded_by(alloc: Global, client: &mut Recorded, table: &str) -> Result<String, AllocError> {
-    let text = played(alloc, client, table)?;
-    let letters = client.recorder().0.as_str();
+/// What happens where a recorder fails after so many things: nothing more, and no further call is made. The store is called for
+/// what the recorder has alone.
+const FAILING: &str = "0 unrecorded false
+1 unrecorded b false
+2 unrecorded b?s false
+3 unrecorded b?s! false
+4 unrecorded b?s!?s false
+5 unrecorded b?s!?s! false
+6 answered b?s!?s!a true
+";
+
+/// No letters.
+fn none(alloc: Global) -> Letters {
+    Cell::new(Some(String::new(alloc)))
+}
+
+/// What the calls of a table are answered, what happens with them, and whether the client goes on.
+fn recorded(alloc: Global, table: &str) -> Result<String, AllocError> {
+    let letters = none(alloc);
+    let mut client = client(alloc, &letters, u64::MAX)?;
+    let text = played(alloc, &mut client, table)?;
     let goes_on = client.goes_on();
+    drop(client);
+    let letters = letters.take().unwrap_or(String::new(alloc));
     format!(in alloc; "{text}{letters} {goes_on}")
 }
 
-/// The same of a client that has made no call.
-fn recorded(alloc: Global, table: &str) -> Result<String, AllocError> {
-    let mut client = client(alloc)?;
-    recorded_by(alloc, &mut client, table)
+/// How a call ends whose client's recorder fails after so many things.
+fn ended(alloc: Global, letters: &Letters, left: u64) -> Result<(&'static str, bool), AllocError> {
+    let mut client = client(alloc, letters, left)?;
+    let Some(call) = Call::read_text(alloc, "init 0:1")? else {
+        return Ok(("no call", false));
+    };
+    let ended = match client.call(call, STEPS) {
+        Ok(_) => "answered",
+        Err(Stop::Unrecorded(_)) => "unrecorded",
+        Err(_) => "stopped",
+    };
+    Ok((ended, client.goes_on()))
 }
 
-const ONE: Record = Record {
-    epoch: 0,
-    payload: 1,
-};
+/// The same as a row, with what happened.
+fn failing(alloc: Global, left: u64) -> Result<String, AllocError> {
+    let letters = none(alloc);
+    let (ended, goes_on) = ended(alloc, &letters, left)?;
+    let letters = letters.take().unwrap_or(String::new(alloc));
+    let happened = if letters.is_empty() { "" } else { " " };
+    format!(in alloc; "{left} {ended}{happened}{letters} {goes_on}\n")
+}
+
+/// The rows of all.
+fn all_failing(alloc: Global) -> Result<String, AllocError> {
+    let mut text = String::new(alloc);
+    for left in 0..7 {
+        let row = failing(alloc, left)?;
+        text.push_str(row.as_str())?;
+    }
+    Ok(text)
+}
 
 /// One more than what a version says.
 fn next_of(value: &Record) -> Result<Option<Record>, AllocError> {
@@ -146,13 +218,8 @@ fn next_of(value: &Record) -> Result<Option<Record>, AllocError> {
 }
 
 /// What an update ends with that is made again after a conflict.
-fn updated(alloc: Global, client: &mut Recorded) -> Result<String, AllocError> {
-    let viewed = Viewed {
-        view: 1,
-        id: 1,
-        value: ONE,
-    };
-    match client.maybe_apply_update(viewed, 3, STEPS, &next_of) {
+fn updated(alloc: Global, client: &mut Recorded<'_>, view: u64) -> Result<String, AllocError> {
+    match client.maybe_apply_update(view, 3, STEPS, &next_of) {
         Ok(Applied::Written(Viewed { view, id, value })) => {
             format!(in alloc; "written: view {view} at {id} {value}")
         }
@@ -161,20 +228,31 @@ fn updated(alloc: Global, client: &mut Recorded) -> Result<String, AllocError> {
     }
 }
 
-/// What a client is answered that was overtaken, and then its update.
+/// What a client is answered that was overtaken, and then its update, and one of a view that is not there.
 fn overtaken(alloc: Global) -> Result<String, AllocError> {
-    let mut client = client(alloc)?;
+    let letters = none(alloc);
+    let mut client = client(alloc, &letters, u64::MAX)?;
     let text = played(alloc, &mut client, OVERTAKEN)?;
-    let updated = updated(alloc, &mut client)?;
-    format!(in alloc; "{text}{updated}")
+    let written = updated(alloc, &mut client, 1)?;
+    let refused = updated(alloc, &mut client, 2)?;
+    format!(in alloc; "{text}{written}\n{refused}")
 }
+
+/// An update is made again after a conflict, of what its view is at.
+const UPDATED: &str = "written: view 1 at 3 0:8
+the client does not permit the call: fault 1";
 
 #[test]
 fn calls_are_answered_and_recorded(rt: HostRuntime) -> Result<(), Fail> {
     let expected = format!(in rt.alloc(); "{CALLS}{LETTERS} true")?;
     assert_eq!(rt; recorded(rt.alloc(), CALLS)?.as_str(), expected.as_str());
-    // An update is made again after a conflict.
-    let expected = format!(in rt.alloc(); "{OVERTAKEN}written: view 1 at 3 0:8")?;
+    let expected = format!(in rt.alloc(); "{OVERTAKEN}{UPDATED}")?;
     assert_eq!(rt; overtaken(rt.alloc())?.as_str(), expected.as_str());
+    Ok(())
+}
+
+#[test]
+fn recorder_that_fails_ends_its_client(rt: HostRuntime) -> Result<(), Fail> {
+    assert_eq!(rt; all_failing(rt.alloc())?.as_str(), FAILING);
     Ok(())
 }

@@ -29,4 +29,4 @@ returns-in_err-done-clause-err g c =
     let is : c.self.inside.goes_on ≡ true = search rules in
     let p = err_from_is_err_and c.from_residual.result c.from_residual.ensures.1 in
     rw (← c.self.view_is)
-    (rw is (rw (p.1, p.2) (done_cut g.R.Recorder.hands g.S.Serve.serves (refusal_of (g.E.EpochField.epoch_of w.diary.epochs) w.diary c.args.call) c.args.steps c.args.call w.diary c.call.new.self.diary w.recorder c.call.new.self.recorder w.store c.call.new.self.store w.begun _ (c.self.invariant is) c.in_err-done.ensures.err.0 c.in_err-done.ensures.err.1)))
+    (rw is (rw (p.1, p.2) (done_cut g.R.Recorder.hands g.S.Serve.serves (refusal_of (g.E.EpochField.epoch_of w.diary.epochs) w.diary c.args.call) c.args.steps c.args.call w.diary c.call.new.self.diary w.recorder c.call.new.self.recorder w.store c.call.new.self.store w.begun _ (c.self.invariant is) c.in_err-done.ensures.err)))

@@ -3,7 +3,7 @@ use Rattle.std.specs.Fn.{FnReturnsAt}
 use Rattle.std.proofs.lemmas.Result.{err_from_is_err_and}
 use Rattle.txn_client.specs.Retrying.{Rounds, NoCandidate, NoUpdate, NoRefresh, conflict, gives}
 use Rattle.txn_client.proofs.Retrying.{after_rounds, viewed_so, conflict_so, answered_so, updates_so, conflicts_so, refreshes_so, rounds_more}
-use Rattle.txn_client.proofs.client.Client.maybe_apply_update.Goals as goal
+use Rattle.txn_client.proofs.client.Client.update_viewed.Goals as goal
 
 pub loop-round-init : goal.loop-round-init
 loop-round-init g c = (refl, refl)

@@ -1,6 +1,6 @@
 use Rattle.std.specs.Fn.{FnReturnsAt}
 use Rattle.txn_client.specs.Retrying.{Rounds}
-use Rattle.txn_client.proofs.client.Client.maybe_apply_update.Given as goal
+use Rattle.txn_client.proofs.client.Client.update_viewed.Given as goal
 
 -- so far there were rounds alone
 abbrev pub invariant-loop-round : goal.invariant-loop-round

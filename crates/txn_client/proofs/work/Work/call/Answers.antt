@@ -27,18 +27,15 @@ returns-clause-ok g c =
 pub returns-in_err-fault-clause-err : goal.returns-in_err-fault-clause-err
 returns-in_err-fault-clause-err g c =
     let p = err_from_is_err_and c.from_residual.result c.from_residual.ensures.1 in
-    rw (p.1, p.2) (c.in_err-fault.ensures.err.0, cut_first c.args.self.now.begun c.args.steps c.args.call c.args.self.now.diary c.begin.new.self.diary c.in_err-fault.ensures.err.1)
+    rw (p.1, p.2) (cut_first g.R.Recorder.hands g.S.Serve.serves c.args.self.now.begun c.args.steps c.args.call _ c.args.self.now.diary c.begin.new.self.diary _ _ _ _ c.in_err-fault.ensures.err)
 
 pub returns-in_err-answer-clause-err : goal.returns-in_err-answer-clause-err
 returns-in_err-answer-clause-err g c =
     let p = err_from_is_err_and c.from_residual-in_err-answer.result c.from_residual-in_err-answer.ensures.1 in
-    rw (p.1, p.2) (c.in_err-answer.ensures.err.0, cut_step g.R.Recorder.hands g.S.Serve.serves c.in-Goes.op c.args.steps c.loop-taken._taken c.args.call c.args.self.now.diary c.loop-taken.self.diary c.step.new.self.diary _ _ _ _ _ _ c.loop-taken.invariant c.in_err-answer.ensures.err.1 (omega arith))
+    rw (p.1, p.2) (cut_step g.R.Recorder.hands g.S.Serve.serves c.in-Goes.op c.args.steps c.loop-taken._taken c.args.call _ c.args.self.now.diary c.loop-taken.self.diary c.step.new.self.diary _ _ _ _ _ _ _ _ c.loop-taken.invariant c.in_err-answer.ensures.err (omega arith))
 
 pub returns-in_err-give_up-clause-err : goal.returns-in_err-give_up-clause-err
 returns-in_err-give_up-clause-err g c =
     let p = err_from_is_err_and c.from_residual-in_err-give_up.result c.from_residual-in_err-give_up.ensures.1 in
-    rw (p.1, p.2) (
-      c.in_err-give_up.ensures.err.0,
-      cut_spent g.R.Recorder.hands g.S.Serve.serves c.in-Goes.op c.args.steps c.args.call c.args.self.now.diary c.loop-taken.self.diary c.give_up.new.self.diary _ _ _ _ _ _
-          (subst (λ taken. CallsAs g.R.Recorder.hands g.S.Serve.serves c.in-Goes.op taken c.args.call None c.args.self.now.diary c.args.self.now.recorder c.args.self.now.store c.args.self.now.begun c.loop-taken.self.diary c.loop-taken.self.recorder c.loop-taken.self.store c.loop-taken.self.begun) (omega arith) c.loop-taken.invariant) c.in_err-give_up.ensures.err.1,
-    )
+    rw (p.1, p.2) (cut_spent g.R.Recorder.hands g.S.Serve.serves c.in-Goes.op c.args.steps c.args.call _ c.args.self.now.diary c.loop-taken.self.diary c.give_up.new.self.diary _ _ _ _ _ _ _ _
+    (subst (λ taken. CallsAs g.R.Recorder.hands g.S.Serve.serves c.in-Goes.op taken c.args.call None c.args.self.now.diary c.args.self.now.recorder c.args.self.now.store c.args.self.now.begun c.loop-taken.self.diary c.loop-taken.self.recorder c.loop-taken.self.store c.loop-taken.self.begun) (omega arith) c.loop-taken.invariant) c.in_err-give_up.ensures.err)
