@@ -221,7 +221,7 @@ def refusal_steps(root, programs):
 def mark_of_folders(root, build):
     """The file that says that this build passed on a folder on this machine, as tools/try-folder now is; "" where nothing is
     kept."""
-    folder, tool = cache_folder(os.environ), [f"{root}/tools/try-folder", f"{root}/tools/try_folder.py"]
+    folder, tool = cache_folder(os.environ), [f"{root}/tools/try-folder", *sorted(glob.glob(f"{root}/tools/try_folder*.py"))]
     return folder and f"{folder}/processes/{sum_of(*map(sum_of_file, [build, *tool]))[:40]}"
 
 

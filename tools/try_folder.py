@@ -429,7 +429,7 @@ def recordings(program, _root, _seconds):
 CHECKS = counts, kills, claims, collections, odd_files, benches, strangers, unfit_words, tampering, recordings
 
 
-def main(words, usage):
+def main(words, usage, checks):
     form = argparse.RawDescriptionHelpFormatter
     parser = argparse.ArgumentParser(prog="tools/try-folder", description=usage, formatter_class=form)
     parser.add_argument("programs", nargs="+", metavar="PROGRAM")
@@ -439,7 +439,7 @@ def main(words, usage):
     passed = failed = 0
     for program in given.programs:
         program = os.path.abspath(program)
-        for check in CHECKS:
+        for check in checks:
             root = tempfile.mkdtemp(prefix="try-folder-")
             try:
                 for line in check(program, root, given.seconds):
