@@ -1,12 +1,11 @@
 //! A recording that grows by whole rows, each by one write, as things happen.
 
-use crate::audit::whole_lines;
 use crate::ending::{Halt, at_file, bytes_in};
 use std::alloc::{AllocError, Global};
 use std::fs::{File, OpenFile, OpenOptions, TryLockError};
 use std::io::{Read, Seek, SeekFrom, Write};
 use std::rt::Clock;
-use std::{fs, io, str};
+use std::{fs, io};
 use txn_client::recorder::Recorder;
 use txn_entries::entry::Entry;
 use txn_files::written::{nanos_of, number_now};
@@ -14,6 +13,7 @@ use txn_history::event::{Answer, Call};
 use txn_recorded::written::{
     answer_row, ask_row, begin_row, client_row, failed_row, give_up_row, reply_row, source_row,
 };
+use txn_recordings::texts::{first_line, whole_lines};
 use txn_store::request::{Reply, Request};
 
 /// The file in which a machine says which of its starts this is.
@@ -78,14 +78,6 @@ fn opened(rt: &HostRuntime, path: &str) -> Result<File, Halt> {
     match begin_on(rt, path, &file) {
         Ok(()) => Ok(file),
         Err(halt) => Err(halt),
-    }
-}
-
-/// The first line of these bytes, where there is one.
-fn first_line(bytes: &[u8]) -> Option<&str> {
-    match str::from_utf8(bytes) {
-        Ok(text) => text.lines().next(),
-        Err(_) => None,
     }
 }
 

@@ -13,6 +13,7 @@ use txn_files::doctor::{Report, examine};
 use txn_history::event::{Call, PlainCall, ViewCall};
 use txn_lines::printed::Answered;
 use txn_lines::text_form::TextForm;
+use txnobj_said::lines::{Stored, print_line, print_number, print_numbers};
 use txnobj_words::options::{Command, Options, Source};
 
 /// How long a watch sleeps between two looks, in milliseconds.
@@ -74,13 +75,13 @@ fn of_client(rt: &HostRuntime, session: &mut Session, command: &Command<'_>) -> 
 
 /// Prints a number: the status.
 fn say(rt: &HostRuntime, number: u64) -> Result<u8, Halt> {
-    rt.println(number)?;
+    print_number(rt.alloc(), &mut rt.stdout(), number)?;
     Ok(0)
 }
 
 /// Prints the id and the epoch of a version: the status.
 fn say_version(rt: &HostRuntime, version: Version) -> Result<u8, Halt> {
-    rt.println(version)?;
+    print_line(rt.alloc(), &mut rt.stdout(), version)?;
     Ok(0)
 }
 
@@ -115,17 +116,19 @@ fn put(
 
 fn list(rt: &HostRuntime, session: &mut Session) -> Result<u8, Halt> {
     let ids = session.ids()?;
-    for id in ids.as_slice() {
-        rt.println(*id)?;
-    }
+    print_numbers(rt.alloc(), &mut rt.stdout(), ids.as_slice())?;
     Ok(0)
 }
 
 /// Prints each of these versions that still stands.
 fn say_all(rt: &HostRuntime, session: &mut Session, ids: &[u64]) -> Result<u8, Halt> {
     for id in ids {
-        if let Some(entry) = session.entry(*id)? {
-            println!(rt; "{id} {entry}")?;
+        if let Some(value) = session.entry(*id)? {
+            let stored = Stored {
+                id: *id,
+                value: &value,
+            };
+            print_line(rt.alloc(), &mut rt.stdout(), stored)?;
         }
     }
     Ok(0)
