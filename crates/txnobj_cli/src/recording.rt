@@ -1,17 +1,18 @@
 //! A recording that grows by whole rows, each by one write, as things happen.
 
 use crate::ending::{Halt, at_file, bytes_in};
-use std::alloc::{AllocError, Global};
+use std::alloc::Global;
 use std::fs::{File, OpenFile, OpenOptions, TryLockError};
-use std::io::{Read, Seek, SeekFrom, Write};
+use std::io::{Read, Seek, SeekFrom};
 use std::rt::Clock;
 use std::{fs, io};
 use txn_client::recorder::Recorder;
 use txn_entries::entry::Entry;
 use txn_files::written::{nanos_of, number_now};
 use txn_history::event::{Answer, Call};
-use txn_recorded::written::{
-    answer_row, ask_row, begin_row, client_row, failed_row, give_up_row, reply_row, source_row,
+use txn_recorded::source::Source;
+use txn_recordings::rows::{
+    add_answered, add_asked, add_begun, add_failed, add_first_rows, add_gave_up, add_replied,
 };
 use txn_recordings::texts::{first_line, whole_lines};
 use txn_store::request::{Reply, Request};
@@ -99,21 +100,6 @@ fn clock_name(rt: &HostRuntime, client: u64) -> Result<String, Halt> {
     }
 }
 
-/// The rows that stand before all others: of the source, and of the client with its page.
-fn first_rows(
-    alloc: Global,
-    object: &str,
-    clock: &str,
-    ahead: u64,
-    client: (u64, u64),
-) -> Result<String, AllocError> {
-    let row = client_row(alloc, client.0, client.1)?;
-    let mut rows = source_row(alloc, object, clock, ahead)?;
-    rows.push('\n')?;
-    rows.push_str(row.as_str())?;
-    Ok(rows)
-}
-
 impl Recording {
     /// A recording of this client of an object, of which the first rows say it.
     pub fn new(
@@ -137,10 +123,16 @@ impl Recording {
     /// Adds the rows that stand before all others, by one write.
     fn begin(&mut self, object: &str, client: u64, page: u64) -> Result<(), Halt> {
         let since = number_now(&self.rt)?;
-        let ahead = since.saturating_sub(self.now()?);
-        let clock = clock_name(&self.rt, client)?;
-        let rows = first_rows(self.alloc(), object, clock.as_str(), ahead, (client, page));
-        self.add(rows)?;
+        let source = Source {
+            object: String::from_str(self.alloc(), object)?,
+            clock: clock_name(&self.rt, client)?,
+            ahead: since.saturating_sub(self.now()?),
+        };
+        let alloc = self.alloc();
+        let Some(file) = &mut self.file else {
+            return Ok(());
+        };
+        add_first_rows(alloc, file, &source, client, page)?;
         Ok(())
     }
 
@@ -157,16 +149,6 @@ impl Recording {
     fn now(&self) -> io::Result<u64> {
         Ok(nanos_of(self.rt.monotonic()?))
     }
-
-    /// Adds a row and its line feed, by one write.
-    fn add(&mut self, row: Result<String, AllocError>) -> io::Result<()> {
-        let Some(file) = &mut self.file else {
-            return Ok(());
-        };
-        let mut row = row?;
-        row.push('\n')?;
-        file.write_all(row.as_bytes())
-    }
 }
 
 // What stands in a file no clause can say: what it was handed is no fact here.
@@ -174,53 +156,59 @@ impl Recorder<Entry> for Recording {
     ghost hands = { λ _ _ _. Unit {0} };
 
     fn begun(&mut self, op: u64, call: &Call<Entry>) -> io::Result<()> {
-        if self.is_idle() {
+        let alloc = self.alloc();
+        let Some(file) = &mut self.file else {
             return Ok(());
-        }
-        let row = begin_row(self.alloc(), op, call);
-        self.add(row)
+        };
+        add_begun(alloc, file, op, call)
     }
 
     fn asked(&mut self, op: u64, request: &Request) -> io::Result<()> {
         if self.is_idle() {
             return Ok(());
         }
-        let at = self.now()?;
-        let row = ask_row(self.alloc(), op, at, request);
-        self.add(row)
+        let (alloc, at) = (self.alloc(), self.now()?);
+        let Some(file) = &mut self.file else {
+            return Ok(());
+        };
+        add_asked(alloc, file, op, at, request)
     }
 
     fn replied(&mut self, op: u64, reply: &Reply) -> io::Result<()> {
         if self.is_idle() {
             return Ok(());
         }
-        let at = self.now()?;
-        let row = reply_row(self.alloc(), op, at, reply);
-        self.add(row)
+        let (alloc, at) = (self.alloc(), self.now()?);
+        let Some(file) = &mut self.file else {
+            return Ok(());
+        };
+        add_replied(alloc, file, op, at, reply)
     }
 
     fn failed(&mut self, op: u64) -> io::Result<()> {
         if self.is_idle() {
             return Ok(());
         }
-        let at = self.now()?;
-        let row = failed_row(self.alloc(), op, at);
-        self.add(row)
+        let (alloc, at) = (self.alloc(), self.now()?);
+        let Some(file) = &mut self.file else {
+            return Ok(());
+        };
+        add_failed(alloc, file, op, at)
     }
 
     fn gave_up(&mut self, op: u64) -> io::Result<()> {
-        if self.is_idle() {
+        let alloc = self.alloc();
+        let Some(file) = &mut self.file else {
             return Ok(());
-        }
-        let row = give_up_row(self.alloc(), op);
-        self.add(row)
+        };
+        add_gave_up(alloc, file, op)
     }
 
     fn answered(&mut self, op: u64, answer: &Answer<Entry>) -> io::Result<()> {
-        if self.is_idle() {
+        let alloc = self.alloc();
+        let Some(file) = &mut self.file else {
             return Ok(());
-        }
-        let row = answer_row(self.alloc(), op, answer);
-        self.add(row)
+        };
+        add_answered(alloc, file, op, answer)
     }
 }
