@@ -1,2 +1,4 @@
 pub mod Findings
+pub mod Halts
+pub mod Names
 pub mod Times

@@ -5,7 +5,8 @@ ghost use Rattle.txn_files.specs.Findings.{first_failed, fault_in};
 
 use crate::fault::{Doing, Fault, Halt, at_error};
 use crate::lock::{LockFile, Sharing, open_lock};
-use crate::publish::{is_same_file, remove, stands, synced};
+use crate::name::unlink;
+use crate::publish::{is_same_file, stands, synced};
 use crate::written::{Writing, number_now, write_new};
 use std::alloc::{AllocError, Global};
 use std::fs::OpenFile;
@@ -215,12 +216,18 @@ fn at(doing: Doing) -> Halt {
 }
 
 /// Writes a new file, which has to be there then.
-fn write<R: Files>(rt: &R, name: &str, number: u64, bytes: &[u8]) -> Result<(), Halt> {
+fn write<R: Files + Alloc<A = Global>>(
+    rt: &R,
+    name: &str,
+    number: u64,
+    bytes: &[u8],
+) -> Result<(), Halt> {
+    let name = String::from_str(rt.alloc(), name)?;
     let how = Writing {
         syncs: false,
         reads_back: true,
     };
-    if write_new(rt, name, number, bytes, how)? {
+    if write_new(rt, name, number, bytes, how)?.is_some() {
         return Ok(());
     }
     let error = io::Error::from(ErrorKind::AlreadyExists);
@@ -256,7 +263,7 @@ fn links<R: Files>(rt: &R, trial: &Trial) -> Result<(), Halt> {
     }
 }
 
-fn refuses_taken_names<R: Files>(rt: &R, trial: &Trial) -> Result<(), Halt> {
+fn refuses_taken_names<R: Files + Alloc<A = Global>>(rt: &R, trial: &Trial) -> Result<(), Halt> {
     let (other, second) = (trial.other.as_str(), trial.second.as_str());
     write(rt, other, trial.number, b"other")?;
     match fs::hard_link(rt, other, second) {
@@ -337,7 +344,7 @@ fn removes<R: Files>(rt: &R, trial: &Trial) -> Result<(), Halt> {
 }
 
 fn removed<R: Files>(rt: &R, name: &str) -> Result<(), Halt> {
-    remove(rt, name)?;
+    unlink(rt, name)?;
     if stands(rt, name)? {
         return Err(at(Doing::Removing));
     }

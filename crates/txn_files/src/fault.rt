@@ -1,5 +1,7 @@
 //! Why a call of the folder failed.
-ghost use Rattle.std.specs.Prelude.{◌≡◌};
+ghost use Rattle.std.specs.Prelude.{◌≡◌, ◌≢◌, Some, None, Decides};
+ghost use Rattle.std.specs.IoError.{error_kind};
+ghost use Rattle.txn_files.specs.Halts.{LacksFolder};
 
 use std::alloc::AllocError;
 use std::io::ErrorKind;
@@ -90,7 +92,9 @@ impl fmt::Display for Fault {
 
 impl Fault {
     /// A fault with the system's error.
-    pub fn of(doing: Doing, error: io::Error) -> Fault {
+    pub fn of(doing: Doing, error: io::Error) -> Fault
+        ensures { result ≡ record { doing = doing; error = Some error } }
+    {
         Fault {
             doing,
             error: Some(error),
@@ -98,7 +102,9 @@ impl Fault {
     }
 
     /// A fault with no error of the system's.
-    pub fn at(doing: Doing) -> Fault {
+    pub fn at(doing: Doing) -> Fault
+        ensures { result ≡ record { doing = doing; error = None } }
+    {
         Fault { doing, error: None }
     }
 }
@@ -124,7 +130,9 @@ impl From<Fault> for Halt {
 }
 
 /// Whether a step did not go on since the folder of its file is missing.
-pub fn lacks_folder<T>(done: &Result<T, Halt>) -> bool {
+pub fn lacks_folder<T>(done: &Result<T, Halt>) -> bool
+    ensures { Decides result (LacksFolder done.now) }
+{
     let Err(Halt::Fault(fault)) = done else {
         return false;
     };
@@ -137,7 +145,10 @@ pub fn lacks_folder<T>(done: &Result<T, Halt>) -> bool {
 }
 
 /// The halt of a step that changes nothing.
-pub fn at_error(doing: Doing, error: io::Error) -> Halt {
+pub fn at_error(doing: Doing, error: io::Error) -> Halt
+    ensures memory { error_kind error ≡ ErrorKind.OutOfMemory → result ≡ Halt.NoMemory }
+    ensures fault { error_kind error ≢ ErrorKind.OutOfMemory → result ≡ Halt.Fault (record { doing = doing; error = Some error }) }
+{
     if error.kind() == ErrorKind::OutOfMemory {
         return Halt::NoMemory;
     }

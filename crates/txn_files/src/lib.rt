@@ -5,5 +5,7 @@
 pub mod doctor;
 pub mod fault;
 pub mod lock;
+pub mod name;
+pub mod new_file;
 pub mod publish;
 pub mod written;

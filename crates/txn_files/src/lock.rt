@@ -1,4 +1,6 @@
 //! Locks on files.
+ghost use Rattle.std.specs.Prelude.{◌≡◌, IfOk, string_bytes};
+ghost use Rattle.txn_files.specs.Names.{IsHeld};
 
 use crate::fault::{Doing, Fault, Halt, at_error};
 use std::fs::{File, OpenOptions, TryLockError};
@@ -72,17 +74,54 @@ pub(crate) fn open_lock<R: Files>(rt: &R, name: &str) -> Result<R::File, Halt> {
     }
 }
 
+/// A file that is locked under its name against the other opens of it. The lock ends where this is dropped.
+#[derive(Drop)]
+pub struct Lock<F: Drop> {
+    open: F,
+    name: String,
+    sharing: Sharing,
+    /// Whether the system said that it is locked.
+    is_held: bool,
+}
+
+impl<F: LockFile + Drop> Lock<F> {
+    /// Whether it is locked now. It waits for nothing.
+    fn try_hold(&mut self) -> io::Result<bool>
+        ensures held { IfOk result (λ held. self.new.is_held ≡ held) }
+        ensures kept { (self.new.name ≡ self.old.name) × (self.new.sharing ≡ self.old.sharing) }
+    {
+        match self.open.try_lock_file(self.sharing) {
+            Ok(is_held) => {
+                self.is_held = is_held;
+                Ok(is_held)
+            }
+            Err(error) => Err(error),
+        }
+    }
+}
+
 /// The lock of this name, in a folder that is there. Where another has it for too long it is a fault.
-pub fn take_lock<R: Files + Clock>(rt: &R, name: &str, sharing: Sharing) -> Result<R::File, Halt>
+pub fn take_lock<R: Files + Clock>(
+    rt: &R,
+    name: String,
+    sharing: Sharing,
+) -> Result<Lock<R::File>, Halt>
 where
     R::File: LockFile,
+    ensures { IfOk result (IsHeld (string_bytes name) sharing) }
 {
-    let lock = match sharing {
-        Sharing::Alone => open_lock(rt, name)?,
-        Sharing::WithOthers => open_shared(rt, name)?,
+    let open = match sharing {
+        Sharing::Alone => open_lock(rt, name.as_str())?,
+        Sharing::WithOthers => open_shared(rt, name.as_str())?,
+    };
+    let mut lock = Lock {
+        open,
+        name,
+        sharing,
+        is_held: false,
     };
     for turn in 0..TRIES {
-        match lock.try_lock_file(sharing) {
+        match lock.try_hold() {
             Ok(true) => return Ok(lock),
             Ok(false) => rt.sleep(pause(turn)),
             Err(error) => return Err(at_error(Doing::Locking, error)),

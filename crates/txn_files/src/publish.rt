@@ -1,35 +1,31 @@
-//! How a file comes to its name, and how names are looked up, made to last and removed.
+//! How names are looked up and made to last, and how folders are made.
 
 use crate::fault::{Doing, Fault, Halt, at_error, lacks_folder};
-use crate::written::number_of;
-use std::fs::OpenFile;
+use std::fs;
+use std::fs::{Metadata, OpenFile};
 use std::io::ErrorKind;
 use std::os::unix::fs::MetadataExt;
 use std::rt::Files;
-use std::{fs, io};
 
-/// Whether anything has this name. What is no regular file is a fault, and so is a name that cannot be looked up.
-pub fn stands<R: Files>(rt: &R, file: &str) -> Result<bool, Halt> {
+/// What the system says of the regular file of a name, where there is one. What is no regular file is a fault, and so is a
+/// name that cannot be looked up, which is one of this step.
+pub(crate) fn metadata_of<R: Files>(
+    rt: &R,
+    doing: Doing,
+    file: &str,
+) -> Result<Option<Metadata>, Halt> {
     match fs::symlink_metadata(rt, file) {
-        Ok(metadata) if metadata.is_file() => Ok(true),
+        Ok(metadata) if metadata.is_file() => Ok(Some(metadata)),
         Ok(_) => Err(Halt::Fault(Fault::at(Doing::NotRegular))),
-        Err(error) if error.kind() == ErrorKind::NotFound => Ok(false),
-        Err(error) => Err(at_error(Doing::Looking, error)),
+        Err(error) if error.kind() == ErrorKind::NotFound => Ok(None),
+        Err(error) => Err(at_error(doing, error)),
     }
 }
 
-/// Links the temporary file to the target, and removes its first name. Whether it came to the target: not where a file stands
-/// there. A link that is answered with an error and was made all the same, as a network can have it, shows at the target. A
-/// fault is of the step `Linking`, or of looking at what stands there; it removes the temporary name, and leaves the target as
-/// it was, unless that could not be looked at.
-pub fn link<R: Files>(rt: &R, temporary: &str, target: &str) -> Result<bool, Halt> {
-    let linked = match fs::hard_link(rt, temporary, target) {
-        Ok(()) => Ok(true),
-        Err(_) if is_same_file(rt, temporary, target) => Ok(true),
-        Err(error) => refused(rt, target, error),
-    };
-    let _ = fs::remove_file(rt, temporary);
-    linked
+/// Whether anything has this name. What is no regular file is a fault, and so is a name that cannot be looked up.
+pub fn stands<R: Files>(rt: &R, file: &str) -> Result<bool, Halt> {
+    let metadata = metadata_of(rt, Doing::Looking, file)?;
+    Ok(metadata.is_some())
 }
 
 /// Whether two names are known to be of one file.
@@ -41,44 +37,6 @@ pub(crate) fn is_same_file<R: Files>(rt: &R, one: &str, other: &str) -> bool {
         return false;
     };
     one.ino() != 0 && one.ino() == other.ino() && one.dev() == other.dev()
-}
-
-/// A link was refused: a file stands at the target, or it is a fault, also where what stands there is no regular file.
-fn refused<R: Files>(rt: &R, target: &str, error: io::Error) -> Result<bool, Halt> {
-    if error.kind() == ErrorKind::AlreadyExists && stands(rt, target)? {
-        return Ok(false);
-    }
-    Err(Halt::Fault(Fault::of(Doing::Linking, error)))
-}
-
-/// Renames a temporary file, which has this number, over the target. A rename that is answered with an error and was made all the
-/// same shows at the target, by the file's number. A fault is of the step `Replacing`; it removes the temporary name, and leaves
-/// the target as it was, unless that could not be looked at.
-pub fn replace<R: Files>(rt: &R, temporary: &str, number: u64, target: &str) -> Result<(), Halt> {
-    match fs::rename(rt, temporary, target) {
-        Ok(()) => Ok(()),
-        Err(_) if has_number(rt, target, number) => Ok(()),
-        Err(error) => {
-            let _ = fs::remove_file(rt, temporary);
-            Err(Halt::Fault(Fault::of(Doing::Replacing, error)))
-        }
-    }
-}
-
-fn has_number<R: Files>(rt: &R, target: &str, number: u64) -> bool {
-    match fs::symlink_metadata(rt, target) {
-        Ok(metadata) => number_of(&metadata) == Some(number),
-        Err(_) => false,
-    }
-}
-
-/// Removes a file's name. One that is missing is removed.
-pub fn remove<R: Files>(rt: &R, file: &str) -> Result<(), Halt> {
-    match fs::remove_file(rt, file) {
-        Ok(()) => Ok(()),
-        Err(error) if error.kind() == ErrorKind::NotFound => Ok(()),
-        Err(error) => Err(Halt::Fault(Fault::of(Doing::Removing, error))),
-    }
 }
 
 /// Makes the names in a folder last. Whether the file system did: some sync no folder, and say so.
@@ -144,8 +102,8 @@ fn make_folder<R: Files>(rt: &R, folder: &str, syncs: bool) -> Result<(), Halt> 
     }
 }
 
-/// The folder that a folder stands in.
-fn above(folder: &str) -> &str {
+/// The folder that a name stands in.
+pub(crate) fn above(folder: &str) -> &str {
     match folder.rsplit_once('/') {
         Some(("", _)) => "/",
         Some((above, _)) => above,

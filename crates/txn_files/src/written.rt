@@ -1,15 +1,17 @@
 //! Files written whole, each with a number, which its time of change is.
-ghost use Rattle.std.specs.Prelude.{◌≡◌, min};
+ghost use Rattle.std.specs.Prelude.{◌≡◌, true, Some, IfOk, IfSome, OnOk, min};
 ghost use Rattle.std.specs.Duration.{as_nanos};
+ghost use Rattle.txn_files.specs.Names.{IsWritten};
 ghost use Rattle.txn_files.specs.Times.{time_number};
 
-use crate::fault::{Doing, Fault, Halt, at_error};
-use std::fs::{FileTimes, Metadata, OpenFile, OpenOptions};
-use std::io::{ErrorKind, Write};
+use crate::fault::{Doing, Fault, Halt};
+use crate::new_file::{NewFile, Written, make};
+use std::fs::{Metadata, OpenFile};
+use std::io;
+use std::io::Write;
 use std::os::unix::fs::MetadataExt;
 use std::rt::{Clock, Files};
-use std::time::{Duration, UNIX_EPOCH};
-use std::{fs, io};
+use std::time::Duration;
 
 /// The nanoseconds of a time, the greatest number where there are more. It takes no memory.
 pub fn nanos_of(time: Duration) -> u64
@@ -48,74 +50,56 @@ pub struct Writing {
     pub reads_back: bool,
 }
 
-/// Writes the bytes to a new file of this name, whose time of change becomes this number, in nanoseconds since 1970. Whether it
-/// did: not where something has the name. Where it fails it removes the file, which stays only where that fails too.
+/// Writes the bytes to a new file of this name, whose time of change becomes this number, in nanoseconds since 1970. None where
+/// something has the name. Where it fails it removes the file, which stays only where that fails too.
 pub fn write_new<R: Files>(
     rt: &R,
-    name: &str,
+    name: String,
     number: u64,
     bytes: &[u8],
     how: Writing,
-) -> Result<bool, Halt> {
-    let opened = OpenOptions::new()
-        .write(true)
-        .create_new(true)
-        .open(rt, name);
-    let mut file = match opened {
-        Ok(file) => file,
-        Err(error) if error.kind() == ErrorKind::AlreadyExists => return Ok(false),
-        Err(error) => return Err(at_error(Doing::WritingTemporary, error)),
+) -> Result<Option<Written>, Halt>
+    ensures { IfOk result (λ told. IfSome told (IsWritten number how.syncs)) }
+{
+    let Some(mut new) = make(rt, name)? else {
+        return Ok(None);
     };
-    let done = fill(&mut file, bytes, number, how);
-    drop(file);
-    match done {
-        Ok(()) => Ok(true),
+    match fill(&mut new, bytes, number, how) {
+        Ok(()) => Ok(Some(new.close(number))),
         Err(halt) => {
-            let _ = fs::remove_file(rt, name);
+            new.abandon(rt);
             Err(halt)
         }
     }
 }
 
 /// Writes the bytes and sets the time of change.
-fn fill<F: Write + OpenFile>(
-    file: &mut F,
+fn fill<F: Write + OpenFile + Drop>(
+    new: &mut NewFile<F>,
     bytes: &[u8],
     number: u64,
     how: Writing,
-) -> Result<(), Halt> {
-    if let Err(error) = file.write_all(bytes) {
-        return Err(at_error(Doing::WritingTemporary, error));
-    }
-    set_number(file, number)?;
+) -> Result<(), Halt>
+    ensures whole { OnOk result (new.new.is_whole ≡ true) }
+    ensures number { OnOk result (new.new.number ≡ Some number) }
+    ensures synced { OnOk result (new.new.is_synced ≡ how.syncs) }
+{
+    new.write(bytes)?;
+    new.set_number(number)?;
     if how.reads_back {
-        keeps_number(file, number)?;
+        keeps_number(new, number)?;
     }
-    if !how.syncs {
-        return Ok(());
+    if how.syncs {
+        new.sync()?;
     }
-    match file.sync_all() {
-        Ok(()) => Ok(()),
-        Err(error) => Err(at_error(Doing::SyncingTemporary, error)),
-    }
-}
-
-/// Sets the time of change to a number.
-fn set_number<F: OpenFile>(file: &F, number: u64) -> Result<(), Halt> {
-    let Some(time) = UNIX_EPOCH.checked_add(Duration::from_nanos(number)) else {
-        return Err(Halt::Fault(Fault::at(Doing::SettingTime)));
-    };
-    match file.set_times(FileTimes::new().set_modified(time)) {
-        Ok(()) => Ok(()),
-        Err(error) => Err(at_error(Doing::SettingTime, error)),
-    }
+    Ok(())
 }
 
 /// Whether the file system keeps the number that a file's time of change was set to. Else it is a fault.
-fn keeps_number<F: OpenFile>(file: &F, number: u64) -> Result<(), Halt> {
-    match file.metadata() {
-        Ok(metadata) if number_of(&metadata) == Some(number) => Ok(()),
-        Ok(_) => Err(Halt::Fault(Fault::at(Doing::KeepingTime))),
-        Err(error) => Err(at_error(Doing::SettingTime, error)),
+fn keeps_number<F: Write + OpenFile + Drop>(new: &NewFile<F>, number: u64) -> Result<(), Halt> {
+    let metadata = new.metadata()?;
+    if number_of(&metadata) == Some(number) {
+        return Ok(());
     }
+    Err(Halt::Fault(Fault::at(Doing::KeepingTime)))
 }

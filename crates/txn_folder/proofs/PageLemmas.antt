@@ -5,6 +5,7 @@ use Rattle.std.specs.List.Sorted.{IsStrictlyIncreasing}
 use Rattle.std.proofs.lemmas.List.{get_or_append_left, length-take-le, map_push, map_more}
 use Rattle.std.proofs.lemmas.List.Elements.{All-take}
 use Rattle.std.proofs.Math.Seq.{take-append_seam}
+use Rattle.txn_store.specs.Paths.{Segments}
 use Rattle.txn_store.specs.VersionName.{Names, version_path}
 use Rattle.txn_store.specs.declared.page.Page.{Page}
 use Rattle.txn_store.specs.declared.store.ObjectMeta.{ObjectMeta}
@@ -77,3 +78,7 @@ empty_page names after limit page none no_more = record {
   few = omega arith;
   full = λ more. let clash : true ≡ false = sym more ∙ no_more in absurd (cc);
 }
+
+-- a version that is told after others is the newest of all
+pub newest_told : (names : Names) (metas : List ObjectMeta) (meta : ObjectMeta) (id : ℕ) (told : List ObjectMeta) → told ≡ metas ++ meta ∷ [] → meta.location ≡ version_path names id → (older : List Segments) × (locations told ≡ older ++ version_path names id ∷ [])
+newest_told names metas meta id told e at = (locations metas, ap locations e ∙ map_push location_of metas meta ∙ ap (λ location. locations metas ++ location ∷ []) at)

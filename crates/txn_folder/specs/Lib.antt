@@ -6,3 +6,5 @@ pub mod Moments
 pub mod Lasting
 pub mod Pages
 pub mod Told
+pub mod Places
+pub mod Listings

@@ -1,14 +1,20 @@
 //! The files of an object on a file system, by their places.
-ghost use Rattle.std.specs.Prelude.{◌≡◌, ◌<◌, ◌≤◌, IfOk, IfSome};
+ghost use Rattle.std.specs.Prelude.{◌≡◌, ◌<◌, ◌≤◌, IfOk, IfSome, if◌then◌else◌, string_bytes};
+ghost use Rattle.txn_files.specs.Names.{IsHeld, known, lasting, seen};
+ghost use Rattle.txn_files.specs.declared.lock.Sharing.TheVariants.{Alone};
+ghost use Rattle.txn_files.specs.declared.name.Deed.TheVariants as deeds;
+ghost use Rattle.txn_folder.specs.Places.{IsGoneAt, IsToldAt, created_at, place_file, removal_lock, replaced_at, update_lock, versions_lock};
+ghost use Rattle.txn_store.specs.VersionName.{Names};
 ghost use Rattle.txn_folder.specs.Tokens.{IsTokenAt, IsFoundAt};
 ghost use Rattle.txn_folder.specs.Pages.{IsPageAfter};
+ghost use Rattle.txn_folder.specs.Listings.{IsNewest, IsToldLast, WasSeen};
 
 use crate::clean::clean_in;
 use crate::folder::Folder;
 use crate::found::{Found, read_file};
 use crate::lasting::Lasting;
-use crate::listing::page_after;
-use crate::numbers::{Numbers, Written};
+use crate::listing::{Listed, Newest, page_after};
+use crate::numbers::Numbers;
 use crate::place::{Place, number_at, number_in, shown};
 use bytes::Bytes;
 use std::alloc::Global;
@@ -17,11 +23,20 @@ use std::io::ErrorKind;
 use std::rt::{Clock, Files};
 use std::time::SystemTime;
 use txn_files::fault::{Doing, Fault, Halt, at_error, lacks_folder};
-use txn_files::lock::{LockFile, Sharing, take_lock};
-use txn_files::publish::{link, make_folders, remove, replace, stands, sync_folder, sync_if_there};
+use txn_files::lock::{Lock, LockFile, Sharing, take_lock};
+use txn_files::name::{Deed, Name, link, look, remove, replace};
+use txn_files::new_file::Written;
+use txn_files::publish::{make_folders, stands};
 use txn_store::page::{Listing, Page};
 use txn_store::store::Token;
 use txn_store::version_names::VersionNames;
+
+/// What a put told, and what is known of the name that it gave a file.
+#[derive(Drop)]
+pub(crate) struct Put<F: Drop> {
+    pub token: Token,
+    pub name: Name<F>,
+}
 
 /// The files of one object in a folder of a file system.
 #[derive(Drop)]
@@ -36,7 +51,9 @@ pub(crate) struct Disk<R: Files + Drop> {
 
 impl<R: Files + Drop> Disk<R> {
     pub fn new(rt: R, folder: Folder, syncs: bool) -> Disk<R>
-        ensures { result.numbers.last ≡ 0 }
+        ensures numbers { result.numbers.last ≡ 0 }
+        ensures folder { result.folder ≡ folder }
+        ensures syncs { result.syncs ≡ syncs }
     {
         Disk {
             rt,
@@ -47,58 +64,79 @@ impl<R: Files + Drop> Disk<R> {
         }
     }
 
-    /// Makes the names in a place's folder last, where that is asked.
-    fn sync(&self, place: Place) -> Result<(), Halt> {
+    /// Makes what was done to a name, or seen of it, last, where that is asked.
+    fn sync(&self, name: Name<R::File>) -> Result<Name<R::File>, Halt>
+        ensures { IfOk result (λ told. known told ≡ (if self.now.syncs then lasting (known name) else known name)) }
+    {
         if !self.syncs {
-            return Ok(());
+            return Ok(name);
         }
-        sync_folder(&self.rt, self.folder.folder_of(place))
+        name.make_last(&self.rt)
     }
 
-    /// Makes the absence of a file at a place last, where that is asked. A folder that is missing has no names.
-    fn sync_gone(&self, place: Place) -> Result<(), Halt> {
+    /// Makes the absence of a file last, where that is asked. A folder that is missing has no names.
+    fn sync_gone(&self, name: Name<R::File>) -> Result<Name<R::File>, Halt>
+        ensures { IfOk result (λ told. known told ≡ (if self.now.syncs then lasting (known name) else known name)) }
+    {
         if !self.syncs {
-            return Ok(());
+            return Ok(name);
         }
-        sync_if_there(&self.rt, self.folder.folder_of(place))
+        name.make_last_if_there(&self.rt)
     }
 
     /// Makes the file of this number at a place last, where that is asked.
-    fn make_last(&mut self, place: Place, number: Option<u64>) -> Result<(), Halt>
-        ensures { self.new.numbers.last ≡ self.old.numbers.last }
+    fn make_last(
+        &mut self,
+        place: Place,
+        number: Option<u64>,
+        name: Name<R::File>,
+    ) -> Result<Name<R::File>, Halt>
+        requires { (known name).file ≡ place_file self.old.folder place }
+        ensures lasts { IfOk result (λ told. known told ≡ (if self.old.syncs then lasting (known name) else known name)) }
+        ensures kept { (self.new.numbers.last ≡ self.old.numbers.last) × (self.new.syncs ≡ self.old.syncs) × (self.new.folder ≡ self.old.folder) }
     {
         if !self.syncs {
-            return Ok(());
+            return Ok(name);
         }
-        sync_folder(&self.rt, self.folder.folder_of(place))?;
-        self.lasting.add(place, number);
-        Ok(())
+        let name = name.make_last(&self.rt)?;
+        self.lasting.add(&self.folder, place, number, &name);
+        Ok(name)
     }
 
-    /// Makes the file of this number at a place, which is to be told, last where that is asked and is not known: another may
-    /// have made it, and not have synced its name yet.
-    fn make_told_last(&mut self, place: Place, number: Option<u64>) -> Result<(), Halt>
-        ensures { self.new.numbers.last ≡ self.old.numbers.last }
+    /// Makes the file of this number at a place, which was seen and is to be told, last where that is asked and is not known:
+    /// another may have made it, and not have synced its name yet.
+    fn make_told_last(
+        &mut self,
+        place: Place,
+        number: Option<u64>,
+        name: Name<R::File>,
+    ) -> Result<Name<R::File>, Halt>
+        requires { known name ≡ seen (place_file self.old.folder place) deeds.Stands }
+        ensures told { IfOk result (λ told. IsToldAt self.old.folder self.old.lasting self.old.syncs place number (known told)) }
+        ensures kept { (self.new.numbers.last ≡ self.old.numbers.last) × (self.new.syncs ≡ self.old.syncs) × (self.new.folder ≡ self.old.folder) }
     {
         if self.lasting.has(place, number) {
-            return Ok(());
+            return Ok(name);
         }
-        self.make_last(place, number)
+        self.make_last(place, number, name)
     }
 
-    fn remove_locked(&self, place: Place, file: &str) -> Result<(), Halt> {
-        remove(&self.rt, file)?;
-        self.sync(place)
-    }
-
-    /// Makes the versions of a page, which is to be told, last where that is asked and is not known.
-    fn make_page_last(&mut self, names: &VersionNames, page: &Page) -> Result<(), Halt>
-        ensures { self.new.numbers.last ≡ self.old.numbers.last }
+    /// Makes the versions of a listing, which are to be told, last where that is asked and is not known: its newest, and all
+    /// below it with that.
+    fn make_listed_last(&mut self, listed: Listed<R::File>) -> Result<Listed<R::File>, Halt>
+        requires { WasSeen self.old.folder listed.newest }
+        ensures page { IfOk result (λ told. told.page ≡ listed.page) }
+        ensures newest { IfOk result (λ told. (names : Names) → IsNewest names listed.page.metas listed.newest → IsNewest names told.page.metas told.newest) }
+        ensures lasts { IfOk result (λ told. IsToldLast self.old.folder self.old.lasting self.old.syncs told.newest) }
+        ensures kept { (self.new.numbers.last ≡ self.old.numbers.last) × (self.new.syncs ≡ self.old.syncs) × (self.new.folder ≡ self.old.folder) }
     {
-        match newest(names, page) {
-            Some(id) => self.make_told_last(Place::Version(id), None),
-            None => Ok(()),
-        }
+        let Listed { page, newest } = listed;
+        let Some(Newest { id, name }) = newest else {
+            return Ok(Listed { page, newest: None });
+        };
+        let name = self.make_told_last(Place::Version(id), None, name)?;
+        let newest = Some(Newest { id, name });
+        Ok(Listed { page, newest })
     }
 
     /// Whether the folder of the versions is there.
@@ -119,21 +157,24 @@ impl<R: Files + Clock + Drop> Disk<R> {
         alloc: Global,
         place: Place,
         bytes: &Bytes,
-    ) -> Result<Option<Token>, Halt>
-        ensures token { IfOk result (λ told. IfSome told (IsTokenAt place bytes.now self.old.numbers.last self.new.numbers.last)) }
+    ) -> Result<Option<Put<R::File>>, Halt>
+        ensures token { IfOk result (λ told. IfSome told (λ put. IsTokenAt place bytes.now self.old.numbers.last self.new.numbers.last put.token)) }
+        ensures created { IfOk result (λ told. IfSome told (λ put. known put.name ≡ created_at self.old.folder self.old.syncs place)) }
         ensures rises { self.old.numbers.last ≤ self.new.numbers.last }
+        ensures kept { (self.new.syncs ≡ self.old.syncs) × (self.new.folder ≡ self.old.folder) }
     {
         let file = self.folder.file_of(alloc, place)?;
         if self.syncs && stands(&self.rt, file.as_str())? {
             return Ok(None);
         }
         let written = self.write(alloc, place, file.as_str(), bytes)?;
-        if !link(&self.rt, written.name.as_str(), file.as_str())? {
+        let number = number_at(place, bytes.as_slice(), Some(written.number()));
+        let Some(linked) = link(&self.rt, written, file)? else {
             return Ok(None);
-        }
-        let number = number_at(place, bytes.as_slice(), Some(written.number));
-        self.make_last(place, number)?;
-        Ok(Some(shown(number)))
+        };
+        let name = self.make_last(place, number, linked)?;
+        let token = shown(number);
+        Ok(Some(Put { token, name }))
     }
 
     /// Writes the bytes whole beside a file, in a folder that is made where it is missing.
@@ -146,7 +187,9 @@ impl<R: Files + Clock + Drop> Disk<R> {
     ) -> Result<Written, Halt>
         ensures rises { IfOk result (λ written. self.old.numbers.last < written.number) }
         ensures ok { IfOk result (λ written. self.new.numbers.last ≡ written.number) }
-        ensures kept { self.old.numbers.last ≤ self.new.numbers.last }
+        ensures synced { IfOk result (λ written. written.is_synced ≡ self.old.syncs) }
+        ensures last { self.old.numbers.last ≤ self.new.numbers.last }
+        ensures kept { (self.new.syncs ≡ self.old.syncs) × (self.new.folder ≡ self.old.folder) }
     {
         let (bytes, syncs) = (bytes.as_slice(), self.syncs);
         let written = self.numbers.write(alloc, &self.rt, file, bytes, syncs);
@@ -158,22 +201,30 @@ impl<R: Files + Clock + Drop> Disk<R> {
         self.numbers.write(alloc, &self.rt, file, bytes, syncs)
     }
 
-    /// Puts a new file in the place of what stands there.
+    /// Puts a new file in the place of what stands there, under the lock of its updates, which is held until it lasts.
     fn put_over(
         &mut self,
         alloc: Global,
         place: Place,
-        file: &str,
+        lock: Lock<R::File>,
+        file: String,
         bytes: &Bytes,
-    ) -> Result<Token, Halt>
-        ensures token { IfOk result (IsTokenAt place bytes.now self.old.numbers.last self.new.numbers.last) }
+    ) -> Result<Put<R::File>, Halt>
+        requires lock { IsHeld (update_lock self.old.folder place) Alone lock }
+        requires file { string_bytes file ≡ place_file self.old.folder place }
+        ensures token { IfOk result (λ put. IsTokenAt place bytes.now self.old.numbers.last self.new.numbers.last put.token) }
+        ensures replaced { IfOk result (λ put. known put.name ≡ replaced_at self.old.folder self.old.syncs place) }
         ensures rises { self.old.numbers.last ≤ self.new.numbers.last }
+        ensures kept { (self.new.syncs ≡ self.old.syncs) × (self.new.folder ≡ self.old.folder) }
     {
-        let written = self.write(alloc, place, file, bytes)?;
-        replace(&self.rt, written.name.as_str(), written.number, file)?;
-        let number = number_at(place, bytes.as_slice(), Some(written.number));
-        self.make_last(place, number)?;
-        Ok(shown(number))
+        let written = self.write(alloc, place, file.as_str(), bytes)?;
+        let number = number_at(place, bytes.as_slice(), Some(written.number()));
+        let replaced = replace(&self.rt, lock, written, file)?;
+        let name = self.make_last(place, number, replaced)?;
+        Ok(Put {
+            token: shown(number),
+            name,
+        })
     }
 }
 
@@ -181,51 +232,75 @@ impl<R: Files + Clock + Drop> Disk<R>
 where
     R::File: LockFile,
 {
-    /// The lock of a file's updates and removals, in a folder that is made where it is missing.
-    fn lock(&self, alloc: Global, place: Place, file: &str) -> Result<R::File, Halt> {
+    /// The lock of the updates of the file at a place, and of the boundary's removal, in a folder that is made where it is
+    /// missing.
+    fn lock(&self, alloc: Global, place: Place, file: &str) -> Result<Lock<R::File>, Halt>
+        requires { file.now ≡ place_file self.now.folder place }
+        ensures { IfOk result (IsHeld (update_lock self.now.folder place) Alone) }
+    {
         let name = format!(in alloc; "{file}#0")?;
-        let lock = take_lock(&self.rt, name.as_str(), Sharing::Alone);
+        let lock = take_lock(&self.rt, name, Sharing::Alone);
         if !lacks_folder(&lock) {
             return lock;
         }
         drop(lock);
         make_folders(&self.rt, self.folder.folder_of(place), self.syncs)?;
-        take_lock(&self.rt, name.as_str(), Sharing::Alone)
+        let name = format!(in alloc; "{file}#0")?;
+        take_lock(&self.rt, name, Sharing::Alone)
     }
 
     /// Writes a file whatever stands there, and tells its token.
-    pub fn overwrite(&mut self, alloc: Global, place: Place, bytes: &Bytes) -> Result<Token, Halt>
-        ensures token { IfOk result (IsTokenAt place bytes.now self.old.numbers.last self.new.numbers.last) }
+    pub fn overwrite(
+        &mut self,
+        alloc: Global,
+        place: Place,
+        bytes: &Bytes,
+    ) -> Result<Put<R::File>, Halt>
+        ensures token { IfOk result (λ put. IsTokenAt place bytes.now self.old.numbers.last self.new.numbers.last put.token) }
+        ensures replaced { IfOk result (λ put. known put.name ≡ replaced_at self.old.folder self.old.syncs place) }
         ensures rises { self.old.numbers.last ≤ self.new.numbers.last }
+        ensures kept { (self.new.syncs ≡ self.old.syncs) × (self.new.folder ≡ self.old.folder) }
     {
         let file = self.folder.file_of(alloc, place)?;
         let _ = stands(&self.rt, file.as_str())?;
         let lock = self.lock(alloc, place, file.as_str())?;
-        let done = self.put_over(alloc, place, file.as_str(), bytes);
-        drop(lock);
-        done
+        self.put_over(alloc, place, lock, file, bytes)
     }
 
     /// The lock that removals of versions take alone, and listings with one another.
-    fn lock_versions(&self, alloc: Global, sharing: Sharing) -> Result<R::File, Halt> {
+    fn lock_versions(&self, alloc: Global, sharing: Sharing) -> Result<Lock<R::File>, Halt>
+        ensures { IfOk result (IsHeld (versions_lock self.now.folder) sharing) }
+    {
         let versions = self.folder.versions();
         let name = format!(in alloc; "{versions}/#0")?;
-        take_lock(&self.rt, name.as_str(), sharing)
+        take_lock(&self.rt, name, sharing)
     }
 
-    /// Removes a file. One that is gone already may be so by another's removal, which is made to last before it is told.
-    pub fn delete(&self, alloc: Global, place: Place) -> Result<(), Halt> {
-        let file = self.folder.file_of(alloc, place)?;
-        if !stands(&self.rt, file.as_str())? {
-            return self.sync_gone(place);
+    /// The lock of the removal of the file at a place.
+    fn lock_removal(&self, alloc: Global, place: Place, file: &str) -> Result<Lock<R::File>, Halt>
+        requires { file.now ≡ place_file self.now.folder place }
+        ensures { IfOk result (IsHeld (removal_lock self.now.folder place) Alone) }
+    {
+        match place {
+            Place::Version(_) => self.lock_versions(alloc, Sharing::Alone),
+            Place::Boundary => self.lock(alloc, place, file),
         }
-        let lock = match place {
-            Place::Version(_) => self.lock_versions(alloc, Sharing::Alone)?,
-            Place::Boundary => self.lock(alloc, place, file.as_str())?,
-        };
-        let removed = self.remove_locked(place, file.as_str());
-        drop(lock);
-        removed
+    }
+
+    /// Removes a file. One that is gone already may be so by another's removal, which is made to last before it is told. A lock
+    /// is held until the removal lasts.
+    pub fn delete(&self, alloc: Global, place: Place) -> Result<Name<R::File>, Halt>
+        ensures { IfOk result (λ name. IsGoneAt self.now.folder self.now.syncs place (known name)) }
+    {
+        let file = self.folder.file_of(alloc, place)?;
+        let name = look(&self.rt, file)?;
+        if name.deed() == Deed::Missing {
+            return self.sync_gone(name);
+        }
+        let file = name.into_file();
+        let lock = self.lock_removal(alloc, place, file.as_str())?;
+        let removed = remove(&self.rt, lock, file)?;
+        self.sync(removed)
     }
 }
 
@@ -247,47 +322,53 @@ where
         place: Place,
         bytes: &Bytes,
         token: Token,
-    ) -> Result<Option<Token>, Halt>
-        ensures token { IfOk result (λ told. IfSome told (IsTokenAt place bytes.now self.old.numbers.last self.new.numbers.last)) }
+    ) -> Result<Option<Put<R::File>>, Halt>
+        ensures token { IfOk result (λ told. IfSome told (λ put. IsTokenAt place bytes.now self.old.numbers.last self.new.numbers.last put.token)) }
+        ensures replaced { IfOk result (λ told. IfSome told (λ put. known put.name ≡ replaced_at self.old.folder self.old.syncs place)) }
         ensures rises { self.old.numbers.last ≤ self.new.numbers.last }
+        ensures kept { (self.new.syncs ≡ self.old.syncs) × (self.new.folder ≡ self.old.folder) }
     {
         let file = self.folder.file_of(alloc, place)?;
         let lock = self.lock(alloc, place, file.as_str())?;
-        let done = self.update_locked(alloc, place, file.as_str(), bytes, token);
-        drop(lock);
-        done
+        let Some(file) = self.matched(place, &lock, file, token)? else {
+            return Ok(None);
+        };
+        let put = self.put_over(alloc, place, lock, file, bytes)?;
+        Ok(Some(put))
     }
 
-    fn update_locked(
-        &mut self,
-        alloc: Global,
+    /// The name of the file at a place, where that has this token under the lock of its updates.
+    fn matched(
+        &self,
         place: Place,
-        file: &str,
-        bytes: &Bytes,
+        _lock: &Lock<R::File>,
+        file: String,
         token: Token,
-    ) -> Result<Option<Token>, Halt>
-        ensures token { IfOk result (λ told. IfSome told (IsTokenAt place bytes.now self.old.numbers.last self.new.numbers.last)) }
-        ensures rises { self.old.numbers.last ≤ self.new.numbers.last }
+    ) -> Result<Option<String>, Halt>
+        requires lock { IsHeld (update_lock self.now.folder place) Alone _lock.now }
+        requires file { string_bytes file ≡ place_file self.now.folder place }
+        ensures { IfOk result (λ told. IfSome told (λ file. string_bytes file ≡ place_file self.now.folder place)) }
     {
         match read_file(&self.rt, place, file)? {
-            Some(now) if now.token == Some(token) => {}
-            _ => return Ok(None),
+            Some(now) if now.token == Some(token) => Ok(Some(now.name.into_file())),
+            _ => Ok(None),
         }
-        let token = self.put_over(alloc, place, file, bytes)?;
-        Ok(Some(token))
     }
 
     /// What the file at a place says, where there is one.
-    pub fn read(&mut self, alloc: Global, place: Place) -> Result<Option<Found>, Halt>
+    pub fn read(&mut self, alloc: Global, place: Place) -> Result<Option<Found<R::File>>, Halt>
         ensures found { IfOk result (λ told. IfSome told (λ found. IsFoundAt place found.bytes found.token)) }
-        ensures kept { self.new.numbers.last ≡ self.old.numbers.last }
+        ensures lasts { IfOk result (λ told. IfSome told (λ found. IsToldAt self.old.folder self.old.lasting self.old.syncs place found.token (known found.name))) }
+        ensures kept { (self.new.numbers.last ≡ self.old.numbers.last) × (self.new.syncs ≡ self.old.syncs) × (self.new.folder ≡ self.old.folder) }
     {
         let file = self.folder.file_of(alloc, place)?;
-        let Some(found) = read_file(&self.rt, place, file.as_str())? else {
+        let Some(found) = read_file(&self.rt, place, file)? else {
             return Ok(None);
         };
-        self.make_told_last(place, number_in(found.token))?;
-        Ok(Some(found))
+        let number = number_in(found.token);
+        let Found { bytes, token, name } = found;
+        let name = self.make_told_last(place, number, name)?;
+        Ok(Some(Found { bytes, token, name }))
     }
 
     /// The first versions above one, up to the limit.
@@ -297,27 +378,24 @@ where
         names: &VersionNames,
         after: Option<u64>,
         limit: u64,
-    ) -> Result<Page, Halt>
-        ensures page { IfOk result (IsPageAfter names.now after limit) }
-        ensures kept { self.new.numbers.last ≡ self.old.numbers.last }
+    ) -> Result<Listed<R::File>, Halt>
+        ensures page { IfOk result (λ told. IsPageAfter names.now after limit told.page) }
+        ensures newest { IfOk result (λ told. IsNewest names.now told.page.metas told.newest) }
+        ensures lasts { IfOk result (λ told. IsToldLast self.old.folder self.old.lasting self.old.syncs told.newest) }
+        ensures kept { (self.new.numbers.last ≡ self.old.numbers.last) × (self.new.syncs ≡ self.old.syncs) × (self.new.folder ≡ self.old.folder) }
     {
         if !self.has_versions()? {
-            return Ok(Page {
-                metas: Listing::from_vec(Vec::new(alloc)),
-                more: false,
+            return Ok(Listed {
+                page: Page {
+                    metas: Listing::from_vec(Vec::new(alloc)),
+                    more: false,
+                },
+                newest: None,
             });
         }
         let lock = self.lock_versions(alloc, Sharing::WithOthers)?;
-        let page = page_after(&self.rt, alloc, &self.folder, names, after, limit);
+        let listed = page_after(&self.rt, alloc, &self.folder, &lock, names, after, limit);
         drop(lock);
-        let page = page?;
-        self.make_page_last(names, &page)?;
-        Ok(page)
+        self.make_listed_last(listed?)
     }
-}
-
-/// The newest version of a page.
-fn newest(names: &VersionNames, page: &Page) -> Option<u64> {
-    let last = page.metas.as_slice().last()?;
-    names.parse_id(&last.location)
 }

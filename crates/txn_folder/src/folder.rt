@@ -50,6 +50,8 @@ impl Model for Folder {
 }
 
 impl Folder {
+    ghost use Rattle.txn_folder.specs.Places.{place_file, place_folder};
+
     /// The files of the object of this name below a root, a folder of the file system. `BadSegment` comes exactly where the
     /// name or the suffix is not as it has to be: a plain segment, and for the suffix one without a dot.
     pub fn new(alloc: Global, root: &str, name: &str, suffix: &str) -> Result<Folder, PathFault>
@@ -108,7 +110,9 @@ impl Folder {
     }
 
     /// The file at a place. The only error is want of memory.
-    pub(crate) fn file_of(&self, alloc: Global, place: Place) -> Result<String, AllocError> {
+    pub(crate) fn file_of(&self, alloc: Global, place: Place) -> Result<String, AllocError>
+        ensures { IfOk result (λ file. string_bytes file ≡ place_file self.now place) }
+    {
         match place {
             Place::Version(id) => self.version(alloc, id),
             Place::Boundary => String::from_str(alloc, self.boundary()),
@@ -116,7 +120,9 @@ impl Folder {
     }
 
     /// The folder of the file at a place.
-    pub(crate) fn folder_of(&self, place: Place) -> &str {
+    pub(crate) fn folder_of(&self, place: Place) -> &str
+        ensures { result.now ≡ place_folder self.now place }
+    {
         match place {
             Place::Version(_) => self.versions(),
             Place::Boundary => self.gc(),

@@ -1,20 +1,25 @@
 //! What a process knows to last when the power fails.
-ghost use Rattle.std.specs.Prelude.{◌≡◌, None};
+ghost use Rattle.std.specs.Prelude.{◌≡◌, true, None};
+ghost use Rattle.txn_files.specs.Names.{known};
 ghost use Rattle.txn_folder.specs.Lasting.{is_known, known_with};
 
+use crate::folder::Folder;
 use crate::place::Place;
+use txn_files::name::Name;
 
 /// What a process knows to last: names that stood as it synced their folder. A sync makes all names of a folder last, and
 /// versions are made in the order of their ids: so the greatest id tells of all below it.
 #[derive(Drop)]
 pub(crate) struct Lasting {
     /// The greatest id of a version that lasts.
-    pub versions: Option<u64>,
+    versions: Option<u64>,
     /// The number of the boundary that lasts.
-    pub boundary: Option<u64>,
+    boundary: Option<u64>,
 }
 
 impl Lasting {
+    ghost use Rattle.txn_folder.specs.Places.{place_file};
+
     /// Nothing is known.
     pub fn new() -> Lasting
         ensures versions { result.versions ≡ None }
@@ -42,8 +47,16 @@ impl Lasting {
         }
     }
 
-    /// Keeps that the file of this number at a place lasts.
-    pub fn add(&mut self, place: Place, number: Option<u64>)
+    /// Keeps that the file of this number at a place lasts, as what is known of its name says.
+    pub fn add<F: Drop>(
+        &mut self,
+        _folder: &Folder,
+        place: Place,
+        number: Option<u64>,
+        _name: &Name<F>,
+    )
+        requires file { (known _name.now).file ≡ place_file _folder.now place }
+        requires lasts { (known _name.now).lasts ≡ true }
         ensures { self.new ≡ known_with place number self.old }
     {
         match place {

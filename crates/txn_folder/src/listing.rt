@@ -1,7 +1,13 @@
 //! Listings of the folder of the versions.
 ghost use Rattle.std.specs.Prelude.{◌≡◌, ◌≤◌, ◌<◌, ℕ, Option, All, Decides, IfOk, IfSome, map};
 ghost use Rattle.txn_store.specs.VersionName.{version_path};
+ghost use Rattle.txn_files.specs.Names.{IsHeld, known, seen};
+ghost use Rattle.txn_files.specs.declared.lock.Sharing.TheVariants.{WithOthers};
+ghost use Rattle.txn_files.specs.declared.name.Deed.TheVariants.{Stands};
+ghost use Rattle.txn_folder.specs.Files.{version_file};
 ghost use Rattle.txn_folder.specs.Pages.{AscendAbove, IsAbove, IsPageAfter, locations};
+ghost use Rattle.txn_folder.specs.Places.{versions_lock};
+ghost use Rattle.txn_folder.specs.Listings.{IsNewest, WasSeen};
 
 use crate::folder::Folder;
 use crate::scans::{is_same_up_to, settled_run};
@@ -10,6 +16,8 @@ use std::fs;
 use std::io::ErrorKind;
 use std::rt::Files;
 use txn_files::fault::{Doing, Fault, Halt, at_error};
+use txn_files::lock::Lock;
+use txn_files::name::{Name, Sight, find};
 use txn_files::written::number_of;
 use txn_store::page::{Listing, Page};
 use txn_store::store::{ObjectMeta, Token};
@@ -17,6 +25,34 @@ use txn_store::version_names::VersionNames;
 
 /// How often a listing begins again.
 const LISTINGS: u64 = 16;
+
+/// The newest version of a listing, and what is known of its name.
+#[derive(Drop)]
+pub(crate) struct Newest<F: Drop> {
+    pub id: u64,
+    pub name: Name<F>,
+}
+
+/// A page of a listing, and the newest version that it tells, where it tells one.
+#[derive(Drop)]
+pub(crate) struct Listed<F: Drop> {
+    pub page: Page,
+    pub newest: Option<Newest<F>>,
+}
+
+/// What a listing tells of some versions, and the newest of them.
+#[derive(Drop)]
+struct Metas<F: Drop> {
+    metas: Vec<ObjectMeta>,
+    newest: Option<Newest<F>>,
+}
+
+/// What a listing tells of a version, and what is known of its name.
+#[derive(Drop)]
+struct Shown<F: Drop> {
+    meta: ObjectMeta,
+    name: Name<F>,
+}
 
 /// Whether an id is above one, where that is given.
 fn is_above(id: u64, after: Option<u64>) -> bool
@@ -111,22 +147,27 @@ impl<R: Files + Alloc<A = Global> + Clone + Drop> Search<'_, R> {
     }
 }
 
-/// The first versions above one, up to the limit, as they stood at one moment, where nothing is removed meanwhile.
+/// The first versions above one, up to the limit, as they stood at one moment. Nothing is removed meanwhile by those who take
+/// the lock of the versions.
 pub(crate) fn page_after<R: Files + Alloc<A = Global> + Clone + Drop>(
     rt: &R,
     alloc: Global,
     folder: &Folder,
+    _lock: &Lock<R::File>,
     names: &VersionNames,
     after: Option<u64>,
     limit: u64,
-) -> Result<Page, Halt>
-    ensures { IfOk result (IsPageAfter names.now after limit) }
+) -> Result<Listed<R::File>, Halt>
+    requires { IsHeld (versions_lock folder.now) WithOthers _lock.now }
+    ensures page { IfOk result (λ told. IsPageAfter names.now after limit told.page) }
+    ensures newest { IfOk result (λ told. IsNewest names.now told.page.metas told.newest) }
+    ensures seen { IfOk result (λ told. WasSeen folder.now told.newest) }
 {
     let search = Search { rt, folder, after };
     for _ in 0..LISTINGS {
         let ids = search.settled()?;
-        if let Some(page) = page_of(rt, alloc, folder, names, &ids, limit)? {
-            return Ok(page);
+        if let Some(listed) = page_of(rt, alloc, folder, names, &ids, limit)? {
+            return Ok(listed);
         }
     }
     Err(Halt::Fault(Fault::at(Doing::Unsettled)))
@@ -153,17 +194,51 @@ fn page_of<R: Files>(
     names: &VersionNames,
     ids: &[u64],
     limit: u64,
-) -> Result<Option<Page>, Halt>
-    ensures { (after : Option ℕ) → AscendAbove after ids.now → IfOk result (λ told. IfSome told (IsPageAfter names.now after limit)) }
+) -> Result<Option<Listed<R::File>>, Halt>
+    ensures page { (after : Option ℕ) → AscendAbove after ids.now → IfOk result (λ told. IfSome told (λ listed. IsPageAfter names.now after limit listed.page)) }
+    ensures newest { IfOk result (λ told. IfSome told (λ listed. IsNewest names.now listed.page.metas listed.newest)) }
+    ensures seen { IfOk result (λ told. IfSome told (λ listed. WasSeen folder.now listed.newest)) }
 {
     let (told, rest) = ids.split_at(count_of(ids.len(), limit));
-    let Some(metas) = metas_of(rt, alloc, folder, names, told)? else {
+    let Some(Metas { metas, newest }) = told_of(rt, alloc, folder, names, told)? else {
         return Ok(None);
     };
-    Ok(Some(Page {
+    let page = Page {
         metas: Listing::from_vec(metas),
         more: !rest.is_empty(),
-    }))
+    };
+    Ok(Some(Listed { page, newest }))
+}
+
+/// What a listing tells of these versions, and the newest, none where one of them was removed since.
+fn told_of<R: Files>(
+    rt: &R,
+    alloc: Global,
+    folder: &Folder,
+    names: &VersionNames,
+    ids: &[u64],
+) -> Result<Option<Metas<R::File>>, Halt>
+    ensures metas { IfOk result (λ told. IfSome told (λ told. locations told.metas.items ≡ map (version_path names.now) ids.now)) }
+    ensures newest { IfOk result (λ told. IfSome told (λ told. IsNewest names.now told.metas.items told.newest)) }
+    ensures seen { IfOk result (λ told. IfSome told (λ told. WasSeen folder.now told.newest)) }
+{
+    let Some((id, older)) = ids.split_last() else {
+        return Ok(Some(Metas {
+            metas: Vec::new(alloc),
+            newest: None,
+        }));
+    };
+    let Some(mut metas) = metas_of(rt, alloc, folder, names, older)? else {
+        return Ok(None);
+    };
+    let Some(Shown { meta, name }) = meta_of(rt, alloc, folder, names, *id)? else {
+        return Ok(None);
+    };
+    if metas.push(meta).is_err() {
+        return Err(Halt::NoMemory);
+    }
+    let newest = Some(Newest { id: *id, name });
+    Ok(Some(Metas { metas, newest }))
 }
 
 /// What a listing tells of these versions, none where one of them was removed since.
@@ -178,10 +253,10 @@ fn metas_of<R: Files>(
 {
     let mut metas = Vec::new(alloc);
     for id in ids {
-        let Some(meta) = meta_of(rt, alloc, folder, names, *id)? else {
+        let Some(shown) = meta_of(rt, alloc, folder, names, *id)? else {
             return Ok(None);
         };
-        if metas.push(meta).is_err() {
+        if metas.push(shown.meta).is_err() {
             return Err(Halt::NoMemory);
         }
     }
@@ -195,20 +270,18 @@ fn meta_of<R: Files>(
     folder: &Folder,
     names: &VersionNames,
     id: u64,
-) -> Result<Option<ObjectMeta>, Halt>
-    ensures { IfOk result (λ told. IfSome told (λ meta. meta.location ≡ version_path names.now id)) }
+) -> Result<Option<Shown<R::File>>, Halt>
+    ensures meta { IfOk result (λ told. IfSome told (λ shown. shown.meta.location ≡ version_path names.now id)) }
+    ensures seen { IfOk result (λ told. IfSome told (λ shown. known shown.name ≡ seen (version_file folder.now id) Stands)) }
 {
     let file = folder.version(alloc, id)?;
-    let metadata = match fs::symlink_metadata(rt, file.as_str()) {
-        Ok(metadata) if metadata.is_file() => metadata,
-        Ok(_) => return Err(Halt::Fault(Fault::at(Doing::NotRegular))),
-        Err(error) if error.kind() == ErrorKind::NotFound => return Ok(None),
-        Err(error) => return Err(at_error(Doing::Listing, error)),
+    let Some(Sight { name, metadata }) = find(rt, Doing::Listing, file)? else {
+        return Ok(None);
     };
-    let location = names.path_for(alloc, id)?;
-    Ok(Some(ObjectMeta {
-        location,
+    let meta = ObjectMeta {
+        location: names.path_for(alloc, id)?,
         size: metadata.len(),
         token: Token::new(number_of(&metadata).unwrap_or(0)),
-    }))
+    };
+    Ok(Some(Shown { meta, name }))
 }

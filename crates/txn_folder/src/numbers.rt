@@ -6,6 +6,7 @@ use std::io;
 use std::io::ErrorKind;
 use std::rt::{Clock, Files};
 use txn_files::fault::{Doing, Fault, Halt, at_error};
+use txn_files::new_file::Written;
 use txn_files::written::{Writing, number_now, write_new};
 
 /// How many temporary names are tried.
@@ -19,14 +20,6 @@ pub(crate) struct Numbers {
     /// Whether the file system kept a number as a time. None that ends in 1 is kept by a clock that counts in anything more
     /// than a nanosecond, so one file shows it.
     are_kept: bool,
-}
-
-/// A file that was written whole under a temporary name.
-#[derive(Drop)]
-pub(crate) struct Written {
-    pub name: String,
-    /// Its number, which its time of change is.
-    pub number: u64,
 }
 
 /// The first number from this one on that ends in 1, where there is one.
@@ -80,6 +73,7 @@ impl Numbers {
     ) -> Result<Written, Halt>
         ensures rises { IfOk result (λ written. self.old.last < written.number) }
         ensures ok { IfOk result (λ written. self.new.last ≡ written.number) }
+        ensures synced { IfOk result (λ written. written.is_synced ≡ syncs) }
         ensures kept { self.old.last ≤ self.new.last }
     {
         for _ in 0..TRIES {
@@ -89,9 +83,9 @@ impl Numbers {
                 syncs,
                 reads_back: !self.are_kept,
             };
-            if write_new(rt, name.as_str(), number, bytes, how)? {
+            if let Some(written) = write_new(rt, name, number, bytes, how)? {
                 self.are_kept = true;
-                return Ok(Written { name, number });
+                return Ok(written);
             }
         }
         let error = io::Error::from(ErrorKind::AlreadyExists);

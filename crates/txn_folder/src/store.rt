@@ -107,6 +107,8 @@ where
         ensures names { result.names ≡ names }
         ensures boundary { result.boundary ≡ boundary }
         ensures numbers { result.disk.numbers.last ≡ 0 }
+        ensures folder { result.disk.folder ≡ folder }
+        ensures syncs { result.disk.syncs ≡ syncs }
     {
         FolderStore {
             names,
@@ -136,7 +138,7 @@ where
         ensures fault { is_some self.new.fault ≡ reply_failed result }
         ensures tells { Tells self.old.names self.old.boundary self.old.disk.numbers.last self.new.disk.numbers.last request.now result }
         ensures rises { self.old.disk.numbers.last ≤ self.new.disk.numbers.last }
-        ensures kept { (self.new.names ≡ self.old.names) × (self.new.boundary ≡ self.old.boundary) }
+        ensures kept { (self.new.names ≡ self.old.names) × (self.new.boundary ≡ self.old.boundary) × (self.new.disk.folder ≡ self.old.disk.folder) × (self.new.disk.syncs ≡ self.old.disk.syncs) }
     {
         self.fault = None;
         match request {
@@ -173,7 +175,7 @@ where
         ensures fault { is_some self.new.fault ≡ has_failed result }
         ensures token { IfOk result (IsTokenOf self.old.names self.old.boundary path.now bytes.now self.old.disk.numbers.last self.new.disk.numbers.last) }
         ensures rises { self.old.disk.numbers.last ≤ self.new.disk.numbers.last }
-        ensures kept { (self.new.names ≡ self.old.names) × (self.new.boundary ≡ self.old.boundary) }
+        ensures kept { (self.new.names ≡ self.old.names) × (self.new.boundary ≡ self.old.boundary) × (self.new.disk.folder ≡ self.old.disk.folder) × (self.new.disk.syncs ≡ self.old.disk.syncs) }
     {
         let place = match self.place(path) {
             Ok(place) => place,
@@ -181,17 +183,17 @@ where
         };
         match mode {
             PutMode::Create => match self.disk.create(alloc, place, bytes) {
-                Ok(Some(token)) => Ok(token),
+                Ok(Some(put)) => Ok(put.token),
                 Ok(None) => Err(StoreError::AlreadyExists),
                 Err(halt) => Err(halted(&mut self.fault, halt)),
             },
             PutMode::Update(token) => match self.disk.update(alloc, place, bytes, *token) {
-                Ok(Some(token)) => Ok(token),
+                Ok(Some(put)) => Ok(put.token),
                 Ok(None) => Err(StoreError::Precondition),
                 Err(halt) => Err(halted(&mut self.fault, halt)),
             },
             PutMode::Overwrite => match self.disk.overwrite(alloc, place, bytes) {
-                Ok(token) => Ok(token),
+                Ok(put) => Ok(put.token),
                 Err(halt) => Err(halted(&mut self.fault, halt)),
             },
         }
@@ -208,7 +210,7 @@ where
         ensures fault { is_some self.new.fault ≡ has_failed result }
         ensures token { IfOk result (IsGotOf self.old.names self.old.boundary path.now) }
         ensures given { self.new.disk.numbers.last ≡ self.old.disk.numbers.last }
-        ensures kept { (self.new.names ≡ self.old.names) × (self.new.boundary ≡ self.old.boundary) }
+        ensures kept { (self.new.names ≡ self.old.names) × (self.new.boundary ≡ self.old.boundary) × (self.new.disk.folder ≡ self.old.disk.folder) × (self.new.disk.syncs ≡ self.old.disk.syncs) }
     {
         let place = match self.place(path) {
             Ok(place) => place,
@@ -232,14 +234,14 @@ where
         ensures error { IfErr result IsHalt }
         ensures fault { is_some self.new.fault ≡ has_failed result }
         ensures given { self.new.disk.numbers.last ≡ self.old.disk.numbers.last }
-        ensures kept { (self.new.names ≡ self.old.names) × (self.new.boundary ≡ self.old.boundary) }
+        ensures kept { (self.new.names ≡ self.old.names) × (self.new.boundary ≡ self.old.boundary) × (self.new.disk.folder ≡ self.old.disk.folder) × (self.new.disk.syncs ≡ self.old.disk.syncs) }
     {
         let place = match self.place(path) {
             Ok(place) => place,
             Err(halt) => return Err(halted(&mut self.fault, halt)),
         };
         match self.disk.delete(alloc, place) {
-            Ok(()) => Ok(()),
+            Ok(_) => Ok(()),
             Err(halt) => Err(halted(&mut self.fault, halt)),
         }
     }
@@ -250,14 +252,14 @@ where
         ensures fault { is_some self.new.fault ≡ has_failed result }
         ensures listing { IfOk result (IsListing self.old.names prefix.now (option_copied after.entry) limit) }
         ensures given { self.new.disk.numbers.last ≡ self.old.disk.numbers.last }
-        ensures kept { (self.new.names ≡ self.old.names) × (self.new.boundary ≡ self.old.boundary) }
+        ensures kept { (self.new.names ≡ self.old.names) × (self.new.boundary ≡ self.old.boundary) × (self.new.disk.folder ≡ self.old.disk.folder) × (self.new.disk.syncs ≡ self.old.disk.syncs) }
     {
         let from = match self.above(prefix, after) {
             Ok(from) => from,
             Err(halt) => return Err(halted(&mut self.fault, halt)),
         };
         match self.disk.list(alloc, &self.names, from, limit) {
-            Ok(page) => Ok(page),
+            Ok(listed) => Ok(listed.page),
             Err(halt) => Err(halted(&mut self.fault, halt)),
         }
     }
