@@ -221,7 +221,8 @@ def refusal_steps(root, programs):
 def mark_of_folders(root, build):
     """The file that says that this build passed on a folder on this machine, as tools/try-folder now is; "" where nothing is
     kept."""
-    folder, tool = cache_folder(os.environ), [f"{root}/tools/try-folder", *sorted(glob.glob(f"{root}/tools/try_folder*.py"))]
+    folder, tools = cache_folder(os.environ), f"{root}/tools"
+    tool = [f"{tools}/{it}" for it in ("try-folder", "refuse_growths.py", "watch.c")] + sorted(glob.glob(f"{tools}/try_folder*.py"))
     return folder and f"{folder}/processes/{sum_of(*map(sum_of_file, [build, *tool]))[:40]}"
 
 

@@ -11,6 +11,8 @@ import tempfile
 import threading
 import time
 
+from refuse_growths import NoLibrary, make_library
+
 PROCESSES, COUNTS = 8, 100
 VIEW = re.compile(r"(?:view|holder) (\d+) at (\d+) (\d+):(\d+)")
 
@@ -426,7 +428,65 @@ def recordings(program, _root, _seconds):
     return told
 
 
-CHECKS = counts, kills, claims, collections, odd_files, benches, strangers, unfit_words, tampering, recordings
+# What a command changes, in its order: from the first file that it makes or locks to the sync that follows its last change.
+ORDERS = {
+    ("put", "2"): ("make new 3#", "sync 3#", "link 3# 3", "unlink 3#", "sync versions"),
+    ("advance", "2"): ("lock boundary#0", "make new boundary#", "sync boundary#", "rename boundary# boundary", "sync gc"),
+    ("delete", "1"): ("lock versions/#0", "unlink 1", "sync versions"),
+}
+
+
+def noted(it, library, command):
+    """What a command asks of the system: a line for each call, with the names as they lie below the root, a version's as its
+    id, and of a temporary name no more than its `#`."""
+    with open(f"{it.root}/notes", "w+", encoding="utf-8") as notes:
+        environment = {**os.environ, "LD_PRELOAD": library, "WATCHED_TO": str(notes.fileno())}
+        how = {"stdin": subprocess.DEVNULL, "stdout": subprocess.DEVNULL, "env": environment, "timeout": 60}
+        ran = subprocess.run(it.words(*command, recorded=False), pass_fds=[notes.fileno()], check=False, **how)
+        expect(ran.returncode == 0, f"{' '.join(command)}: status {ran.returncode}")
+        notes.seek(0)
+        text = notes.read()
+    for full, short in (
+        (rf"{re.escape(it.root)}/gc/{it.name}\.boundary", "boundary"),
+        (rf"{re.escape(it.root)}/{it.name}/0*(\d+)\.val", r"\1"),
+        (rf"{re.escape(it.root)}/{it.name}(?=[/\n])", "versions"),
+        (rf"{re.escape(it.root)}/", ""),
+        (r"#\d{20}", "#"),
+    ):
+        text = re.sub(full, short, text)
+    return text.splitlines()
+
+
+def changes(lines):
+    """The lines from the first file that is made or locked alone to the sync that follows the last change."""
+    lines = [it for it in lines if not it.startswith("lock with others ")]
+    places = [at for at, line in enumerate(lines) if not line.startswith("sync ")]
+    if not places:
+        return ()
+    end = places[-1] + 1
+    return tuple(lines[places[0] : end + (end < len(lines))])
+
+
+def orders(program, root, _seconds):
+    """A put, an advance and a delete ask the system for what they change in its order: a file is synced before it comes to its
+    name, and its folder after that; the boundary is replaced and a version removed under a lock."""
+    try:
+        library = make_library(f"{os.path.dirname(os.path.realpath(__file__))}/watch.c", f"{root}/watch.so")
+    except NoLibrary as error:
+        raise Wrong(f"no compiler makes tools/watch.c a library: {error}") from error
+    for syncs in (True, False):
+        it = Object(program, root, f"ordered-{syncs}".lower(), syncs=syncs)
+        for command in (("init", "0"), ("put", "1"), ("advance", "1")):
+            expect(it.run(*command, recorded=False)[0] == 0, f"{' '.join(command)} fails")
+        for command, wanted in ORDERS.items():
+            lines = noted(it, library, command)
+            told = [line for line in wanted if syncs or not line.startswith("sync ")]
+            expect(syncs or not any(line.startswith("sync ") for line in lines), f"{' '.join(command)} syncs unasked: {lines}")
+            expect(changes(lines) == tuple(told), f"{' '.join(command)}, {'synced' if syncs else 'not synced'}, asks for: {lines}")
+    return ["what a put, an advance and a delete change is asked for in its order, with syncs and without"]
+
+
+CHECKS = counts, orders, kills, claims, collections, odd_files, benches, strangers, unfit_words, tampering, recordings
 
 
 def main(words, usage, checks):

@@ -140,7 +140,8 @@ class Steps(unittest.TestCase):
     def test_processes_of_a_build_that_passed(self):
         tool = "#!/bin/sh\nshift\necho \"$*\" > told\necho \"2 passed, $(cat fails) failed\"\n"
         self.file("tools/try-folder", tool, 0o755)
-        self.file("tools/try_folder.py", "checks")
+        for name in ("try_folder.py", "refuse_growths.py", "watch.c"):
+            self.file(f"tools/{name}", "checks")
         build, short = self.file("crates/txnobj_cli/out/txnobj_cli", "one"), "--seconds 10\n"
 
         def told(fails, anew=False):

@@ -6,5 +6,7 @@ mod doctors;
 mod failing;
 mod failures;
 mod folders;
+mod order;
 mod scenes;
 mod steps;
+mod watched;

@@ -3,6 +3,7 @@
 use crate::tests::failing::{Failing, never_failing};
 use crate::tests::scenes::verdict;
 use crate::tests::steps::folder_of;
+use crate::tests::watched::Log;
 use std::alloc::AllocError;
 use std::cell::Cell;
 use std::io::ErrorKind;
@@ -70,9 +71,10 @@ fn examined(
     text: &mut String,
 ) -> Result<(), AllocError> {
     let left = Cell::new(nth);
+    let log = Log::new(rt.alloc(), folder);
     let failing = Failing {
         kind,
-        ..never_failing(rt, &left)
+        ..never_failing(rt, &left, &log)
     };
     let report = examine(&failing, rt.alloc(), folder)?;
     write_report(rt, &report, text)

@@ -3,6 +3,7 @@
 use crate::tests::failing::{Failing, never_failing};
 use crate::tests::scenes::verdict;
 use crate::tests::steps::{folder_of, play};
+use crate::tests::watched::Log;
 use std::alloc::AllocError;
 use std::cell::Cell;
 use std::io::ErrorKind;
@@ -105,7 +106,8 @@ fn outcome_of(
 /// Whether all calls of a table are answered so.
 fn are_told(rt: &HostRuntime, root: &str, table: &str) -> Result<bool, AllocError> {
     let left = Cell::new(u64::MAX);
-    let outcome = outcome_of(never_failing(rt, &left), root, false, table)?;
+    let log = Log::new(rt.alloc(), root);
+    let outcome = outcome_of(never_failing(rt, &left, &log), root, false, table)?;
     Ok(outcome == Outcome::Done)
 }
 
@@ -118,9 +120,10 @@ fn failing(
     after: bool,
 ) -> Result<Outcome, AllocError> {
     let left = Cell::new(nth);
+    let log = Log::new(rt.alloc(), root);
     let failing = Failing {
         after,
-        ..never_failing(rt, &left)
+        ..never_failing(rt, &left, &log)
     };
     outcome_of(failing, root, true, table)
 }

@@ -76,6 +76,46 @@ const CLEANED: &[Block] = &[
     ("fast", KEPT),
 ];
 
+/// A lock that another open holds is waited for, and then it is a fault.
+const HELD: &[Block] = &[
+    ("fast", "create boundary 1 = put\n"),
+    (
+        "held",
+        "update boundary 1 2 = failed\ndelete boundary = failed\nget boundary = got 1\n",
+    ),
+    ("fast", "update boundary 1 2 = put\n"),
+];
+
+/// A file system that does not keep times to the nanosecond is refused, and nothing is left.
+const COARSE: &[Block] = &[
+    ("fast", "create 1 0:1 = put\n"),
+    ("coarse", "create 2 0:2 = failed\nlist 5 = listed 1\n"),
+    ("cleaned", "removed 0, then 0; 0 and 0 stand"),
+];
+
+/// A version that is made amid a listing, and follows no other, is not told.
+const GROWING: &[Block] = &[
+    ("fast", "create 1 0:1 = put\ncreate 2 0:2 = put\n"),
+    ("growing", "list 5 = listed 1 2\n"),
+    ("fast", "get 5 = got left\n"),
+];
+
+/// A temporary name that is taken is not written over: the first number of a stopped clock is that of a file of the dead.
+const TAKEN: &[Block] = &[
+    ("fast", MADE),
+    ("left", ""),
+    ("stopped", "create 7 0:7 = put\nget 7 = got 0:7\n"),
+    ("cleaned", "removed 0, then 2; 6 and 0 stand"),
+];
+
+#[test]
+fn oddities_are_met(rt: HostRuntime) -> Result<(), Fail> {
+    play_scene(&rt, HELD)?;
+    play_scene(&rt, COARSE)?;
+    play_scene(&rt, GROWING)?;
+    play_scene(&rt, TAKEN)
+}
+
 #[test]
 fn calls_are_answered(rt: HostRuntime) -> Result<(), Fail> {
     play_scene(&rt, &[("fast", CALLS)])?;

@@ -1,17 +1,20 @@
 //! Scenes: what is done in a folder of its own, one thing after another, and what is told.
 
-use crate::tests::failing::{Failing, never_failing};
+use crate::tests::failing::{Failing, Oddity, never_failing};
 use crate::tests::steps::{clean, folder_of, play};
+use crate::tests::watched::Log;
 use std::alloc::{AllocError, Global};
 use std::cell::Cell;
 use std::os::unix::fs::symlink;
 use std::test::Fail;
 use std::time::{Duration, SystemTime};
 use std::{fs, io};
+use txn_files::lock::{LockFile, Sharing};
 
 /// What is done, and what is told. A table is played by one whose store syncs (`synced`), by one whose store does not (`fast`),
-/// or by one who may not write (`reader`), each with a store of its own. `left` leaves files, `cleaned` removes those of the
-/// dead, and `odd` makes what is no regular file.
+/// by one who may not write (`reader`), while another holds the boundary's lock (`held`), where files keep no time but in whole
+/// seconds (`coarse`), where a version is made amid a listing (`growing`), or where the clock tells 1970 (`stopped`), each with a
+/// store of its own. `left` leaves files, `cleaned` removes those of the dead, and `odd` makes what is no regular file.
 pub type Block = (&'static str, &'static str);
 
 /// Files of others beside the versions, which no listing tells and no cleaning removes.
@@ -95,7 +98,8 @@ fn cleaned(rt: &HostRuntime, root: &str, before: Option<SystemTime>) -> io::Resu
         return Err(io::Error::from(io::ErrorKind::InvalidInput));
     };
     let left = Cell::new(u64::MAX);
-    match clean(never_failing(rt, &left), root, before)? {
+    let log = Log::new(rt.alloc(), root);
+    match clean(never_failing(rt, &left, &log), root, before)? {
         Some(removed) => Ok(removed),
         None => Err(io::Error::from(io::ErrorKind::Other)),
     }
@@ -133,13 +137,37 @@ fn make_odd(rt: &HostRuntime, root: &str) -> io::Result<()> {
     link_at(rt, root, "test/00000000000000000002.val", "/dev/null")
 }
 
+/// What is odd about the system of one who plays a table.
+fn oddity_of(who: &str) -> Oddity {
+    match who {
+        "coarse" => Oddity::KeepsSeconds,
+        "growing" => Oddity::Grows,
+        "stopped" => Oddity::IsStopped,
+        _ => Oddity::Nothing,
+    }
+}
+
+/// Plays a table while another open of the boundary's lock holds it.
+fn play_held(rt: &HostRuntime, root: &str, block: &Block, text: &mut String) -> io::Result<()> {
+    let name = file_at(rt.alloc(), root, "gc/test.boundary#0")?;
+    let held = fs::File::create(rt, name.as_str())?;
+    if !held.try_lock_file(Sharing::Alone)? {
+        text.push_str("it is not held")?;
+    }
+    let played = play_table(rt, root, block, text);
+    drop(held);
+    played
+}
+
 /// Plays a table.
 fn play_table(rt: &HostRuntime, root: &str, block: &Block, text: &mut String) -> io::Result<()> {
     let left = Cell::new(u64::MAX);
+    let log = Log::new(rt.alloc(), root);
     let (who, table) = *block;
     let rt = Failing {
         writes: who != "reader",
-        ..never_failing(rt, &left)
+        oddity: oddity_of(who),
+        ..never_failing(rt, &left, &log)
     };
     play(rt, root, who != "fast", table, text)?;
     Ok(())
@@ -151,6 +179,7 @@ fn play_block(rt: &HostRuntime, root: &str, block: &Block, text: &mut String) ->
         "left" => leave(rt, root),
         "cleaned" => clean_up(rt, root, text),
         "odd" => make_odd(rt, root),
+        "held" => play_held(rt, root, block, text),
         _ => play_table(rt, root, block, text),
     }
 }

@@ -3,8 +3,8 @@
 //! A table has a call a line, and after ` = ` what it is answered. A call is `create NAME BYTES`, `overwrite NAME BYTES`,
 //! `update NAME TOKEN BYTES`, `get NAME`, `get NAME TOKEN`, `delete NAME`, `list LIMIT`, or `list LIMIT ID`, which goes on after
 //! that version. A NAME is the id of a version, `boundary`, or `elsewhere`, which is none of the object's. Before a call may
-//! stand how many calls of the system that name a file or a folder it takes, or `other`, where another store in the folder
-//! makes it.
+//! stand how many calls of the system that name a file or a folder it takes, `noted`, where lines follow that say what it asks of
+//! the system and in which order, or `other`, where another store in the folder makes it.
 
 use crate::tests::failing::Failing;
 use bytes::Bytes;
@@ -229,8 +229,10 @@ fn answered(
 /// Who makes the call of a line.
 #[derive(Clone, Copy)]
 enum Maker {
-    /// The store that is tested, whose calls of the system are told.
+    /// The store that is tested, whose calls of the system are counted.
     Counted,
+    /// The store that is tested, whose calls of the system are noted.
+    Noted,
     /// The store that is tested.
     Own,
     /// Another store in the folder.
@@ -240,12 +242,11 @@ enum Maker {
 /// Who makes the call of a line, and the call.
 fn maker_of(line: &str) -> (Maker, &str) {
     let (word, rest) = cut(line);
-    if word == "other" {
-        return (Maker::Other, rest);
-    }
-    match read_digits(word) {
-        Some(_) => (Maker::Counted, rest),
-        None => (Maker::Own, line),
+    match word {
+        "other" => (Maker::Other, rest),
+        "noted" => (Maker::Noted, rest),
+        _ if read_digits(word).is_some() => (Maker::Counted, rest),
+        _ => (Maker::Own, line),
     }
 }
 
@@ -269,6 +270,7 @@ fn write_maker(
             let word = format!(in alloc; "{took} ")?;
             text.push_str(word.as_str())
         }
+        Maker::Noted => text.push_str("noted "),
         Maker::Own => Ok(()),
         Maker::Other => text.push_str("other "),
     }
@@ -297,8 +299,13 @@ fn play_call(
     let answer = answered(rt.alloc(), layout, store, call)?;
     let took = u64::MAX.wrapping_sub(rt.left.get());
     let faults = store.fault().is_some();
+    let notes = rt.log.take();
     write_maker(rt.alloc(), maker, took, text)?;
-    write_call(call, answer.as_str(), faults, text)
+    write_call(call, answer.as_str(), faults, text)?;
+    match maker {
+        Maker::Noted => text.push_str(notes.as_str()),
+        _ => Ok(()),
+    }
 }
 
 /// Makes the call of a line, and writes it with what it was answered.
@@ -325,7 +332,9 @@ fn play_lines(
     text: &mut String,
 ) -> Result<(), AllocError> {
     for line in table.lines() {
-        play_line(rt, stores, line, text)?;
+        if !line.starts_with(' ') {
+            play_line(rt, stores, line, text)?;
+        }
     }
     Ok(())
 }
