@@ -1,5 +1,5 @@
 -- A world beside the journal of what its workers did, and the shares that its workers hold.
-use Rattle.std.specs.Prelude.{◌≡◌, ◌⊎◌, ◌+◌, ◌-◌, ◌^◌, ◌≤◌, ◌++◌, ◌∷◌, [], ℕ, List, Option, Some, None, Result, Ok, Err, All, count_by, length, map, nat_eq, if◌then◌else◌, slice_get, slice_index}
+use Rattle.std.specs.Prelude.{◌≡◌, ◌+◌, ◌-◌, ◌^◌, ◌≤◌, ◌++◌, ◌∷◌, [], ℕ, List, Option, Some, None, All, count_by, length, map, nat_eq, if◌then◌else◌, slice_get, slice_index}
 use Rattle.txn_history.specs.Trace.{Event, Told}
 use Rattle.txn_history.specs.declared.event.EventFault.{EventFault}
 use Rattle.txn_history.specs.declared.event.EventFault.TheVariants as faults
@@ -27,10 +27,10 @@ module _ {T : Type 0} where
   abbrev pub IsLastTold : List (EventRow T) → Told T → Type 0
   IsLastTold journal told = (rows : List (EventRow T)) × (row : EventRow T) × (journal ≡ rows ++ row ∷ []) × (row.told ≡ told)
 
--- An event that is due this fault, where it is due one, is refused with it, or for want of memory.
-abbrev pub IsRefusedAs : {A : Type 0} → Option EventFault → Result A EventFault → Type 0
-IsRefusedAs due (Ok told) = due ≡ None
-IsRefusedAs due (Err fault) = (fault ≡ faults.NoMemory) ⊎ (due ≡ Some fault)
+-- An event for which memory is wanting is refused with the fault that it is due, and for want of memory where it is due none.
+abbrev pub IsLack : Option EventFault → EventFault → Type 0
+IsLack None fault = fault ≡ faults.NoMemory
+IsLack (Some due) fault = fault ≡ due
 
 -- the shares of so many workers, worker 1 first, each with no event
 abbrev pub AreFirst : ℕ → List Share → Type 0

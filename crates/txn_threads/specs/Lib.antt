@@ -4,4 +4,5 @@ pub mod KeptLends
 pub mod Finish
 pub mod Work
 pub mod GoesOn
+pub mod Done
 pub mod Crew

@@ -61,17 +61,23 @@ pub trait Numbered {
 /// Who makes calls, an event at a time, beside others with whom it shares a place: a worker's share of a
 /// kept world, or a client with its diary, which shares a store.
 pub trait Caller<T: Clone, P>: Numbered {
-    ghost use Rattle.std.specs.Prelude.{ℕ};
+    ghost use Rattle.std.specs.Prelude.{ℕ, IfOk};
     ghost use Rattle.txn_types.specs.Clones.{IsExactClone};
     ghost use Rattle.txn_threads.specs.GoesOn.{GoesOn};
+    ghost use Rattle.txn_threads.specs.declared.caller.Next.{Next};
+    ghost use Rattle.txn_threads.specs.declared.caller.Heard.{Heard};
 
     /// It is the same caller, after so many more events at most.
     ghost goes: { Self → ℕ → Self → Type 0 };
 
+    /// It took this event, and heard this of it.
+    ghost took: { Self → Next T → Heard → Self → Type 0 };
+
     /// Takes its next event, and hears what it told.
     fn take<R: Wait>(&mut self, rt: &R, place: &P, next: Next<T>) -> Result<Heard, EventFault>
         requires { IsExactClone T.is_clone }
-        ensures { goes self.old 1 self.new };
+        ensures goes { goes self.old 1 self.new }
+        ensures took { IfOk result (λ heard. took self.old next heard self.new) };
 
     /// It is itself after no event, more events follow on others, and it keeps its number.
     ghost laws: { GoesOn Self.numbered goes };

@@ -22,9 +22,13 @@ impl<T: Clone, C: ObjectCodec<T> + Drop, E: EpochField<T>> Numbered for Diary<T,
 impl<T: Clone, C: ObjectCodec<T> + Drop, E: EpochField<T>> Caller<T, Mutex<LoggedStore>>
     for Diary<T, C, E> {
     ghost use Rattle.txn_types.specs.Clones.{IsExactClone};
+    ghost use Rattle.std.specs.Prelude.{IfOk};
     ghost use Rattle.txn_threads.specs.GoesOn.{Lengthens, lengthens_on};
+    ghost use Rattle.txn_threads.specs.Done.{TookRow};
 
     ghost goes = { Lengthens };
+
+    ghost took = { TookRow };
 
     fn take<R: Wait>(
         &mut self,
@@ -33,7 +37,8 @@ impl<T: Clone, C: ObjectCodec<T> + Drop, E: EpochField<T>> Caller<T, Mutex<Logge
         next: Next<T>,
     ) -> Result<Heard, EventFault>
         requires { IsExactClone T.is_clone }
-        ensures { Lengthens self.old 1 self.new }
+        ensures goes { Lengthens self.old 1 self.new }
+        ensures took { IfOk result (λ heard. TookRow self.old next heard self.new) }
     {
         match next {
             Next::Begin(call) => Ok(hear(&self.begin(call)?)),

@@ -1,6 +1,8 @@
 //! What a worker is to do, and how it does it, whoever makes its calls.
-ghost use Rattle.std.specs.Prelude.{◌≡◌, ◌*◌, length};
+ghost use Rattle.std.specs.Prelude.{◌≡◌, ◌*◌, length, IfOk, IfErr, OnOk, ◌≢◌};
 ghost use Rattle.txn_types.specs.Clones.{IsExactClone};
+ghost use Rattle.txn_threads.specs.declared.jobs.Job.TheVariants.{WriteOnRead};
+ghost use Rattle.txn_threads.specs.Done.{MakesCall, DoesJob, DoesJobs};
 
 use crate::caller::{Caller, Heard, Next};
 use crate::gate::Gate;
@@ -34,7 +36,9 @@ pub enum End {
 }
 
 /// Asks the gate for one event more.
-fn pass<G: Gate>(gate: &mut G, number: u64, turns: &mut u64) -> Result<(), End> {
+fn pass<G: Gate>(gate: &mut G, number: u64, turns: &mut u64) -> Result<(), End>
+    ensures { IfErr result (λ end. end ≢ End.Done) }
+{
     *turns = turns.saturating_add(1);
     match gate.pass(number, *turns) {
         Ok(()) => Ok(()),
@@ -57,7 +61,9 @@ fn take<R: Wait, T: Clone, P, X: Caller<T, P>, G: Gate>(
     next: Next<T>,
 ) -> Result<Heard, End>
     requires { IsExactClone T.is_clone }
-    ensures { X.goes worker.old.caller 1 worker.new.caller }
+    ensures goes { X.goes worker.old.caller 1 worker.new.caller }
+    ensures stops { IfErr result (λ end. end ≢ End.Done) }
+    ensures took { IfOk result (λ heard. X.took worker.old.caller next heard worker.new.caller) }
 {
     pass(gate, worker.caller.number(), &mut worker.turns)?;
     match worker.caller.take(rt, place, next) {
@@ -75,7 +81,9 @@ fn call<R: Wait, T: Clone, P, X: Caller<T, P>, G: Gate>(
     call: Call<T>,
 ) -> Result<Option<Option<u64>>, End>
     requires { IsExactClone T.is_clone }
-    ensures { X.goes worker.old.caller 200 worker.new.caller }
+    ensures goes { X.goes worker.old.caller 200 worker.new.caller }
+    ensures stops { IfErr result (λ end. end ≢ End.Done) }
+    ensures made { IfOk result (λ base. MakesCall X.took worker.old.caller call base worker.new.caller) }
 {
     let mut next = Next::Begin(call);
     for _ in 0..EVENTS_OF_A_CALL {
@@ -96,7 +104,9 @@ fn write_on_read<R: Wait, T: Clone, P, X: Caller<T, P>, G: Gate>(
     value: T,
 ) -> Result<(), End>
     requires { IsExactClone T.is_clone }
-    ensures { X.goes worker.old.caller 400 worker.new.caller }
+    ensures goes { X.goes worker.old.caller 400 worker.new.caller }
+    ensures stops { IfErr result (λ end. end ≢ End.Done) }
+    ensures done { OnOk result (DoesJob X.took worker.old.caller (WriteOnRead value) worker.new.caller) }
 {
     if let Some(base) = call(rt, place, worker, gate, Call::Plain(PlainCall::Read))? {
         let write = Call::Plain(PlainCall::Write(base, value));
@@ -114,7 +124,9 @@ fn do_job<R: Wait, T: Clone, P, X: Caller<T, P>, G: Gate>(
     job: &Job<T>,
 ) -> Result<(), End>
     requires { IsExactClone T.is_clone }
-    ensures { X.goes worker.old.caller 400 worker.new.caller }
+    ensures goes { X.goes worker.old.caller 400 worker.new.caller }
+    ensures stops { IfErr result (λ end. end ≢ End.Done) }
+    ensures done { OnOk result (DoesJob X.took worker.old.caller job.now worker.new.caller) }
 {
     match job {
         Job::Call(made) => {
@@ -142,11 +154,13 @@ pub(crate) fn end_of<R: Wait, T: Clone, P, X: Caller<T, P>, G: Gate>(
     jobs: &[Job<T>],
 ) -> End
     requires { IsExactClone T.is_clone }
-    ensures { X.goes worker.old.caller (400 * length jobs.now) worker.new.caller }
+    ensures goes { X.goes worker.old.caller (400 * length jobs.now) worker.new.caller }
+    ensures done { result ≡ End.Done → DoesJobs X.took worker.old.caller jobs.now worker.new.caller }
 {
     for one in jobs {
-        if let Err(end) = do_job(rt, place, worker, gate, one) {
-            return end;
+        match do_job(rt, place, worker, gate, one) {
+            Ok(()) => {}
+            Err(end) => return end,
         }
     }
     End::Done

@@ -121,8 +121,9 @@ impl<T: Clone, C: ObjectCodec<T> + Drop, E: EpochField<T>> Kept<T, C, E> {
     ghost use Rattle.txn_history.specs.Seen.{asks_of};
     ghost use Rattle.txn_history.specs.Trace.{Told};
     ghost use Rattle.txn_machine_inner.specs.Doing.{asks_as};
+    ghost use Rattle.txn_machine_inner.specs.Machine.{fault_met};
     ghost use Rattle.txn_machine.specs.Machine.{opening, seen_calls, next_event};
-    ghost use Rattle.txn_threads.specs.Kept.{IsRefusedAs, due_fault, one_more, AreFirst, AddsEventRow, IsLastTold, Replays, AreCounts};
+    ghost use Rattle.txn_threads.specs.Kept.{IsLack, due_fault, one_more, AreFirst, AddsEventRow, IsLastTold, Replays, AreCounts};
     ghost use Rattle.txn_threads.specs.KeptLends.{ends_taken};
 
     /// Keeps a world in which nothing has happened, for workers 1 to `workers`, of which there are as
@@ -149,19 +150,32 @@ impl<T: Clone, C: ObjectCodec<T> + Drop, E: EpochField<T>> Kept<T, C, E> {
         Ok((kept, shares))
     }
 
+    /// Why an event is refused for which memory is wanting: by the fault that it is due, where it is due one.
+    fn lack(&self, event: Event<T>) -> EventFault
+        ensures { IsLack (due_fault (C.encoded self.now.world.codec) (C.decoded self.now.world.codec) (E.epoch_of self.now.world.epochs) (E.with_epoch self.now.world.epochs) self.now.world event) result }
+    {
+        let fault = self.world.refusal(&event);
+        // By a call: in place, the proof would follow each call that may be dropped here.
+        drop(event);
+        match fault {
+            Some(fault) => fault,
+            None => EventFault::NoMemory,
+        }
+    }
+
     /// Takes an event of a worker and adds its row. Room and the row's copy of the event are made before
     /// the world takes it.
     fn add(&mut self, worker: u64, event: Event<T>) -> Result<(), EventFault>
         requires { IsExactClone T.is_clone }
         ensures ok { OnOk result ((told : Told T) × AddsEventRow (C.encoded self.old.world.codec) (C.decoded self.old.world.codec) (E.epoch_of self.old.world.epochs) (E.with_epoch self.old.world.epochs) self.old self.new worker event told) }
-        ensures refused { IsRefusedAs (due_fault (C.encoded self.old.world.codec) (C.decoded self.old.world.codec) (E.epoch_of self.old.world.epochs) (E.with_epoch self.old.world.epochs) self.old.world event) result }
+        ensures refused { fault_met result ≡ due_fault (C.encoded self.old.world.codec) (C.decoded self.old.world.codec) (E.epoch_of self.old.world.epochs) (E.with_epoch self.old.world.epochs) self.old.world event }
         ensures err { OnErr result (self.new ≡ self.old) }
     {
         let Ok(()) = self.journal.reserve(1) else {
-            return Err(EventFault::NoMemory);
+            return Err(self.lack(event));
         };
         let Ok(copy) = event.try_clone() else {
-            return Err(EventFault::NoMemory);
+            return Err(self.lack(event));
         };
         let told = self.world.take(event)?;
         push_within(
@@ -184,16 +198,15 @@ impl<T: Clone, C: ObjectCodec<T> + Drop, E: EpochField<T>> Kept<T, C, E> {
     }
 
     /// Takes one event of the share's worker and lends what it told: the journal gains one row, and the
-    /// share one event. A refused event changes neither. It is refused as [`World::take`] refuses it, or
-    /// with [`EventFault::NoMemory`] where a growth was refused, which may stand in the place of another
-    /// fault, since room is made first.
+    /// share one event. A refused event changes neither. It is refused as [`World::take`] refuses it, with
+    /// [`EventFault::NoMemory`] only where a growth was refused and no other fault is due.
     pub fn take<'a>(
         &'a mut self,
         share: &mut Share,
         event: Event<T>,
     ) -> Result<&'a Told<T>, EventFault>
         requires { IsExactClone T.is_clone }
-        ensures refused { IsRefusedAs (due_fault (C.encoded self.old.world.codec) (C.decoded self.old.world.codec) (E.epoch_of self.old.world.epochs) (E.with_epoch self.old.world.epochs) self.old.world event) result }
+        ensures refused { fault_met result ≡ due_fault (C.encoded self.old.world.codec) (C.decoded self.old.world.codec) (E.epoch_of self.old.world.epochs) (E.with_epoch self.old.world.epochs) self.old.world event }
         ensures share { MatchResult result (λ _. share.new ≡ one_more share.old) (λ _. share.new ≡ share.old) }
         ensures* after { sem 𝓛 (ends_taken T.row C.row E.row T.Clone C.ObjectCodec E.EpochField self.entry share.old.worker event result) }
     {
@@ -210,7 +223,7 @@ impl<T: Clone, C: ObjectCodec<T> + Drop, E: EpochField<T>> Kept<T, C, E> {
         op: u64,
     ) -> Result<&'a Told<T>, EventFault>
         requires { IsExactClone T.is_clone }
-        ensures refused { IsRefusedAs (due_fault (C.encoded self.old.world.codec) (C.decoded self.old.world.codec) (E.epoch_of self.old.world.epochs) (E.with_epoch self.old.world.epochs) self.old.world (next_event self.old.world.state op)) result }
+        ensures refused { fault_met result ≡ due_fault (C.encoded self.old.world.codec) (C.decoded self.old.world.codec) (E.epoch_of self.old.world.epochs) (E.with_epoch self.old.world.epochs) self.old.world (next_event self.old.world.state op) }
         ensures share { MatchResult result (λ _. share.new ≡ one_more share.old) (λ _. share.new ≡ share.old) }
         ensures* after { sem 𝓛 (ends_taken T.row C.row E.row T.Clone C.ObjectCodec E.EpochField self.entry share.old.worker (next_event self.old.world.state op) result) }
     {

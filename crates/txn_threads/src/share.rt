@@ -21,9 +21,14 @@ impl Numbered for Share {
 impl<T: Clone, C: ObjectCodec<T> + Drop, E: EpochField<T>> Caller<T, Mutex<Kept<T, C, E>>>
     for Share {
     ghost use Rattle.txn_types.specs.Clones.{IsExactClone};
+    ghost use Rattle.std.specs.Prelude.{◌≡◌, IfOk};
     ghost use Rattle.txn_threads.specs.GoesOn.{Grows, grows_on};
+    ghost use Rattle.txn_threads.specs.Kept.{one_more};
 
     ghost goes = { Grows };
+
+    // Which event it was the journal says, which stands behind the lock.
+    ghost took = { λ old _ _ new. new ≡ one_more old };
 
     fn take<R: Wait>(
         &mut self,
@@ -32,7 +37,8 @@ impl<T: Clone, C: ObjectCodec<T> + Drop, E: EpochField<T>> Caller<T, Mutex<Kept<
         next: Next<T>,
     ) -> Result<Heard, EventFault>
         requires { IsExactClone T.is_clone }
-        ensures { Grows self.old 1 self.new }
+        ensures goes { Grows self.old 1 self.new }
+        ensures took { IfOk result (λ _. self.new ≡ one_more self.old) }
     {
         match next {
             Next::Begin(call) => {

@@ -1,7 +1,8 @@
 //! Workers on threads of their own, round one place.
 ghost use Rattle.std.specs.Prelude.{◌≡◌, ◌*◌, IfOk, length, vec_len};
 ghost use Rattle.txn_types.specs.Clones.{IsExactClone};
-ghost use Rattle.txn_threads.specs.Crew.{EachGoes};
+ghost use Rattle.txn_threads.specs.Crew.{EachGoes, EachDone};
+ghost use Rattle.txn_threads.specs.Done.{DoesJobs};
 
 use crate::caller::Caller;
 use crate::gate::Gate;
@@ -28,7 +29,9 @@ pub fn work<R: Wait, T: Clone, P, X: Caller<T, P>, G: Gate>(
     jobs: &[Job<T>],
 ) -> Worked<X>
     requires { IsExactClone T.is_clone }
-    ensures { X.goes caller (400 * length jobs.now) result.caller }
+    ensures goes { X.goes caller (400 * length jobs.now) result.caller }
+    // Where it says that each job was done, each was, in their order.
+    ensures done { result.end ≡ End.Done → DoesJobs X.took caller jobs.now result.caller }
 {
     let mut worker = Turns { caller, turns: 0 };
     let end = end_of(rt, place, &mut worker, gate, jobs);
@@ -57,13 +60,15 @@ pub fn work_all<
     requires { IsExactClone T.is_clone }
     ensures all { IfOk result (λ worked. vec_len worked ≡ vec_len workers) }
     ensures each { IfOk result (λ worked. EachGoes X.goes workers.items worked.items) }
+    ensures done { IfOk result (λ worked. EachDone X.took workers.items worked.items) }
 {
     thread::map_vec(
         rt,
         workers,
         &|worker: Worker<X, T, G>| -> Worked<X>
             requires { IsExactClone T.is_clone }
-            ensures { X.goes worker.caller (400 * vec_len worker.jobs) result.caller }
+            ensures goes { X.goes worker.caller (400 * vec_len worker.jobs) result.caller }
+            ensures done { result.end ≡ End.Done → DoesJobs X.took worker.caller worker.jobs.items result.caller }
         {
             let Worker {
                 caller,

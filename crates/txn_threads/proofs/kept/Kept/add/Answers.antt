@@ -1,4 +1,6 @@
 use Rattle.std.proofs.Common.{rules, refl}
+use Rattle.txn_machine.specs.Machine.{seen_of}
+use Rattle.txn_threads.proofs.Due.{lacks}
 use Rattle.txn_threads.proofs.Journal.{replays_push}
 use Rattle.txn_threads.proofs.kept.Kept.add.Goals as goal
 
@@ -18,3 +20,13 @@ returns-in_err-told-clause-refused g c = rw (← c.self.view_is) (search rules)
 
 pub returns-clause-refused : goal.returns-clause-refused
 returns-clause-refused g c = rw (← c.self.view_is) (search rules)
+
+pub returns-in_default-clause-refused : goal.returns-in_default-clause-refused
+returns-in_default-clause-refused g c =
+    let s = c.self.inside.world.state in
+    rw (← c.self.view_is) (lacks (Unit {0}) (g.C.ObjectCodec.decoded c.self.inside.world.codec) (g.E.EpochField.epoch_of c.self.inside.world.epochs) (seen_of s) s.trace c.args.event c.lack.result c.lack.ensures)
+
+pub returns-in_default-try_clone-clause-refused : goal.returns-in_default-try_clone-clause-refused
+returns-in_default-try_clone-clause-refused g c =
+    let s = c.self.inside.world.state in
+    rw (← c.self.view_is) (lacks (Unit {0}) (g.C.ObjectCodec.decoded c.self.inside.world.codec) (g.E.EpochField.epoch_of c.self.inside.world.epochs) (seen_of s) s.trace c.args.event c.lack-in_default-try_clone.result c.lack-in_default-try_clone.ensures)
