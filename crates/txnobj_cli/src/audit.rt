@@ -1,4 +1,7 @@
 //! The audit of recordings, from their files.
+ghost use Rattle.std.specs.Prelude.{◌≡◌, IfOk, length};
+ghost use Rattle.txn_audit.specs.HistoryEnds.{HistoriesEndAt};
+ghost use Rattle.txn_entries.specs.declared.entry.Entry.{Entry};
 
 use crate::ending::{Halt, NOT_ONE_HISTORY, bytes_in};
 use std::alloc::{AllocError, Global};
@@ -254,7 +257,11 @@ fn say_undecided(rt: &HostRuntime, rows: &[Vec<RecordedRow<Entry>>]) -> Result<(
 fn ended(
     alloc: Global,
     found: &OneHistory<Entry, EntryCodec, EntryEpoch>,
-) -> Result<Ended, AllocError> {
+) -> Result<Ended, AllocError>
+    ensures ends { IfOk result (λ ended. HistoriesEndAt Entry found.now.log ended.entries ended.boundary) }
+    ensures clients { IfOk result (λ ended. ended.clients ≡ length found.now.diaries.items) }
+    ensures calls { IfOk result (λ ended. ended.calls ≡ length found.now.log) }
+{
     let HistoryEnd { entries, boundary } = end_of_history::<Entry, _>(alloc, &found.log)?;
     Ok(Ended {
         entries,
