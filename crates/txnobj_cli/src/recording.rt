@@ -1,9 +1,8 @@
 //! A recording that grows by whole rows, each by one write, as things happen.
 
 use crate::ending::{Halt, at_file, bytes_in};
-use std::alloc::Global;
 use std::fs::{File, OpenFile, OpenOptions, TryLockError};
-use std::io::{Read, Seek, SeekFrom};
+use std::io::{Read, Seek, SeekFrom, Write};
 use std::rt::Clock;
 use std::{fs, io};
 use txn_client::recorder::Recorder;
@@ -20,11 +19,11 @@ use txn_store::request::{Reply, Request};
 /// The file in which a machine says which of its starts this is.
 const START: &str = "/proc/sys/kernel/random/boot_id";
 
-/// Where a client's recording goes: to the end of a file, or nowhere.
+/// Where a client's recording goes: to the end of a file or of another writer, or nowhere.
 #[derive(Drop)]
-pub struct Recording {
+pub struct Recording<W: Drop> {
     rt: HostRuntime,
-    file: Option<File>,
+    out: Option<W>,
 }
 
 /// Whether a file ends with a line feed, or is empty.
@@ -100,7 +99,7 @@ fn clock_name(rt: &HostRuntime, client: u64) -> Result<String, Halt> {
     }
 }
 
-impl Recording {
+impl Recording<File> {
     /// A recording of this client of an object, of which the first rows say it.
     pub fn new(
         rt: HostRuntime,
@@ -108,13 +107,13 @@ impl Recording {
         object: &str,
         client: u64,
         page: u64,
-    ) -> Result<Recording, Halt> {
-        let file = match path {
+    ) -> Result<Recording<File>, Halt> {
+        let out = match path {
             Some(path) => Some(opened(&rt, path)?),
             None => None,
         };
-        let mut recording = Recording { rt, file };
-        if !recording.is_idle() {
+        let mut recording = Recording { rt, out };
+        if recording.out.is_some() {
             recording.begin(object, client, page)?;
         }
         Ok(recording)
@@ -124,91 +123,76 @@ impl Recording {
     fn begin(&mut self, object: &str, client: u64, page: u64) -> Result<(), Halt> {
         let since = number_now(&self.rt)?;
         let source = Source {
-            object: String::from_str(self.alloc(), object)?,
+            object: String::from_str(self.rt.alloc(), object)?,
             clock: clock_name(&self.rt, client)?,
-            ahead: since.saturating_sub(self.now()?),
+            ahead: since.saturating_sub(now(&self.rt)?),
         };
-        let alloc = self.alloc();
-        let Some(file) = &mut self.file else {
+        let alloc = self.rt.alloc();
+        let Some(file) = &mut self.out else {
             return Ok(());
         };
         add_first_rows(alloc, file, &source, client, page)?;
         Ok(())
     }
-
-    /// Whether nothing is kept of what happens.
-    fn is_idle(&self) -> bool {
-        self.file.is_none()
-    }
-
-    fn alloc(&self) -> Global {
-        self.rt.alloc()
-    }
-
-    /// The nanoseconds of the machine's clock, which only rises.
-    fn now(&self) -> io::Result<u64> {
-        Ok(nanos_of(self.rt.monotonic()?))
-    }
 }
 
-// What stands in a file no clause can say: what it was handed is no fact here.
-impl Recorder<Entry> for Recording {
-    ghost hands = { λ _ _ _. Unit {0} };
+/// The nanoseconds of the machine's clock, which only rises.
+fn now(rt: &HostRuntime) -> io::Result<u64> {
+    Ok(nanos_of(rt.monotonic()?))
+}
+
+/// What it is handed is a row more of what its writer has, each with its line feed; nothing where it has none.
+impl<W: Write + Drop> Recorder<Entry> for Recording<W> {
+    ghost use Rattle.txn_entries.specs.Text.{entry_text};
+    ghost use Rattle.txnobj_cli.specs.Recorded.{Records};
+
+    ghost hands = { λ old note new. Records entry_text W.contents old.out note new.out };
 
     fn begun(&mut self, op: u64, call: &Call<Entry>) -> io::Result<()> {
-        let alloc = self.alloc();
-        let Some(file) = &mut self.file else {
-            return Ok(());
-        };
-        add_begun(alloc, file, op, call)
+        let alloc = self.rt.alloc();
+        match &mut self.out {
+            None => Ok(()),
+            Some(out) => add_begun(alloc, out, op, call),
+        }
     }
 
     fn asked(&mut self, op: u64, request: &Request) -> io::Result<()> {
-        if self.is_idle() {
-            return Ok(());
+        let alloc = self.rt.alloc();
+        match &mut self.out {
+            None => Ok(()),
+            Some(out) => add_asked(alloc, out, op, now(&self.rt)?, request),
         }
-        let (alloc, at) = (self.alloc(), self.now()?);
-        let Some(file) = &mut self.file else {
-            return Ok(());
-        };
-        add_asked(alloc, file, op, at, request)
     }
 
     fn replied(&mut self, op: u64, reply: &Reply) -> io::Result<()> {
-        if self.is_idle() {
-            return Ok(());
+        let alloc = self.rt.alloc();
+        match &mut self.out {
+            None => Ok(()),
+            Some(out) => add_replied(alloc, out, op, now(&self.rt)?, reply),
         }
-        let (alloc, at) = (self.alloc(), self.now()?);
-        let Some(file) = &mut self.file else {
-            return Ok(());
-        };
-        add_replied(alloc, file, op, at, reply)
     }
 
     fn failed(&mut self, op: u64) -> io::Result<()> {
-        if self.is_idle() {
-            return Ok(());
+        let alloc = self.rt.alloc();
+        match &mut self.out {
+            None => Ok(()),
+            Some(out) => add_failed(alloc, out, op, now(&self.rt)?),
         }
-        let (alloc, at) = (self.alloc(), self.now()?);
-        let Some(file) = &mut self.file else {
-            return Ok(());
-        };
-        add_failed(alloc, file, op, at)
     }
 
     fn gave_up(&mut self, op: u64) -> io::Result<()> {
-        let alloc = self.alloc();
-        let Some(file) = &mut self.file else {
-            return Ok(());
-        };
-        add_gave_up(alloc, file, op)
+        let alloc = self.rt.alloc();
+        match &mut self.out {
+            None => Ok(()),
+            Some(out) => add_gave_up(alloc, out, op),
+        }
     }
 
     fn answered(&mut self, op: u64, answer: &Answer<Entry>) -> io::Result<()> {
-        let alloc = self.alloc();
-        let Some(file) = &mut self.file else {
-            return Ok(());
-        };
-        add_answered(alloc, file, op, answer)
+        let alloc = self.rt.alloc();
+        match &mut self.out {
+            None => Ok(()),
+            Some(out) => add_answered(alloc, out, op, answer),
+        }
     }
 }

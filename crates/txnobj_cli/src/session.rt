@@ -8,6 +8,7 @@ use crate::recording::Recording;
 use bytes::Bytes;
 use std::alloc::{AllocError, Global};
 use std::fmt;
+use std::fs::File;
 use std::ops::Bound;
 use txn_client::client::Client;
 use txn_client::retry::{Applied, Viewed};
@@ -76,7 +77,7 @@ impl fmt::Display for Version {
 #[derive(Drop)]
 pub struct Session {
     alloc: Global,
-    client: Client<Entry, EntryCodec, EntryEpoch, Shared, Recording>,
+    client: Client<Entry, EntryCodec, EntryEpoch, Shared, Recording<File>>,
 }
 
 /// The folder that the options name.
@@ -127,7 +128,11 @@ fn client_of(rt: &HostRuntime, options: &Options<'_>) -> Result<u64, Halt>
 }
 
 /// The recording of a client. It says its object the same on each machine, wherever the folder is mounted.
-fn recording_of(rt: &HostRuntime, options: &Options<'_>, client: u64) -> Result<Recording, Halt> {
+fn recording_of(
+    rt: &HostRuntime,
+    options: &Options<'_>,
+    client: u64,
+) -> Result<Recording<File>, Halt> {
     let name = options.name.unwrap_or("");
     let suffix = options.suffix;
     let object = format!(in rt.alloc(); "{name}.{suffix}")?;
