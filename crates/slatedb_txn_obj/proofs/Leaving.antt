@@ -1,5 +1,5 @@
 -- What calls leave of the files, one after another.
-use Rattle.std.proofs.Common.{◌≡◌, ℕ, ◌+◌, List, Contains, Option, Result, Ok, Err, refl, sym, ap, subst, ◌∙◌, inl, inr}
+use Rattle.std.proofs.Common.{◌≡◌, ℕ, ◌+◌, List, Contains, Option, Some, None, Result, Ok, Err, refl, sym, ap, subst, ◌∙◌, inl, inr}
 use Rattle.std.specs.FinMap as map
 use Rattle.txn_store.specs.Paths.{Segments}
 use Rattle.txn_store.specs.VersionName.{Names, version_path}
@@ -11,7 +11,7 @@ use Rattle.txn_types.specs.declared.error.TransactionalObjectError.TheVariants a
 use Rattle.txn_caches.specs.declared.caches.Cached.{Cached}
 use Rattle.txn_drivers.specs.WriteRuns.{WriteLeaves, Written}
 use Rattle.txn_drivers.specs.RemovalRuns.{DeleteLeaves, Deleted}
-use Rattle.slatedb_txn_obj.specs.Leaves.{KeepsTokens, SameFiles, MayCreate, MayRemove, LeavesOthers, SameOwn, AreApart}
+use Rattle.slatedb_txn_obj.specs.Leaves.{KeepsTokens, SameFiles, KeepsFiles, MayCreate, MayRemove, LeavesOthers, SameOwn, AreApart}
 use Rattle.slatedb_txn_obj.specs.Protocol.{base_number}
 use Rattle.slatedb_txn_obj.proofs.Wholes.{base_is}
 
@@ -33,6 +33,17 @@ module _ {path : Segments} {a b c : State} where
   pub same-remove : SameFiles a b → MayRemove path b c → MayRemove path a c
   same-remove first (inl same) = inl (same-trans first same)
   same-remove first (inr removed) = inr (record { files = removed.files ∙ ap (λ (files : Files). map.remove files path) first.files; given = λ token there. removed.given token (first.given token there) })
+
+-- each file that stood stands, also after a call that changes none, or creates one
+pub keeps-same : (a b c : State) → KeepsFiles a b → SameFiles b c → KeepsFiles a c
+keeps-same a b c keeps same = record { stays = λ path got there. ap (λ (files : Files). map.get files path) same.files ∙ keeps.stays path got there }
+
+pub keeps-create : (a b c : State) (path : Segments) → KeepsFiles a b → MayCreate path b c → KeepsFiles a c
+keeps-create a b c path keeps (inl same) = keeps-same a b c keeps same
+keeps-create a b c path keeps (inr created) = record { stays = λ at got there. ap (λ (files : Files). map.get files at) created.files ∙ (get-insert_other b.files path at created.file (apart at got there) ∙ keeps.stays at got there) }
+  where
+    apart : (at : Segments) (got : _) → map.get a.files at ≡ Some got → at ≡ path → ⊥
+    apart at got there is = (let clash : None ≡ Some got = sym created.free ∙ (ap (map.get b.files) (sym is) ∙ keeps.stays at got there) in cc)
 
 -- only files of one's own change
 module _ {own : Segments → Type 0} where

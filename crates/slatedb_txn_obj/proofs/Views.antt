@@ -10,6 +10,9 @@ use Rattle.slatedb_txn_obj.specs.Views.{IsVersion, Tested}
 pub version-of_latest : {T : Type 0} {h : List T} {id : ℕ} {value : T} → IsLatest h id value → IsVersion h id value
 version-of_latest latest = record { positive = omega (arith, latest.some, latest.id_is); within = omega (arith, latest.id_is); entry = latest.entry }
 
+pub latest-of_version : {T : Type 0} {h : List T} {id : ℕ} {value : T} → IsVersion h id value → id ≡ length h → IsLatest h id value
+latest-of_version version newest = record { some = omega (arith, version.positive, version.within); id_is = newest; entry = version.entry }
+
 -- a history with a version is not empty
 pub none-empty : {T : Type 0} (h : List T) {number : ℕ} {value : T} → h ≡ [] → IsVersion h number value → ⊥
 none-empty h empty version = let none = ap length empty in absurd (omega (arith, none, version.positive, version.within))

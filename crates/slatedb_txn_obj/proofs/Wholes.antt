@@ -93,10 +93,10 @@ module _ {T : Type 0} (names : Names) (decode : List ℕ → Option T) (bounds b
       stands = λ h b whole le. now (Err kinds.ObjectVersionExists) written h h b whole (small (Err kinds.ObjectVersionExists) written (Err kinds.ObjectVersionExists) refl (λ e. cc) h b whole le) (left (Err kinds.ObjectVersionExists) written h b whole le);
     })
 
-  -- an error leaves the history or the value was appended
-  may : (h : List T) (b : ℕ) (error : TransactionalObjectError) → WriteStands names decode h b value (number_of base) new.files latest' (Err error) → VersionsStand names decode new.files latest' h b ⊎ VersionsStand names decode new.files latest' (h ++ value ∷ []) b
+  -- an error leaves the history, or the value was appended on the newest
+  may : (h : List T) (b : ℕ) (error : TransactionalObjectError) → WriteStands names decode h b value (number_of base) new.files latest' (Err error) → VersionsStand names decode new.files latest' h b ⊎ ((number_of base ≡ length h) × VersionsStand names decode new.files latest' (h ++ value ∷ []) b)
   may h b (kinds.ObjectStoreError errors.Failed) (inl stays) = inl stays
-  may h b (kinds.ObjectStoreError errors.Failed) (inr grown) = inr grown.1
+  may h b (kinds.ObjectStoreError errors.Failed) (inr grown) = inr grown
   may h b error stays = inl stays
 
   module _ (error : TransactionalObjectError) (written : Written names decode base bytes value old new latest latest' (Err error)) where
@@ -120,7 +120,7 @@ module _ {T : Type 0} (names : Names) (decode : List ℕ → Option T) (bounds b
     pub whole-may_append : MayAppend before after (base_number (λ n. n) base) value
     whole-may_append = rw (base_is base) (λ h b whole le. elim (may h b error (left (Err error) written h b whole le)) [
       | inl stays ↦ inl (whole-after h h b whole le stays)
-      | inr grown ↦ inr (whole-after h (h ++ value ∷ []) b whole le grown)
+      | inr grown ↦ inr (grown.0, whole-after h (h ++ value ∷ []) b whole le grown.1)
     ])
 
   -- the same of every answer of a write

@@ -8,7 +8,7 @@ use Rattle.txn_store.specs.Paths.{Segments}
 use Rattle.txn_store.specs.Store.{State}
 use Rattle.txn_drivers.specs.Calls.{HasCause, SpendsTurns}
 use Rattle.txn_drivers.specs.LatestReads.{IsLatest}
-use Rattle.slatedb_txn_obj.specs.Leaves.{LeavesOthers}
+use Rattle.slatedb_txn_obj.specs.Leaves.{KeepsFiles, LeavesOthers}
 use Rattle.slatedb_txn_obj.specs.Views.{IsVersion, IsTestFailure}
 use Rattle.slatedb_txn_obj.specs.declared.fenceable.FenceableTransactionalObject.{FenceableTransactionalObject}
 use Rattle.slatedb_txn_obj.specs.declared.simple.SimpleTransactionalObject.{SimpleTransactionalObject}
@@ -76,9 +76,9 @@ IsUnwritten error = ⊥
 
 -- `epoch_of` and `with_epoch` read and set the epoch of a value.
 module _ {T : Type 0} (epoch_of : T → ℕ) (with_epoch : T → ℕ → T) where
-  -- nothing moved, or the value was written with its next epoch
+  -- nothing moved, or the value was the newest, and was written with its next epoch
   abbrev pub MayClaim : (before after : List T → ℕ → Type 0) → ℕ → T → Option ℕ → Type 0
-  MayClaim before after number value asked = (h : List T) (b : ℕ) → before h b → number ≤ length h → after h b ⊎ ((epoch : ℕ) × NextEpoch asked (epoch_of value) epoch × after (h ++ with_epoch value epoch ∷ []) b)
+  MayClaim before after number value asked = (h : List T) (b : ℕ) → before h b → number ≤ length h → after h b ⊎ ((number ≡ length h) × (epoch : ℕ) × NextEpoch asked (epoch_of value) epoch × after (h ++ with_epoch value epoch ∷ []) b)
 
   -- What a claim over a history leaves: the newest value, with the holder's epoch set, stands straight on it, and the holder is at it. `allows` says which value may follow which.
   pub record Claimed (allows : T → T → Type 0) (h : List T) (b : ℕ) (after : List T → ℕ → Type 0) (asked : Option ℕ) (number : ℕ) (held : T) (epoch : ℕ) : Type 0 where
@@ -91,9 +91,9 @@ module _ {T : Type 0} (epoch_of : T → ℕ) (with_epoch : T → ℕ → T) wher
     pub stands : after (h ++ held ∷ []) b
     pub at : IsLatest (h ++ held ∷ []) number held
 
-  -- what stands where a claim failed: nothing moved, or a version's value was written with its next epoch
+  -- what stands where a claim failed: nothing moved, or the newest value was written with its next epoch
   abbrev pub NotClaimed : (h : List T) (b : ℕ) (after : List T → ℕ → Type 0) (asked : Option ℕ) → Type 0
-  NotClaimed h b after asked = after h b ⊎ ((number : ℕ) × (value : T) × (epoch : ℕ) × IsVersion h number value × NextEpoch asked (epoch_of value) epoch × after (h ++ with_epoch value epoch ∷ []) b)
+  NotClaimed h b after asked = after h b ⊎ ((number : ℕ) × (value : T) × (epoch : ℕ) × IsLatest h number value × NextEpoch asked (epoch_of value) epoch × after (h ++ with_epoch value epoch ∷ []) b)
 
 -- A claim on a view: `number_of` is the number of an id, and `before` and `after` say for which histories and boundaries the protocol and the store stand, before it and after it. `own` says which files are the protocol's, and `place` and `place'` where they lie, before it and after it.
 module _ {T I X Place : Type 0} (epoch_of : X → T → ℕ) (with_epoch : X → T → ℕ → T) (holds : I → T → T → Type 0) (fails : I → T → T → CallbackFault → Type 0) (number_of : ℕ → ℕ) (epochs : X) (view : SimpleTransactionalObject T ℕ I) (before after : List T → ℕ → Type 0) (own : Segments → Type 0) (place place' : Place) where
@@ -125,7 +125,7 @@ module _ {T I X Place : Type 0} (epoch_of : X → T → ℕ) (with_epoch : X →
     pub holder : IfOk result (λ holder. (holder.epochs ≡ epochs) × (holder.delegate.invariants ≡ view.invariants) × (epoch_of epochs holder.delegate.object ≡ holder.local_epoch) × ((epoch : ℕ) → asked ≡ Some epoch → holder.local_epoch ≡ epoch))
     -- the clock was read as often as it has to be, each time before the end
     pub timely : IfOk result (λ _. (start : ℕ) × (later : List ℕ) × ReadsInTime start timeout later readings readings' × WhereItStood (λ h b. IsReadFor (number_of view.id) (length h) (length later)))
-    -- nothing moved, or a version's value was written with its next epoch
+    -- nothing moved, or the newest value was written with its next epoch
     pub failed : IfErr result (λ _. WhereItStood (λ h b. NotClaimed (epoch_of epochs) (with_epoch epochs) h b after asked))
     pub spends : SpendsTurns 7 0 (turns - left) turns left old new
     -- two attempts are enough
@@ -146,3 +146,5 @@ module _ {T I X Place : Type 0} (epoch_of : X → T → ℕ) (with_epoch : X →
     -- the files lie where they lay, and no other was changed
     pub placed : place' ≡ place
     pub others : LeavesOthers own old new
+    -- each file that stood stands as it was: a claim removes none and writes over none
+    pub kept : KeepsFiles old new

@@ -1,5 +1,5 @@
 -- What calls leave of the files of a store, and of the tokens that it gave.
-use Rattle.std.specs.Prelude.{◌≡◌, ◌⊎◌, ℕ, None, Contains}
+use Rattle.std.specs.Prelude.{◌≡◌, ◌⊎◌, ℕ, Some, None, Contains}
 use Rattle.std.specs.FinMap as map
 use Rattle.txn_store.specs.Paths.{Segments}
 use Rattle.txn_store.specs.Store.{State}
@@ -13,6 +13,10 @@ KeepsTokens old new = (token : ℕ) → Contains old.given token → Contains ne
 pub record SameFiles (old new : State) : Type 0 where
   pub files : new.files ≡ old.files
   pub given : KeepsTokens old new
+
+-- each file that stood stands as it was
+pub record KeepsFiles (old new : State) : Type 0 where
+  pub stays : (path : Segments) (got : Got) → map.get old.files path ≡ Some got → map.get new.files path ≡ Some got
 
 -- one file was created, under a path where none stood
 pub record CreatesFile (path : Segments) (old new : State) : Type 0 where

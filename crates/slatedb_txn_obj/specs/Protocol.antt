@@ -53,9 +53,9 @@ module _ {T : Type 0} where
     pub newer : (h : List T) (b : ℕ) → before h b → base ≤ length h → base < length h
     pub stands : (h : List T) (b : ℕ) → before h b → base ≤ length h → after h b
 
-  -- the value was appended, or nothing moved
+  -- the value was appended on its base, which was the newest, or nothing moved
   abbrev pub MayAppend : (before after : List T → ℕ → Type 0) → ℕ → T → Type 0
-  MayAppend before after base value = (h : List T) (b : ℕ) → before h b → base ≤ length h → after h b ⊎ after (h ++ value ∷ []) b
+  MayAppend before after base value = (h : List T) (b : ℕ) → before h b → base ≤ length h → after h b ⊎ ((base ≡ length h) × after (h ++ value ∷ []) b)
 
   -- the value is the newest entry, or the number above the base is fenced and nothing moved
   abbrev pub EntryStands : (before after : List T → ℕ → Type 0) → ℕ → T → ℕ → Type 0

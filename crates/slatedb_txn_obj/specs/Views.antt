@@ -92,8 +92,8 @@ module _ {T Id View : Type 0} (answers : View → Result (Option (DirtyObject T 
     Shut : IsLatest h (at now) (value now) → IsShutting error → shut now error → after h b → NotApplied shut h b after now error
     -- it refused that version
     Refused : (fault : CallbackFault) → IsVersion h (at now) (value now) → answers now (Err fault) → error ≡ error_of_callback fault → after h b → NotApplied shut h b after now error
-    -- its candidate for that version was not written, or it was, and an error of the store or want of memory followed
-    Failed : (dirty : DirtyObject T Id) → IsVersion h (at now) (value now) → answers now (Ok (Some dirty)) → after h b ⊎ (MayBeWritten error × after (h ++ dirty.value ∷ []) b) → NotApplied shut h b after now error
+    -- its candidate for that version was not written, or that was the newest, the candidate was written, and an error of the store or want of memory followed
+    Failed : (dirty : DirtyObject T Id) → IsVersion h (at now) (value now) → answers now (Ok (Some dirty)) → after h b ⊎ (MayBeWritten error × ((at now ≡ length h) × after (h ++ dirty.value ∷ []) b)) → NotApplied shut h b after now error
 
   -- each candidate that it answers has the id of what it was made of
   abbrev pub KeepsIds : (id : View → Id) (eq : Id → Id → Bool) → Type 0

@@ -38,7 +38,7 @@ returns-in_err-update-clause-err g c =
     rw p.1 (λ h b stands within.
     elim (c.in_err-update.ensures.err h b stands within) [
       | inl after ↦ inl after
-      | inr written ↦ inr (c.in_ok-epoch.epoch, next, subst (λ v. g.P.TransactionalStorageProtocol.stands c.update.new.protocol c.update.new.store (h ++ v ∷ []) b) set written)
+      | inr written ↦ inr (written.0, c.in_ok-epoch.epoch, next, subst (λ v. g.P.TransactionalStorageProtocol.stands c.update.new.protocol c.update.new.store (h ++ v ∷ []) b) set written.1)
     ])
 
 pub returns-in_err-epoch-clause-cause : goal.returns-in_err-epoch-clause-cause

@@ -10,10 +10,10 @@ use Rattle.slatedb_txn_obj.specs.Claims.{ReadsOne, ReadsInTime, ReadsLate, HasCa
 use Rattle.slatedb_txn_obj.specs.Protocol.{UnheldAt}
 use Rattle.slatedb_txn_obj.specs.Views.{IsVersion, IsTestFailure, HasCauseOfRefresh}
 use Rattle.slatedb_txn_obj.proofs.AttemptCauses.{claim-refresh, refresh-not_blocking, refresh-not_late, blocking-unwritten, late-unwritten}
-use Rattle.slatedb_txn_obj.proofs.Leaving.{others-trans, others-same, others-placed}
+use Rattle.slatedb_txn_obj.proofs.Leaving.{keeps-same, keeps-create, others-trans, others-same, others-placed}
 use Rattle.slatedb_txn_obj.proofs.Attempts.{paged-after, pages-most, spends-update, spends-refresh, attempt-within_two, one-within_two, conflict-spent, conflict-next, conflict-left, idle-spent, late-spent, late-idle, reads-for, latest-not_overtaken}
 use Rattle.slatedb_txn_obj.proofs.Claiming.{next-asked, reads-more, reads-late, claim-cause, not_exhausted, attempt-other, refresh-exhausted, has_begun, ok_begun, not_begun, not_passed}
-use Rattle.slatedb_txn_obj.proofs.Views.{version-of_latest, none-empty}
+use Rattle.slatedb_txn_obj.proofs.Views.{version-of_latest, latest-of_version, none-empty}
 use Rattle.slatedb_txn_obj.proofs.fenceable.claim.Goals as goal
 
 pub loop-asked-preserved : goal.loop-asked-preserved
@@ -38,6 +38,7 @@ loop-asked-preserved g c =
           shown.2 h b (overtaken.stands h b here.0 here.1.within));
       placed = refresh.placed ∙ conflict.placed ∙ inv.placed;
       others = others-trans (others-placed (λ at. g.P.TransactionalStorageProtocol.owns at) (λ at n. g.P.TransactionalStorageProtocol.version_file at n) (λ at n. g.met.P.TransactionalStorageProtocol.owns_version at n) (g.P.TransactionalStorageProtocol.number c.loop-asked.view.id + 1) inv.placed inv.others conflict.creates) (others-same refresh.files);
+      kept = keeps-same _ _ _ (keeps-create _ _ _ _ inv.kept conflict.creates) refresh.files;
       first = inr (has_begun (λ v. g.X.EpochField.epoch_of c.args.epochs v.object) (λ v e. All (λ i. g.I.Invariant.holds i (g.X.EpochField.with_epoch c.args.epochs v.object e) v.object) v.invariants.items) c.args.asked _ _ _ _ _ _ _ inv.first conflict.blocked conflict.barred (c.is_sequenced_write_conflict.ensures.kind.0 c.if-is_sequenced_write_conflict.true));
       paged = λ h b stands version.
           let here = inv.unmoved h b stands version in
@@ -85,6 +86,7 @@ returns-in_err-check-in-Err g c =
           pages-most _ _ _ _ (conflict.paged h b here.0 here.1.within) (inv.paged h b stands version);
       placed = conflict.placed ∙ inv.placed;
       others = others-placed (λ at. g.P.TransactionalStorageProtocol.owns at) (λ at n. g.P.TransactionalStorageProtocol.version_file at n) (λ at n. g.met.P.TransactionalStorageProtocol.owns_version at n) (g.P.TransactionalStorageProtocol.number c.loop-asked.view.id + 1) inv.placed inv.others conflict.creates;
+      kept = keeps-create _ _ _ _ inv.kept conflict.creates;
     }
 
 pub returns-in_err-refresh-in-Err : goal.returns-in_err-refresh-in-Err
@@ -144,6 +146,7 @@ returns-in_err-refresh-in-Err g c =
           rw read (pages-most _ _ _ _ (conflict.paged h b here.0 here.1.within) (inv.paged h b stands version));
       placed = refresh.placed ∙ conflict.placed ∙ inv.placed;
       others = others-trans (others-placed (λ at. g.P.TransactionalStorageProtocol.owns at) (λ at n. g.P.TransactionalStorageProtocol.version_file at n) (λ at n. g.met.P.TransactionalStorageProtocol.owns_version at n) (g.P.TransactionalStorageProtocol.number c.loop-asked.view.id + 1) inv.placed inv.others conflict.creates) (others-same refresh.files);
+      kept = keeps-same _ _ _ (keeps-create _ _ _ _ inv.kept conflict.creates) refresh.files;
     }
 
 pub returns-in-Err-2 : goal.returns-in-Err-2
@@ -158,7 +161,7 @@ returns-in-Err-2 g c =
           let here = inv.unmoved h b stands version in
           elim (attempt.err h b here.0 here.1.within) [
             | inl after ↦ inl after
-            | inr written ↦ inr (g.P.TransactionalStorageProtocol.number c.loop-asked.view.id, c.loop-asked.view.object, written.0, here.1, written.1, written.2)
+            | inr written ↦ inr (g.P.TransactionalStorageProtocol.number c.loop-asked.view.id, c.loop-asked.view.object, written.1, latest-of_version here.1 written.0, written.2, written.3)
           ];
       spends = spends-update _ _ _ _ _ _ c.loop-asked-test.ensures.spent inv.spends attempt.spends;
       few = λ h b stands version. attempt-within_two _ _ _ _ _ _ _ _ _ _ _ _ _ (inv.timed.2 h b stands version) c.loop-asked-test.ensures.spent attempt.spends.left_least;
@@ -208,6 +211,7 @@ returns-in-Err-2 g c =
           pages-most _ _ _ _ (attempt.paged h b here.0 here.1.within) (inv.paged h b stands version);
       placed = attempt.placed ∙ inv.placed;
       others = others-placed (λ at. g.P.TransactionalStorageProtocol.owns at) (λ at n. g.P.TransactionalStorageProtocol.version_file at n) (λ at n. g.met.P.TransactionalStorageProtocol.owns_version at n) (g.P.TransactionalStorageProtocol.number c.loop-asked.view.id + 1) inv.placed inv.others attempt.creates;
+      kept = keeps-create _ _ _ _ inv.kept attempt.creates;
     }
 
 pub returns-in-Ok : goal.returns-in-Ok
@@ -256,4 +260,5 @@ returns-in-Ok g c = record {
       pages-most _ _ _ _ (c.in-Ok.ensures.paged h b here.0 here.1.within) (inv.paged h b stands version);
   placed = c.in-Ok.ensures.placed ∙ c.loop-asked.invariant.placed;
   others = let inv = c.loop-asked.invariant in others-placed (λ at. g.P.TransactionalStorageProtocol.owns at) (λ at n. g.P.TransactionalStorageProtocol.version_file at n) (λ at n. g.met.P.TransactionalStorageProtocol.owns_version at n) (g.P.TransactionalStorageProtocol.number c.loop-asked.view.id + 1) inv.placed inv.others c.in-Ok.ensures.creates;
+  kept = keeps-create _ _ _ _ c.loop-asked.invariant.kept c.in-Ok.ensures.creates;
 }

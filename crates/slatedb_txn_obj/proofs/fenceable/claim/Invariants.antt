@@ -5,7 +5,7 @@ use Rattle.txn_types.specs.declared.error.TransactionalObjectError.{Transactiona
 use Rattle.txn_drivers.specs.Calls.{SpendsTurns}
 use Rattle.txn_drivers.specs.LatestReads.{IsLatest}
 use Rattle.slatedb_txn_obj.specs.Claims.{ReadsInTime}
-use Rattle.slatedb_txn_obj.specs.Leaves.{LeavesOthers}
+use Rattle.slatedb_txn_obj.specs.Leaves.{KeepsFiles, LeavesOthers}
 use Rattle.slatedb_txn_obj.specs.Views.{IsVersion}
 use Rattle.slatedb_txn_obj.proofs.fenceable.claim.Given as goal
 
@@ -22,6 +22,7 @@ invariant-loop-asked g l =
           ⊎ ((h : List _) (b : ℕ) → protocol.stands l.fn.protocol l.fn.store h b → IsVersion h (protocol.number l.fn.view.id) l.fn.view.object → IsLatest h (protocol.number l.view.id) l.view.object);
       placed : protocol.place l.protocol ≡ protocol.place l.fn.protocol;
       others : LeavesOthers (protocol.owns (protocol.place l.fn.protocol)) (state l.fn.store) (state l.store);
+      kept : KeepsFiles (state l.fn.store) (state l.store);
       first : ((l.view ≡ l.fn.view) × (state l.store ≡ state l.fn.store) × (l.turns ≡ l.fn.turns))
           ⊎ (((e : TransactionalObjectError) → HasNoEpoch l.asked (g.X.EpochField.epoch_of l.epochs l.fn.view.object) e → ⊥)
           × ((e : ℕ) → NextEpoch l.asked (g.X.EpochField.epoch_of l.epochs l.fn.view.object) e → (All (λ i. g.I.Invariant.holds i (g.X.EpochField.with_epoch l.epochs l.fn.view.object e) l.fn.view.object) l.fn.view.invariants.items → ⊥) → ⊥));

@@ -161,7 +161,7 @@ returns-in-Err-2 g c =
           (λ none. none h b here.0 here.1.within)
           (λ is. (update.exhausted is).1 h b here.0)
           (λ refusal refuses. let same = update.refused refusal refuses in rw same.0 (rw same.1 here.0))
-          (update.err h b here.0 here.1.within));
+          (elim (update.err h b here.0 here.1.within) [ inl stays ↦ inl stays | inr grown ↦ inr (ap (λ v. protocol.number (object.at v)) update.left ∙ grown.0, grown.1) ]));
       first = λ some.
           let candidate = candidate-first (λ v r. FnReturnsAt g.F.Fn c.args.mutator.now v r) _ _ _ _ _ c.in-Ok-Some.dirty inv.first answered in
           (Ok (Some candidate.0), candidate.1, tt);
