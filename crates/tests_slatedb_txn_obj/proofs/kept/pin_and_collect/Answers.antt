@@ -1,4 +1,4 @@
-use Rattle.std.proofs.Common.{◌≡◌, ◌∙◌, ◌+◌, ◌-◌, ◌<◌, ◌^◌, ℕ, [], ◌∷◌, ◌++◌, length, slice_get, Some, None, refl, ap, sym, subst, arith, length-append}
+use Rattle.std.proofs.Common.{List, inl, inr, ◌≡◌, ◌∙◌, ◌+◌, ◌-◌, ◌<◌, ◌^◌, ℕ, [], ◌∷◌, ◌++◌, length, slice_get, Some, None, refl, ap, sym, subst, arith, length-append}
 use Rattle.std.proofs.lemmas.Option.{same_Some}
 use Rattle.std.specs.FinMap as map
 use Rattle.txn_store.specs.VersionName.{Names, version_path}
@@ -8,6 +8,12 @@ use Rattle.txn_manifest.specs.Pins.{pins_with}
 use Rattle.txn_manifest.specs.Collected.{LeavesNeeded}
 use Rattle.tests_slatedb_txn_obj.specs.Kept.{IsStored}
 use Rattle.tests_slatedb_txn_obj.proofs.Keeping.{created_others, leaves_pinned}
+use Rattle.txn_history.specs.Trace.{Row}
+use Rattle.txn_manifest.specs.declared.manifest.Manifest.{Manifest}
+use Rattle.txn_manifest.specs.Text.{manifest_read}
+use Rattle.txn_manifest.specs.Tells.{TellsStore, TellsHolder, TellsBoth}
+use Rattle.tests_slatedb_txn_obj.proofs.Telling.{told_then, entered_told, refused_told, collected_told}
+use Rattle.tests_slatedb_txn_obj.proofs.kept.pin_and_collect.Goals.{After-set_payload, After-collect}
 use Rattle.tests_slatedb_txn_obj.proofs.kept.pin_and_collect.Goals as goal
 
 pub returns-clause-left : goal.returns-clause-left
@@ -61,3 +67,53 @@ returns-clause-left g c = λ h b stands version. (
     (before.0, before.1, before.2 ∙ top.entry)
     (subst (λ (nm : Names). IsStored nm three.files newest (with_payload pinned c.args.payload)) names_three (after.0, after.1, after.2 ∙ (done.0.entry ∙ ap Some made_is)))
     )
+
+pub returns-in_err-kept-clause-told : goal.returns-in_err-kept-clause-told
+returns-in_err-kept-clause-told g c = λ number rows told w. (
+    let call = c.checkpoint.ensures in
+    let left = c.in_err-kept.ensures.left in
+    refused_told _ _ _ _ number _ _ _ _ _ _ call.epoch (ap (λ at. at.layout) call.placed) rows told w _ (inl refl) (ap (λ h. h.delegate.id) left) (ap (λ h. h.delegate.object) left) c.in_err-kept.ensures.err call.writes.creates
+    (λ other. (let shut = call.shut other in (shut.2, ap (λ s. g.S.ObjectStore.state s) shut.3)))
+    )
+
+-- the first call is done
+pinned_told : (g : _) (c : After-set_payload g) (number : ℕ) (rows : List (Row Manifest)) → TellsStore c.args.protocol.now (g.S.ObjectStore.state c.args.store.now) rows → TellsHolder manifest_read rows number c.args.manifests.now.holder.delegate.id c.args.manifests.now.holder.local_epoch c.args.manifests.now.holder.delegate.object
+    → TellsBoth c.checkpoint.new.protocol (g.S.ObjectStore.state c.checkpoint.new.store) rows number c.checkpoint.new.self.holder.delegate.id c.checkpoint.new.self.holder.local_epoch c.checkpoint.new.self.holder.delegate.object
+pinned_told g c number rows told w =
+    let call = c.checkpoint.ensures in
+    entered_told _ _ _ _ number _ _ _ _ _ _ call.epoch (ap (λ at. at.layout) call.placed) rows told w _ (inl refl) c.in_ok-kept.ensures.entered call.writes.creates
+    (λ other. (let clash = rw c.in_ok-kept.was at (call.shut other).1 in cc))
+
+pub returns-in_err-set_payload-clause-told : goal.returns-in_err-set_payload-clause-told
+returns-in_err-set_payload-clause-told g c = λ number rows told w. (
+    let call = c.set_payload.ensures in
+    let left = c.in_err-set_payload.ensures.left in
+    told_then _ _ _ _ rows number _ _ _ _ _ _ (pinned_told g (goal.at.returns-in_err-set_payload-clause-told g c).After-set_payload number rows told w)
+    (λ after told' w'. (
+    refused_told _ _ _ _ number _ _ _ _ _ _ call.epoch (ap (λ at. at.layout) call.placed) after told' w' _ (inr (inr (c.args.payload, refl))) (ap (λ h. h.delegate.id) left) (ap (λ h. h.delegate.object) left) c.in_err-set_payload.ensures.err call.writes.creates
+    (λ other. (let shut = call.shut other in (shut.2, ap (λ s. g.S.ObjectStore.state s) shut.3)))
+    ))
+    )
+
+-- and the second, and a collection
+collected : (g : _) (c : After-collect g) (number : ℕ) (rows : List (Row Manifest)) → TellsBoth c.checkpoint.new.protocol (g.S.ObjectStore.state c.checkpoint.new.store) rows number c.checkpoint.new.self.holder.delegate.id c.checkpoint.new.self.holder.local_epoch c.checkpoint.new.self.holder.delegate.object
+    → TellsBoth c.collect.new.protocol (g.S.ObjectStore.state c.collect.new.store) rows number c.collect.new.self.holder.delegate.id c.collect.new.self.holder.local_epoch c.collect.new.self.holder.delegate.object
+collected g c number rows first =
+    let paid = c.set_payload.ensures in
+    let call = c.collect.ensures in
+    told_then _ _ _ _ rows number _ _ _ _ _ _
+    (told_then _ _ _ _ rows number _ _ _ _ _ _ first
+    (λ after told' w'. entered_told _ _ _ _ number _ _ _ _ _ _ paid.epoch (ap (λ at. at.layout) paid.placed) after told' w' _ (inr (inr (c.args.payload, refl))) c.in_ok-set_payload.ensures.entered paid.writes.creates (λ other. (let clash = rw c.in_ok-set_payload.was at (paid.shut other).1 in cc))))
+    (λ after told' w'. collected_told _ _ _ _ number _ _ _ _ _ _ (ap (λ h. h.local_epoch) call.moved) call.layout after told' w' (record {
+      met = elim call.met [ inl same ↦ inl (ap (λ h. h.delegate.id) same, ap (λ h. h.delegate.object) same) | inr shows ↦ inr shows ];
+      kept = λ h b stands le. call.kept h b stands;
+      placed = call.layout;
+      needed = call.needed;
+      removed = call.removed;
+    }))
+
+pub returns-in_err-collect-clause-told : goal.returns-in_err-collect-clause-told
+returns-in_err-collect-clause-told g c = λ number rows told w. collected g (goal.at.returns-in_err-collect-clause-told g c).After-collect number rows (pinned_told g (goal.at.returns-in_err-collect-clause-told g c).After-set_payload number rows told w)
+
+pub returns-clause-told : goal.returns-clause-told
+returns-clause-told g c = λ number rows told w. collected g (goal.at.returns-clause-told g c).After-collect number rows (pinned_told g (goal.at.returns-clause-told g c).After-set_payload number rows told w)
