@@ -35,13 +35,13 @@ use Rattle.txn_machine_views.proofs.Frames.{count_more, unseen_more, entry_kept}
 use Rattle.slatedb_txn_obj.specs.Leaves.{KeepsFiles}
 use Rattle.slatedb_txn_obj.specs.Protocol.{Appended}
 use Rattle.slatedb_txn_obj.specs.Protocol as layer
-use Rattle.slatedb_txn_obj.specs.Views.{IsVersion}
+use Rattle.slatedb_txn_obj.specs.Views.{IsVersion, ShowsLatest}
 use Rattle.txn_manifest.specs.declared.manifest.Manifest.{Manifest}
 use Rattle.txn_manifest.specs.Manifest.{epoch_of, with_epoch}
 use Rattle.txn_manifest.specs.OfManifests.{IsOfManifests}
 use Rattle.txn_manifest.specs.Stores.{StandsBy}
 use Rattle.txn_manifest.specs.Text.{manifest_read}
-use Rattle.txn_manifest.specs.Tells.{bytes_of, Tells, TellsView, GoesOn, Versions, TellsStore, TellsBoth, TellsMore, TellsNew, Inits, Loads, Claims, ClaimHeld, ClaimFailed}
+use Rattle.txn_manifest.specs.Tells.{bytes_of, Tells, TellsView, GoesOn, Versions, TellsStore, TellsBoth, TellsMore, TellsNew, Inits, Reads, Claims, ClaimHeld, ClaimFailed}
 use Rattle.txn_manifest.proofs.Once.{any_none}
 use Rattle.txn_manifest.proofs.Growing.{goes_nowhere, goes_more, goes_quiet, view_kept, Pending, effect_pending, begin_pending, told_length, told_entry, entry_told, begun_told, answer_told, told_new, version_told, files_told}
 use Rattle.txn_manifest.proofs.Files.{bytes_there, bytes_gone, others_left, still_there, next_newest, next_stored, still}
@@ -231,16 +231,30 @@ module _ (p p' : Versions) (s s' : State) (rows : List (Row Manifest)) (told : T
           | inr grown ↦ record { rows = init_put grown.1; later = init_later grown.1; store = init_store grown.1 (init_put grown.1) (init_put_told grown.1) }
         ]
 
+  -- a load that failed
+  pub reads_told : Reads p p' s s' → TellsMore p' s' rows
+  reads_told l =
+      record {
+        rows = rows;
+        later = goes_nowhere manifest_read (λ other. Unit {0}) rows;
+        store = record {
+          h = told.h;
+          b = told.b;
+          stands = l.kept told.h told.b told.stands;
+          tells = files_told manifest_read names s.files rows told.h told.b told.tells p'.layout.names s'.files (λ n small spared. ap (λ layout. bytes_of layout.names s'.files n) l.placed ∙ ap (λ (files : Files). bytes_of names files n) l.files.files);
+        };
+      }
+
   -- a load
-  pub loads_told : (id : ℕ) (object : Manifest) → Loads p p' s s' id object → TellsNew p' s' rows id object
-  loads_told id object l =
+  pub loads_told : (id : ℕ) (object : Manifest) → Reads p p' s s' → ShowsLatest (StandsBy p s) id object → TellsNew p' s' rows id object
+  loads_told id object l shows =
       let call : Call Manifest = any.View view_calls.Load in
       let o = begun_count rows + 1 in
       let began = rows ++ Begun o call ∷ [] in
       let t = begun_told manifest_read names s.files rows told.h told.b told.tells call (record { next = refl; shown = refl; known = refl; low = refl; keeps = refl }) tt in
       let pending = begin_pending manifest_read rows told.tells.one call in
       let number = view_count began + 1 in
-      let latest = l.shows told.h told.b told.stands in
+      let latest = shows told.h told.b told.stands in
       let some = latest.some in
       let at = latest.id_is in
       let entry : IsEntry manifest_read began id object = told_entry manifest_read names s.files began told.h told.b t id object (omega (arith, some, at)) latest.entry in

@@ -97,9 +97,8 @@ pub record Inits (p p' : Versions) (s s' : State) (value : Manifest) : Type 0 wh
   pub creates : MayCreate (version_path p.layout.names 1) s s'
   pub placed : p'.layout ≡ p.layout
 
--- What a load of a view leaves: it is at the newest version, and nothing moved.
-pub record Loads (p p' : Versions) (s s' : State) (id : ℕ) (object : Manifest) : Type 0 where
-  pub shows : ShowsLatest (StandsBy p s) id object
+-- What a load of a view leaves, however it ends: nothing moved.
+pub record Reads (p p' : Versions) (s s' : State) : Type 0 where
   pub kept : Stays (StandsBy p s) (StandsBy p' s')
   pub files : SameFiles s s'
   pub placed : p'.layout ≡ p.layout
