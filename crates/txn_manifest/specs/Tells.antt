@@ -91,7 +91,7 @@ pub record TellsNew (p : Versions) (s : State) (before : List (Row Manifest)) (i
   pub number : ℕ
   pub view : TellsView manifest_read rows number id object
 
--- What the init of a view leaves, in the words of its clauses: the manifest, which pins nothing, is the first; or it failed, and the manifest was appended or nothing moved.
+-- What the init of a view with a manifest that pins nothing leaves of the files, however it ends: no file is new but that of the first version.
 pub record Inits (p p' : Versions) (s s' : State) (value : Manifest) : Type 0 where
   pub pins : value.pins ≡ []
   pub creates : MayCreate (version_path p.layout.names 1) s s'
@@ -136,7 +136,7 @@ pub record Collects (p p' : Versions) (s s' : State) (id id' : ℕ) (object obje
   pub needed : IsApart p.layout.names p.boundary.path → LeavesNeeded p.layout.names id' object'.pins s.files s'.files
   pub removed : IsApart p.layout.names p.boundary.path → LeavesOrRemoves p.layout.names s.files s'.files
 
--- each id that the newest manifest of a history pins is below it, and stored, with bytes that read as its manifest
+-- an id is below the newest, and stored, with bytes that read as its manifest
 pub record IsPinnedFile (names : Names) (files : Files) (h : List Manifest) (newest id : ℕ) : Type 0 where
   pub positive : 0 < id
   pub below : id < newest
@@ -146,5 +146,6 @@ pub record IsPinnedFile (names : Names) (files : Files) (h : List Manifest) (new
   pub there : get files (version_path names id) ≡ Some got
   pub reads : manifest_read got.bytes ≡ Some value
 
+-- so is each id that the newest manifest of a history pins
 abbrev pub HasPinnedFiles : Names → Files → List Manifest → Type 0
 HasPinnedFiles names files h = (newest id : ℕ) (entry : Manifest) → IsLatest h newest entry → is_pinned entry id ≡ true → IsPinnedFile names files h newest id
