@@ -4,6 +4,7 @@
 mod audit;
 mod bench;
 mod ending;
+mod printed;
 mod recording;
 mod run;
 mod session;

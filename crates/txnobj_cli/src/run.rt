@@ -3,17 +3,19 @@
 use crate::audit::audit;
 use crate::bench::bench;
 use crate::ending::{Halt, NOTHING, reason, store_failed};
-use crate::session::{Session, Version, root_of, store_of};
+use crate::printed::{
+    print_claim, print_first, print_ids, print_newest, print_put_on, print_value,
+};
+use crate::session::{FolderSession, Session, Version, root_of, store_of};
 use crate::values::bytes_of;
-use std::io::Write;
 use std::rt::Clock;
 use std::time::{Duration, SystemTime};
 use txn_entries::entry::Entry;
 use txn_files::doctor::{Report, examine};
-use txn_history::event::{Call, PlainCall, ViewCall};
+use txn_history::event::{Call, PlainCall};
 use txn_lines::printed::Answered;
 use txn_lines::text_form::TextForm;
-use txnobj_said::lines::{Stored, print_line, print_number, print_numbers};
+use txnobj_said::lines::{Stored, print_line, print_number};
 use txnobj_words::options::{Command, Options, Source};
 
 /// How long a watch sleeps between two looks, in milliseconds.
@@ -50,14 +52,30 @@ pub fn run(rt: &HostRuntime, options: &Options<'_>) -> Result<u8, Halt> {
 }
 
 /// What a client does for a command.
-fn of_client(rt: &HostRuntime, session: &mut Session, command: &Command<'_>) -> Result<u8, Halt> {
+fn of_client(
+    rt: &HostRuntime,
+    session: &mut FolderSession,
+    command: &Command<'_>,
+) -> Result<u8, Halt> {
     match command {
         Command::Init(value) => init(rt, session, *value),
-        Command::Get { id: true } => say_version(rt, session.viewed(ViewCall::Load)?),
-        Command::Get { id: false } => get(rt, session),
+        Command::Get { id: true } => {
+            print_newest(rt.alloc(), &mut rt.stdout(), session)?;
+            Ok(0)
+        }
+        Command::Get { id: false } => {
+            print_value(&mut rt.stdout(), session)?;
+            Ok(0)
+        }
         Command::Put { value, base, epoch } => put(rt, session, *value, *base, *epoch),
-        Command::Claim { epoch } => say_version(rt, session.claim(*epoch)?),
-        Command::List => list(rt, session),
+        Command::Claim { epoch } => {
+            print_claim(rt.alloc(), &mut rt.stdout(), session, *epoch)?;
+            Ok(0)
+        }
+        Command::List => {
+            print_ids(rt.alloc(), &mut rt.stdout(), session)?;
+            Ok(0)
+        }
         Command::History => history(rt, session),
         Command::Advance(id) => {
             session.advance(*id)?;
@@ -86,42 +104,31 @@ fn say_version(rt: &HostRuntime, version: Version) -> Result<u8, Halt> {
 }
 
 /// Writes the first version, in epoch 0.
-fn init(rt: &HostRuntime, session: &mut Session, value: Source<'_>) -> Result<u8, Halt> {
+fn init(rt: &HostRuntime, session: &mut FolderSession, value: Source<'_>) -> Result<u8, Halt> {
     let payload = bytes_of(rt, value)?;
-    let first = session.viewed(ViewCall::Init(Entry { epoch: 0, payload }))?;
-    say(rt, first.id)
-}
-
-/// Prints the bytes of the newest version.
-fn get(rt: &HostRuntime, session: &mut Session) -> Result<u8, Halt> {
-    let newest = session.load()?;
-    rt.stdout().write_all(newest.value.payload.as_slice())?;
+    print_first(rt.alloc(), &mut rt.stdout(), session, payload)?;
     Ok(0)
 }
 
 fn put(
     rt: &HostRuntime,
-    session: &mut Session,
+    session: &mut FolderSession,
     value: Source<'_>,
     base: Option<u64>,
     epoch: Option<u64>,
 ) -> Result<u8, Halt> {
     let value = bytes_of(rt, value)?;
-    let id = match base {
-        Some(base) => session.put_on(base, epoch, &value)?,
-        None => session.put(epoch, &value)?,
-    };
-    say(rt, id)
-}
-
-fn list(rt: &HostRuntime, session: &mut Session) -> Result<u8, Halt> {
-    let ids = session.ids()?;
-    print_numbers(rt.alloc(), &mut rt.stdout(), ids.as_slice())?;
-    Ok(0)
+    match base {
+        Some(base) => {
+            print_put_on(rt.alloc(), &mut rt.stdout(), session, base, epoch, &value)?;
+            Ok(0)
+        }
+        None => say(rt, session.put(epoch, &value)?),
+    }
 }
 
 /// Prints each of these versions that still stands.
-fn say_all(rt: &HostRuntime, session: &mut Session, ids: &[u64]) -> Result<u8, Halt> {
+fn say_all(rt: &HostRuntime, session: &mut FolderSession, ids: &[u64]) -> Result<u8, Halt> {
     for id in ids {
         if let Some(value) = session.entry(*id)? {
             let stored = Stored {
@@ -134,7 +141,7 @@ fn say_all(rt: &HostRuntime, session: &mut Session, ids: &[u64]) -> Result<u8, H
     Ok(0)
 }
 
-fn history(rt: &HostRuntime, session: &mut Session) -> Result<u8, Halt> {
+fn history(rt: &HostRuntime, session: &mut FolderSession) -> Result<u8, Halt> {
     let ids = session.ids()?;
     say_all(rt, session, ids.as_slice())
 }
@@ -151,7 +158,7 @@ fn have_passed(rt: &HostRuntime, began: Duration, seconds: u64) -> Result<bool, 
 /// Looks so often for a version above this id: the status, once there is one, or the time has passed.
 fn look(
     rt: &HostRuntime,
-    session: &mut Session,
+    session: &mut FolderSession,
     after: u64,
     until: (Duration, u64),
     looks: u64,
@@ -201,7 +208,7 @@ fn watch(rt: &HostRuntime, options: &Options<'_>, after: u64, seconds: u64) -> R
 }
 
 /// Makes the call of a line, and prints its answer, or why it has none.
-fn take_line(rt: &HostRuntime, session: &mut Session, line: &str) -> Result<(), Halt> {
+fn take_line(rt: &HostRuntime, session: &mut FolderSession, line: &str) -> Result<(), Halt> {
     let Some(call) = Call::<Entry>::read_text(rt.alloc(), line)? else {
         return Ok(rt.println("bad call")?);
     };
@@ -216,7 +223,7 @@ fn take_line(rt: &HostRuntime, session: &mut Session, line: &str) -> Result<(), 
 }
 
 /// Makes the call of each line, and prints its answer.
-fn shell(rt: &HostRuntime, session: &mut Session) -> Result<u8, Halt> {
+fn shell(rt: &HostRuntime, session: &mut FolderSession) -> Result<u8, Halt> {
     for line in rt.lines(rt.alloc()) {
         let line = line?;
         take_line(rt, session, line.as_str())?;

@@ -1,7 +1,8 @@
 //! One client of one object in a folder.
-ghost use Rattle.std.specs.Prelude.{◌≤◌, IfOk};
+ghost use Rattle.std.specs.Prelude.{◌≤◌, ◌≡◌, IfOk, OnOk, Some};
 ghost use Rattle.txn_entries.specs.Holder.{IsNextEntry};
 ghost use Rattle.txnobj_cli.specs.Calls.{IsPutOn};
+ghost use Rattle.txnobj_cli.specs.Answers.{Made, Gives, Reads, IsDone, Loads, Lists, PutsOn, Holds, IsView, IsHeld, IsReadOf, claim_of};
 
 use crate::ending::{Halt, call_failed};
 use crate::recording::Recording;
@@ -11,11 +12,13 @@ use std::fmt;
 use std::fs::File;
 use std::ops::Bound;
 use txn_client::client::Client;
+use txn_client::recorder::Recorder;
 use txn_client::retry::{Applied, Viewed};
 use txn_client::serve::Serve;
 use txn_clients::layout::world_layout;
 use txn_entries::entry::{Entry, EntryCodec, EntryEpoch};
 use txn_entries::holder::{next_entry, test_holder};
+use txn_files::fault::Fault;
 use txn_files::written::number_now;
 use txn_folder::folder::Folder;
 use txn_folder::store::FolderStore;
@@ -51,6 +54,17 @@ impl Serve for Shared {
     }
 }
 
+/// A store that keeps why its last call failed.
+pub trait Explains {
+    fn fault(&self) -> Option<&Fault>;
+}
+
+impl Explains for Shared {
+    fn fault(&self) -> Option<&Fault> {
+        self.0.fault()
+    }
+}
+
 /// A version: the view that it is in, 0 for none, its id, and its epoch.
 #[derive(Clone, Copy)]
 pub struct Version {
@@ -73,12 +87,15 @@ impl fmt::Display for Version {
     }
 }
 
-/// A client of one object.
+/// A client of one object, over a store and a recorder.
 #[derive(Drop)]
-pub struct Session {
+pub struct Session<S: Drop, R: Recorder<Entry> + Drop> {
     alloc: Global,
-    client: Client<Entry, EntryCodec, EntryEpoch, Shared, Recording<File>>,
+    client: Client<Entry, EntryCodec, EntryEpoch, S, R>,
 }
+
+/// That of a command: over a folder, and a recording in a file.
+pub type FolderSession = Session<Shared, Recording<File>>;
 
 /// The folder that the options name.
 pub fn root_of<'a>(options: &Options<'a>) -> Result<&'a str, Halt> {
@@ -153,9 +170,9 @@ pub fn store_of(rt: &HostRuntime, options: &Options<'_>) -> Result<FolderStore<H
     ))
 }
 
-impl Session {
+impl Session<Shared, Recording<File>> {
     /// A client of the object that the options name.
-    pub fn open(rt: &HostRuntime, options: &Options<'_>) -> Result<Session, Halt> {
+    pub fn open(rt: &HostRuntime, options: &Options<'_>) -> Result<FolderSession, Halt> {
         let alloc = rt.alloc();
         let store = store_of(rt, options)?;
         let number = client_of(rt, options)?;
@@ -171,9 +188,13 @@ impl Session {
         )?;
         Ok(Session { alloc, client })
     }
+}
 
+impl<S: Serve + Explains + Drop, R: Recorder<Entry> + Drop> Session<S, R> {
     /// Makes a call.
-    pub fn call(&mut self, call: Call<Entry>) -> Result<Answer<Entry>, Halt> {
+    pub fn call(&mut self, call: Call<Entry>) -> Result<Answer<Entry>, Halt>
+        ensures { IfOk result (λ answer. Made R.hands S.serves call answer self.old.client self.new.client) }
+    {
         let answer = self.client.call(call, STEPS)?;
         if matches!(&answer, Answer::Plain(PlainAnswer::Refused(2))) {
             // (by a call, here and below: in place, the proof would follow each answer that may be dropped)
@@ -185,14 +206,16 @@ impl Session {
 
     /// Why the last store call failed.
     fn store_failed(&self) -> Halt {
-        match self.client.store().0.fault() {
+        match self.client.store().fault() {
             Some(fault) => call_failed(self.alloc, fault),
             None => Halt::Refused(2),
         }
     }
 
     /// The newest version, with what it says.
-    pub fn load(&mut self) -> Result<Viewed<Entry>, Halt> {
+    pub fn load(&mut self) -> Result<Viewed<Entry>, Halt>
+        ensures { IfOk result (λ viewed. Loads R.hands S.serves viewed self.old.client self.new.client) }
+    {
         match self.call(Call::View(ViewCall::Load))? {
             Answer::View(view, id, value) => Ok(Viewed { view, id, value }),
             other => Err(refused(other)),
@@ -200,7 +223,9 @@ impl Session {
     }
 
     /// The newest version, in no view, where there is one.
-    pub fn read(&mut self) -> Result<Option<Version>, Halt> {
+    pub fn read(&mut self) -> Result<Option<Version>, Halt>
+        ensures { IfOk result (λ read. Reads R.hands S.serves read self.old.client self.new.client) }
+    {
         let answer = self.call(Call::Plain(PlainCall::Read))?;
         let read = read_in(&answer);
         drop(answer);
@@ -208,7 +233,9 @@ impl Session {
     }
 
     /// Makes a call that gives a view, or leaves one: the version that the view has then.
-    pub fn viewed(&mut self, call: ViewCall<Entry>) -> Result<Version, Halt> {
+    pub fn viewed(&mut self, call: ViewCall<Entry>) -> Result<Version, Halt>
+        ensures { IfOk result (λ version. Gives R.hands S.serves call version self.old.client self.new.client) }
+    {
         let answer = self.call(Call::View(call))?;
         let viewed = viewed_in(&answer);
         drop(answer);
@@ -216,7 +243,9 @@ impl Session {
     }
 
     /// Makes a call that is answered as done.
-    pub fn done(&mut self, call: PlainCall<Entry>) -> Result<(), Halt> {
+    pub fn done(&mut self, call: PlainCall<Entry>) -> Result<(), Halt>
+        ensures { OnOk result (IsDone R.hands S.serves call self.old.client self.new.client) }
+    {
         let answer = self.call(Call::Plain(call))?;
         let done = done_in(&answer);
         drop(answer);
@@ -224,7 +253,9 @@ impl Session {
     }
 
     /// Writes a version on this one, if it is the newest, in its epoch: its id. A holder's is of its own epoch.
-    pub fn put_on(&mut self, base: u64, epoch: Option<u64>, payload: &Bytes) -> Result<u64, Halt> {
+    pub fn put_on(&mut self, base: u64, epoch: Option<u64>, payload: &Bytes) -> Result<u64, Halt>
+        ensures { IfOk result (λ id. PutsOn R.hands S.serves base epoch payload.now id self.old.client self.new.client) }
+    {
         let newest = self.viewed(ViewCall::Load)?;
         Ok(self.viewed(put_call(newest, base, epoch, payload)?)?.id)
     }
@@ -258,20 +289,20 @@ impl Session {
     }
 
     /// Claims the next epoch, or this one: the version that says so.
-    pub fn claim(&mut self, epoch: Option<u64>) -> Result<Version, Halt> {
+    pub fn claim(&mut self, epoch: Option<u64>) -> Result<Version, Halt>
+        ensures { IfOk result (λ version. Holds R.hands S.serves epoch version self.old.client self.new.client) }
+    {
         let view = self.viewed(ViewCall::Load)?.view;
-        let call = match epoch {
-            None => ViewCall::Claim(view),
-            Some(epoch) => ViewCall::ClaimAt(view, epoch),
-        };
-        let answer = self.call(Call::View(call))?;
+        let answer = self.call(Call::View(claim_call(view, epoch)))?;
         let held = held_in(&answer);
         drop(answer);
         held
     }
 
     /// The ids of the stored versions, ascending.
-    pub fn ids(&mut self) -> Result<Ids, Halt> {
+    pub fn ids(&mut self) -> Result<Ids, Halt>
+        ensures { IfOk result (λ ids. Lists R.hands S.serves ids self.old.client self.new.client) }
+    {
         let call = PlainCall::ListIds(Bound::Unbounded, Bound::Unbounded);
         match self.call(Call::Plain(call))? {
             Answer::Plain(PlainAnswer::Ids(ids)) => Ok(ids),
@@ -319,8 +350,20 @@ impl Session {
     }
 }
 
+/// The claim of a view, at an epoch where one is asked for.
+fn claim_call(view: u64, epoch: Option<u64>) -> ViewCall<Entry>
+    ensures { result ≡ claim_of view epoch }
+{
+    match epoch {
+        None => ViewCall::Claim(view),
+        Some(epoch) => ViewCall::ClaimAt(view, epoch),
+    }
+}
+
 /// The version that is read, where there is one.
-fn read_in(answer: &Answer<Entry>) -> Result<Option<Version>, Halt> {
+fn read_in(answer: &Answer<Entry>) -> Result<Option<Version>, Halt>
+    ensures { IfOk result (IsReadOf answer.now) }
+{
     match answer {
         Answer::Plain(PlainAnswer::Read(Some((id, entry)))) => Ok(Some(Version {
             view: 0,
@@ -333,7 +376,9 @@ fn read_in(answer: &Answer<Entry>) -> Result<Option<Version>, Halt> {
 }
 
 /// The version of the view that a call is answered with.
-fn viewed_in(answer: &Answer<Entry>) -> Result<Version, Halt> {
+fn viewed_in(answer: &Answer<Entry>) -> Result<Version, Halt>
+    ensures { IfOk result (IsView answer.now) }
+{
     match answer {
         Answer::View(view, id, entry) => Ok(Version {
             view: *view,
@@ -345,7 +390,9 @@ fn viewed_in(answer: &Answer<Entry>) -> Result<Version, Halt> {
 }
 
 /// The version of the holder that a call is answered with.
-fn held_in(answer: &Answer<Entry>) -> Result<Version, Halt> {
+fn held_in(answer: &Answer<Entry>) -> Result<Version, Halt>
+    ensures { IfOk result (IsHeld answer.now) }
+{
     match answer {
         Answer::Held(view, id, _, epoch) => Ok(Version {
             view: *view,
@@ -357,7 +404,9 @@ fn held_in(answer: &Answer<Entry>) -> Result<Version, Halt> {
 }
 
 /// Whether a call is answered as done.
-fn done_in(answer: &Answer<Entry>) -> Result<(), Halt> {
+fn done_in(answer: &Answer<Entry>) -> Result<(), Halt>
+    ensures { OnOk result (answer.now ≡ Answer.Plain PlainAnswer.Done) }
+{
     match answer {
         Answer::Plain(PlainAnswer::Done) => Ok(()),
         other => Err(refusal_in(other)),
