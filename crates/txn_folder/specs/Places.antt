@@ -1,5 +1,5 @@
 -- The files of places, and what is known of their names after a call.
-use Rattle.std.specs.Prelude.{◌≡◌, ◌⊎◌, ◌||◌, ℕ, ◌<◌, ◌^◌, Bool, true, false, List, [], ◌∷◌, ◌++◌, Option, Some, None, codes}
+use Rattle.std.specs.Prelude.{◌≡◌, ◌⊎◌, ◌||◌, ℕ, Bool, true, false, List, ◌++◌, Option, Some, None, codes}
 use Rattle.txn_files.specs.Names.{Known, known}
 use Rattle.txn_files.specs.declared.name.Deed.TheVariants as deeds
 use Rattle.txn_folder.specs.Files.{ObjectFiles, versions_folder, gc_folder, boundary_file, version_file}

@@ -1,5 +1,5 @@
 -- Two successful claims never have the same epoch.
-use Rattle.std.proofs.Common.{◌≡◌, ℕ, ◌+◌, ◌<◌, ◌≤◌, List, take, Option, inl, inr, subst, arith}
+use Rattle.std.proofs.Common.{◌≡◌, ℕ, ◌+◌, ◌<◌, ◌≤◌, List, take, Option, Some, inl, inr, refl, subst, arith}
 use Rattle.std.proofs.lemmas.Bool.{cases_lt}
 use Rattle.txn_history.specs.declared.trace.RowOf.TheVariants.{Answered}
 use Rattle.txn_history.proofs.Entries.{fronts_of, entry_later, entered_entry}
@@ -8,16 +8,17 @@ use Rattle.txn_history.specs.declared.event.ViewCall.TheVariants as view_calls
 use Rattle.txn_history.specs.declared.event.Call.{Call}
 use Rattle.txn_history.specs.declared.event.Call.TheVariants as any
 use Rattle.txn_history.specs.declared.event.Answer.TheVariants as answers
+use Rattle.txn_history.specs.Calls.{view_used}
 use Rattle.txn_history.specs.Trace.{Row}
 use Rattle.txn_history.specs.OneHistory.{Shows, Holds, AnswerFits, IsOneHistory}
 use Rattle.txn_history.specs.Laws.{HasOneClaimer}
 use Rattle.txn_history.proofs.Legal.{are_moves}
 
 module _ {T : Type 0} (decode : List ℕ → Option T) (get_epoch : T → ℕ) (set_epoch : T → ℕ → T) (failed : List ℕ) where
-  -- a claim that is held: it shows the view that its call used, and holds
-  pub held_says : (before : List (Row T)) (op view n epoch : ℕ) (value : T) (call : Call T) → AnswerFits decode get_epoch failed before op call (answers.Held view n value epoch) → ((used : ℕ) × Shows before used view n) × Holds decode get_epoch before op n value epoch
-  held_says before op view n epoch value (any.View (view_calls.Claim w)) h = ((w, h.0), h.1)
-  held_says before op view n epoch value (any.View (view_calls.ClaimAt w at)) h = ((w, h.0), h.1)
+  -- a claim that is held: its call used a view, which it shows, and it holds
+  pub held_says : (before : List (Row T)) (op view n epoch : ℕ) (value : T) (call : Call T) → AnswerFits decode get_epoch failed before op call (answers.Held view n value epoch) → ((used : ℕ) × (view_used call ≡ Some used) × Shows before used view n) × Holds decode get_epoch before op n value epoch
+  held_says before op view n epoch value (any.View (view_calls.Claim w)) h = ((w, refl, h.0), h.1)
+  held_says before op view n epoch value (any.View (view_calls.ClaimAt w at)) h = ((w, refl, h.0), h.1)
   held_says before op view n epoch value (any.Plain call) h = absurd h
   held_says before op view n epoch value (any.View (view_calls.Init v)) h = absurd h
   held_says before op view n epoch value (any.View view_calls.Load) h = absurd h

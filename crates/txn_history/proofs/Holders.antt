@@ -72,7 +72,7 @@ module _ {T : Type 0} (decode : List ℕ → Option T) (get_epoch : T → ℕ) (
   said before op shown n value (any.Plain call) h = absurd h
 
   held_rises : (before : List (Row T)) (op view n epoch : ℕ) (value : T) (call : Call T) → AnswerFits decode get_epoch failed before op call (answers.Held view n value epoch) → number_of (view_at before view) ≤ n
-  held_rises before op view n epoch value call h = let shows = (held_says decode get_epoch set_epoch failed before op view n epoch value call h).0 in no_lower before shows.0 view n shows.1
+  held_rises before op view n epoch value call h = let shows = (held_says decode get_epoch set_epoch failed before op view n epoch value call h).0 in no_lower before shows.0 view n shows.2
 
   said_entry : (rows : List (Row T)) → IsOneHistory decode get_epoch set_epoch failed rows → (k op shown n : ℕ) (value : T) → Said (take k rows) op shown n value → IsEntry decode (take k rows) n value
   said_entry rows good k op shown n value s = elim s.is [ inl e ↦ entered_entry decode get_epoch rows (are_moves decode get_epoch set_epoch failed rows good) k op n value e | inr e ↦ newest_entry decode get_epoch rows k op n value e ]

@@ -3,7 +3,7 @@ use Rattle.std.proofs.Common.{◌≡◌, ◌≢◌, nat_lt, ℕ, zero, suc, ◌+
 use Rattle.std.specs.FinMap.{get, insert, remove}
 use Rattle.std.specs.Fmt.{decimal}
 use Rattle.std.proofs.lemmas.List.{append_assoc, append-nil, map-append, length-map}
-use Rattle.std.proofs.lemmas.Bool.{both_ways, cases_eq, eqb-true, eq-eqb}
+use Rattle.std.proofs.lemmas.Bool.{both_ways, cases_eq, eqb-true, eq-eqb, false_from_ne_true}
 use Rattle.std.proofs.lemmas.Option.{same_Some}
 use Rattle.txn_store.specs.declared.store.PutMode.TheVariants as modes
 use Rattle.txn_store.specs.declared.request.Request.{Request}
@@ -85,28 +85,22 @@ module _ (decode : List ℕ → Option Manifest) where
 
   -- the next operation has not begun
   pub unbegun : (rows : List (Row Manifest)) → IsTold rows → was_begun rows (begun_count rows + 1) ≡ false
-  unbegun rows good = by (was_begun rows (begun_count rows + 1)) refl
-    where
-      by : (b : Bool) → was_begun rows (begun_count rows + 1) ≡ b → was_begun rows (begun_count rows + 1) ≡ false
-      by false is = is
-      by true is =
-          let a = any_at (begins (begun_count rows + 1)) rows is in
-          let begin = is_begin (begun_count rows + 1) a.1 a.3 in
-          absurd (not_there rows good a.0 begin.0 (a.2 ∙ ap Some begin.1))
+  unbegun rows good = false_from_ne_true (was_begun rows (begun_count rows + 1)) (λ is. (
+      let a = any_at (begins (begun_count rows + 1)) rows is in
+      let begin = is_begin (begun_count rows + 1) a.1 a.3 in
+      not_there rows good a.0 begin.0 (a.2 ∙ ap Some begin.1)
+      ))
 
   -- nor was it answered
   unanswered : (rows : List (Row Manifest)) → IsTold rows → was_answered rows (begun_count rows + 1) ≡ false
-  unanswered rows good = by (was_answered rows (begun_count rows + 1)) refl
-    where
-      by : (b : Bool) → was_answered rows (begun_count rows + 1) ≡ b → was_answered rows (begun_count rows + 1) ≡ false
-      by false is = is
-      by true is =
-          let a = any_at (ends (begun_count rows + 1)) rows is in
-          let told = is_answer (begun_count rows + 1) a.1 a.3 in
-          let answers : Answers decode epoch_of [] (take a.0 rows) (begun_count rows + 1) told.0 = good a.0 (Answered (begun_count rows + 1) told.0) (a.2 ∙ ap Some told.1) in
-          let called = answers.called in
-          let there = of_front rows a.0 called.0 (Begun (begun_count rows + 1) answers.call) called.1 in
-          absurd (not_there rows good called.0 answers.call there.0)
+  unanswered rows good = false_from_ne_true (was_answered rows (begun_count rows + 1)) (λ is. (
+      let a = any_at (ends (begun_count rows + 1)) rows is in
+      let told = is_answer (begun_count rows + 1) a.1 a.3 in
+      let answers : Answers decode epoch_of [] (take a.0 rows) (begun_count rows + 1) told.0 = good a.0 (Answered (begun_count rows + 1) told.0) (a.2 ∙ ap Some told.1) in
+      let called = answers.called in
+      let there = of_front rows a.0 called.0 (Begun (begun_count rows + 1) answers.call) called.1 in
+      not_there rows good called.0 answers.call there.0
+      ))
 
   pub begin_pending : (rows : List (Row Manifest)) → IsTold rows → (call : Call Manifest) → Pending (rows ++ Begun (begun_count rows + 1) call ∷ []) (begun_count rows + 1) call
   begin_pending rows good call =

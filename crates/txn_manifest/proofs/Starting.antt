@@ -24,6 +24,7 @@ use Rattle.txn_history.specs.Facts.{WasNewest}
 use Rattle.txn_history.specs.Trace.{Row}
 use Rattle.txn_history.specs.Views.{or_else, id_shown, epoch_shown, view_at, epoch_held, view_count}
 use Rattle.txn_history.specs.OneHistory.{agree, has_shown_view, WritesOn, MayAppend, Opens, Shows, Holds, AnswerFits, Answers, IsOneHistory}
+use Rattle.txn_history.proofs.Claimers.{held_says}
 use Rattle.txn_history.proofs.Fronts.{later_at, of_front}
 use Rattle.txn_history.proofs.Holders.{told_in, last_more, first_more}
 use Rattle.txn_history.proofs.Lists.{get_last, any_last}
@@ -58,18 +59,6 @@ some_more None b e = e
 some_more (Some n) b e = refl
 
 module _ (decode : List ℕ → Option Manifest) where
-  -- the view that a claim shows is the one that it uses
-  shows_used : (before : List (Row Manifest)) (op view n epoch : ℕ) (value : Manifest) (call : Call Manifest) → AnswerFits decode epoch_of [] before op call (answers.Held view n value epoch) → view_used call ≡ Some view
-  shows_used before op view n epoch value (any.View (view_calls.Claim w)) h = ap Some (sym h.0.same)
-  shows_used before op view n epoch value (any.View (view_calls.ClaimAt w at)) h = ap Some (sym h.0.same)
-  shows_used before op view n epoch value (any.Plain call) h = absurd h
-  shows_used before op view n epoch value (any.View (view_calls.Init v)) h = absurd h
-  shows_used before op view n epoch value (any.View view_calls.Load) h = absurd h
-  shows_used before op view n epoch value (any.View (view_calls.Refresh w)) h = absurd h
-  shows_used before op view n epoch value (any.View (view_calls.Update w v)) h = absurd h
-  shows_used before op view n epoch value (any.View (view_calls.HolderRefresh w)) h = absurd h
-  shows_used before op view n epoch value (any.View (view_calls.HolderUpdate w v)) h = absurd h
-
   abbrev AreUnseen : List (Row Manifest) → Type 0
   AreUnseen rows = (number : ℕ) → view_count rows < number → IsUnseen rows number
 
@@ -93,7 +82,9 @@ module _ (decode : List ℕ → Option Manifest) where
       let called = a.called in
       let there = of_front rows k called.0 (Begun op a.call) called.1 in
       let opens : Opens decode epoch_of (take called.0 rows) op a.call = good called.0 (Begun op a.call) there.0 in
-      let used = shows_used (take k rows) op shown id epoch value a.call a.fits in
+      let shows = (held_says decode epoch_of with_epoch [] (take k rows) op shown id epoch value a.call a.fits).0 in
+      let shown_is = shows.2 in
+      let used : view_used a.call ≡ Some shown = shows.1 ∙ ap Some (sym shown_is.same) in
       let was : has_shown_view (take called.0 rows) (Some shown) (is_holders a.call) ≡ true = subst (λ (o : Option ℕ). has_shown_view (take called.0 rows) o (is_holders a.call) ≡ true) used opens.shown in
       let old = some_first (is_some (view_at (take called.0 rows) shown)) (agree (is_holders a.call) (is_some (epoch_held (take called.0 rows) shown))) was in
       let now = stays_shown rows called.0 k shown (omega (arith, there.1)) old in
