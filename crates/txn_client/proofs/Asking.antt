@@ -2,25 +2,22 @@
 use Rattle.std.proofs.Common.{◌≡◌, ℕ, List, [], ◌∷◌, ◌++◌, Bool, true, false, if◌then◌else◌, Option, Some, None, Result, Ok, Err, IfOk, OnOk, refl, sym, ap, subst, ◌∙◌, append-nil}
 use Rattle.txn_store.specs.declared.request.Request.{Request}
 use Rattle.txn_store.specs.declared.request.Reply.{Reply}
-use Rattle.txn_history.specs.Added.{told_of}
 use Rattle.txn_history.specs.Seen.{Store}
-use Rattle.txn_history.specs.declared.event.ToldOf.TheVariants as told
 use Rattle.txn_history.specs.declared.event.Answer.{Answer}
-use Rattle.txn_history.specs.Trace.{Told}
 use Rattle.txn_machine.specs.declared.doing.Operation.{Operation}
 use Rattle.txn_machine.specs.Doing.{asked}
 use Rattle.txn_clients.specs.Operations.{asked_of}
 use Rattle.txn_journals.specs.declared.rows.Act.{Act}
+use Rattle.txn_journals.specs.declared.rows.Act.TheVariants as acts
 use Rattle.txn_journals.specs.declared.rows.Step.{Step}
 use Rattle.txn_journals.specs.declared.rows.Step.TheVariants as steps
-use Rattle.txn_diary.specs.Diaries.{DiaryState}
+use Rattle.txn_diary.specs.Keepers.{KeeperState, DoesAll}
 use Rattle.txn_diary.specs.Reading.{op_of, begun_by}
 use Rattle.txn_client.specs.declared.work.Heard.{Heard}
 use Rattle.txn_client.specs.Noted.{Noted, Asked}
 use Rattle.txn_client.specs.Happenings.{Happening, Handed, act_happens, answer_happens, row_happens, Happens, HappensAll}
-use Rattle.txn_client.specs.Calling.{IsLookOrCall, IsActOf, Does}
-use Rattle.txn_client.specs.Working.{heard_of, told_happens, TakesStep, TakesAsked}
-use Rattle.txn_client.proofs.Hearing.{heard_went, happens_went}
+use Rattle.txn_client.specs.Calling.{IsLookOrCall, IsActOf}
+use Rattle.txn_client.specs.Working.{heard_in, TakesStep, TakesAsked}
 use Rattle.txn_client.proofs.Calling.{act_op}
 
 module _ {T : Type 0} where
@@ -34,42 +31,41 @@ module _ {T : Type 0} where
   fails_asked true found operation request wanted is asks wants = let at : asked_of found ≡ asked operation.doing = ap asked_of is in cc
   fails_asked false found operation request wanted is asks wants = cc
 
-module _ {T C E R S F : Type 0} (hands : R → Noted T → R → Type 0) (serves : S → Request → Reply → S → Type 0) where
+module _ {T C E R S F : Type 0} (hands : R → Noted T → R → Type 0) (serves : S → Request → Reply → S → Type 0) (does : KeeperState T C E → Step T → Option (Answer T) → KeeperState T C E → Type 0) where
   -- an operation acts on what came of its store call, of which the recorder is handed this
-  pub takes_asked : (result : Result (Heard T) F) (op : ℕ) (request : Request) (called : Happening T) (note : Noted T) (act : Act) (answer : Option (Answer T)) (said : Told T) (old new : DiaryState T C E) (recorder between recorder' : R) (store store' : S) (begun begun' : ℕ)
+  pub takes_asked : (result : Result (Heard T) F) (op : ℕ) (request : Request) (called : Happening T) (note : Noted T) (act : Act) (answer : Option (Answer T)) (old new : KeeperState T C E) (recorder between recorder' : R) (store store' : S) (begun begun' : ℕ)
       → IsLookOrCall act
       → act_happens op act ≡ Handed (Asked op request) ∷ called ∷ Handed note ∷ []
-      → Does old (record { step = steps.Act op act; answer = answer } ∷ []) new
-      → said ≡ told_of (told.Went op) op answer
+      → DoesAll does old (record { step = steps.Act op act; answer = answer } ∷ []) new
       → hands recorder note between
       → begun' ≡ begun
-      → IfOk result (λ heard. heard ≡ heard_of said)
-      → OnOk result (HappensAll hands serves between store (told_happens op said) recorder' store')
-      → IfOk result (λ heard. TakesAsked hands serves op request called old recorder store begun heard new recorder' store' begun')
-  takes_asked (Ok heard) op request called note act answer said old new recorder between recorder' store store' begun begun' is_such happens does told_is first begun_is heard_is rest = record {
+      → IfOk result (λ heard. heard ≡ heard_in answer)
+      → OnOk result (HappensAll hands serves between store (answer_happens op answer) recorder' store')
+      → IfOk result (λ heard. TakesAsked hands serves does op request called old recorder store begun heard new recorder' store' begun')
+  takes_asked (Ok heard) op request called note act answer old new recorder between recorder' store store' begun begun' is_such happens did first begun_is heard_is rest = record {
     row = record { step = steps.Act op act; answer = answer };
     acts = (refl, is_such);
-    heard_is = heard_is ∙ (ap heard_of told_is ∙ heard_went op answer);
-    does = does;
+    heard_is = heard_is;
+    did = did;
     rest = Handed note ∷ answer_happens op answer;
     row_is = ap (λ (all : List (Happening T)). all ++ answer_happens op answer) happens;
-    happened = (between, store, (first, refl), subst (λ (all : List (Happening T)). HappensAll hands serves between store all recorder' store') (ap (told_happens op) told_is ∙ happens_went op op answer) rest);
+    happened = (between, store, (first, refl), rest);
     begun_is = begun_is;
   }
-  takes_asked (Err error) op request called note act answer said old new recorder between recorder' store store' begun begun' is_such happens does told_is first begun_is heard_is rest = tt
+  takes_asked (Err error) op request called note act answer old new recorder between recorder' store store' begun begun' is_such happens did first begun_is heard_is rest = tt
 
   -- an operation acts on what came of its store call, after its request was handed over and the store was called for it
-  pub asks_step : (result : Result (Heard T) F) (op : ℕ) (request : Request) (called : Happening T) (old new : DiaryState T C E) (recorder between recorder' : R) (store beneath store' : S) (begun begun' : ℕ)
+  pub asks_step : (result : Result (Heard T) F) (op : ℕ) (request : Request) (called : Happening T) (old new : KeeperState T C E) (recorder between recorder' : R) (store beneath store' : S) (begun begun' : ℕ)
       → hands recorder (Asked op request) between
       → Happens hands serves between store called between beneath
-      → IfOk result (λ heard. TakesAsked hands serves op request called old between beneath begun heard new recorder' store' begun')
-      → IfOk result (λ heard. TakesStep hands serves IsLookOrCall op old recorder store begun heard new recorder' store' begun')
+      → IfOk result (λ heard. TakesAsked hands serves does op request called old between beneath begun heard new recorder' store' begun')
+      → IfOk result (λ heard. TakesStep hands serves does IsLookOrCall op old recorder store begun heard new recorder' store' begun')
   asks_step (Ok heard) op request called old new recorder between recorder' store beneath store' begun begun' asked calls takes = record {
     row = takes.row;
     acts = takes.acts;
     heard_is = takes.heard_is;
     advances = record {
-      does = takes.does;
+      did = takes.did;
       happened = subst (λ (all : List (Happening T)). HappensAll hands serves recorder store all recorder' store')
           (sym (append-nil (row_happens (op_of begun takes.row.step) takes.row) ∙ (ap (λ at. row_happens at takes.row) (act_op IsLookOrCall begun op takes.row.step takes.acts) ∙ takes.row_is)))
           (between, store, (asked, refl), (between, beneath, calls, takes.happened));
@@ -77,3 +73,22 @@ module _ {T C E R S F : Type 0} (hands : R → Noted T → R → Type 0) (serves
     };
   }
   asks_step (Err error) op request called old new recorder between recorder' store beneath store' begun begun' asked calls takes = tt
+
+  -- an operation looks, and the recorder is handed its answer, where it has one
+  pub looks_so : (result : Result (Heard T) F) (op : ℕ) (answer : Option (Answer T)) (old new : KeeperState T C E) (recorder recorder' : R) (store store' : S) (begun begun' : ℕ)
+      → DoesAll does old (record { step = steps.Act op acts.Look; answer = answer } ∷ []) new
+      → begun' ≡ begun
+      → IfOk result (λ heard. heard ≡ heard_in answer)
+      → OnOk result (HappensAll hands serves recorder store (answer_happens op answer) recorder' store')
+      → IfOk result (λ heard. TakesStep hands serves does IsLookOrCall op old recorder store begun heard new recorder' store' begun')
+  looks_so (Ok heard) op answer old new recorder recorder' store store' begun begun' did begun_is heard_is happened = record {
+    row = record { step = steps.Act op acts.Look; answer = answer };
+    acts = (refl, tt);
+    heard_is = heard_is;
+    advances = record {
+      did = did;
+      happened = subst (λ (all : List (Happening T)). HappensAll hands serves recorder store all recorder' store') (sym (append-nil (answer_happens op answer))) happened;
+      begun_is = begun_is;
+    };
+  }
+  looks_so (Err error) op answer old new recorder recorder' store store' begun begun' did begun_is heard_is happened = tt

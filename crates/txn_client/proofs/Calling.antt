@@ -9,7 +9,7 @@ use Rattle.txn_journals.specs.declared.rows.JournalRow.{JournalRow}
 use Rattle.txn_journals.specs.declared.rows.Act.{Act}
 use Rattle.txn_journals.specs.declared.rows.Step.{Step}
 use Rattle.txn_journals.specs.declared.rows.Step.TheVariants as steps
-use Rattle.txn_diary.specs.Diaries.{DiaryState}
+use Rattle.txn_diary.specs.Keepers.{KeeperState}
 use Rattle.txn_diary.specs.Reading.{op_of, with_answer, answers_from}
 use Rattle.txn_client.specs.declared.stop.Stop.{Stop}
 use Rattle.txn_client.specs.declared.work.Heard.{Heard}
@@ -34,18 +34,18 @@ module _ {T : Type 0} where
   begun_op : (begun : ℕ) (step : Step T) (call : Call T) → step ≡ steps.Begin call → op_of begun step ≡ begun + 1
   begun_op begun step call h = ap (op_of begun) h
 
-  going : (answer : Option (Answer T)) → heard_in answer ≡ heards.Goes → answer ≡ None
+  pub going : (answer : Option (Answer T)) → heard_in answer ≡ heards.Goes → answer ≡ None
   going None h = refl
   going (Some answer) h = cc
 
-  ended : (answer : Option (Answer T)) (told : Answer T) → heard_in answer ≡ heards.Answered told → answer ≡ Some told
+  pub ended : (answer : Option (Answer T)) (told : Answer T) → heard_in answer ≡ heards.Answered told → answer ≡ Some told
   ended None told h = cc
   ended (Some answer) told h = cc
 
-module _ {T C E R S : Type 0} (hands : R → Noted T → R → Type 0) (serves : S → Request → Reply → S → Type 0) where
+module _ {T C E R S : Type 0} (hands : R → Noted T → R → Type 0) (serves : S → Request → Reply → S → Type 0) (does : KeeperState T C E → Step T → Option (Answer T) → KeeperState T C E → Type 0) where
   -- a call that has begun
-  pub calls_first : (op : ℕ) (call : Call T) (answer : Option (Answer T)) (old : DiaryState T C E) (recorder : R) (store : S) (begun : ℕ) (new : DiaryState T C E) (recorder' : R) (store' : S) (begun' : ℕ)
-      → op ≡ begun + 1 → BeginsWith hands serves call answer old recorder store begun new recorder' store' begun' → CallsAs hands serves op 0 call answer old recorder store begun new recorder' store' begun'
+  pub calls_first : (op : ℕ) (call : Call T) (answer : Option (Answer T)) (old : KeeperState T C E) (recorder : R) (store : S) (begun : ℕ) (new : KeeperState T C E) (recorder' : R) (store' : S) (begun' : ℕ)
+      → op ≡ begun + 1 → BeginsWith hands serves does call answer old recorder store begun new recorder' store' begun' → CallsAs hands serves does op 0 call answer old recorder store begun new recorder' store' begun'
   calls_first op call answer old recorder store begun new recorder' store' begun' own b = record {
     rows = b.row ∷ [];
     is_call = record {
@@ -62,8 +62,8 @@ module _ {T C E R S : Type 0} (hands : R → Noted T → R → Type 0) (serves :
   }
 
   -- a call with one look or store call more
-  calls_more : (op taken : ℕ) (call : Call T) (heard : Heard T) (answer : Option (Answer T)) (a b c : DiaryState T C E) (m n o : R) (p q r : S) (i j k : ℕ)
-      → CallsAs hands serves op taken call None a m p i b n q j → (step : TakesStep hands serves IsLookOrCall op b n q j heard c o r k) → step.row.answer ≡ answer → CallsAs hands serves op (taken + 1) call answer a m p i c o r k
+  calls_more : (op taken : ℕ) (call : Call T) (heard : Heard T) (answer : Option (Answer T)) (a b c : KeeperState T C E) (m n o : R) (p q r : S) (i j k : ℕ)
+      → CallsAs hands serves does op taken call None a m p i b n q j → (step : TakesStep hands serves does IsLookOrCall op b n q j heard c o r k) → step.row.answer ≡ answer → CallsAs hands serves does op (taken + 1) call answer a m p i c o r k
   calls_more op taken call heard answer a b c m n o p q r i j k so step is = record {
     rows = so.rows ++ step.row ∷ [];
     is_call = record {
@@ -76,16 +76,16 @@ module _ {T C E R S : Type 0} (hands : R → Noted T → R → Type 0) (serves :
       taken_is = length-append so.is_call.turns (step.row ∷ []) ∙ ap (λ n. n + 1) so.is_call.taken_is;
       answers_are = answers_more IsLookOrCall i op answer so.rows step.row so.is_call.answers_are step.acts is;
     };
-    advances = advances_more hands serves a b c m n o p q r i j k so.rows (step.row ∷ []) so.advances step.advances;
+    advances = advances_more hands serves does a b c m n o p q r i j k so.rows (step.row ∷ []) so.advances step.advances;
   }
 
-  pub calls_on : (op taken : ℕ) (call : Call T) (a b c : DiaryState T C E) (m n o : R) (p q r : S) (i j k : ℕ)
-      → CallsAs hands serves op taken call None a m p i b n q j → TakesStep hands serves IsLookOrCall op b n q j heards.Goes c o r k → CallsAs hands serves op (taken + 1) call None a m p i c o r k
+  pub calls_on : (op taken : ℕ) (call : Call T) (a b c : KeeperState T C E) (m n o : R) (p q r : S) (i j k : ℕ)
+      → CallsAs hands serves does op taken call None a m p i b n q j → TakesStep hands serves does IsLookOrCall op b n q j heards.Goes c o r k → CallsAs hands serves does op (taken + 1) call None a m p i c o r k
   calls_on op taken call a b c m n o p q r i j k so step = calls_more op taken call heards.Goes None a b c m n o p q r i j k so step (going step.row.answer (sym step.heard_is))
 
   -- a call that was answered, after so many looks and store calls
-  pub calls_done : (op limit taken : ℕ) (call : Call T) (told : Answer T) (old : DiaryState T C E) (recorder : R) (store : S) (begun : ℕ) (new : DiaryState T C E) (recorder' : R) (store' : S) (begun' : ℕ)
-      → CallsAs hands serves op taken call (Some told) old recorder store begun new recorder' store' begun' → taken ≤ limit → Calls hands serves limit call (Some told) old recorder store begun new recorder' store' begun'
+  pub calls_done : (op limit taken : ℕ) (call : Call T) (told : Answer T) (old : KeeperState T C E) (recorder : R) (store : S) (begun : ℕ) (new : KeeperState T C E) (recorder' : R) (store' : S) (begun' : ℕ)
+      → CallsAs hands serves does op taken call (Some told) old recorder store begun new recorder' store' begun' → taken ≤ limit → Calls hands serves does limit call (Some told) old recorder store begun new recorder' store' begun'
   calls_done op limit taken call told old recorder store begun new recorder' store' begun' so few = record {
     op = op;
     rows = so.rows;
@@ -104,13 +104,13 @@ module _ {T C E R S : Type 0} (hands : R → Noted T → R → Type 0) (serves :
   }
 
   -- a call that was answered by the look or the store call that it made now
-  pub calls_end : (op limit taken : ℕ) (call : Call T) (told : Answer T) (a b c : DiaryState T C E) (m n o : R) (p q r : S) (i j k : ℕ)
-      → CallsAs hands serves op taken call None a m p i b n q j → TakesStep hands serves IsLookOrCall op b n q j (heards.Answered told) c o r k → taken + 1 ≤ limit → Calls hands serves limit call (Some told) a m p i c o r k
+  pub calls_end : (op limit taken : ℕ) (call : Call T) (told : Answer T) (a b c : KeeperState T C E) (m n o : R) (p q r : S) (i j k : ℕ)
+      → CallsAs hands serves does op taken call None a m p i b n q j → TakesStep hands serves does IsLookOrCall op b n q j (heards.Answered told) c o r k → taken + 1 ≤ limit → Calls hands serves does limit call (Some told) a m p i c o r k
   calls_end op limit taken call told a b c m n o p q r i j k so step few = calls_done op limit (taken + 1) call told a m p i c o r k (calls_more op taken call (heards.Answered told) (Some told) a b c m n o p q r i j k so step (ended step.row.answer told (sym step.heard_is))) few
 
   -- a call that was not answered by as many looks and store calls as it may take, and is given up
-  pub calls_spent : (op limit : ℕ) (call : Call T) (a b c : DiaryState T C E) (m n o : R) (p q r : S) (i j k : ℕ)
-      → CallsAs hands serves op limit call None a m p i b n q j → TakesStep hands serves IsGiveUp op b n q j heards.Goes c o r k → Calls hands serves limit call None a m p i c o r k
+  pub calls_spent : (op limit : ℕ) (call : Call T) (a b c : KeeperState T C E) (m n o : R) (p q r : S) (i j k : ℕ)
+      → CallsAs hands serves does op limit call None a m p i b n q j → TakesStep hands serves does IsGiveUp op b n q j heards.Goes c o r k → Calls hands serves does limit call None a m p i c o r k
   calls_spent op limit call a b c m n o p q r i j k so step = record {
     op = op;
     rows = so.rows ++ step.row ∷ [];
@@ -125,7 +125,7 @@ module _ {T C E R S : Type 0} (hands : R → Noted T → R → Type 0) (serves :
       ends = (so.is_call.taken_is, step.row, refl, step.acts);
       answers_are = answers_more IsGiveUp i op None so.rows step.row so.is_call.answers_are step.acts (going step.row.answer (sym step.heard_is));
     };
-    advances = advances_more hands serves a b c m n o p q r i j k so.rows (step.row ∷ []) so.advances step.advances;
+    advances = advances_more hands serves does a b c m n o p q r i j k so.rows (step.row ∷ []) so.advances step.advances;
   }
 
 module _ {T : Type 0} where
@@ -140,12 +140,12 @@ module _ {T : Type 0} where
   few_length such op (row ∷ []) one = lit≤ tt
   few_length such op (row ∷ next ∷ rows) one = absurd one
 
-module _ {T C E R S : Type 0} (hands : R → Noted T → R → Type 0) (serves : S → Request → Reply → S → Type 0) where
+module _ {T C E R S : Type 0} (hands : R → Noted T → R → Type 0) (serves : S → Request → Reply → S → Type 0) (does : KeeperState T C E → Step T → Option (Answer T) → KeeperState T C E → Type 0) where
   -- a call that was cut off as it began
-  pub cut_first : (begun limit : ℕ) (call : Call T) (stop : Stop) (old new : DiaryState T C E) (recorder recorder' : R) (store store' : S) → CutsBegin hands serves call begun stop old recorder store new recorder' store' → CutsOff hands serves begun limit call stop old recorder store new recorder' store'
+  pub cut_first : (begun limit : ℕ) (call : Call T) (stop : Stop) (old new : KeeperState T C E) (recorder recorder' : R) (store store' : S) → CutsBegin hands serves does call begun stop old recorder store new recorder' store' → CutsOff hands serves does begun limit call stop old recorder store new recorder' store'
   cut_first begun limit call stop old new recorder recorder' store store' h = record {
     rows = h.row ∷ [];
-    does = h.does;
+    did = h.did;
     untold = [];
     are_untold = tt;
     cut_off = record {
@@ -170,11 +170,11 @@ module _ {T C E R S : Type 0} (hands : R → Noted T → R → Type 0) (serves :
   }
 
   -- what was cut off of a call in its next act, by what that leaves of the call's rows
-  cuts_so : (such : Act → Type 0) (op taken limit : ℕ) (call : Call T) (stop : Stop) (a b c : DiaryState T C E) (m n o : R) (p q r : S) (i j : ℕ)
-      → (so : CallsAs hands serves op taken call None a m p i b n q j) → (more : CutsStep hands serves such op j stop b n q c o r) → IsCutOff i limit call (so.rows ++ (more.rows ++ more.untold)) → CutsOff hands serves i limit call stop a m p c o r
+  cuts_so : (such : Act → Type 0) (op taken limit : ℕ) (call : Call T) (stop : Stop) (a b c : KeeperState T C E) (m n o : R) (p q r : S) (i j : ℕ)
+      → (so : CallsAs hands serves does op taken call None a m p i b n q j) → (more : CutsStep hands serves does such op j stop b n q c o r) → IsCutOff i limit call (so.rows ++ (more.rows ++ more.untold)) → CutsOff hands serves does i limit call stop a m p c o r
   cuts_so such op taken limit call stop a b c m n o p q r i j so more cut = record {
     rows = so.rows ++ more.rows;
-    does = does_more a b c so.rows more.rows so.advances.does more.does;
+    did = does_more does a b c so.rows more.rows so.advances.did more.did;
     untold = more.untold;
     are_untold = subst (λ at. AreUntold c at more.untold) so.is_call.own more.are_untold;
     cut_off = subst (λ (rows : List (JournalRow T)). IsCutOff i limit call rows) (sym (append_assoc so.rows more.rows more.untold)) cut;
@@ -189,8 +189,8 @@ module _ {T C E R S : Type 0} (hands : R → Noted T → R → Type 0) (serves :
   }
 
   -- a call that was cut off in its next look or store call
-  pub cut_step : (op limit taken : ℕ) (call : Call T) (stop : Stop) (a b c : DiaryState T C E) (m n o : R) (p q r : S) (i j : ℕ)
-      → CallsAs hands serves op taken call None a m p i b n q j → CutsStep hands serves IsLookOrCall op j stop b n q c o r → taken + 1 ≤ limit → CutsOff hands serves i limit call stop a m p c o r
+  pub cut_step : (op limit taken : ℕ) (call : Call T) (stop : Stop) (a b c : KeeperState T C E) (m n o : R) (p q r : S) (i j : ℕ)
+      → CallsAs hands serves does op taken call None a m p i b n q j → CutsStep hands serves does IsLookOrCall op j stop b n q c o r → taken + 1 ≤ limit → CutsOff hands serves does i limit call stop a m p c o r
   cut_step op limit taken call stop a b c m n o p q r i j so more few =
       let so_far = so.is_call in
       let rows : List (JournalRow T) = more.rows ++ more.untold in
@@ -210,8 +210,8 @@ module _ {T C E R S : Type 0} (hands : R → Noted T → R → Type 0) (serves :
       })
 
   -- a call that was cut off as its operation was given up
-  pub cut_spent : (op limit : ℕ) (call : Call T) (stop : Stop) (a b c : DiaryState T C E) (m n o : R) (p q r : S) (i j : ℕ)
-      → CallsAs hands serves op limit call None a m p i b n q j → CutsStep hands serves IsGiveUp op j stop b n q c o r → CutsOff hands serves i limit call stop a m p c o r
+  pub cut_spent : (op limit : ℕ) (call : Call T) (stop : Stop) (a b c : KeeperState T C E) (m n o : R) (p q r : S) (i j : ℕ)
+      → CallsAs hands serves does op limit call None a m p i b n q j → CutsStep hands serves does IsGiveUp op j stop b n q c o r → CutsOff hands serves does i limit call stop a m p c o r
   cut_spent op limit call stop a b c m n o p q r i j so more =
       let so_far = so.is_call in
       let rows : List (JournalRow T) = more.rows ++ more.untold in

@@ -1,5 +1,5 @@
+pub mod Counting
 pub mod Adding
-pub mod Hearing
 pub mod Beginning
 pub mod Calling
 pub mod Asking

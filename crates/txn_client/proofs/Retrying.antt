@@ -7,6 +7,8 @@ use Rattle.txn_history.specs.declared.event.PlainAnswer.{PlainAnswer}
 use Rattle.txn_history.specs.declared.event.PlainAnswer.TheVariants as plain
 use Rattle.txn_history.specs.declared.event.Answer.{Answer}
 use Rattle.txn_history.specs.declared.event.Answer.TheVariants as answers
+use Rattle.txn_journals.specs.declared.rows.Step.{Step}
+use Rattle.txn_diary.specs.Keepers.{KeeperState}
 use Rattle.txn_client.specs.declared.retry.Tried.{Tried}
 use Rattle.txn_client.specs.declared.retry.Tried.TheVariants as trials
 use Rattle.txn_client.specs.declared.retry.Viewed.{Viewed}
@@ -71,31 +73,31 @@ module _ {T : Type 0} where
   pub answered_so : (answer told : Answer T) → trial_of answer ≡ trials.Answered told → (answer ≡ told) × GivesNoView told × (told ≡ conflict → ⊥)
   answered_so answer told h = let so = told_as answer told h in (so.0, subst GivesNoView so.0 so.1, λ same. so.2 (so.0 ∙ same))
 
-module _ {T C E R S F : Type 0} (hands : R → Noted T → R → Type 0) (serves : S → Request → Reply → S → Type 0) (limit : ℕ) (asks : T → Result (Option T) F → Type 0) where
+module _ {T C E R S F : Type 0} (hands : R → Noted T → R → Type 0) (serves : S → Request → Reply → S → Type 0) (does : KeeperState T C E → Step T → Option (Answer T) → KeeperState T C E → Type 0) (limit : ℕ) (asks : T → Result (Option T) F → Type 0) where
   -- an update that was answered so
-  pub updates_so : (viewed : Viewed T) (candidate : T) (old new : ClientState T C E R S) (answer told : Answer T) → asks viewed.value (Ok (Some candidate)) → MakesCall hands serves limit (update_of viewed candidate) (Some answer) old new → answer ≡ told → Updates hands serves limit asks viewed old told new
+  pub updates_so : (viewed : Viewed T) (candidate : T) (old new : ClientState T C E R S) (answer told : Answer T) → asks viewed.value (Ok (Some candidate)) → MakesCall hands serves does limit (update_of viewed candidate) (Some answer) old new → answer ≡ told → Updates hands serves does limit asks viewed old told new
   updates_so viewed candidate old new answer told asked made is = record {
     candidate = candidate;
     asked = asked;
-    made = subst (λ said. MakesCall hands serves limit (update_of viewed candidate) (Some said) old new) is made;
+    made = subst (λ said. MakesCall hands serves does limit (update_of viewed candidate) (Some said) old new) is made;
   }
 
   -- an update that was a conflict
-  pub conflicts_so : (viewed : Viewed T) (candidate : T) (old new : ClientState T C E R S) (answer : Answer T) → asks viewed.value (Ok (Some candidate)) → MakesCall hands serves limit (update_of viewed candidate) (Some answer) old new → trial_of answer ≡ trials.Conflict → Updates hands serves limit asks viewed old conflict new
+  pub conflicts_so : (viewed : Viewed T) (candidate : T) (old new : ClientState T C E R S) (answer : Answer T) → asks viewed.value (Ok (Some candidate)) → MakesCall hands serves does limit (update_of viewed candidate) (Some answer) old new → trial_of answer ≡ trials.Conflict → Updates hands serves does limit asks viewed old conflict new
   conflicts_so viewed candidate old new answer asked made is = updates_so viewed candidate old new answer conflict asked made (conflict_so answer is)
 
   -- a refresh that was answered so, after such an update
-  pub refreshes_so : (viewed : Viewed T) (old between new : ClientState T C E R S) (answer told : Answer T) → Updates hands serves limit asks viewed old conflict between → MakesCall hands serves limit (refresh_of viewed) (Some answer) between new → answer ≡ told → Refreshes hands serves limit asks viewed old told new
+  pub refreshes_so : (viewed : Viewed T) (old between new : ClientState T C E R S) (answer told : Answer T) → Updates hands serves does limit asks viewed old conflict between → MakesCall hands serves does limit (refresh_of viewed) (Some answer) between new → answer ≡ told → Refreshes hands serves does limit asks viewed old told new
   refreshes_so viewed old between new answer told updates made is = record {
     between = between;
     updates = updates;
-    made = subst (λ said. MakesCall hands serves limit (refresh_of viewed) (Some said) between new) is made;
+    made = subst (λ said. MakesCall hands serves does limit (refresh_of viewed) (Some said) between new) is made;
   }
 
   -- one round more
-  pub rounds_more : (count : ℕ) (viewed last next : Viewed T) (old between new : ClientState T C E R S) → Rounds hands serves limit asks count viewed old last between → Refreshes hands serves limit asks last between (gives next) new → Rounds hands serves limit asks (count + 1) viewed old next new
-  rounds_more count viewed last next old between new rounds round = subst (λ n. Rounds hands serves limit asks n viewed old next new) (sym (add-one count)) (last, between, rounds, round)
+  pub rounds_more : (count : ℕ) (viewed last next : Viewed T) (old between new : ClientState T C E R S) → Rounds hands serves does limit asks count viewed old last between → Refreshes hands serves does limit asks last between (gives next) new → Rounds hands serves does limit asks (count + 1) viewed old next new
+  rounds_more count viewed last next old between new rounds round = subst (λ n. Rounds hands serves does limit asks n viewed old next new) (sym (add-one count)) (last, between, rounds, round)
 
 -- what holds after so many rounds
-pub after_rounds : {T C E R S F : Type 0} {hands : R → Noted T → R → Type 0} {serves : S → Request → Reply → S → Type 0} {limit : ℕ} {asks : T → Result (Option T) F → Type 0} {attempts : ℕ} {viewed : Viewed T} {old : ClientState T C E R S} {holds : Viewed T → ClientState T C E R S → Type 0} (count : ℕ) (last : Viewed T) (between : ClientState T C E R S) → count < attempts → Rounds hands serves limit asks count viewed old last between → holds last between → AfterRounds hands serves limit asks attempts viewed old holds
+pub after_rounds : {T C E R S F : Type 0} {hands : R → Noted T → R → Type 0} {serves : S → Request → Reply → S → Type 0} {does : KeeperState T C E → Step T → Option (Answer T) → KeeperState T C E → Type 0} {limit : ℕ} {asks : T → Result (Option T) F → Type 0} {attempts : ℕ} {viewed : Viewed T} {old : ClientState T C E R S} {holds : Viewed T → ClientState T C E R S → Type 0} (count : ℕ) (last : Viewed T) (between : ClientState T C E R S) → count < attempts → Rounds hands serves does limit asks count viewed old last between → holds last between → AfterRounds hands serves does limit asks attempts viewed old holds
 after_rounds count last between fewer rounds so = record { count = count; fewer = fewer; last = last; between = between; rounds = rounds; so = so }

@@ -12,16 +12,16 @@ use Rattle.txn_journals.specs.declared.rows.Act.TheVariants as acts
 use Rattle.txn_journals.specs.declared.rows.Step.{Step}
 use Rattle.txn_journals.specs.declared.rows.Step.TheVariants as steps
 use Rattle.txn_journals.specs.declared.rows.JournalRow.{JournalRow}
-use Rattle.txn_diary.specs.Diaries.{DiaryState, asked_in}
+use Rattle.txn_diary.specs.Keepers.{KeeperState, keeper_asked, DoesAll}
 use Rattle.txn_diary.specs.Reading.{with_answer, answers_from}
 use Rattle.txn_client.specs.declared.stop.Stop.{Stop}
 use Rattle.txn_client.specs.declared.stop.Stop.TheVariants as stops
 use Rattle.txn_client.specs.Noted.{Noted}
 use Rattle.txn_client.specs.Happenings.{happens_from, begun_with, HappensAll, HappensUntil}
 
--- A client: its diary, its recorder, its store, and whether it goes on. It ends where its recorder failed or memory was wanting in the middle of a call.
+-- A client: what it keeps, its recorder, its store, and whether it goes on. It ends where its recorder failed or memory was wanting in the middle of a call.
 pub record ClientState (T C E R S : Type 0) : Type 0 where
-  pub diary : DiaryState T C E
+  pub keeper : KeeperState T C E
   pub recorder : R
   pub store : S
   pub goes_on : Bool
@@ -76,36 +76,32 @@ module _ {T : Type 0} where
     pub spent : (end ≡ []) ⊎ (length turns ≡ limit)
 
 module _ {T C E : Type 0} where
-  -- The same client did these things, the oldest first.
-  pub record Does (old : DiaryState T C E) (rows : List (JournalRow T)) (new : DiaryState T C E) : Type 0 where
-    pub rows_are : new.rows ≡ old.rows ++ rows
-    pub client : new.client ≡ old.client
-    pub page : new.page ≡ old.page
-    pub codec : new.codec ≡ old.codec
-    pub epochs : new.epochs ≡ old.epochs
+  -- how many operations of a client began
+  abbrev pub begun_in : KeeperState T C E → ℕ
+  begun_in keeper = length keeper.part.operations
 
 module _ {T C E : Type 0} where
   -- a store call of this operation, for what it asks
-  abbrev pub IsStoreCall : DiaryState T C E → ℕ → Step T → Type 0
-  IsStoreCall diary op (steps.Act o (acts.Receive receipt)) = (o ≡ op) × (asked_in diary op ≡ Some (Store receipt.request))
-  IsStoreCall diary op (steps.Act o (acts.Fails request)) = (o ≡ op) × (asked_in diary op ≡ Some (Store request))
-  IsStoreCall diary op (steps.Act o acts.Look) = ⊥
-  IsStoreCall diary op (steps.Act o (acts.GiveUp left)) = ⊥
-  IsStoreCall diary op (steps.Act o acts.Lacks) = ⊥
-  IsStoreCall diary op (steps.Begin call) = ⊥
-  IsStoreCall diary op (steps.Killed lefts) = ⊥
+  abbrev pub IsStoreCall : KeeperState T C E → ℕ → Step T → Type 0
+  IsStoreCall keeper op (steps.Act o (acts.Receive receipt)) = (o ≡ op) × (keeper_asked keeper op ≡ Some (Store receipt.request))
+  IsStoreCall keeper op (steps.Act o (acts.Fails request)) = (o ≡ op) × (keeper_asked keeper op ≡ Some (Store request))
+  IsStoreCall keeper op (steps.Act o acts.Look) = ⊥
+  IsStoreCall keeper op (steps.Act o (acts.GiveUp left)) = ⊥
+  IsStoreCall keeper op (steps.Act o acts.Lacks) = ⊥
+  IsStoreCall keeper op (steps.Begin call) = ⊥
+  IsStoreCall keeper op (steps.Killed lefts) = ⊥
 
-  -- these rows, which the diary has not, are none, or the one of a store call of this operation, for what it asks
-  abbrev pub AreUntold : DiaryState T C E → ℕ → List (JournalRow T) → Type 0
-  AreUntold diary op [] = Unit {0}
-  AreUntold diary op (row ∷ []) = IsStoreCall diary op row.step
-  AreUntold diary op (row ∷ next ∷ rows) = ⊥
+  -- these rows, which the client has not taken, are none, or the one of a store call of this operation, for what it asks
+  abbrev pub AreUntold : KeeperState T C E → ℕ → List (JournalRow T) → Type 0
+  AreUntold keeper op [] = Unit {0}
+  AreUntold keeper op (row ∷ []) = IsStoreCall keeper op row.step
+  AreUntold keeper op (row ∷ next ∷ rows) = ⊥
 
-module _ {T C E R S : Type 0} (hands : R → Noted T → R → Type 0) (serves : S → Request → Reply → S → Type 0) where
-  -- This stopped a client in the middle of a call, of at most so many looks and store calls, before which so many operations began. What it did of the call stands in its diary, but perhaps for one store call, which no row tells. What happened to its recorder and its store is all that the rows before the last tell, and of what the last one tells the first things.
-  pub record CutsOff (begun limit : ℕ) (call : Call T) (stop : Stop) (old : DiaryState T C E) (recorder : R) (store : S) (new : DiaryState T C E) (recorder' : R) (store' : S) : Type 0 where
+module _ {T C E R S : Type 0} (hands : R → Noted T → R → Type 0) (serves : S → Request → Reply → S → Type 0) (does : KeeperState T C E → Step T → Option (Answer T) → KeeperState T C E → Type 0) where
+  -- This stopped a client in the middle of a call, of at most so many looks and store calls, before which so many operations began. What it did of the call are its rows, and what it keeps follows, but perhaps for one store call, which no row tells. What happened to its recorder and its store is all that the rows before the last tell, and of what the last one tells the first things.
+  pub record CutsOff (begun limit : ℕ) (call : Call T) (stop : Stop) (old : KeeperState T C E) (recorder : R) (store : S) (new : KeeperState T C E) (recorder' : R) (store' : S) : Type 0 where
     pub rows : List (JournalRow T)
-    pub does : Does old rows new
+    pub did : DoesAll does old rows new
     pub untold : List (JournalRow T)
     pub are_untold : AreUntold new (begun + 1) untold
     pub cut_off : IsCutOff begun limit call (rows ++ untold)
@@ -121,18 +117,18 @@ module _ {T C E R S : Type 0} (hands : R → Noted T → R → Type 0) (serves :
   -- The client went on before, and this stopped it in the middle of this call, of at most so many looks and store calls: it makes no further call.
   pub record Ends (limit : ℕ) (call : Call T) (stop : Stop) (old new : ClientState T C E R S) : Type 0 where
     pub went_on : old.goes_on ≡ true
-    pub cuts_off : CutsOff (begun_with 0 old.diary.rows) limit call stop old.diary old.recorder old.store new.diary new.recorder new.store
+    pub cuts_off : CutsOff (begun_in old.keeper) limit call stop old.keeper old.recorder old.store new.keeper new.recorder new.store
     pub ended : new.goes_on ≡ false
 
-module _ {T C E R S : Type 0} (hands : R → Noted T → R → Type 0) (serves : S → Request → Reply → S → Type 0) where
-  -- A client that went on and goes on made this call, of at most so many looks and store calls, with this answer, if one: it has the rows of one call more, and what happens with them happened to its recorder and its store, and nothing else.
+module _ {T C E R S : Type 0} (hands : R → Noted T → R → Type 0) (serves : S → Request → Reply → S → Type 0) (does : KeeperState T C E → Step T → Option (Answer T) → KeeperState T C E → Type 0) where
+  -- A client that went on and goes on made this call, of at most so many looks and store calls, with this answer, if one: what it did are the rows of one call, and what happens with them happened to its recorder and its store, and nothing else.
   pub record MakesCall (limit : ℕ) (call : Call T) (answer : Option (Answer T)) (old new : ClientState T C E R S) : Type 0 where
     pub went_on : old.goes_on ≡ true
     pub op : ℕ
     pub rows : List (JournalRow T)
-    pub is_call : IsCall (begun_with 0 old.diary.rows) op limit call answer rows
-    pub does : Does old.diary rows new.diary
-    pub happened : HappensAll hands serves old.recorder old.store (happens_from (begun_with 0 old.diary.rows) rows) new.recorder new.store
+    pub is_call : IsCall (begun_in old.keeper) op limit call answer rows
+    pub did : DoesAll does old.keeper rows new.keeper
+    pub happened : HappensAll hands serves old.recorder old.store (happens_from (begun_in old.keeper) rows) new.recorder new.store
     pub goes_on : new.goes_on ≡ true
 
   -- Why a call of at most so many looks and store calls has no answer, where its begin is refused so, if it is, and what that leaves.
@@ -140,6 +136,6 @@ module _ {T C E R S : Type 0} (hands : R → Noted T → R → Type 0) (serves :
     abbrev pub Stops : ℕ → Call T → ClientState T C E R S → ClientState T C E R S → Stop → Type 0
     Stops limit call old new (stops.Refused fault) = (new ≡ old) × (old.goes_on ≡ true) × ((refusal ≡ Some fault) ⊎ (fault ≡ faults.NoMemory))
     Stops limit call old new stops.StepsSpent = MakesCall limit call None old new
-    Stops limit call old new (stops.Unrecorded error) = Ends hands serves limit call (stops.Unrecorded error) old new
-    Stops limit call old new stops.NoMemory = Ends hands serves limit call stops.NoMemory old new
+    Stops limit call old new (stops.Unrecorded error) = Ends hands serves does limit call (stops.Unrecorded error) old new
+    Stops limit call old new stops.NoMemory = Ends hands serves does limit call stops.NoMemory old new
     Stops limit call old new stops.Ended = (new ≡ old) × (old.goes_on ≡ false)

@@ -11,7 +11,8 @@ use Rattle.txn_history.specs.declared.event.Answer.{Answer}
 use Rattle.txn_history.specs.declared.event.Answer.TheVariants as answers
 use Rattle.txn_history.specs.declared.event.ViewCall.TheVariants as view_calls
 use Rattle.txn_machine.specs.Machine.{seen_view, used_by}
-use Rattle.txn_diary.specs.Diaries.{refusal_of}
+use Rattle.txn_journals.specs.declared.rows.Step.{Step}
+use Rattle.txn_diary.specs.Keepers.{KeeperState, keeper_refusal}
 use Rattle.txn_client.specs.declared.retry.Applied.{Applied}
 use Rattle.txn_client.specs.declared.retry.Applied.TheVariants as applied
 use Rattle.txn_client.specs.declared.retry.Tried.{Tried}
@@ -46,7 +47,7 @@ module _ {T : Type 0} where
 module _ {T C E R S : Type 0} where
   -- a view of a client as the client has it: where it stands, it is at this version, which says this
   abbrev pub viewed_in : ClientState T C E R S → ℕ → Option (Viewed T)
-  viewed_in client view = option_map (λ v. record { view = view; id = v.id; value = v.object }) (seen_view (used_by client.diary.part.views (Some view)))
+  viewed_in client view = option_map (λ v. record { view = view; id = v.id; value = v.object }) (seen_view (used_by client.keeper.part.views (Some view)))
 
   -- Why a view was not taken from a client: it has none of this number, or memory was wanting for the copy of its value.
   pub data NotViewed (client : ClientState T C E R S) (view : ℕ) (stop : Stop) : Type 0 where
@@ -65,18 +66,18 @@ module _ {T : Type 0} where
   trial_of (answers.Held view id value epoch) = trials.Answered (answers.Held view id value epoch)
 
 -- Each call takes at most `limit` looks and store calls. `asks` says what the mutator may ask for, of a value.
-module _ {T C E R S F : Type 0} (hands : R → Noted T → R → Type 0) (serves : S → Request → Reply → S → Type 0) (limit : ℕ) (asks : T → Result (Option T) F → Type 0) where
+module _ {T C E R S F : Type 0} (hands : R → Noted T → R → Type 0) (serves : S → Request → Reply → S → Type 0) (does : KeeperState T C E → Step T → Option (Answer T) → KeeperState T C E → Type 0) (limit : ℕ) (asks : T → Result (Option T) F → Type 0) where
   -- The mutator asked for a candidate, made of the value that is viewed, and the update of the view by this candidate was answered so.
   pub record Updates (viewed : Viewed T) (old : ClientState T C E R S) (answer : Answer T) (new : ClientState T C E R S) : Type 0 where
     pub candidate : T
     pub asked : asks viewed.value (Ok (Some candidate))
-    pub made : MakesCall hands serves limit (update_of viewed candidate) (Some answer) old new
+    pub made : MakesCall hands serves does limit (update_of viewed candidate) (Some answer) old new
 
   -- Such an update was a conflict, and the refresh of the view, which was made next, was answered so.
   pub record Refreshes (viewed : Viewed T) (old : ClientState T C E R S) (answer : Answer T) (new : ClientState T C E R S) : Type 0 where
     pub between : ClientState T C E R S
     pub updates : Updates viewed old conflict between
-    pub made : MakesCall hands serves limit (refresh_of viewed) (Some answer) between new
+    pub made : MakesCall hands serves does limit (refresh_of viewed) (Some answer) between new
 
   -- So many rounds were made, one after another, from a version that is viewed. A round is an update that was a conflict and a refresh that gave the view as it is viewed next.
   abbrev pub Rounds : ℕ → Viewed T → ClientState T C E R S → Viewed T → ClientState T C E R S → Type 0
@@ -107,7 +108,7 @@ module _ {T C E R S F : Type 0} (hands : R → Noted T → R → Type 0) (serves
   module _ (epoch_of : E → T → ℕ) where
     -- this call of a client has no answer, for this reason
     abbrev pub CallStops : Call T → ClientState T C E R S → Stop → ClientState T C E R S → Type 0
-    CallStops call old stop new = Stops hands serves (refusal_of (epoch_of old.diary.epochs) old.diary call) limit call old new stop
+    CallStops call old stop new = Stops hands serves does (keeper_refusal (epoch_of old.keeper.epochs) old.keeper call) limit call old new stop
 
     -- why there was no further round from a version that is viewed
     pub data StopsAt (viewed : Viewed T) (old : ClientState T C E R S) (stop : Stop) (new : ClientState T C E R S) : Type 0 where

@@ -1,18 +1,16 @@
--- Words of private contracts: how a client's diary, its recorder and its store go on together.
-use Rattle.std.specs.Prelude.{◌≡◌, ◌⊎◌, ◌+◌, ◌-◌, ℕ, All, slice_get, length, List, [], ◌∷◌, ◌++◌, Option, Some, None, Result, Ok, Err}
-use Rattle.txn_history.specs.declared.event.ToldOf.TheVariants as told
+-- Words of private contracts: how what a client keeps, its recorder and its store go on together.
+use Rattle.std.specs.Prelude.{◌≡◌, ◌⊎◌, ◌+◌, ◌-◌, ℕ, All, length, List, [], ◌∷◌, ◌++◌, Option, Some, None, Result, Ok, Err}
 use Rattle.txn_history.specs.declared.event.EventFault.{EventFault}
 use Rattle.txn_history.specs.declared.event.EventFault.TheVariants as faults
 use Rattle.txn_history.specs.declared.event.Call.{Call}
 use Rattle.txn_history.specs.declared.event.Answer.{Answer}
-use Rattle.txn_history.specs.Trace.{Told}
 use Rattle.txn_store.specs.declared.request.Request.{Request}
 use Rattle.txn_store.specs.declared.request.Reply.{Reply}
 use Rattle.txn_journals.specs.declared.rows.JournalRow.{JournalRow}
 use Rattle.txn_journals.specs.declared.rows.Act.{Act}
 use Rattle.txn_journals.specs.declared.rows.Step.{Step}
 use Rattle.txn_journals.specs.declared.rows.Step.TheVariants as steps
-use Rattle.txn_diary.specs.Diaries.{DiaryState}
+use Rattle.txn_diary.specs.Keepers.{KeeperState, DoesAll}
 use Rattle.txn_client.specs.declared.stop.Stop.{Stop}
 use Rattle.txn_client.specs.declared.stop.Stop.TheVariants as stops
 use Rattle.txn_client.specs.declared.work.Heard.{Heard}
@@ -21,35 +19,12 @@ use Rattle.txn_client.specs.declared.work.Begun.{Begun}
 use Rattle.txn_client.specs.declared.work.Begun.TheVariants as begins
 use Rattle.txn_client.specs.declared.work.Done.{Done}
 use Rattle.txn_client.specs.declared.work.Done.TheVariants as dones
-use Rattle.txn_client.specs.Noted.{Noted, Asked, Answered}
+use Rattle.txn_client.specs.Noted.{Noted, Asked}
 use Rattle.txn_client.specs.Happenings.{Happening, Handed, row_happens, happens_from, begun_with, HappensAll, HappensUntil}
 use Rattle.txn_diary.specs.Reading.{with_answer, answers_from}
-use Rattle.txn_client.specs.Calling.{IsLookOrCall, IsActOf, IsCall, AreUntold, Does}
+use Rattle.txn_client.specs.Calling.{IsLookOrCall, IsActOf, IsCall, AreUntold}
 
 module _ {T : Type 0} where
-  -- what is heard of what was told
-  abbrev pub heard_of : Told T → Heard T
-  heard_of (told.Answered op answer) = heards.Answered answer
-  heard_of _ = heards.Goes
-
-  -- what happens with what was told of this operation
-  abbrev pub told_happens : ℕ → Told T → List (Happening T)
-  told_happens op (told.Answered _ answer) = Handed (Answered op answer) ∷ []
-  told_happens op _ = []
-
-  -- the call that a step begins, where it begins one
-  abbrev pub call_of : Step T → Option (Call T)
-  call_of (steps.Begin call) = Some call
-  call_of _ = None
-
-  abbrev pub call_in : Option (JournalRow T) → Option (Call T)
-  call_in None = None
-  call_in (Some row) = call_of row.step
-
-  -- the call that the last of these rows begins, where it begins one
-  abbrev pub last_begun : List (JournalRow T) → Option (Call T)
-  last_begun rows = call_in (slice_get rows (length rows - 1))
-
   -- what is heard of an answer
   abbrev pub heard_in : Option (Answer T) → Heard T
   heard_in None = heards.Goes
@@ -88,44 +63,44 @@ module _ {T : Type 0} where
   IsOneOrNone such op (row ∷ []) = IsActOf op such row.step
   IsOneOrNone such op (row ∷ next ∷ rows) = ⊥
 
-module _ {T C E R S : Type 0} (hands : R → Noted T → R → Type 0) (serves : S → Request → Reply → S → Type 0) where
+module _ {T C E R S : Type 0} (hands : R → Noted T → R → Type 0) (serves : S → Request → Reply → S → Type 0) (does : KeeperState T C E → Step T → Option (Answer T) → KeeperState T C E → Type 0) where
   -- The same client did these things, what happens with them happened to its recorder and its store, and its count of begins went on.
-  pub record Advances (old : DiaryState T C E) (recorder : R) (store : S) (begun : ℕ) (rows : List (JournalRow T)) (new : DiaryState T C E) (recorder' : R) (store' : S) (begun' : ℕ) : Type 0 where
-    pub does : Does old rows new
+  pub record Advances (old : KeeperState T C E) (recorder : R) (store : S) (begun : ℕ) (rows : List (JournalRow T)) (new : KeeperState T C E) (recorder' : R) (store' : S) (begun' : ℕ) : Type 0 where
+    pub did : DoesAll does old rows new
     pub happened : HappensAll hands serves recorder store (happens_from begun rows) recorder' store'
     pub begun_is : begun' ≡ begun_with begun rows
 
   -- An operation acts once, by such an act, and this is heard of it.
-  pub record TakesStep (such : Act → Type 0) (op : ℕ) (old : DiaryState T C E) (recorder : R) (store : S) (begun : ℕ) (heard : Heard T) (new : DiaryState T C E) (recorder' : R) (store' : S) (begun' : ℕ) : Type 0 where
+  pub record TakesStep (such : Act → Type 0) (op : ℕ) (old : KeeperState T C E) (recorder : R) (store : S) (begun : ℕ) (heard : Heard T) (new : KeeperState T C E) (recorder' : R) (store' : S) (begun' : ℕ) : Type 0 where
     pub row : JournalRow T
     pub acts : IsActOf op such row.step
     pub heard_is : heard ≡ heard_in row.answer
     pub advances : Advances old recorder store begun (row ∷ []) new recorder' store' begun'
 
   -- An operation acts on what came of the store call that it asked for, and this is heard of it. What happens with its row is that the request was handed over, that the store was called, which happened before, and the rest, which happens here.
-  pub record TakesAsked (op : ℕ) (request : Request) (called : Happening T) (old : DiaryState T C E) (recorder : R) (store : S) (begun : ℕ) (heard : Heard T) (new : DiaryState T C E) (recorder' : R) (store' : S) (begun' : ℕ) : Type 0 where
+  pub record TakesAsked (op : ℕ) (request : Request) (called : Happening T) (old : KeeperState T C E) (recorder : R) (store : S) (begun : ℕ) (heard : Heard T) (new : KeeperState T C E) (recorder' : R) (store' : S) (begun' : ℕ) : Type 0 where
     pub row : JournalRow T
     pub acts : IsActOf op IsLookOrCall row.step
     pub heard_is : heard ≡ heard_in row.answer
-    pub does : Does old (row ∷ []) new
+    pub did : DoesAll does old (row ∷ []) new
     pub rest : List (Happening T)
     pub row_is : row_happens op row ≡ Handed (Asked op request) ∷ called ∷ rest
     pub happened : HappensAll hands serves recorder store rest recorder' store'
     pub begun_is : begun' ≡ begun
 
-  -- This stopped a client as one of its operations was to act, by such an act: of it the diary has a row, or none, and none perhaps though the store was called.
-  pub record CutsStep (such : Act → Type 0) (op begun : ℕ) (stop : Stop) (old : DiaryState T C E) (recorder : R) (store : S) (new : DiaryState T C E) (recorder' : R) (store' : S) : Type 0 where
+  -- This stopped a client as one of its operations was to act, by such an act: of it there is a row, or none, and none perhaps though the store was called.
+  pub record CutsStep (such : Act → Type 0) (op begun : ℕ) (stop : Stop) (old : KeeperState T C E) (recorder : R) (store : S) (new : KeeperState T C E) (recorder' : R) (store' : S) : Type 0 where
     pub rows : List (JournalRow T)
-    pub does : Does old rows new
+    pub did : DoesAll does old rows new
     pub untold : List (JournalRow T)
     pub are_untold : AreUntold new op untold
     pub acts : IsOneOrNone such op (rows ++ untold)
     pub until : HappensUntil hands serves stop (happens_from begun (rows ++ untold)) recorder store recorder' store'
 
   -- The same after what the operation asks for was handed over, and the store was called for it, which happened before.
-  pub record CutsAsked (op : ℕ) (request : Request) (called : Happening T) (stop : Stop) (old : DiaryState T C E) (recorder : R) (store : S) (new : DiaryState T C E) (recorder' : R) (store' : S) : Type 0 where
+  pub record CutsAsked (op : ℕ) (request : Request) (called : Happening T) (stop : Stop) (old : KeeperState T C E) (recorder : R) (store : S) (new : KeeperState T C E) (recorder' : R) (store' : S) : Type 0 where
     pub rows : List (JournalRow T)
-    pub does : Does old rows new
+    pub did : DoesAll does old rows new
     pub untold : List (JournalRow T)
     pub are_untold : AreUntold new op untold
     pub row : JournalRow T
@@ -136,27 +111,27 @@ module _ {T C E R S : Type 0} (hands : R → Noted T → R → Type 0) (serves :
     pub until : HappensUntil hands serves stop rest recorder store recorder' store'
 
   -- This stopped a client in the begin of a call.
-  pub record CutsBegin (call : Call T) (begun : ℕ) (stop : Stop) (old : DiaryState T C E) (recorder : R) (store : S) (new : DiaryState T C E) (recorder' : R) (store' : S) : Type 0 where
+  pub record CutsBegin (call : Call T) (begun : ℕ) (stop : Stop) (old : KeeperState T C E) (recorder : R) (store : S) (new : KeeperState T C E) (recorder' : R) (store' : S) : Type 0 where
     pub row : JournalRow T
-    pub does : Does old (row ∷ []) new
+    pub did : DoesAll does old (row ∷ []) new
     pub begins : row.step ≡ steps.Begin call
     pub until : HappensUntil hands serves stop (happens_from begun (row ∷ [])) recorder store recorder' store'
 
   -- A call is this operation's so far, of so many looks and store calls, with this answer, if one.
-  pub record CallsAs (op taken : ℕ) (call : Call T) (answer : Option (Answer T)) (old : DiaryState T C E) (recorder : R) (store : S) (begun : ℕ) (new : DiaryState T C E) (recorder' : R) (store' : S) (begun' : ℕ) : Type 0 where
+  pub record CallsAs (op taken : ℕ) (call : Call T) (answer : Option (Answer T)) (old : KeeperState T C E) (recorder : R) (store : S) (begun : ℕ) (new : KeeperState T C E) (recorder' : R) (store' : S) (begun' : ℕ) : Type 0 where
     pub rows : List (JournalRow T)
     pub is_call : IsCallSoFar begun op taken call answer rows
     pub advances : Advances old recorder store begun rows new recorder' store' begun'
 
   -- A call was made, of at most so many looks and store calls, with this answer, if one.
-  pub record Calls (limit : ℕ) (call : Call T) (answer : Option (Answer T)) (old : DiaryState T C E) (recorder : R) (store : S) (begun : ℕ) (new : DiaryState T C E) (recorder' : R) (store' : S) (begun' : ℕ) : Type 0 where
+  pub record Calls (limit : ℕ) (call : Call T) (answer : Option (Answer T)) (old : KeeperState T C E) (recorder : R) (store : S) (begun : ℕ) (new : KeeperState T C E) (recorder' : R) (store' : S) (begun' : ℕ) : Type 0 where
     pub op : ℕ
     pub rows : List (JournalRow T)
     pub is_call : IsCall begun op limit call answer rows
     pub advances : Advances old recorder store begun rows new recorder' store' begun'
 
   -- A call begins, and tells this answer, if it tells one.
-  pub record BeginsWith (call : Call T) (answer : Option (Answer T)) (old : DiaryState T C E) (recorder : R) (store : S) (begun : ℕ) (new : DiaryState T C E) (recorder' : R) (store' : S) (begun' : ℕ) : Type 0 where
+  pub record BeginsWith (call : Call T) (answer : Option (Answer T)) (old : KeeperState T C E) (recorder : R) (store : S) (begun : ℕ) (new : KeeperState T C E) (recorder' : R) (store' : S) (begun' : ℕ) : Type 0 where
     pub row : JournalRow T
     pub begins : row.step ≡ steps.Begin call
     pub answer_is : row.answer ≡ answer
@@ -165,7 +140,7 @@ module _ {T C E R S : Type 0} (hands : R → Noted T → R → Type 0) (serves :
   -- A call begins, or is refused.
   module _ (refusal : Option EventFault) where
     -- A refused begin leaves all, and names its reason.
-    pub record IsRefused (fault : EventFault) (old : DiaryState T C E) (recorder : R) (store : S) (begun : ℕ) (new : DiaryState T C E) (recorder' : R) (store' : S) (begun' : ℕ) : Type 0 where
+    pub record IsRefused (fault : EventFault) (old : KeeperState T C E) (recorder : R) (store : S) (begun : ℕ) (new : KeeperState T C E) (recorder' : R) (store' : S) (begun' : ℕ) : Type 0 where
       pub same : new ≡ old
       pub recorder_is : recorder' ≡ recorder
       pub store_is : store' ≡ store
@@ -173,13 +148,13 @@ module _ {T C E R S : Type 0} (hands : R → Noted T → R → Type 0) (serves :
       pub reason : (refusal ≡ Some fault) ⊎ (fault ≡ faults.NoMemory)
 
     -- what became of a begin
-    abbrev pub IsBegun : Call T → DiaryState T C E → R → S → ℕ → Begun T → DiaryState T C E → R → S → ℕ → Type 0
+    abbrev pub IsBegun : Call T → KeeperState T C E → R → S → ℕ → Begun T → KeeperState T C E → R → S → ℕ → Type 0
     IsBegun call old recorder store begun (begins.Refused fault) new recorder' store' begun' = IsRefused fault old recorder store begun new recorder' store' begun'
     IsBegun call old recorder store begun (begins.Goes op) new recorder' store' begun' = (op ≡ begun + 1) × BeginsWith call None old recorder store begun new recorder' store' begun'
     IsBegun call old recorder store begun (begins.Answered answer) new recorder' store' begun' = BeginsWith call (Some answer) old recorder store begun new recorder' store' begun'
 
     -- what became of a call of at most so many looks and store calls
-    abbrev pub IsDone : ℕ → Call T → DiaryState T C E → R → S → ℕ → Done T → DiaryState T C E → R → S → ℕ → Type 0
+    abbrev pub IsDone : ℕ → Call T → KeeperState T C E → R → S → ℕ → Done T → KeeperState T C E → R → S → ℕ → Type 0
     IsDone limit call old recorder store begun (dones.Answered answer) new recorder' store' begun' = Calls limit call (Some answer) old recorder store begun new recorder' store' begun'
     IsDone limit call old recorder store begun dones.Spent new recorder' store' begun' = Calls limit call None old recorder store begun new recorder' store' begun'
     IsDone limit call old recorder store begun (dones.Refused fault) new recorder' store' begun' = IsRefused fault old recorder store begun new recorder' store' begun'

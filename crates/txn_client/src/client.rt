@@ -5,15 +5,16 @@ use crate::stop::Stop;
 use crate::work::{Work, settled};
 use std::alloc::{AllocError, Global};
 use std::marker::Model;
-use txn_diary::diary::Diary;
+use txn_diary::keeper::Keeper;
 use txn_history::event::{Answer, Call};
 use txn_types::codec::ObjectCodec;
 use txn_types::epoch::EpochField;
 
-/// One client of a store, with a diary, which hands what it does to a recorder as it happens: each call that it makes hands
-/// over what the call's rows of the journal tell, looks aside, and calls the store once for each reply that they tell.
+/// One client of a store, which hands what it does to a recorder as it happens: each call that it makes hands over what the
+/// call's rows tell, as a journal would have them, looks aside, and calls the store once for each reply that they tell. It keeps
+/// no journal itself.
 ///
-/// Clauses see its diary, its recorder, its store, and whether it goes on.
+/// Clauses see what it keeps, its recorder, its store, and whether it goes on.
 pub struct Client<T: Clone, C: ObjectCodec<T> + Drop, E: EpochField<T>, S, R: Recorder<T>> {
     work: Work<T, C, E, S, R>,
     goes_on: bool,
@@ -32,19 +33,15 @@ impl<T: Clone, C: ObjectCodec<T> + Drop, E: EpochField<T>, S: Drop, R: Recorder<
 
 impl<T: Clone, C: ObjectCodec<T> + Drop, E: EpochField<T>, S, R: Recorder<T>> Model
     for Client<T, C, E, S, R> {
-    ghost use Rattle.std.specs.Prelude.{◌≡◌, true};
     ghost use Rattle.std.specs.Coded.{codes};
     ghost use Rattle.txn_store.specs.Memory.{files_code};
-    ghost use Rattle.txn_client.specs.Happenings.{begun_with};
     ghost use Rattle.txn_client.specs.Calling.{ClientState};
 
     ghost Value = { ClientState T C E R S };
 
     ghost coded = { Prim.hlevel (codes, files_code) };
 
-    ghost view = { λ c. record { diary = c.work.diary; recorder = c.work.recorder; store = c.work.store; goes_on = c.goes_on } };
-
-    ghost invariant = { λ c. c.goes_on ≡ true → c.work.begun ≡ begun_with 0 c.work.diary.rows };
+    ghost view = { λ c. record { keeper = c.work.keeper; recorder = c.work.recorder; store = c.work.store; goes_on = c.goes_on } };
 }
 
 impl<
@@ -54,10 +51,10 @@ impl<
     S: Serve + Drop,
     R: Recorder<T> + Drop,
 > Client<T, C, E, S, R> {
-    ghost use Rattle.std.specs.Prelude.{◌≡◌, ◌≤◌, [], Some, true, IfOk, IfErr};
+    ghost use Rattle.std.specs.Prelude.{◌≡◌, ◌≤◌, Some, true, IfOk, IfErr};
     ghost use Rattle.txn_types.specs.Clones.{IsExactClone};
     ghost use Rattle.txn_journals.specs.Parts.{no_part};
-    ghost use Rattle.txn_diary.specs.Diaries.{refusal_of};
+    ghost use Rattle.txn_diary.specs.Keepers.{keeper_refusal, Does};
     ghost use Rattle.txn_client.specs.Calling.{MakesCall, Stops};
 
     /// A client of this number, at least 1, that has done nothing, over a store and a recorder. A listing
@@ -73,15 +70,14 @@ impl<
     ) -> Result<Client<T, C, E, S, R>, AllocError>
         requires some { 1 ≤ client }
         requires paged { 1 ≤ page }
-        ensures { IfOk result (λ made. made ≡ record { diary = record { client = client; page = page; codec = codec; epochs = epochs; part = no_part; rows = [] }; recorder = recorder; store = store; goes_on = true }) }
+        ensures { IfOk result (λ made. made ≡ record { keeper = record { client = client; page = page; codec = codec; epochs = epochs; part = no_part; alive = true }; recorder = recorder; store = store; goes_on = true }) }
     {
-        let diary = Diary::new(alloc, client, codec, epochs, page)?;
+        let keeper = Keeper::new(alloc, client, codec, epochs, page)?;
         let work = Work {
             alloc,
-            diary,
+            keeper,
             store,
             recorder,
-            begun: 0,
         };
         Ok(Client {
             work,
@@ -89,11 +85,11 @@ impl<
         })
     }
 
-    /// What the client did, as its diary has it.
-    pub fn diary(&self) -> &Diary<T, C, E>
-        ensures { result.now ≡ self.now.diary }
+    /// What it keeps.
+    pub fn keeper(&self) -> &Keeper<T, C, E>
+        ensures { result.now ≡ self.now.keeper }
     {
-        &self.work.diary
+        &self.work.keeper
     }
 
     /// Its recorder.
@@ -128,15 +124,17 @@ impl<
     /// [`Stop::Unrecorded`] and [`Stop::NoMemory`] it makes no further call, and each is [`Stop::Ended`].
     pub fn call(&mut self, call: Call<T>, steps: u64) -> Result<Answer<T>, Stop>
         requires { IsExactClone T.is_clone }
-        ensures ok { IfOk result (λ answer. MakesCall R.hands S.serves steps call (Some answer) self.old self.new) }
-        ensures err { IfErr result (Stops R.hands S.serves (refusal_of (E.epoch_of self.old.diary.epochs) self.old.diary call) steps call self.old self.new) }
+        ensures ok { IfOk result (λ answer. MakesCall R.hands S.serves (Does C.encoded C.decoded E.epoch_of E.with_epoch) steps call (Some answer) self.old self.new) }
+        ensures err { IfErr result (Stops R.hands S.serves (Does C.encoded C.decoded E.epoch_of E.with_epoch) (keeper_refusal (E.epoch_of self.old.keeper.epochs) self.old.keeper call) steps call self.old self.new) }
     {
         if !self.goes_on {
             drop(call);
             return Err(Stop::Ended);
         }
         self.goes_on = false;
-        let done = self.work.call(call, steps)?;
+        let done = self.work.call(&call, steps);
+        drop(call);
+        let done = done?;
         self.goes_on = true;
         settled(done)
     }

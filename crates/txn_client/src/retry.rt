@@ -97,6 +97,7 @@ impl<
     ghost use Rattle.std.specs.Prelude.{◌≡◌, Some, IfOk, IfErr};
     ghost use Rattle.std.specs.Fn.{FnReturnsAt};
     ghost use Rattle.txn_types.specs.Clones.{IsExactClone};
+    ghost use Rattle.txn_diary.specs.Keepers.{Does};
     ghost use Rattle.txn_client.specs.Retrying.{viewed_in, NotViewed, IsApplied, IsAppliedTo, IsStopped, IsStoppedOf};
 
     /// The view of this number as the client has it. The errors leave all as it was: `UnknownNumber` where it has none, and want
@@ -106,7 +107,7 @@ impl<
         ensures ok { IfOk result (λ viewed. viewed_in self.now view ≡ Some viewed) }
         ensures err { IfErr result (NotViewed self.now view) }
     {
-        let Some(found) = self.diary().view(view) else {
+        let Some(found) = self.keeper().view(view) else {
             return Err(Stop::Refused(EventFault::UnknownNumber));
         };
         match found.object.clone() {
@@ -137,8 +138,8 @@ impl<
     ) -> Result<Applied<T>, Stop>
         requires exact { IsExactClone T.is_clone }
         requires callable { F.IsAlwaysCallable mutator.now }
-        ensures ok { IfOk result (λ applied. IsAppliedTo R.hands S.serves steps (λ value answer. FnReturnsAt F.Fn mutator.now value answer) attempts view self.old applied self.new) }
-        ensures err { IfErr result (λ stop. IsStoppedOf R.hands S.serves steps (λ value answer. FnReturnsAt F.Fn mutator.now value answer) E.epoch_of attempts view self.old stop self.new) }
+        ensures ok { IfOk result (λ applied. IsAppliedTo R.hands S.serves (Does C.encoded C.decoded E.epoch_of E.with_epoch) steps (λ value answer. FnReturnsAt F.Fn mutator.now value answer) attempts view self.old applied self.new) }
+        ensures err { IfErr result (λ stop. IsStoppedOf R.hands S.serves (Does C.encoded C.decoded E.epoch_of E.with_epoch) steps (λ value answer. FnReturnsAt F.Fn mutator.now value answer) E.epoch_of attempts view self.old stop self.new) }
     {
         let viewed = self.viewed(view)?;
         self.update_viewed(viewed, attempts, steps, mutator)
@@ -154,8 +155,8 @@ impl<
     ) -> Result<Applied<T>, Stop>
         requires exact { IsExactClone T.is_clone }
         requires callable { F.IsAlwaysCallable mutator.now }
-        ensures ok { IfOk result (λ applied. IsApplied R.hands S.serves steps (λ value answer. FnReturnsAt F.Fn mutator.now value answer) attempts viewed self.old applied self.new) }
-        ensures err { IfErr result (λ stop. IsStopped R.hands S.serves steps (λ value answer. FnReturnsAt F.Fn mutator.now value answer) E.epoch_of attempts viewed self.old stop self.new) }
+        ensures ok { IfOk result (λ applied. IsApplied R.hands S.serves (Does C.encoded C.decoded E.epoch_of E.with_epoch) steps (λ value answer. FnReturnsAt F.Fn mutator.now value answer) attempts viewed self.old applied self.new) }
+        ensures err { IfErr result (λ stop. IsStopped R.hands S.serves (Does C.encoded C.decoded E.epoch_of E.with_epoch) steps (λ value answer. FnReturnsAt F.Fn mutator.now value answer) E.epoch_of attempts viewed self.old stop self.new) }
     {
         let mut viewed = viewed;
         for _round in 0..attempts {

@@ -1,33 +1,31 @@
 //! How a client does one thing after another, and hands each to its recorder.
 ghost use Rattle.std.specs.Prelude.{◌≡◌, Err, Decides};
-ghost use Rattle.std.specs.Option.{option_copied};
 ghost use Rattle.txn_store.specs.declared.store.StoreError.TheVariants as errors;
 ghost use Rattle.txn_logged.specs.Honest.{SaysFailed};
-ghost use Rattle.txn_client.specs.Working.{call_of, last_begun, settled};
+ghost use Rattle.txn_client.specs.Working.{settled};
 
 use crate::recorder::Recorder;
 use crate::serve::Serve;
 use crate::stop::Stop;
 use std::alloc::Global;
 use txn_clients::operations::request_of;
-use txn_diary::diary::Diary;
-use txn_history::event::{Answer, Call, EventFault, Told};
-use txn_journals::rows::{JournalRow, Receipt, Step};
+use txn_clients::views::Answers;
+use txn_diary::keeper::Keeper;
+use txn_history::event::{Answer, Call, EventFault};
+use txn_journals::rows::Receipt;
 use txn_journals::same::same_error;
 use txn_store::request::{Reply, Request};
 use txn_store::store::StoreError;
 use txn_types::codec::ObjectCodec;
 use txn_types::epoch::EpochField;
 
-/// A client's diary, its store and its recorder.
+/// What a client keeps, its store and its recorder.
 #[derive(Drop)]
 pub(crate) struct Work<T: Clone, C: ObjectCodec<T> + Drop, E: EpochField<T>, S, R: Recorder<T>> {
     pub alloc: Global,
-    pub diary: Diary<T, C, E>,
+    pub keeper: Keeper<T, C, E>,
     pub store: S,
     pub recorder: R,
-    /// How many operations began.
-    pub begun: u64,
 }
 
 /// What became of a step.
@@ -56,24 +54,6 @@ pub(crate) enum Done<T> {
     Refused(EventFault),
     /// Its steps were spent, and it was given up.
     Spent,
-}
-
-/// The call that a step begins, where it begins one.
-fn call_of<T>(step: &Step<T>) -> Option<&Call<T>>
-    ensures { option_copied result ≡ call_of step.now }
-{
-    match step {
-        Step::Begin(call) => Some(call),
-        Step::Act(_, _) => None,
-        Step::Killed(_) => None,
-    }
-}
-
-/// The call that the last of these rows begins, where it begins one.
-fn last_begun<T>(rows: &[JournalRow<T>]) -> Option<&Call<T>>
-    ensures { option_copied result ≡ last_begun rows.now }
-{
-    call_of(&rows.last()?.step)
 }
 
 /// The answer of a call, or why it has none.
@@ -119,65 +99,60 @@ impl<T: Clone, C: ObjectCodec<T> + Drop, E: EpochField<T>, S: Serve, R: Recorder
     ghost use Rattle.std.specs.Prelude.{◌≡◌, ◌++◌, ◌∷◌, [], IfOk, IfErr, IfSome, OnOk, Some};
     ghost use Rattle.txn_types.specs.Clones.{IsExactClone};
     ghost use Rattle.txn_history.specs.Seen.{Store};
-    ghost use Rattle.txn_diary.specs.Diaries.{asked_in, refusal_of};
-    ghost use Rattle.txn_client.specs.Happenings.{HappensAll, HappensUntil, Served, CallFailed};
-    ghost use Rattle.txn_client.specs.Calling.{IsLookOrCall, IsGiveUp, CutsOff};
-    ghost use Rattle.txn_client.specs.Working.{heard_of, told_happens, CutsStep, CutsAsked, CutsBegin, TakesStep, TakesAsked, IsBegun, IsDone};
+    ghost use Rattle.txn_machine_inner.specs.Doing.{first_of};
+    ghost use Rattle.txn_diary.specs.Keepers.{keeper_asked, keeper_refusal, Does};
+    ghost use Rattle.txn_client.specs.Happenings.{answer_happens, HappensAll, HappensUntil, Served, CallFailed};
+    ghost use Rattle.txn_client.specs.Calling.{begun_in, IsLookOrCall, IsGiveUp, CutsOff};
+    ghost use Rattle.txn_client.specs.Working.{heard_in, CutsStep, CutsAsked, CutsBegin, TakesStep, TakesAsked, IsBegun, IsDone};
     ghost use Rattle.txn_client.specs.declared.stop.Stop.TheVariants.{NoMemory};
 
-    /// Hands an operation's answer to the recorder, where one was told.
-    fn hear(&mut self, op: u64, told: Told<T>) -> Result<Heard<T>, Stop>
-        ensures diary { self.new.diary ≡ self.old.diary }
-        ensures begun { self.new.begun ≡ self.old.begun }
-        ensures heard { IfOk result (λ heard. heard ≡ heard_of told) }
-        ensures happened { OnOk result (HappensAll R.hands S.serves self.old.recorder self.old.store (told_happens op told) self.new.recorder self.new.store) }
-        ensures err { IfErr result (λ stop. HappensUntil R.hands S.serves stop (told_happens op told) self.old.recorder self.old.store self.new.recorder self.new.store) }
+    /// Hands an operation's answer to the recorder, where it has one.
+    fn hear(&mut self, op: u64, answers: Option<Answers<T>>) -> Result<Heard<T>, Stop>
+        ensures keeper { self.new.keeper ≡ self.old.keeper }
+        ensures heard { IfOk result (λ heard. heard ≡ heard_in (first_of answers)) }
+        ensures happened { OnOk result (HappensAll R.hands S.serves self.old.recorder self.old.store (answer_happens op (first_of answers)) self.new.recorder self.new.store) }
+        ensures err { IfErr result (λ stop. HappensUntil R.hands S.serves stop (answer_happens op (first_of answers)) self.old.recorder self.old.store self.new.recorder self.new.store) }
     {
-        match told {
-            Told::Answered(_, answer) => {
+        match answers {
+            Some((answer, _)) => {
                 self.recorder.answered(op, &answer)?;
                 Ok(Heard::Answered(answer))
             }
-            told => {
-                drop(told);
-                Ok(Heard::Goes)
-            }
+            None => Ok(Heard::Goes),
         }
     }
 
     /// The operation looks at the client's caches.
     fn look(&mut self, op: u64) -> Result<Heard<T>, Stop>
         requires { IsExactClone T.is_clone }
-        ensures ok { IfOk result (λ heard. TakesStep R.hands S.serves IsLookOrCall op self.old.diary self.old.recorder self.old.store self.old.begun heard self.new.diary self.new.recorder self.new.store self.new.begun) }
-        ensures err { IfErr result (λ stop. CutsStep R.hands S.serves IsLookOrCall op self.old.begun stop self.old.diary self.old.recorder self.old.store self.new.diary self.new.recorder self.new.store) }
+        ensures ok { IfOk result (λ heard. TakesStep R.hands S.serves (Does C.encoded C.decoded E.epoch_of E.with_epoch) IsLookOrCall op self.old.keeper self.old.recorder self.old.store (begun_in self.old.keeper) heard self.new.keeper self.new.recorder self.new.store (begun_in self.new.keeper)) }
+        ensures err { IfErr result (λ stop. CutsStep R.hands S.serves (Does C.encoded C.decoded E.epoch_of E.with_epoch) IsLookOrCall op (begun_in self.old.keeper) stop self.old.keeper self.old.recorder self.old.store self.new.keeper self.new.recorder self.new.store) }
     {
-        match self.diary.look(op) {
-            Ok(told) => self.hear(op, told),
-            Err(_) => Err(Stop::NoMemory),
-        }
+        let Ok(answers) = self.keeper.look(op) else {
+            return Err(Stop::NoMemory);
+        };
+        self.hear(op, answers)
     }
 
     /// The store call of the operation, which the recorder was told of, failed: the operation is answered so.
     fn fail(&mut self, op: u64, request: &Request) -> Result<Heard<T>, Stop>
-        requires { asked_in self.old.diary op ≡ Some (Store request.now) }
-        ensures ok { IfOk result (λ heard. TakesAsked R.hands S.serves op request.now (CallFailed request.now) self.old.diary self.old.recorder self.old.store self.old.begun heard self.new.diary self.new.recorder self.new.store self.new.begun) }
-        ensures err { IfErr result (λ stop. CutsAsked R.hands S.serves op request.now (CallFailed request.now) stop self.old.diary self.old.recorder self.old.store self.new.diary self.new.recorder self.new.store) }
+        requires { keeper_asked self.old.keeper op ≡ Some (Store request.now) }
+        ensures ok { IfOk result (λ heard. TakesAsked R.hands S.serves (Does C.encoded C.decoded E.epoch_of E.with_epoch) op request.now (CallFailed request.now) self.old.keeper self.old.recorder self.old.store (begun_in self.old.keeper) heard self.new.keeper self.new.recorder self.new.store (begun_in self.new.keeper)) }
+        ensures err { IfErr result (λ stop. CutsAsked R.hands S.serves (Does C.encoded C.decoded E.epoch_of E.with_epoch) op request.now (CallFailed request.now) stop self.old.keeper self.old.recorder self.old.store self.new.keeper self.new.recorder self.new.store) }
     {
-        match self.diary.failed(op) {
-            Ok(told) => {
-                self.recorder.failed(op)?;
-                self.hear(op, told)
-            }
-            Err(_) => Err(Stop::NoMemory),
-        }
+        let Ok(did) = self.keeper.failed(op) else {
+            return Err(Stop::NoMemory);
+        };
+        self.recorder.failed(op)?;
+        self.hear(op, did.1)
     }
 
     /// The operation takes the store's reply to what the recorder was told of.
     fn take(&mut self, op: u64, request: Request, reply: Reply) -> Result<Heard<T>, Stop>
         requires exact { IsExactClone T.is_clone }
-        requires asks { asked_in self.old.diary op ≡ Some (Store request) }
-        ensures ok { IfOk result (λ heard. TakesAsked R.hands S.serves op request (Served request reply) self.old.diary self.old.recorder self.old.store self.old.begun heard self.new.diary self.new.recorder self.new.store self.new.begun) }
-        ensures err { IfErr result (λ stop. CutsAsked R.hands S.serves op request (Served request reply) stop self.old.diary self.old.recorder self.old.store self.new.diary self.new.recorder self.new.store) }
+        requires asks { keeper_asked self.old.keeper op ≡ Some (Store request) }
+        ensures ok { IfOk result (λ heard. TakesAsked R.hands S.serves (Does C.encoded C.decoded E.epoch_of E.with_epoch) op request (Served request reply) self.old.keeper self.old.recorder self.old.store (begun_in self.old.keeper) heard self.new.keeper self.new.recorder self.new.store (begun_in self.new.keeper)) }
+        ensures err { IfErr result (λ stop. CutsAsked R.hands S.serves (Does C.encoded C.decoded E.epoch_of E.with_epoch) op request (Served request reply) stop self.old.keeper self.old.recorder self.old.store self.new.keeper self.new.recorder self.new.store) }
     {
         self.recorder.replied(op, &reply)?;
         // Which place it has among the store's calls is found when they are put into an order.
@@ -186,18 +161,18 @@ impl<T: Clone, C: ObjectCodec<T> + Drop, E: EpochField<T>, S: Serve, R: Recorder
             request,
             reply,
         };
-        match self.diary.receive(op, receipt) {
-            Ok(told) => self.hear(op, told),
-            Err(_) => Err(Stop::NoMemory),
-        }
+        let Ok(answers) = self.keeper.receive(op, &receipt) else {
+            return Err(Stop::NoMemory);
+        };
+        self.hear(op, answers)
     }
 
     /// The operation has the store called for what it asks, once.
     fn ask(&mut self, op: u64, request: Request) -> Result<Heard<T>, Stop>
         requires exact { IsExactClone T.is_clone }
-        requires asks { asked_in self.old.diary op ≡ Some (Store request) }
-        ensures ok { IfOk result (λ heard. TakesStep R.hands S.serves IsLookOrCall op self.old.diary self.old.recorder self.old.store self.old.begun heard self.new.diary self.new.recorder self.new.store self.new.begun) }
-        ensures err { IfErr result (λ stop. CutsStep R.hands S.serves IsLookOrCall op self.old.begun stop self.old.diary self.old.recorder self.old.store self.new.diary self.new.recorder self.new.store) }
+        requires asks { keeper_asked self.old.keeper op ≡ Some (Store request) }
+        ensures ok { IfOk result (λ heard. TakesStep R.hands S.serves (Does C.encoded C.decoded E.epoch_of E.with_epoch) IsLookOrCall op self.old.keeper self.old.recorder self.old.store (begun_in self.old.keeper) heard self.new.keeper self.new.recorder self.new.store (begun_in self.new.keeper)) }
+        ensures err { IfErr result (λ stop. CutsStep R.hands S.serves (Does C.encoded C.decoded E.epoch_of E.with_epoch) IsLookOrCall op (begun_in self.old.keeper) stop self.old.keeper self.old.recorder self.old.store self.new.keeper self.new.recorder self.new.store) }
     {
         self.recorder.asked(op, &request)?;
         let reply = self.store.serve(self.alloc, &request);
@@ -210,10 +185,10 @@ impl<T: Clone, C: ObjectCodec<T> + Drop, E: EpochField<T>, S: Serve, R: Recorder
 
     /// What the operation asks the store for, where it does. The only error is want of memory.
     fn request(&self, op: u64) -> Result<Option<Request>, Stop>
-        ensures ok { IfOk result (λ request. IfSome request (λ asked. asked_in self.now.diary op ≡ Some (Store asked))) }
+        ensures ok { IfOk result (λ request. IfSome request (λ asked. keeper_asked self.now.keeper op ≡ Some (Store asked))) }
         ensures err { IfErr result (λ stop. stop ≡ NoMemory) }
     {
-        match request_of(self.diary.asks(op)) {
+        match request_of(self.keeper.asks(op)) {
             Some(request) => Ok(Some(request.try_clone()?)),
             None => Ok(None),
         }
@@ -222,8 +197,8 @@ impl<T: Clone, C: ObjectCodec<T> + Drop, E: EpochField<T>, S: Serve, R: Recorder
     /// The operation does what it asks for.
     fn step(&mut self, op: u64) -> Result<Heard<T>, Stop>
         requires { IsExactClone T.is_clone }
-        ensures ok { IfOk result (λ heard. TakesStep R.hands S.serves IsLookOrCall op self.old.diary self.old.recorder self.old.store self.old.begun heard self.new.diary self.new.recorder self.new.store self.new.begun) }
-        ensures err { IfErr result (λ stop. CutsStep R.hands S.serves IsLookOrCall op self.old.begun stop self.old.diary self.old.recorder self.old.store self.new.diary self.new.recorder self.new.store) }
+        ensures ok { IfOk result (λ heard. TakesStep R.hands S.serves (Does C.encoded C.decoded E.epoch_of E.with_epoch) IsLookOrCall op self.old.keeper self.old.recorder self.old.store (begun_in self.old.keeper) heard self.new.keeper self.new.recorder self.new.store (begun_in self.new.keeper)) }
+        ensures err { IfErr result (λ stop. CutsStep R.hands S.serves (Does C.encoded C.decoded E.epoch_of E.with_epoch) IsLookOrCall op (begun_in self.old.keeper) stop self.old.keeper self.old.recorder self.old.store self.new.keeper self.new.recorder self.new.store) }
     {
         match self.request(op)? {
             Some(request) => self.ask(op, request),
@@ -233,49 +208,39 @@ impl<T: Clone, C: ObjectCodec<T> + Drop, E: EpochField<T>, S: Serve, R: Recorder
 
     /// Gives the operation up.
     fn give_up(&mut self, op: u64) -> Result<(), Stop>
-        ensures ok { OnOk result (TakesStep R.hands S.serves IsGiveUp op self.old.diary self.old.recorder self.old.store self.old.begun Heard.Goes self.new.diary self.new.recorder self.new.store self.new.begun) }
-        ensures err { IfErr result (λ stop. CutsStep R.hands S.serves IsGiveUp op self.old.begun stop self.old.diary self.old.recorder self.old.store self.new.diary self.new.recorder self.new.store) }
+        ensures ok { OnOk result (TakesStep R.hands S.serves (Does C.encoded C.decoded E.epoch_of E.with_epoch) IsGiveUp op self.old.keeper self.old.recorder self.old.store (begun_in self.old.keeper) Heard.Goes self.new.keeper self.new.recorder self.new.store (begun_in self.new.keeper)) }
+        ensures err { IfErr result (λ stop. CutsStep R.hands S.serves (Does C.encoded C.decoded E.epoch_of E.with_epoch) IsGiveUp op (begun_in self.old.keeper) stop self.old.keeper self.old.recorder self.old.store self.new.keeper self.new.recorder self.new.store) }
     {
-        match self.diary.give_up(op) {
-            Ok(told) => {
-                drop(told);
-                self.recorder.gave_up(op)?;
-                Ok(())
-            }
-            Err(_) => Err(Stop::NoMemory),
-        }
+        let Ok(_left) = self.keeper.give_up(op) else {
+            return Err(Stop::NoMemory);
+        };
+        self.recorder.gave_up(op)?;
+        Ok(())
     }
 
     /// Begins a call, and tells the recorder.
-    fn begin(&mut self, call: Call<T>) -> Result<Begun<T>, Stop>
+    fn begin(&mut self, call: &Call<T>) -> Result<Begun<T>, Stop>
         requires { IsExactClone T.is_clone }
-        ensures ok { IfOk result (λ begun. IsBegun R.hands S.serves (refusal_of (E.epoch_of self.old.diary.epochs) self.old.diary call) call self.old.diary self.old.recorder self.old.store self.old.begun begun self.new.diary self.new.recorder self.new.store self.new.begun) }
-        ensures err { IfErr result (λ stop. CutsBegin R.hands S.serves call self.old.begun stop self.old.diary self.old.recorder self.old.store self.new.diary self.new.recorder self.new.store) }
+        ensures ok { IfOk result (λ begun. IsBegun R.hands S.serves (Does C.encoded C.decoded E.epoch_of E.with_epoch) (keeper_refusal (E.epoch_of self.old.keeper.epochs) self.old.keeper call.now) call.now self.old.keeper self.old.recorder self.old.store (begun_in self.old.keeper) begun self.new.keeper self.new.recorder self.new.store (begun_in self.new.keeper)) }
+        ensures err { IfErr result (λ stop. CutsBegin R.hands S.serves (Does C.encoded C.decoded E.epoch_of E.with_epoch) call.now (begun_in self.old.keeper) stop self.old.keeper self.old.recorder self.old.store self.new.keeper self.new.recorder self.new.store) }
     {
-        let Some(op) = self.begun.checked_add(1) else {
-            drop(call);
-            return Ok(Begun::Refused(EventFault::NoMemory));
-        };
-        let told = match self.diary.begin(call) {
-            Ok(told) => told,
+        let op = self.keeper.begun() + 1;
+        let answers = match self.keeper.begin(call) {
+            Ok(answers) => answers,
             Err(fault) => return Ok(Begun::Refused(fault)),
         };
-        let Some(call) = last_begun(self.diary.rows()) else {
-            unreachable!();
-        };
         self.recorder.begun(op, call)?;
-        self.begun = op;
-        match self.hear(op, told)? {
+        match self.hear(op, answers)? {
             Heard::Goes => Ok(Begun::Goes(op)),
             Heard::Answered(answer) => Ok(Begun::Answered(answer)),
         }
     }
 
     /// Makes a call, of at most so many looks and store calls. Where these do not suffice its operation is given up.
-    pub fn call(&mut self, call: Call<T>, steps: u64) -> Result<Done<T>, Stop>
+    pub fn call(&mut self, call: &Call<T>, steps: u64) -> Result<Done<T>, Stop>
         requires { IsExactClone T.is_clone }
-        ensures ok { IfOk result (λ done. IsDone R.hands S.serves (refusal_of (E.epoch_of self.old.diary.epochs) self.old.diary call) steps call self.old.diary self.old.recorder self.old.store self.old.begun done self.new.diary self.new.recorder self.new.store self.new.begun) }
-        ensures err { IfErr result (λ stop. CutsOff R.hands S.serves self.old.begun steps call stop self.old.diary self.old.recorder self.old.store self.new.diary self.new.recorder self.new.store) }
+        ensures ok { IfOk result (λ done. IsDone R.hands S.serves (Does C.encoded C.decoded E.epoch_of E.with_epoch) (keeper_refusal (E.epoch_of self.old.keeper.epochs) self.old.keeper call.now) steps call.now self.old.keeper self.old.recorder self.old.store (begun_in self.old.keeper) done self.new.keeper self.new.recorder self.new.store (begun_in self.new.keeper)) }
+        ensures err { IfErr result (λ stop. CutsOff R.hands S.serves (Does C.encoded C.decoded E.epoch_of E.with_epoch) (begun_in self.old.keeper) steps call.now stop self.old.keeper self.old.recorder self.old.store self.new.keeper self.new.recorder self.new.store) }
     {
         let op = match self.begin(call)? {
             Begun::Refused(fault) => return Ok(Done::Refused(fault)),

@@ -21,7 +21,7 @@ use Rattle.txn_journals.specs.Parts.{Part, note_of, written_in, answer_in, turne
 use Rattle.txn_journals.specs.Journals.{GivesUp, FailsAt, LacksAt, TakesTurn}
 use Rattle.txn_takes.specs.Taking.{FitsAsk}
 use Rattle.txn_takes.proofs.Replied.{takes_fitting, is_in_range}
-use Rattle.txn_diary.specs.Diaries.{AreSound}
+use Rattle.txn_diary.specs.Keepers.{AreSound}
 
 module _ {T : Type 0} where
   abbrev part_of : Caches → List (Operation T) → List (Option (Used T)) → List (Option ℕ) → List (ℕ × ℕ) → Part T

@@ -1,12 +1,14 @@
 -- A journal with one row more leads to what its client keeps then.
-use Rattle.std.proofs.Common.{◌≡◌, ℕ, List, [], ◌∷◌, ◌++◌, reverse, true, Option, sym, ◌∙◌, ap, subst}
-use Rattle.std.proofs.lemmas.List.{reverse-append}
+use Rattle.std.proofs.Common.{◌≡◌, ℕ, ◌≤◌, List, [], ◌∷◌, ◌++◌, reverse, true, if◌then◌else◌, Option, None, sym, ◌∙◌, ap, subst}
+use Rattle.std.proofs.lemmas.List.{append_assoc, append-nil, reverse-append}
 use Rattle.txn_history.specs.declared.event.Answer.{Answer}
+use Rattle.txn_clients.specs.Operations.{asked_by}
 use Rattle.txn_journals.specs.declared.rows.Step.{Step}
 use Rattle.txn_journals.specs.declared.rows.JournalRow.{JournalRow}
-use Rattle.txn_journals.specs.Parts.{Part}
+use Rattle.txn_journals.specs.Parts.{Part, no_part}
 use Rattle.txn_journals.specs.Journals.{goes_on, Lives, Follows, Replays}
-use Rattle.txn_diary.specs.Diaries.{lives_after, lives}
+use Rattle.txn_diary.specs.Keepers.{KeeperState, lives_after, keeper_asked, Does, DoesAll}
+use Rattle.txn_diary.specs.Diaries.{DiaryState, diary_of, asked_in, lives, Adds}
 
 module _ {T : Type 0} where
   reverse_last : (rows : List (JournalRow T)) (row : JournalRow T) → reverse (rows ++ row ∷ []) ≡ row ∷ reverse rows
@@ -27,3 +29,54 @@ module _ {T : Type 0} (page : ℕ) (encode : T → List ℕ) (decode : List ℕ 
   replays_more client rows more old new step answer replays live is follows =
       subst (λ (rs : List (JournalRow T)). Replays page encode decode get_epoch set_epoch client rs new) (sym (ap reverse is ∙ reverse_last rows (record { step = step; answer = answer })))
       (old, replays, follows, goes_after (reverse rows) live)
+
+module _ {T C E : Type 0} (encoded : C → T → List ℕ) (decoded : C → List ℕ → Option T) (epoch_of : E → T → ℕ) (with_epoch : E → T → ℕ → T) where
+  -- what the type keeps of a client and its journal
+  abbrev pub IsKeptWith : KeeperState T C E → List (JournalRow T) → Type 0
+  IsKeptWith k rows = (1 ≤ k.client) × (1 ≤ k.page) × (k.alive ≡ lives rows) × Replays k.page (encoded k.codec) (decoded k.codec) (epoch_of k.epochs) (with_epoch k.epochs) k.client (reverse rows) k.part
+
+  abbrev AddsTo : DiaryState T C E → Step T → Option (Answer T) → DiaryState T C E → Type 0
+  AddsTo old step answer new = Adds (encoded old.codec) (decoded old.codec) (epoch_of old.epochs) (with_epoch old.epochs) old step answer new
+
+  -- What a step leaves whose row was noted: a diary that its type keeps, with the row more.
+  pub record IsNoted (now : DiaryState T C E) (step : Step T) (answer : Option (Answer T)) (k : KeeperState T C E) (rows : List (JournalRow T)) : Type 0 where
+    pub kept : IsKeptWith k rows
+    pub adds : AddsTo now step answer (diary_of k rows)
+
+  -- a client that did this, and noted its row
+  pub noted : (now : DiaryState T C E) (old new : KeeperState T C E) (rows more : List (JournalRow T)) (step : Step T) (answer : Option (Answer T)) → diary_of old rows ≡ now → IsKeptWith old rows → more ≡ rows ++ record { step = step; answer = answer } ∷ [] →
+      Does encoded decoded epoch_of with_epoch old step answer new → IsNoted now step answer new more
+  noted now old new rows more step answer is kept row does =
+      let same : new ≡ record old { part = new.part; alive = new.alive } = λ i. record { client = does.client i; page = does.page i; codec = does.codec i; epochs = does.epochs i; part = new.part; alive = new.alive } in
+      let replays = replays_more old.page (encoded old.codec) (decoded old.codec) (epoch_of old.epochs) (with_epoch old.epochs) old.client rows more old.part new.part step answer kept.3 (sym kept.2 ∙ does.lived) row does.follows in
+      let adds : AddsTo (diary_of old rows) step answer (diary_of new more) = record { rows = row; follows = does.follows; client = does.client; page = does.page; codec = does.codec; epochs = does.epochs } in
+      record {
+        kept = subst (λ k. IsKeptWith k more) (sym same) (kept.0, kept.1, does.lives ∙ sym (lives_so rows more step answer row), replays);
+        adds = subst (λ d. AddsTo d step answer (diary_of new more)) is adds;
+      }
+
+module _ {T C E : Type 0} where
+  -- what an operation asks for, of a client and of its diary
+  pub asked_same : (now : DiaryState T C E) (k : KeeperState T C E) (rows : List (JournalRow T)) (op : ℕ) → diary_of k rows ≡ now → k.alive ≡ lives rows → keeper_asked k op ≡ asked_in now op
+  asked_same now k rows op is alive = ap (λ b. if b then asked_by k.part.operations op else None) alive ∙ ap (λ d. asked_in d op) is
+
+module _ {T C E : Type 0} (encoded : C → T → List ℕ) (decoded : C → List ℕ → Option T) (epoch_of : E → T → ℕ) (with_epoch : E → T → ℕ → T) where
+  -- this journal, the newest row first, leads to what the client keeps
+  abbrev LeadsTo : List (JournalRow T) → KeeperState T C E → Type 0
+  LeadsTo rows k = (k.alive ≡ lives_after rows) × Replays k.page (encoded k.codec) (decoded k.codec) (epoch_of k.epochs) (with_epoch k.epochs) k.client rows k.part
+
+  -- what the client did next leads on
+  pub leads_on : (old new : KeeperState T C E) (rows : List (JournalRow T)) (step : Step T) (answer : Option (Answer T)) → LeadsTo rows old → Does encoded decoded epoch_of with_epoch old step answer new → LeadsTo (record { step = step; answer = answer } ∷ rows) new
+  leads_on old new rows step answer led does =
+      let same : new ≡ record old { part = new.part; alive = new.alive } = λ i. record { client = does.client i; page = does.page i; codec = does.codec i; epochs = does.epochs i; part = new.part; alive = new.alive } in
+      subst (LeadsTo (record { step = step; answer = answer } ∷ rows)) (sym same) (does.lives, (old.part, led.1, does.follows, goes_after rows (sym led.0 ∙ does.lived)))
+
+  leads_all : (old new : KeeperState T C E) (rows before : List (JournalRow T)) → LeadsTo before old → DoesAll (Does encoded decoded epoch_of with_epoch) old rows new → LeadsTo (reverse rows ++ before) new
+  leads_all old new [] before led did = subst (LeadsTo before) (sym did) led
+  leads_all old new (row ∷ rows) before led did =
+      subst (λ (all : List (JournalRow T)). LeadsTo all new) (sym (ap (λ (all : List (JournalRow T)). all ++ before) (reverse-append (row ∷ []) rows) ∙ append_assoc (reverse rows) (row ∷ []) before))
+      (leads_all did.0 new rows (row ∷ before) (leads_on old did.0 before row.step row.answer led did.1) did.2)
+
+  pub done_journal : (old new : KeeperState T C E) (rows : List (JournalRow T)) → old.part ≡ no_part → old.alive ≡ true → DoesAll (Does encoded decoded epoch_of with_epoch) old rows new →
+      Replays new.page (encoded new.codec) (decoded new.codec) (epoch_of new.epochs) (with_epoch new.epochs) new.client (reverse rows) new.part
+  done_journal old new rows none alive did = subst (λ (all : List (JournalRow T)). Replays new.page (encoded new.codec) (decoded new.codec) (epoch_of new.epochs) (with_epoch new.epochs) new.client all new.part) (append-nil (reverse rows)) (leads_all old new rows [] (alive, none) did).1

@@ -28,7 +28,7 @@ use Rattle.txn_clients.specs.Views.{IsFromOne}
 use Rattle.txn_journals.specs.Parts.{Part, seen_in, knows_base, is_low, epoch_told, is_in_use, client_begin_fault}
 use Rattle.txn_journals.proofs.Begun.{Passed, passed}
 use Rattle.txn_journals.specs.Journals.{TakesTurn, Follows, Replays}
-use Rattle.txn_diary.specs.Diaries.{IsSound, AreSound}
+use Rattle.txn_diary.specs.Keepers.{IsSound, AreSound}
 
 module _ {T : Type 0} where
   -- what a begin uses that is permitted is counted from 1

@@ -1,29 +1,21 @@
 -- What a client's diary is, and what is added to it. Its journal stands oldest first.
-use Rattle.std.specs.Prelude.{◌≡◌, ◌+◌, ℕ, List, [], ◌∷◌, ◌++◌, Bool, true, false, if◌then◌else◌, Option, Some, None, is_some, length, reverse}
-use Rattle.txn_store.specs.declared.request.Request.{Request}
+use Rattle.std.specs.Prelude.{◌≡◌, ◌+◌, ℕ, List, [], ◌∷◌, ◌++◌, Bool, false, if◌then◌else◌, Option, None, length, reverse}
 use Rattle.txn_history.specs.declared.event.EventFault.{EventFault}
-use Rattle.txn_history.specs.declared.event.EventFault.TheVariants as faults
 use Rattle.txn_history.specs.declared.event.ToldOf.TheVariants as told
 use Rattle.txn_history.specs.Added.{told_of}
-use Rattle.txn_history.specs.Seen.{Ask, Store, Look}
-use Rattle.txn_history.specs.Lists.{numbered}
+use Rattle.txn_history.specs.Seen.{Ask}
 use Rattle.txn_history.specs.declared.event.Call.{Call}
 use Rattle.txn_history.specs.declared.event.Answer.{Answer}
 use Rattle.txn_history.specs.Trace.{Told}
-use Rattle.txn_machine.specs.declared.doing.Operation.{Operation}
-use Rattle.txn_clients.specs.Views.{IsFromOne}
 use Rattle.txn_clients.specs.Operations.{asked_by}
 use Rattle.txn_journals.specs.declared.rows.Act.{Act}
-use Rattle.txn_journals.specs.declared.rows.Act.TheVariants as acts
-use Rattle.txn_journals.specs.declared.rows.Receipt.{Receipt}
 use Rattle.txn_journals.specs.declared.rows.Step.{Step}
 use Rattle.txn_journals.specs.declared.rows.Step.TheVariants as steps
 use Rattle.txn_journals.specs.declared.rows.JournalRow.{JournalRow}
 use Rattle.txn_journals.specs.Parts.{Part, client_begin_fault}
 use Rattle.txn_journals.specs.Journals.{goes_on, Follows}
 use Rattle.txn_journals.specs.Verdict.{AuditedDiary}
-use Rattle.txn_logged.specs.Logged.{IsReceiptOf}
-use Rattle.txn_takes.specs.Taking.{CanTake}
+use Rattle.txn_diary.specs.Keepers.{KeeperState, lives_after, fault_if}
 
 -- A client with its journal: its number, how many files a page of a listing has at most, its codec, where its values keep their epochs, what it keeps, and what it did.
 pub record DiaryState (T C E : Type 0) : Type 0 where
@@ -35,6 +27,10 @@ pub record DiaryState (T C E : Type 0) : Type 0 where
   pub rows : List (JournalRow T)
 
 module _ {T C E : Type 0} where
+  -- a client and its journal
+  abbrev pub diary_of : KeeperState T C E → List (JournalRow T) → DiaryState T C E
+  diary_of keeper rows = record { client = keeper.client; page = keeper.page; codec = keeper.codec; epochs = keeper.epochs; part = keeper.part; rows = rows }
+
   -- a client with its journal, as an audit reads it
   abbrev pub as_diary : DiaryState T C E → AuditedDiary T
   as_diary diary = record { client = diary.client; rows = diary.rows; part = diary.part }
@@ -46,26 +42,9 @@ module _ {T C E : Type 0} where
     pub epochs_are : diary.epochs ≡ epochs
 
 module _ {T : Type 0} where
-  -- a client that did this last, if anything, does more
-  abbrev pub lives_after : List (JournalRow T) → Bool
-  lives_after [] = true
-  lives_after (row ∷ rows) = goes_on row.step
-
   -- a client of this journal was not killed
   abbrev pub lives : List (JournalRow T) → Bool
   lives rows = lives_after (reverse rows)
-
-  -- each operation can take what it asks for, and its view, if it uses one, is counted from 1
-  pub record IsSound (operation : Operation T) : Type 0 where
-    pub can : CanTake operation.doing
-    pub view : IsFromOne operation.view
-
-  abbrev pub AreSound : List (Operation T) → Type 0
-  AreSound operations = (op : ℕ) (operation : Operation T) → numbered operations op ≡ Some operation → IsSound operation
-
--- why a client that lives, or was killed, is refused something: one that was killed does nothing more
-abbrev pub fault_if : Bool → Option EventFault → Option EventFault
-fault_if alive fault = if alive then fault else Some faults.UnknownNumber
 
 module _ {T C E : Type 0} where
   -- what an operation of a diary asks for: nothing where it has ended, or its client was killed
@@ -80,26 +59,6 @@ module _ {T : Type 0} where
   -- why a kill is refused: the client was killed before
   abbrev pub kill_fault : List (JournalRow T) → Option EventFault
   kill_fault rows = fault_if (lives rows) None
-
--- why an operation that asks for this, or for nothing, is refused to be given up
-abbrev pub end_fault : Option Ask → Option EventFault
-end_fault ask = if is_some ask then None else Some faults.UnknownNumber
-
--- Why an operation that asks for this, or for nothing, is refused a receipt: it has ended, or it asks for a look, or the receipt is of another request or its reply of another kind.
-abbrev pub IsReceiptFault : Option Ask → Receipt → Option EventFault → Type 0
-IsReceiptFault None receipt fault = fault ≡ Some faults.UnknownNumber
-IsReceiptFault (Some Look) receipt fault = fault ≡ Some faults.NotAsked
-IsReceiptFault (Some (Store request)) receipt None = IsReceiptOf request receipt
-IsReceiptFault (Some (Store request)) receipt (Some faults.NotAsked) = IsReceiptOf request receipt → ⊥
-IsReceiptFault (Some (Store request)) receipt _ = ⊥
-
--- an act that gives an operation what it asked for, or says that its store call was refused for memory
-abbrev pub IsTurn : Act → Type 0
-IsTurn acts.Look = Unit {0}
-IsTurn (acts.Receive receipt) = Unit {0}
-IsTurn acts.Lacks = Unit {0}
-IsTurn (acts.GiveUp left) = ⊥
-IsTurn (acts.Fails request) = ⊥
 
 module _ {T C E : Type 0} (encode : T → List ℕ) (decode : List ℕ → Option T) (get_epoch : T → ℕ) (set_epoch : T → ℕ → T) where
   -- The client did this, with this answer: its journal has one row more, and what it keeps follows.

@@ -1,34 +1,27 @@
 //! A client that writes down what it did.
 ghost use Rattle.std.specs.Option.{ForSome};
-ghost use Rattle.std.specs.Prelude.{◌≡◌, ◌<◌, ℕ, Option, IfOk, IfErr, OnOk, OnErr, vec_len, vec_capacity};
-ghost use Rattle.txn_diary.specs.Diaries.{as_diary, fault_if};
-ghost use Rattle.txn_diary.specs.Room.{HasRoom};
-ghost use Rattle.txn_diary.specs.Shown.{shown};
-ghost use Rattle.txn_journals.specs.Journals.{BeginsCall};
-ghost use Rattle.txn_journals.specs.Parts.{client_begin_fault};
-ghost use Rattle.txn_logged.specs.Logged.{IsReceiptOf};
-ghost use Rattle.txn_machine.specs.Doing.{refusal_in};
-ghost use Rattle.txn_machine.specs.Machine.{answered};
+ghost use Rattle.std.specs.Prelude.{◌≡◌, ◌<◌, IfOk, OnOk, OnErr, vec_len, vec_capacity};
+ghost use Rattle.txn_diary.specs.Diaries.{as_diary};
+ghost use Rattle.txn_diary.specs.Keepers.{keeper_refusal, Does};
+ghost use Rattle.txn_journals.specs.declared.rows.Step.TheVariants as steps;
 ghost use Rattle.txn_machine_inner.specs.Doing.{first_of};
 ghost use Rattle.txn_machine_inner.specs.Machine.{fault_met};
 ghost use Rattle.txn_types.specs.Clones.{IsExactClone};
 
+use crate::keeper::Keeper;
 use crate::reading::{answers_of, receipts_of};
-use crate::step::{note, note_act, receipt_refusal};
-use crate::tables::Tables;
+use crate::step::{lack, note, note_act, receipt_refusal};
 use std::alloc::{AllocError, Global};
 use std::marker::Model;
 use std::sync::{Mutex, Wait};
 use txn_caches::ask::Ask;
-use txn_clients::operations::request_of;
 use txn_clients::refusals::{ask_refusal, end_refusal};
-use txn_clients::views::{Answers, get};
-use txn_history::event::{Answer, Call, EventFault, PlainAnswer, Told};
+use txn_clients::views::Answers;
+use txn_history::event::{Answer, Call, EventFault, Told};
 use txn_history::view::View;
 use txn_journals::audited::Audited;
 use txn_journals::rows::{Act, JournalRow, Receipt, Step};
 use txn_logged::logged::LoggedStore;
-use txn_store::request::{Reply, Request};
 use txn_types::codec::ObjectCodec;
 use txn_types::epoch::EpochField;
 use txn_types::room::push_within;
@@ -38,20 +31,14 @@ use txn_types::room::push_within;
 ///
 /// Clauses see its number, its codec, where its values keep their epochs, what it keeps, and its journal.
 pub struct Diary<T: Clone, C: ObjectCodec<T> + Drop, E: EpochField<T>> {
-    tables: Tables<T, C, E>,
+    keeper: Keeper<T, C, E>,
     rows: Vec<JournalRow<T>>,
-    /// Whether it was not killed.
-    alive: bool,
 }
 
 impl<T: Clone, C: ObjectCodec<T> + Drop, E: EpochField<T>> Drop for Diary<T, C, E> {
     /// Drops all that the diary keeps: here, so that no crate above has to prove how each part is dropped.
     fn drop(self) {
-        let Diary {
-            tables: _,
-            rows: _,
-            alive: _,
-        } = self;
+        let Diary { keeper: _, rows: _ } = self;
     }
 }
 
@@ -60,16 +47,15 @@ impl<T: Clone, C: ObjectCodec<T> + Drop, E: EpochField<T>> Model for Diary<T, C,
     ghost use Rattle.std.specs.Coded.{codes};
     ghost use Rattle.txn_store.specs.Memory.{files_code};
     ghost use Rattle.txn_journals.specs.Journals.{Replays};
-    ghost use Rattle.txn_diary.specs.Diaries.{DiaryState, lives};
-    ghost use Rattle.txn_diary.specs.Shown.{shown};
+    ghost use Rattle.txn_diary.specs.Diaries.{DiaryState, diary_of, lives};
 
     ghost Value = { DiaryState T C E };
 
     ghost coded = { Prim.hlevel (codes, files_code) };
 
-    ghost view = { λ d. record { client = d.tables.client; page = d.tables.layout.page; codec = d.tables.layout.codec; epochs = d.tables.epochs; part = shown d.tables; rows = d.rows.items } };
+    ghost view = { λ d. diary_of d.keeper d.rows.items };
 
-    ghost invariant = { λ d. (1 ≤ d.tables.client) × (1 ≤ d.tables.layout.page) × (d.alive ≡ lives d.rows.items) × Replays d.tables.layout.page (C.encoded d.tables.layout.codec) (C.decoded d.tables.layout.codec) (E.epoch_of d.tables.epochs) (E.with_epoch d.tables.epochs) d.tables.client (reverse d.rows.items) (shown d.tables) };
+    ghost invariant = { λ d. (1 ≤ d.keeper.client) × (1 ≤ d.keeper.page) × (d.keeper.alive ≡ lives d.rows.items) × Replays d.keeper.page (C.encoded d.keeper.codec) (C.decoded d.keeper.codec) (E.epoch_of d.keeper.epochs) (E.with_epoch d.keeper.epochs) d.keeper.client (reverse d.rows.items) d.keeper.part };
 }
 
 impl<T: Clone, C: ObjectCodec<T> + Drop, E: EpochField<T>> Diary<T, C, E> {
@@ -89,7 +75,8 @@ impl<T: Clone, C: ObjectCodec<T> + Drop, E: EpochField<T>> Diary<T, C, E> {
     ghost use Rattle.txn_journals.specs.declared.rows.Step.TheVariants as steps;
     ghost use Rattle.txn_journals.specs.Parts.{no_part};
     ghost use Rattle.txn_journals.specs.Journals.{Replays};
-    ghost use Rattle.txn_diary.specs.Diaries.{asked_in, refusal_of, end_fault, kill_fault, IsReceiptFault, IsTurn, IsKilledNow, Tells, Begun, Acts};
+    ghost use Rattle.txn_diary.specs.Keepers.{end_fault, IsReceiptFault, IsTurn};
+    ghost use Rattle.txn_diary.specs.Diaries.{asked_in, refusal_of, kill_fault, IsKilledNow, Tells, Begun, Acts};
 
     /// A client of this number, at least 1, that has done nothing. A listing has pages of at most `page` files, at least 1.
     /// The only error is want of memory.
@@ -105,9 +92,8 @@ impl<T: Clone, C: ObjectCodec<T> + Drop, E: EpochField<T>> Diary<T, C, E> {
         ensures { IfOk result (λ diary. diary ≡ record { client = client; page = page; codec = codec; epochs = epochs; part = no_part; rows = [] }) }
     {
         Ok(Diary {
-            tables: Tables::new(alloc, client, codec, epochs, page)?,
+            keeper: Keeper::new(alloc, client, codec, epochs, page)?,
             rows: Vec::new(alloc),
-            alive: true,
         })
     }
 
@@ -115,7 +101,7 @@ impl<T: Clone, C: ObjectCodec<T> + Drop, E: EpochField<T>> Diary<T, C, E> {
     pub fn client(&self) -> u64
         ensures { result ≡ self.now.client }
     {
-        self.tables.client
+        self.keeper.client()
     }
 
     /// What an operation asks for: nothing where it is not there, or has ended, and where the client was killed. It takes no
@@ -123,18 +109,14 @@ impl<T: Clone, C: ObjectCodec<T> + Drop, E: EpochField<T>> Diary<T, C, E> {
     pub fn asks(&self, op: u64) -> Option<Ask<'_>>
         ensures { asks_as result ≡ asked_in self.now op }
     {
-        if self.alive {
-            self.tables.asks(op)
-        } else {
-            None
-        }
+        self.keeper.asks(op)
     }
 
     /// The view of this number as it stands: none where it is not there, or has ended. It takes no memory.
     pub fn view(&self, number: u64) -> Option<&View<T>>
         ensures { option_copied result ≡ seen_view (used_by self.now.part.views (Some number)) }
     {
-        get(&self.tables.views, number)
+        self.keeper.view(number)
     }
 
     /// What the client did, the oldest row first.
@@ -179,8 +161,8 @@ impl<T: Clone, C: ObjectCodec<T> + Drop, E: EpochField<T>> Diary<T, C, E> {
         ensures err { OnErr result (self.new ≡ self.old) }
         ensures ok { IfOk result (λ told. Begun (C.encoded self.old.codec) (C.decoded self.old.codec) (E.epoch_of self.old.epochs) (E.with_epoch self.old.epochs) self.old call told self.new) }
     {
-        let op = self.tables.operations.len() as u64 + 1;
-        match start(&mut self.tables, &mut self.rows, self.alive, &call) {
+        let op = self.keeper.begun() + 1;
+        match start(&mut self.keeper, &mut self.rows, &call) {
             Ok(answers) => Ok(note(
                 &mut self.rows,
                 Step::Begin(call),
@@ -208,11 +190,10 @@ impl<T: Clone, C: ObjectCodec<T> + Drop, E: EpochField<T>> Diary<T, C, E> {
         ensures err { OnErr result (self.new ≡ self.old) }
         ensures ok { IfOk result (λ told. Acts (C.encoded self.old.codec) (C.decoded self.old.codec) (E.epoch_of self.old.epochs) (E.with_epoch self.old.epochs) self.old op acts.Look told self.new) }
     {
-        if let Some(fault) = ask_refusal(false, self.asks(op)) {
-            return Err(fault);
-        }
-        make_room(&mut self.tables, &mut self.rows)?;
-        let answers = self.tables.turn(op, None);
+        let Ok(()) = self.rows.reserve(1) else {
+            return Err(lack(ask_refusal(false, self.asks(op))));
+        };
+        let answers = self.keeper.look(op)?;
         Ok(note_act(&mut self.rows, op, Act::Look, answers))
     }
 
@@ -230,14 +211,10 @@ impl<T: Clone, C: ObjectCodec<T> + Drop, E: EpochField<T>> Diary<T, C, E> {
         ensures err { OnErr result (self.new ≡ self.old) }
         ensures ok { IfOk result (λ told. Acts (C.encoded self.old.codec) (C.decoded self.old.codec) (E.epoch_of self.old.epochs) (E.with_epoch self.old.epochs) self.old op (acts.Receive receipt) told self.new) }
     {
-        if let Some(fault) = receipt_refusal(self.asks(op), &receipt) {
-            return Err(fault);
-        }
-        let Ok(reply) = receipt.reply.try_clone() else {
-            return Err(EventFault::NoMemory);
+        let Ok(()) = self.rows.reserve(1) else {
+            return Err(lack(receipt_refusal(self.asks(op), &receipt)));
         };
-        make_room(&mut self.tables, &mut self.rows)?;
-        let answers = self.tables.turn(op, Some(reply));
+        let answers = self.keeper.receive(op, &receipt)?;
         Ok(note_act(&mut self.rows, op, Act::Receive(receipt), answers))
     }
 
@@ -253,18 +230,11 @@ impl<T: Clone, C: ObjectCodec<T> + Drop, E: EpochField<T>> Diary<T, C, E> {
         ensures err { OnErr result (self.new ≡ self.old) }
         ensures ok { IfOk result (λ told. (request : Request) × Acts (C.encoded self.old.codec) (C.decoded self.old.codec) (E.epoch_of self.old.epochs) (E.with_epoch self.old.epochs) self.old op (acts.Fails request) told self.new) }
     {
-        if let Some(fault) = ask_refusal(true, self.asks(op)) {
-            return Err(fault);
-        }
-        let Some(request) = request_of(self.asks(op)) else {
-            unreachable!();
+        let Ok(()) = self.rows.reserve(1) else {
+            return Err(lack(ask_refusal(true, self.asks(op))));
         };
-        let Ok(request) = request.try_clone() else {
-            return Err(EventFault::NoMemory);
-        };
-        make_room(&mut self.tables, &mut self.rows)?;
-        let answers = self.tables.refuse(op, 2);
-        Ok(note_act(&mut self.rows, op, Act::Fails(request), answers))
+        let did = self.keeper.failed(op)?;
+        Ok(note_act(&mut self.rows, op, Act::Fails(did.0), did.1))
     }
 
     /// An operation is given up, and ends without an answer. A put or a delete that it asks for may still reach the store.
@@ -278,13 +248,10 @@ impl<T: Clone, C: ObjectCodec<T> + Drop, E: EpochField<T>> Diary<T, C, E> {
         ensures err { OnErr result (self.new ≡ self.old) }
         ensures ok { IfOk result (λ told. (left : Option Request) × Tells (C.encoded self.old.codec) (C.decoded self.old.codec) (E.epoch_of self.old.epochs) (E.with_epoch self.old.epochs) self.old (steps.Act op (acts.GiveUp left)) op (tolds.GaveUp op) told self.new) }
     {
-        if let Some(fault) = end_refusal(self.asks(op)) {
-            return Err(fault);
-        }
-        make_room(&mut self.tables, &mut self.rows)?;
-        let Ok(left) = self.tables.give_up(op) else {
-            return Err(EventFault::NoMemory);
+        let Ok(()) = self.rows.reserve(1) else {
+            return Err(lack(end_refusal(self.asks(op))));
         };
+        let left = self.keeper.give_up(op)?;
         Ok(note(
             &mut self.rows,
             Step::Act(op, Act::GiveUp(left)),
@@ -306,14 +273,10 @@ impl<T: Clone, C: ObjectCodec<T> + Drop, E: EpochField<T>> Diary<T, C, E> {
         ensures err { OnErr result (self.new ≡ self.old) }
         ensures ok { OnOk result (IsKilledNow (C.encoded self.old.codec) (C.decoded self.old.codec) (E.epoch_of self.old.epochs) (E.with_epoch self.old.epochs) self.old self.new) }
     {
-        if !self.alive {
-            return Err(EventFault::UnknownNumber);
-        }
-        make_room(&mut self.tables, &mut self.rows)?;
-        let Ok(lefts) = self.tables.kill() else {
-            return Err(EventFault::NoMemory);
+        let Ok(()) = self.rows.reserve(1) else {
+            return Err(lack(self.keeper.kill_refusal()));
         };
-        self.alive = false;
+        let lefts = self.keeper.killed()?;
         push_within(
             &mut self.rows,
             JournalRow {
@@ -322,37 +285,6 @@ impl<T: Clone, C: ObjectCodec<T> + Drop, E: EpochField<T>> Diary<T, C, E> {
             },
         );
         Ok(())
-    }
-
-    /// An operation that asks for a store call has it served under one lock, and takes the reply. Where the call was refused
-    /// for memory, nothing reached the store, and the operation is answered with the refusal 9.
-    fn serve<R: Wait>(
-        &mut self,
-        rt: &R,
-        store: &Mutex<LoggedStore>,
-        op: u64,
-    ) -> Result<Told<T>, EventFault>
-        requires exact { IsExactClone T.is_clone }
-        requires asks { ask_fault true (asked_in self.old op) ≡ None }
-        ensures refused { fault_met result ≡ None }
-        ensures err { OnErr result (self.new ≡ self.old) }
-        ensures ok { IfOk result (λ told. (act : Act) × IsTurn act × Acts (C.encoded self.old.codec) (C.decoded self.old.codec) (E.epoch_of self.old.epochs) (E.with_epoch self.old.epochs) self.old op act told self.new) }
-    {
-        make_room(&mut self.tables, &mut self.rows)?;
-        let Some(request) = request_of(self.asks(op)) else {
-            unreachable!();
-        };
-        let served = serve_under(rt, self.tables.alloc, store, self.tables.client, request);
-        match served {
-            Ok((taken, reply)) => {
-                let answers = self.tables.turn(op, Some(reply));
-                Ok(note_act(&mut self.rows, op, Act::Receive(taken), answers))
-            }
-            Err(_) => {
-                let answers = self.tables.refuse(op, 9);
-                Ok(note_act(&mut self.rows, op, Act::Lacks, answers))
-            }
-        }
     }
 
     /// An operation does what it asks for: it looks at the client's caches, which takes no lock, or has one call served by the
@@ -374,96 +306,32 @@ impl<T: Clone, C: ObjectCodec<T> + Drop, E: EpochField<T>> Diary<T, C, E> {
         ensures err { OnErr result (self.new ≡ self.old) }
         ensures ok { IfOk result (λ told. (act : Act) × IsTurn act × Acts (C.encoded self.old.codec) (C.decoded self.old.codec) (E.epoch_of self.old.epochs) (E.with_epoch self.old.epochs) self.old op act told self.new) }
     {
-        match self.asks(op) {
-            None => Err(EventFault::UnknownNumber),
-            Some(Ask::Look) => self.look(op),
-            Some(Ask::Store(_)) => self.serve(rt, store, op),
-        }
+        let Ok(()) = self.rows.reserve(1) else {
+            return Err(lack(end_refusal(self.asks(op))));
+        };
+        let did = self.keeper.step(rt, store, op)?;
+        Ok(note_act(&mut self.rows, op, did.0, did.1))
     }
 }
 
-/// Makes room for a row, and for what a step adds to what the client keeps.
-fn make_room<T: Clone, C: ObjectCodec<T> + Drop, E: EpochField<T>>(
-    tables: &mut Tables<T, C, E>,
-    rows: &mut Vec<JournalRow<T>>,
-) -> Result<(), EventFault>
-    ensures shown { shown tables.new ≡ shown tables.old }
-    ensures client { tables.new.client ≡ tables.old.client }
-    ensures layout { tables.new.layout ≡ tables.old.layout }
-    ensures epochs { tables.new.epochs ≡ tables.old.epochs }
-    ensures rows { rows.new.items ≡ rows.old.items }
-    ensures err { IfErr result (λ fault. fault ≡ EventFault.NoMemory) }
-    ensures room { OnOk result (vec_len rows.new < vec_capacity rows.new) }
-    ensures room_operations { OnOk result (vec_len tables.new.operations < vec_capacity tables.new.operations) }
-    ensures room_writes { OnOk result (vec_len tables.new.writes < vec_capacity tables.new.writes) }
-    ensures room_views { OnOk result (vec_len tables.new.views < vec_capacity tables.new.views) }
-    ensures room_notes { OnOk result (HasRoom tables.new.notes) }
-{
-    let Ok(()) = rows.reserve(1) else {
-        return Err(EventFault::NoMemory);
-    };
-    let Ok(()) = tables.reserve() else {
-        return Err(EventFault::NoMemory);
-    };
-    Ok(())
-}
-
-/// Begins a call where the client lives and permits it, and makes room for the row: the answer twice, where it is refused at
-/// once.
+/// Begins a call where there is room for its row: its answer, where it is refused at once, for the row and for the caller.
 fn start<T: Clone, C: ObjectCodec<T> + Drop, E: EpochField<T>>(
-    tables: &mut Tables<T, C, E>,
+    keeper: &mut Keeper<T, C, E>,
     rows: &mut Vec<JournalRow<T>>,
-    alive: bool,
     call: &Call<T>,
 ) -> Result<Option<Answers<T>>, EventFault>
     requires { IsExactClone T.is_clone }
-    ensures refused { fault_met result ≡ fault_if alive (client_begin_fault (E.epoch_of tables.old.epochs) tables.old.client (shown tables.old) call.now) }
-    ensures client { tables.new.client ≡ tables.old.client }
-    ensures layout { tables.new.layout ≡ tables.old.layout }
-    ensures epochs { tables.new.epochs ≡ tables.old.epochs }
+    ensures refused { fault_met result ≡ keeper_refusal (E.epoch_of keeper.old.epochs) keeper.old call.now }
+    ensures err { OnErr result (keeper.new ≡ keeper.old) }
     ensures rows { rows.new.items ≡ rows.old.items }
     ensures room { OnOk result (vec_len rows.new < vec_capacity rows.new) }
-    ensures err { OnErr result (shown tables.new ≡ shown tables.old) }
-    ensures ok { IfOk result (λ answers. BeginsCall tables.old.layout.page (C.encoded tables.old.layout.codec) (C.decoded tables.old.layout.codec) (E.epoch_of tables.old.epochs) (E.with_epoch tables.old.epochs) tables.old.client (shown tables.old) call.now (first_of answers) (shown tables.new)) }
+    ensures ok { IfOk result (λ answers. Does C.encoded C.decoded E.epoch_of E.with_epoch keeper.old (steps.Begin call.now) (first_of answers) keeper.new) }
     ensures twice { IfOk result (λ answers. ForSome answers (λ pair. pair.1 ≡ pair.0)) }
 {
-    if !alive {
-        return Err(EventFault::UnknownNumber);
-    }
-    if let Some(fault) = tables.begin_refusal(call) {
-        return Err(fault);
-    }
-    make_room(tables, rows)?;
-    match tables.begin(call) {
-        Ok(refusal) => Ok(refusals(refusal)),
-        Err(_) => Err(EventFault::NoMemory),
-    }
-}
-
-/// The refusal of this number twice, where there is one.
-fn refusals<T>(refusal: Option<u8>) -> Option<Answers<T>>
-    ensures answer { (count : ℕ) (view : Option ℕ) → first_of result ≡ answered count view (refusal_in refusal) }
-    ensures twice { ForSome result (λ pair. pair.1 ≡ pair.0) }
-{
-    let number = refusal?;
-    Some((
-        Answer::Plain(PlainAnswer::Refused(number)),
-        Answer::Plain(PlainAnswer::Refused(number)),
-    ))
-}
-
-/// Serves one request of a client under one lock, and logs it: the receipt, and the reply once more.
-fn serve_under<R: Wait>(
-    rt: &R,
-    alloc: Global,
-    store: &Mutex<LoggedStore>,
-    client: u64,
-    request: &Request,
-) -> Result<(Receipt, Reply), AllocError>
-    ensures receipt { IfOk result (λ pair. IsReceiptOf request.now pair.0) }
-    ensures again { IfOk result (λ pair. pair.1 ≡ pair.0.reply) }
-{
-    store.lock(rt).serve_noted(alloc, client, request)
+    let Ok(()) = rows.reserve(1) else {
+        return Err(lack(keeper.begin_refusal(call)));
+    };
+    keeper.begin(call)
 }
 
 impl<T: Clone, C: ObjectCodec<T> + Drop, E: EpochField<T>> Audited<T> for Diary<T, C, E> {

@@ -3,7 +3,9 @@
 
 mod begins;
 pub mod diary;
+pub mod keeper;
 mod kills;
+pub mod laws;
 mod notes;
 mod reading;
 mod step;

@@ -1,11 +1,12 @@
 //! What a client notes of a step, and what it is told.
-ghost use Rattle.std.specs.Prelude.{◌≡◌, ◌<◌, ◌++◌, ◌∷◌, [], Decides, vec_len, vec_capacity};
+ghost use Rattle.std.specs.Prelude.{◌≡◌, ◌<◌, ◌++◌, ◌∷◌, [], Decides, unwrap_or, vec_len, vec_capacity};
 ghost use Rattle.std.specs.Option.{ForSome};
+ghost use Rattle.txn_history.specs.declared.event.EventFault.TheVariants as faults;
 ghost use Rattle.txn_history.specs.declared.event.ToldOf.TheVariants as tolds;
 ghost use Rattle.txn_history.specs.Added.{told_of};
 ghost use Rattle.txn_journals.specs.declared.rows.Step.TheVariants as steps;
 ghost use Rattle.txn_machine_inner.specs.Doing.{asks_as, first_of};
-ghost use Rattle.txn_diary.specs.Diaries.{IsReceiptFault};
+ghost use Rattle.txn_diary.specs.Keepers.{IsReceiptFault};
 ghost use Rattle.txn_logged.specs.Logged.{IsOfKind};
 
 use txn_caches::ask::Ask;
@@ -44,6 +45,13 @@ pub(crate) fn receipt_refusal(ask: Option<Ask<'_>>, receipt: &Receipt) -> Option
             }
         }
     }
+}
+
+/// Why a step stops whose row finds no room: what it is refused for, where it is, else want of memory.
+pub(crate) fn lack(refusal: Option<EventFault>) -> EventFault
+    ensures { result ≡ unwrap_or refusal faults.NoMemory }
+{
+    refusal.unwrap_or(EventFault::NoMemory)
 }
 
 /// Notes a step with its answer, where there is room, and tells the answer, or this where there is none.

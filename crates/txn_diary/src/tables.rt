@@ -56,7 +56,7 @@ impl<T: Clone, C: ObjectCodec<T> + Drop, E: EpochField<T>> Tables<T, C, E> {
     ghost use Rattle.txn_clients.specs.Views.{IsFromOne};
     ghost use Rattle.txn_journals.specs.Parts.{no_part, client_begin_fault, answer_in, note_of, written_in, turned_with};
     ghost use Rattle.txn_journals.specs.Journals.{BeginsCall, TakesTurn, GivesUp};
-    ghost use Rattle.txn_diary.specs.Diaries.{AreSound};
+    ghost use Rattle.txn_diary.specs.Keepers.{AreSound};
     ghost use Rattle.txn_diary.specs.Room.{HasRoom};
     ghost use Rattle.txn_diary.specs.Shown.{shown};
 

@@ -8,7 +8,8 @@ use Rattle.txn_history.specs.declared.event.Answer.{Answer}
 use Rattle.txn_history.specs.Trace.{Told}
 use Rattle.txn_journals.specs.declared.rows.Act.{Act}
 use Rattle.txn_journals.specs.declared.rows.Step.TheVariants as steps
-use Rattle.txn_diary.specs.Diaries.{DiaryState, IsTurn}
+use Rattle.txn_diary.specs.Keepers.{IsTurn}
+use Rattle.txn_diary.specs.Diaries.{DiaryState}
 use Rattle.txn_threads.specs.declared.caller.Next.{Next}
 use Rattle.txn_threads.specs.declared.caller.Next.TheVariants as nexts
 use Rattle.txn_threads.specs.declared.caller.Heard.{Heard}

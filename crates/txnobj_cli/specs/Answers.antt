@@ -14,10 +14,13 @@ use Rattle.txn_history.specs.declared.event.Call.{Call}
 use Rattle.txn_history.specs.declared.event.Call.TheVariants as calls
 use Rattle.txn_history.specs.declared.event.Answer.{Answer}
 use Rattle.txn_history.specs.declared.event.Answer.TheVariants as answers
+use Rattle.txn_journals.specs.declared.rows.Step.{Step}
+use Rattle.txn_diary.specs.Keepers.{KeeperState, Does}
 use Rattle.txn_client.specs.Noted.{Noted}
 use Rattle.txn_client.specs.Calling.{ClientState, MakesCall}
 use Rattle.txn_client.specs.declared.retry.Viewed.{Viewed}
 use Rattle.txn_entries.specs.declared.entry.Entry.{Entry}
+use Rattle.txn_entries.specs.Entry.{entry_bytes, entry_read}
 use Rattle.txn_entries.specs.declared.entry.EntryCodec.{EntryCodec}
 use Rattle.txn_entries.specs.declared.entry.EntryEpoch.{EntryEpoch}
 use Rattle.txnobj_said.specs.Said.{with_feed, lines_of}
@@ -55,9 +58,13 @@ module _ {R S : Type 0} (hands : R → Noted Entry → R → Type 0) (serves : S
   abbrev pub Client : Type 0
   Client = ClientState Entry EntryCodec EntryEpoch R S
 
+  -- it did this, and what it keeps follows, as entries are written and read
+  abbrev pub Did : KeeperState Entry EntryCodec EntryEpoch → Step Entry → Option (Answer Entry) → KeeperState Entry EntryCodec EntryEpoch → Type 0
+  Did = Does (λ _ value. entry_bytes value) (λ _ bytes. entry_read bytes) (λ _ value. value.epoch) (λ _ value epoch. record value { epoch = epoch })
+
   -- it made this call, and was answered so
   abbrev pub Made : Call Entry → Answer Entry → Client → Client → Type 0
-  Made call answer old new = MakesCall hands serves 100000 call (Some answer) old new
+  Made call answer old new = MakesCall hands serves Did 100000 call (Some answer) old new
 
   -- it made this call, and this holds of its answer
   pub record Answered (call : Call Entry) (says : Answer Entry → Type 0) (old new : Client) : Type 0 where

@@ -1,42 +1,25 @@
-use Rattle.std.proofs.Common.{◌≡◌, ◌∙◌, ap, None, Some, true, false}
-use Rattle.txn_history.specs.Seen.{Look}
-use Rattle.txn_history.specs.Allowed.{ask_fault}
+use Rattle.std.proofs.Common.{rules, false}
 use Rattle.txn_machine_inner.specs.Doing.{first_of}
-use Rattle.txn_clients.specs.Operations.{asked_by}
 use Rattle.txn_journals.specs.declared.rows.Act.TheVariants as acts
 use Rattle.txn_journals.specs.declared.rows.Step.TheVariants as steps
+use Rattle.txn_history.specs.Allowed.{ask_fault}
 use Rattle.txn_diary.specs.Diaries.{asked_in}
-use Rattle.txn_diary.proofs.Acting.{takes_so}
-use Rattle.txn_diary.proofs.Stepping.{met_ask, looks_so, room_made, ready_sound, ready_asks, stepped, IsReady, IsStepped}
-use Rattle.txn_diary.proofs.diary.Diary.look.Goals.{In_ok-make_room, After-note_act}
+use Rattle.txn_diary.proofs.Stepping.{met_ask, met_lack}
+use Rattle.txn_diary.proofs.Diaries.{IsNoted, noted}
+use Rattle.txn_diary.proofs.diary.Diary.look.Goals.{After-note_act}
 use Rattle.txn_diary.proofs.diary.Diary.look.Goals as goal
 
-pub returns-in-Some-clause-refused : goal.returns-in-Some-clause-refused
-returns-in-Some-clause-refused g c = met_ask (Unit {0}) false (asked_in c.args.self.now c.args.op) c.in-Some.fault (c.in-Some.ensures ∙ ap (ask_fault false) c.asks.ensures)
+pub returns-in_default-clause-refused : goal.returns-in_default-clause-refused
+returns-in_default-clause-refused g c =
+    let ask = asked_in c.args.self.now c.args.op in
+    met_lack (Unit {0}) c.lack.result (ask_fault false ask) (met_ask (Unit {0}) false ask) (search rules)
 
--- room was made in what the client keeps
-ready : (g : _) (c : In_ok-make_room g) → IsReady c.args.self.now c.make_room.new.tables c.make_room.new.rows.items c.self.inside.alive
-ready g c = room_made c.args.self.now c.self.inside.tables c.make_room.new.tables c.self.inside.rows.items c.make_room.new.rows.items c.self.inside.alive c.self.view_is c.self.invariant c.make_room.ensures.client c.make_room.ensures.layout c.make_room.ensures.epochs c.make_room.ensures.shown c.make_room.ensures.rows
-
--- the operation asks for a look
-asks : (g : _) (c : In_ok-make_room g) → (c.self.inside.alive ≡ true) × (asked_by c.make_room.new.tables.operations.items c.args.op ≡ Some Look)
-asks g c = ready_asks (ready g c) c.args.op Look (looks_so (asked_in c.args.self.now c.args.op) (c.in_default.ensures ∙ ap (ask_fault false) c.asks.ensures))
-
-pub turn-answers-requires-clause-sound : goal.turn-answers-requires-clause-sound
-turn-answers-requires-clause-sound g c = ready_sound (ready g (goal.at.turn-answers-requires-clause-sound g c).In_ok-make_room)
-
-pub turn-answers-requires-clause-takes : goal.turn-answers-requires-clause-takes
-turn-answers-requires-clause-takes g c =
-    let at = (goal.at.turn-answers-requires-clause-takes g c).In_ok-make_room in
-    takes_so c.make_room.new.tables.operations.items c.args.op Look None (ready_sound (ready g at)) (asks g at).1 tt
-
-looked : (g : _) (c : After-note_act g) → IsStepped c.args.self.now (steps.Act c.args.op acts.Look) (first_of c.turn-answers.result) c.turn-answers.new.self c.note_act.new.rows.items c.self.inside.alive
-looked g c =
-    let live = asks g (goal.at.After-note_act g c).In_ok-make_room in
-    stepped (ready g (goal.at.After-note_act g c).In_ok-make_room) c.note_act.new.rows.items live.0 live.0 c.note_act.ensures.rows (c.turn-answers.ensures.turned Look live.1) c.turn-answers.ensures.client c.turn-answers.ensures.layout c.turn-answers.ensures.epochs
+row_of : (g : _) (c : After-note_act g) → IsNoted g.C.ObjectCodec.encoded g.C.ObjectCodec.decoded g.E.EpochField.epoch_of g.E.EpochField.with_epoch c.args.self.now (steps.Act c.args.op acts.Look) (first_of c.in_ok-answers.answers) c.look.new.self c.note_act.new.rows.items
+row_of g c =
+    noted g.C.ObjectCodec.encoded g.C.ObjectCodec.decoded g.E.EpochField.epoch_of g.E.EpochField.with_epoch c.args.self.now c.self.inside.keeper c.look.new.self c.self.inside.rows.items c.note_act.new.rows.items (steps.Act c.args.op acts.Look) (first_of c.in_ok-answers.answers) c.self.view_is c.self.invariant (search rules) c.in_ok-answers.ensures.ok
 
 pub invariant_of-self-2 : goal.invariant_of-self-2
-invariant_of-self-2 g c = (looked g (goal.at.invariant_of-self-2 g c).After-note_act).kept
+invariant_of-self-2 g c = (row_of g (goal.at.invariant_of-self-2 g c).After-note_act).kept
 
 pub returns-clause-ok : goal.returns-clause-ok
-returns-clause-ok g c = record { answer = first_of c.turn-answers.result; said_is = c.note_act.ensures.told; adds = (looked g (goal.at.returns-clause-ok g c).After-note_act).adds }
+returns-clause-ok g c = record { answer = first_of c.in_ok-answers.answers; said_is = c.note_act.ensures.told; adds = (row_of g (goal.at.returns-clause-ok g c).After-note_act).adds }

@@ -1,46 +1,26 @@
-use Rattle.std.proofs.Common.{◌≡◌, sym, subst, Some, None, true}
-use Rattle.txn_store.specs.declared.request.Reply.{Reply}
-use Rattle.txn_history.specs.Seen.{Store}
+use Rattle.std.proofs.Common.{rules, ◌∙◌, ap, subst}
 use Rattle.txn_machine_inner.specs.Doing.{first_of}
-use Rattle.txn_clients.specs.Operations.{asked_by}
 use Rattle.txn_journals.specs.declared.rows.Act.TheVariants as acts
 use Rattle.txn_journals.specs.declared.rows.Step.TheVariants as steps
-use Rattle.txn_logged.specs.Logged.{IsOfKind}
-use Rattle.txn_diary.specs.Diaries.{asked_in, IsReceiptFault}
-use Rattle.txn_diary.proofs.Acting.{takes_so}
-use Rattle.txn_diary.proofs.Stepping.{met_receipt, receives_so, room_made, ready_sound, ready_asks, stepped, IsReady, IsStepped}
-use Rattle.txn_diary.proofs.diary.Diary.receive.Goals.{In_ok-make_room, After-note_act}
+use Rattle.txn_diary.specs.Keepers.{IsReceiptFault}
+use Rattle.txn_diary.specs.Diaries.{DiaryState, diary_of, asked_in}
+use Rattle.txn_diary.proofs.Stepping.{lacks_receipt}
+use Rattle.txn_diary.proofs.Diaries.{IsNoted, noted}
+use Rattle.txn_diary.proofs.diary.Diary.receive.Goals.{After-note_act}
 use Rattle.txn_diary.proofs.diary.Diary.receive.Goals as goal
 
-pub returns-in-Some-clause-refused : goal.returns-in-Some-clause-refused
-returns-in-Some-clause-refused g c = met_receipt (Unit {0}) (asked_in c.args.self.now c.args.op) c.args.receipt c.in-Some.fault (subst (λ a. IsReceiptFault a c.args.receipt (Some c.in-Some.fault)) c.asks.ensures c.in-Some.ensures)
+pub returns-in_default-clause-refused : goal.returns-in_default-clause-refused
+returns-in_default-clause-refused g c =
+    let asked = c.asks.ensures ∙ (ap (λ rows. asked_in (diary_of c.self.inside.keeper rows) c.args.op) c.reserve.ensures.items ∙ ap (λ (d : DiaryState _ _ _). asked_in d c.args.op) c.self.view_is) in
+    let due = subst (λ ask. IsReceiptFault ask c.args.receipt c.receipt_refusal.result) asked c.receipt_refusal.ensures in
+    lacks_receipt (Unit {0}) (asked_in c.args.self.now c.args.op) c.args.receipt c.lack.result c.receipt_refusal.result due c.lack.ensures
 
--- room was made in what the client keeps
-ready : (g : _) (c : In_ok-make_room g) → IsReady c.args.self.now c.make_room.new.tables c.make_room.new.rows.items c.self.inside.alive
-ready g c = room_made c.args.self.now c.self.inside.tables c.make_room.new.tables c.self.inside.rows.items c.make_room.new.rows.items c.self.inside.alive c.self.view_is c.self.invariant c.make_room.ensures.client c.make_room.ensures.layout c.make_room.ensures.epochs c.make_room.ensures.shown c.make_room.ensures.rows
-
--- the receipt is of what the operation asks for
-receives : (g : _) (c : In_ok-make_room g) → (asked_in c.args.self.now c.args.op ≡ Some (Store c.args.receipt.request)) × IsOfKind c.args.receipt.request c.args.receipt.reply
-receives g c = receives_so (asked_in c.args.self.now c.args.op) c.args.receipt (subst (λ a. IsReceiptFault a c.args.receipt None) c.asks.ensures c.in_default.ensures)
-
-asks : (g : _) (c : In_ok-make_room g) → (c.self.inside.alive ≡ true) × (asked_by c.make_room.new.tables.operations.items c.args.op ≡ Some (Store c.args.receipt.request))
-asks g c = ready_asks (ready g c) c.args.op (Store c.args.receipt.request) (receives g c).0
-
-pub turn-answers-requires-clause-sound : goal.turn-answers-requires-clause-sound
-turn-answers-requires-clause-sound g c = ready_sound (ready g (goal.at.turn-answers-requires-clause-sound g c).In_ok-make_room)
-
-pub turn-answers-requires-clause-takes : goal.turn-answers-requires-clause-takes
-turn-answers-requires-clause-takes g c =
-    let at = (goal.at.turn-answers-requires-clause-takes g c).In_ok-make_room in
-    takes_so c.make_room.new.tables.operations.items c.args.op (Store c.args.receipt.request) (Some c.in-Ok.reply) (ready_sound (ready g at)) (asks g at).1 (subst (λ (r : Reply). IsOfKind c.args.receipt.request r) (sym c.in-Ok.ensures) (receives g at).1)
-
-received : (g : _) (c : After-note_act g) → IsStepped c.args.self.now (steps.Act c.args.op (acts.Receive c.args.receipt)) (first_of c.turn-answers.result) c.turn-answers.new.self c.note_act.new.rows.items c.self.inside.alive
-received g c =
-    let live = asks g (goal.at.After-note_act g c).In_ok-make_room in
-    stepped (ready g (goal.at.After-note_act g c).In_ok-make_room) c.note_act.new.rows.items live.0 live.0 c.note_act.ensures.rows (rw c.in-Ok.ensures at (c.turn-answers.ensures.turned (Store c.args.receipt.request) live.1)) c.turn-answers.ensures.client c.turn-answers.ensures.layout c.turn-answers.ensures.epochs
+row_of : (g : _) (c : After-note_act g) → IsNoted g.C.ObjectCodec.encoded g.C.ObjectCodec.decoded g.E.EpochField.epoch_of g.E.EpochField.with_epoch c.args.self.now (steps.Act c.args.op (acts.Receive c.args.receipt)) (first_of c.in_ok-answers.answers) c.receive.new.self c.note_act.new.rows.items
+row_of g c =
+    noted g.C.ObjectCodec.encoded g.C.ObjectCodec.decoded g.E.EpochField.epoch_of g.E.EpochField.with_epoch c.args.self.now c.self.inside.keeper c.receive.new.self c.self.inside.rows.items c.note_act.new.rows.items (steps.Act c.args.op (acts.Receive c.args.receipt)) (first_of c.in_ok-answers.answers) c.self.view_is c.self.invariant (search rules) c.in_ok-answers.ensures.ok
 
 pub invariant_of-self-2 : goal.invariant_of-self-2
-invariant_of-self-2 g c = (received g (goal.at.invariant_of-self-2 g c).After-note_act).kept
+invariant_of-self-2 g c = (row_of g (goal.at.invariant_of-self-2 g c).After-note_act).kept
 
 pub returns-clause-ok : goal.returns-clause-ok
-returns-clause-ok g c = record { answer = first_of c.turn-answers.result; said_is = c.note_act.ensures.told; adds = (received g (goal.at.returns-clause-ok g c).After-note_act).adds }
+returns-clause-ok g c = record { answer = first_of c.in_ok-answers.answers; said_is = c.note_act.ensures.told; adds = (row_of g (goal.at.returns-clause-ok g c).After-note_act).adds }
