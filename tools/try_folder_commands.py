@@ -298,13 +298,11 @@ def doctors(program, root, _seconds):
     ran = subprocess.run(words, **how)
     expect((ran.returncode, ran.stdout) == (0, "".join(f"{tried}: yes\n" for tried in TRIED)), f"doctor: status {ran.returncode}: {ran.stdout}")
     expect(os.listdir(root) == [], f"doctor leaves {os.listdir(root)}")
-    # (nobody writes in the first, whoever asks)
-    for folder in ("/proc", f"{root}/none"):
-        ran = subprocess.run([program, "--root", folder, "doctor"], **how)
-        said = [line.partition(": ") for line in ran.stdout.splitlines()]
-        expect([line[0] for line in said] == list(TRIED), f"doctor of {folder} says {ran.stdout}")
-        expect(ran.returncode == 3 and said[0][2].startswith("no: "), f"doctor of {folder}: status {ran.returncode}: {ran.stdout}")
-    expect(os.listdir(root) == [], f"doctor makes {os.listdir(root)}")
+    # (nobody writes there, whoever asks)
+    ran = subprocess.run([program, "--root", "/proc", "doctor"], **how)
+    said = [line.partition(": ") for line in ran.stdout.splitlines()]
+    expect([line[0] for line in said] == list(TRIED), f"doctor of /proc says {ran.stdout}")
+    expect(ran.returncode == 3 and said[0][2].startswith("no: "), f"doctor of /proc: status {ran.returncode}: {ran.stdout}")
     return ["each thing that a folder has to carry is tried, and one that does not serve is refused"]
 
 
@@ -390,6 +388,75 @@ def numbers(program, root, _seconds):
     return ["a client's number is the one that is named, or the time in nanoseconds, and audited"]
 
 
+# Each command, with words that it takes.
+EACH_COMMAND = (
+    ("init", "1"),
+    ("put", "1"),
+    ("put", "--epoch", "1", "1"),
+    ("claim",),
+    ("get",),
+    ("list",),
+    ("history",),
+    ("watch", "--after", "0", "--seconds", "0"),
+    ("advance", "1"),
+    ("delete", "1"),
+    ("collect",),
+    ("shell",),
+    ("doctor",),
+    ("clean", "1"),
+    ("bench", "1"),
+)
+
+
+def missing_folders(program, root, _seconds):
+    """A folder that is missing, as where nothing is mounted, is refused by each command, and neither it nor a recording is made; of
+    one that is there the object's folder and that of boundaries alone are made."""
+    gone, diary, file = f"{root}/gone", f"{root}/gone.diary", f"{root}/file"
+    make_file(file, b"")
+    for command in EACH_COMMAND:
+        it = Versions(program, gone, "missed")
+        options = ("--diary", diary) if command[0] not in ("doctor", "clean", "bench") else ()
+        status, said, told = it.heard(*command, options=options)
+        expect((status, said) == (2, b"") and b"is it mounted?" in told, f"{command[0]} of a folder that is missing: status {status}: {told}")
+        status, said, told = Versions(program, file, "missed").heard(*command)
+        expect((status, said) == (2, b"") and b"is no folder" in told, f"{command[0]} of a file: status {status}: {told}")
+    expect(os.listdir(root) == ["file"], f"what is refused leaves {os.listdir(root)}")
+    os.mkdir(gone)
+    it = Versions(program, gone, "missed")
+    for command in (("init", "1"), ("put", "2"), ("advance", "1")):
+        expect(it.run(*command, recorded=False)[0] == 0, f"{command[0]} is refused in a folder that is there")
+    expect(sorted(os.listdir(gone)) == ["gc", "missed"], f"an object makes {os.listdir(gone)}")
+    return ["a folder that is missing is refused by each command, and not made"]
+
+
+def environments(program, root, _seconds):
+    """TXNOBJ_ROOT, TXNOBJ_NAME and TXNOBJ_DIARY stand for their options, which go before them; an empty one is none, and what records
+    nothing takes no recording from there."""
+    diary = f"{root}/named.diary"
+    os.mkdir(f"{root}/other")
+
+    def ran(*words, **variables):
+        known = {f"TXNOBJ_{name.upper()}": value for name, value in variables.items()}
+        how = {"capture_output": True, "text": True, "check": False, "timeout": 60}
+        done = subprocess.run([program, *words], env={**os.environ, **known}, **how)
+        return done.returncode, done.stdout
+
+    named = {"root": root, "name": "named", "diary": diary}
+    expect(ran("init", "1", **named) == (0, "1\n"), "a folder, a name and a recording of the environment are not taken")
+    expect(ran("--root", f"{root}/other", "init", "2", **named) == (0, "1\n"), "the environment goes before --root")
+    expect(ran("--name", "other", "init", "3", **named) == (0, "1\n"), "the environment goes before --name")
+    expect(ran("--diary", f"{root}/other.diary", "put", "4", **named) == (0, "2\n"), "the environment goes before --diary")
+    found = [(name, ran("--root", f"{root}{at}", "--name", name, "get")[1]) for at, name in (("", "named"), ("/other", "named"), ("", "other"))]
+    expect(found == [("named", "4"), ("named", "2"), ("other", "3")], f"the environment leaves {found}")
+    objects = [row for row in text_of(diary).splitlines() if row.startswith("client ")]
+    expect(len(objects) == 3 and os.path.exists(f"{root}/other.diary"), f"the recording has {objects}")
+    for command in (("doctor",), ("clean", "1")):
+        expect(ran(*command, **named)[0] == 0, f"{command[0]} takes a recording of the environment")
+    expect(ran("get", name="named", root="")[0] == 2 and ran("get", root=root, name="")[0] == 2, "an empty text is a folder or a name")
+    expect(ran("get", name="named", root=root, diary="") == (0, "4"), "an empty text is a recording")
+    return ["the environment stands for options that are not given"]
+
+
 CHECKS = (
     watches,
     claims_alone,
@@ -405,4 +472,6 @@ CHECKS = (
     suffixes,
     values,
     numbers,
+    missing_folders,
+    environments,
 )

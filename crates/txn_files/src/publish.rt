@@ -69,29 +69,14 @@ pub fn sync_if_there<R: Files>(rt: &R, folder: &str) -> Result<(), Halt> {
     done
 }
 
-/// Makes a folder where it is missing, with those above it, each lasting where that is asked. After a fault those that were made
-/// stay.
-pub fn make_folders<R: Files>(rt: &R, folder: &str, syncs: bool) -> Result<(), Halt> {
+/// Makes a folder where it is missing, in a folder that is there, and lasting where that is asked. One that is missing above it is
+/// not made: it may be where a file system was mounted that is gone, and what would be made there would be another object.
+pub fn make_folder<R: Files>(rt: &R, folder: &str, syncs: bool) -> Result<(), Halt> {
     match fs::metadata(rt, folder) {
         Ok(_) => return Ok(()),
         Err(error) if error.kind() == ErrorKind::NotFound => {}
         Err(error) => return Err(at_error(Doing::MakingFolder, error)),
     }
-    for end in 1..folder.len() {
-        make_above(rt, folder, end, syncs)?;
-    }
-    make_folder(rt, folder, syncs)
-}
-
-/// Makes the folder whose name ends before the slash at this place, where one stands there.
-fn make_above<R: Files>(rt: &R, folder: &str, end: usize, syncs: bool) -> Result<(), Halt> {
-    match folder.split_at_checked(end) {
-        Some((above, rest)) if rest.starts_with('/') => make_folder(rt, above, syncs),
-        _ => Ok(()),
-    }
-}
-
-fn make_folder<R: Files>(rt: &R, folder: &str, syncs: bool) -> Result<(), Halt> {
     match fs::create_dir(rt, folder) {
         Ok(()) if syncs => sync_folder(rt, above(folder)),
         Ok(()) => Ok(()),

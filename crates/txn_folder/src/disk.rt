@@ -26,7 +26,7 @@ use txn_files::fault::{Doing, Fault, Halt, at_error, lacks_folder};
 use txn_files::lock::{Lock, LockFile, Sharing, take_lock};
 use txn_files::name::{Deed, Name, link, look, remove, replace};
 use txn_files::new_file::Written;
-use txn_files::publish::{make_folders, stands};
+use txn_files::publish::{make_folder, stands};
 use txn_store::page::{Listing, Page};
 use txn_store::store::Token;
 use txn_store::version_names::VersionNames;
@@ -197,7 +197,7 @@ impl<R: Files + Clock + Drop> Disk<R> {
             return written;
         }
         drop(written);
-        make_folders(&self.rt, self.folder.folder_of(place), syncs)?;
+        make_folder(&self.rt, self.folder.folder_of(place), syncs)?;
         self.numbers.write(alloc, &self.rt, file, bytes, syncs)
     }
 
@@ -244,7 +244,7 @@ where
             return lock;
         }
         drop(lock);
-        make_folders(&self.rt, self.folder.folder_of(place), self.syncs)?;
+        make_folder(&self.rt, self.folder.folder_of(place), self.syncs)?;
         let name = format!(in alloc; "{file}#0")?;
         take_lock(&self.rt, name, Sharing::Alone)
     }

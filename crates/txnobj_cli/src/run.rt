@@ -25,17 +25,9 @@ const LOOKS: u64 = 10;
 /// After how many looks another client goes on.
 const LOOKS_OF_A_CLIENT: u64 = 1_000;
 
-/// Whether a client does what the command asks for, so that there is something to record.
-fn is_of_client(command: &Command<'_>) -> bool {
-    !matches!(
-        command,
-        Command::Audit { .. } | Command::Doctor | Command::Clean(_) | Command::Bench { .. }
-    )
-}
-
 /// Does what the words ask for: the status.
 pub fn run(rt: &HostRuntime, options: &Options<'_>) -> Result<u8, Halt> {
-    if options.diary.is_some() && !is_of_client(&options.command) {
+    if options.diary.is_some() && !options.command.is_of_client() {
         return Err(Halt::Words("this command records nothing: leave out --diary"));
     }
     match &options.command {
@@ -250,7 +242,7 @@ fn say_halt(rt: &HostRuntime, halt: Halt) -> Result<(), Halt> {
 
 /// Tests the folder of the options.
 fn doctor(rt: &HostRuntime, options: &Options<'_>) -> Result<u8, Halt> {
-    let report = examine(rt, rt.alloc(), root_of(options)?)?;
+    let report = examine(rt, rt.alloc(), root_of(rt, options)?)?;
     say_report(rt, &report)
 }
 

@@ -9,7 +9,8 @@ use crate::recording::Recording;
 use bytes::Bytes;
 use std::alloc::{AllocError, Global};
 use std::fmt;
-use std::fs::File;
+use std::fs::{self, File};
+use std::io::ErrorKind;
 use std::ops::Bound;
 use txn_client::client::Client;
 use txn_client::recorder::Recorder;
@@ -97,12 +98,21 @@ pub struct Session<S: Drop, R: Recorder<Entry> + Drop> {
 /// That of a command: over a folder, and a recording in a file.
 pub type FolderSession = Session<Shared, Recording<File>>;
 
-/// The folder that the options name.
-pub fn root_of<'a>(options: &Options<'a>) -> Result<&'a str, Halt> {
-    match options.root {
-        None => Err(Halt::Words("this wants --root DIR before the command")),
-        Some("") => Err(Halt::Words("--root is empty")),
-        Some(root) => Ok(root),
+/// The folder that the options name, which is there. One that is missing is no folder to be made: it may be where a file system was
+/// mounted that is gone, and what would be made there would be another object.
+pub fn root_of<'a>(rt: &HostRuntime, options: &Options<'a>) -> Result<&'a str, Halt> {
+    let root = match options.root {
+        None => return Err(Halt::Words("this wants --root DIR before the command")),
+        Some("") => return Err(Halt::Words("--root is empty")),
+        Some(root) => root,
+    };
+    match fs::metadata(rt, root) {
+        Ok(metadata) if metadata.is_dir() => Ok(root),
+        Ok(_) => Err(Halt::Words("--root is no folder")),
+        Err(error) if error.kind() == ErrorKind::NotFound => {
+            Err(Halt::Words("no such folder: is it mounted?"))
+        }
+        Err(error) => Err(Halt::from(error)),
     }
 }
 
@@ -124,10 +134,10 @@ fn name_of<'a>(options: &Options<'a>) -> Result<&'a str, Halt> {
 }
 
 /// The files of the object that the options name.
-fn folder_of(alloc: Global, options: &Options<'_>) -> Result<Folder, Halt> {
-    let root = root_of(options)?;
+fn folder_of(rt: &HostRuntime, options: &Options<'_>) -> Result<Folder, Halt> {
+    let root = root_of(rt, options)?;
     let name = name_of(options)?;
-    Ok(Folder::new(alloc, root, name, options.suffix)?)
+    Ok(Folder::new(rt.alloc(), root, name, options.suffix)?)
 }
 
 /// The client's number, at least 1. Where none is named it is one of its own: the nanoseconds since 1970.
@@ -159,7 +169,7 @@ fn recording_of(
 /// The store of the object that the options name.
 pub fn store_of(rt: &HostRuntime, options: &Options<'_>) -> Result<FolderStore<HostRuntime>, Halt> {
     let alloc = rt.alloc();
-    let folder = folder_of(alloc, options)?;
+    let folder = folder_of(rt, options)?;
     let layout: Layout<EntryCodec> = world_layout(alloc, EntryCodec, PAGE)?;
     Ok(FolderStore::new(
         rt.clone()?,

@@ -1,4 +1,6 @@
 //! The words of a command line, read by `clap`.
+ghost use Rattle.std.specs.Prelude.{◌≡◌};
+ghost use Rattle.std.specs.Option.{option_or};
 
 use clap::{Arg, ArgAction, ArgMatches, Command as Words, Error, value_parser};
 use std::alloc::{AllocError, Global};
@@ -83,6 +85,41 @@ pub struct Options<'a> {
     pub command: Command<'a>,
 }
 
+impl Command<'_> {
+    /// Whether a client does what the command asks for, so that there is something to record.
+    pub fn is_of_client(&self) -> bool {
+        !matches!(
+            self,
+            Command::Audit { .. } | Command::Doctor | Command::Clean(_) | Command::Bench { .. }
+        )
+    }
+}
+
+impl<'a> Options<'a> {
+    /// The same, but for the folder, the name and the recording: where the words name none, these are taken.
+    pub fn or(
+        self,
+        root: Option<&'a str>,
+        name: Option<&'a str>,
+        diary: Option<&'a str>,
+    ) -> Options<'a>
+        ensures root { result.root ≡ option_or self.entry.root root.entry }
+        ensures name { result.name ≡ option_or self.entry.name name.entry }
+        ensures diary { result.diary ≡ option_or self.entry.diary diary.entry }
+        ensures rest { (result.suffix ≡ self.entry.suffix) × (result.client ≡ self.entry.client) × (result.syncs ≡ self.entry.syncs) × (result.command ≡ self.entry.command) }
+    {
+        Options {
+            root: self.root.or(root),
+            name: self.name.or(name),
+            suffix: self.suffix,
+            client: self.client,
+            diary: self.diary.or(diary),
+            syncs: self.syncs,
+            command: self.command,
+        }
+    }
+}
+
 /// What an argument is.
 #[derive(Clone, Copy)]
 enum Kind {
@@ -119,13 +156,13 @@ const OPTIONS: &[Argument] = &[
         "root",
         Kind::Text("DIR"),
         "",
-        "The folder below which the object's files lie",
+        "The folder below which the object's files lie, which is there [env: TXNOBJ_ROOT]",
     ),
     (
         "name",
         Kind::Text("NAME"),
         "",
-        "The object's name, of 225 bytes at most, letters, digits, `-`, `_` and `.`: its versions lie in DIR/NAME",
+        "The object's name, of 225 bytes at most, letters, digits, `-`, `_` and `.`: its versions lie in DIR/NAME [env: TXNOBJ_NAME]",
     ),
     (
         "suffix",
@@ -143,7 +180,7 @@ const OPTIONS: &[Argument] = &[
         "diary",
         Kind::Text("FILE"),
         "",
-        "Add a recording of what is done to this file, for an audit",
+        "Add a recording of what is done to this file, for an audit [env: TXNOBJ_DIARY]",
     ),
     (
         "no-sync",

@@ -5,7 +5,7 @@ use std::test::Fail;
 
 /// With no sync.
 const FAST: &str = "1 delete 1 = deleted
-7 create 1 0:1 = put
+6 create 1 0:1 = put
 3 create 2 0:2 = put
 6 create 2 0:2 = already exists
 2 get 2 = got 0:2
@@ -22,7 +22,7 @@ other create boundary 1 = put
 
 /// A folder is made, and each name of it is synced.
 const MADE: &str = "2 delete 1 = deleted
-11 create 1 0:1 = put
+9 create 1 0:1 = put
 5 create 2 0:2 = put
 2 get 2 = got 0:2
 5 overwrite 2 0:3 = put

@@ -152,6 +152,7 @@ fn went(
 /// The same in a folder of its own.
 fn went_alone(rt: &HostRuntime, case: &Case, nth: u64, after: bool) -> io::Result<Outcome> {
     let root = folder_of(rt, "fails")?;
+    fs::create_dir(rt, root.as_str())?;
     let went = went(rt, root.as_str(), case, nth, after);
     let _ = fs::remove_dir_all(rt, root.as_str());
     Ok(went?)

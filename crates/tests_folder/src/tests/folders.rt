@@ -108,8 +108,15 @@ const TAKEN: &[Block] = &[
     ("cleaned", "removed 0, then 2; 6 and 0 stand"),
 ];
 
+/// A folder that is missing is not made: what is written there fails.
+const MISSING: &[Block] = &[(
+    "nowhere",
+    "get 1 = not found\ncreate 1 0:1 = failed\ncreate boundary 1 = failed\ndelete 1 = deleted\n",
+)];
+
 #[test]
 fn oddities_are_met(rt: HostRuntime) -> Result<(), Fail> {
+    play_scene(&rt, MISSING)?;
     play_scene(&rt, HELD)?;
     play_scene(&rt, COARSE)?;
     play_scene(&rt, GROWING)?;

@@ -166,15 +166,11 @@ noted list 5 = listed 1 2
   sync test
 ";
 
-/// A folder is made where it is missing, with those above it, and each is synced in the one that it stands in. The time of the
-/// first file is read back.
+/// A folder is made where it is missing, and synced in the one that it stands in. The time of the first file is read back.
 const MADE: &str = "noted create 1 0:1 = put
   look for 1
   make new 1#
   look for test
-  make folder root
-  open .
-  sync .
   make folder test
   open root
   sync root

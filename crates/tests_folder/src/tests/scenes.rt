@@ -13,8 +13,8 @@ use txn_files::lock::{LockFile, Sharing};
 
 /// What is done, and what is told. A table is played by one whose store syncs (`synced`), by one whose store does not (`fast`),
 /// by one who may not write (`reader`), while another holds the boundary's lock (`held`), where files keep no time but in whole
-/// seconds (`coarse`), where a version is made amid a listing (`growing`), or where the clock tells 1970 (`stopped`), each with a
-/// store of its own. `left` leaves files, `cleaned` removes those of the dead, and `odd` makes what is no regular file.
+/// seconds (`coarse`), where a version is made amid a listing (`growing`), where the clock tells 1970 (`stopped`), or below a
+/// folder that is missing (`nowhere`), each with a store of its own. `left` leaves files, `cleaned` removes those of the dead, and `odd` makes what is no regular file.
 pub type Block = (&'static str, &'static str);
 
 /// Files of others beside the versions, which no listing tells and no cleaning removes.
@@ -173,6 +173,16 @@ fn play_table(rt: &HostRuntime, root: &str, block: &Block, text: &mut String) ->
     Ok(())
 }
 
+/// Plays a table below a folder that is missing, and writes it where that was made.
+fn play_nowhere(rt: &HostRuntime, root: &str, block: &Block, text: &mut String) -> io::Result<()> {
+    let missing = file_at(rt.alloc(), root, "missing")?;
+    play_table(rt, missing.as_str(), block, text)?;
+    if fs::exists(rt, missing.as_str())? {
+        text.push_str("it was made")?;
+    }
+    Ok(())
+}
+
 /// Does what a block says, and writes what is told.
 fn play_block(rt: &HostRuntime, root: &str, block: &Block, text: &mut String) -> io::Result<()> {
     match block.0 {
@@ -180,6 +190,7 @@ fn play_block(rt: &HostRuntime, root: &str, block: &Block, text: &mut String) ->
         "cleaned" => clean_up(rt, root, text),
         "odd" => make_odd(rt, root),
         "held" => play_held(rt, root, block, text),
+        "nowhere" => play_nowhere(rt, root, block, text),
         _ => play_table(rt, root, block, text),
     }
 }
@@ -209,6 +220,7 @@ fn try_blocks(
 /// Writes what is told otherwise than these blocks say, in a folder of their own, which is then removed.
 fn try_alone(rt: &HostRuntime, blocks: &[Block], wrong: &mut String) -> io::Result<()> {
     let root = folder_of(rt, "scene")?;
+    fs::create_dir(rt, root.as_str())?;
     let tried = try_blocks(rt, root.as_str(), blocks, wrong);
     fs::remove_dir_all(rt, root.as_str())?;
     tried
