@@ -180,7 +180,8 @@ fn look_once(
     look(rt, &mut session, after, until, looks)
 }
 
-/// Waits for a version above this id. A client keeps what it did in memory, so where no recording is kept, others go on after it.
+/// Waits for a version above this id. A client keeps each view that it made and each id that it was told, so where no recording is
+/// kept, others go on after it.
 fn watch(rt: &HostRuntime, options: &Options<'_>, after: u64, seconds: u64) -> Result<u8, Halt> {
     let until = (rt.monotonic()?, seconds);
     let looks = seconds.saturating_mul(LOOKS).saturating_add(1);
