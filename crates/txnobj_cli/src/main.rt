@@ -17,6 +17,7 @@ use std::process::ExitCode;
 use txnobj_words::options::{Options, options_of};
 
 /// What the environment names. An empty text counts as none.
+#[derive(Drop)]
 struct Named {
     root: Option<String>,
     name: Option<String>,
