@@ -1,6 +1,7 @@
 //! The words of a command line, read by `clap`.
 ghost use Rattle.std.specs.Prelude.{◌≡◌};
 ghost use Rattle.std.specs.Option.{option_or};
+ghost use Rattle.txnobj_words.specs.Commands.{is_of_client};
 
 use clap::{Arg, ArgAction, ArgMatches, Command as Words, Error, value_parser};
 use std::alloc::{AllocError, Global};
@@ -87,7 +88,9 @@ pub struct Options<'a> {
 
 impl Command<'_> {
     /// Whether a client does what the command asks for, so that there is something to record.
-    pub fn is_of_client(&self) -> bool {
+    pub fn is_of_client(&self) -> bool
+        ensures { result ≡ is_of_client self.now }
+    {
         !matches!(
             self,
             Command::Audit { .. } | Command::Doctor | Command::Clean(_) | Command::Bench { .. }
