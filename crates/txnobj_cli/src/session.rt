@@ -4,7 +4,7 @@ ghost use Rattle.txn_entries.specs.Holder.{IsNextEntry};
 ghost use Rattle.txnobj_cli.specs.Calls.{IsPutOn};
 ghost use Rattle.txnobj_cli.specs.Answers.{Made, Gives, Reads, IsDone, Loads, Lists, PutsOn, Holds, IsView, IsHeld, IsReadOf, claim_of};
 
-use crate::ending::{Halt, call_failed};
+use crate::ending::{Halt, at_file, call_failed};
 use crate::recording::Recording;
 use bytes::Bytes;
 use std::alloc::{AllocError, Global};
@@ -112,7 +112,7 @@ pub fn root_of<'a>(rt: &HostRuntime, options: &Options<'a>) -> Result<&'a str, H
         Err(error) if error.kind() == ErrorKind::NotFound => {
             Err(Halt::Words("no such folder: is it mounted?"))
         }
-        Err(error) => Err(Halt::from(error)),
+        Err(error) => Err(at_file(rt.alloc(), root, &error)),
     }
 }
 
