@@ -7,11 +7,10 @@ ghost use Rattle.txn_history.specs.declared.event.EventFault.TheVariants.{Unknow
 ghost use Rattle.txn_machine_inner.specs.Doing.{asks_as};
 ghost use Rattle.txn_clients.specs.Views.{seen_with};
 
-use crate::views::get;
+use crate::views::{ViewTable, get};
 use txn_caches::ask::Ask;
 use txn_history::event::{Call, EventFault, PlainCall, ViewCall};
 use txn_history::view::View;
-use txn_machine_views::used::Used;
 
 /// Why an operation that asks for this is refused a look, or a store call: it has ended, or asks for the other.
 #[inline(always)]
@@ -39,16 +38,16 @@ pub fn end_refusal(ask: Option<Ask<'_>>) -> Option<EventFault>
 }
 
 /// The view of this number, as a test of views sees it.
-fn seen<T>(views: &[Option<Used<T>>], number: u64) -> Option<&View<T>>
-    ensures { option_copied result ≡ view_of (seen_with views.now) number }
+fn seen<T, V: ViewTable<T>>(views: &V, number: u64) -> Option<&View<T>>
+    ensures { option_copied result ≡ view_of (seen_with (V.views views.now)) number }
 {
     get(views, number)
 }
 
 /// Whether the client may use the view of a call, if it has one: it is the client's own, and a holder exactly where the
 /// call is a holder's.
-pub fn may_use<T>(views: &[Option<Used<T>>], client: u64, holders: bool, view: Option<u64>) -> bool
-    ensures { result ≡ may_use (seen_with views.now) client holders view }
+pub fn may_use<T, V: ViewTable<T>>(views: &V, client: u64, holders: bool, view: Option<u64>) -> bool
+    ensures { result ≡ may_use (seen_with (V.views views.now)) client holders view }
 {
     let Some(number) = view else {
         return true;
@@ -60,15 +59,15 @@ pub fn may_use<T>(views: &[Option<Used<T>>], client: u64, holders: bool, view: O
 }
 
 /// Where the view of this number stands, if it does.
-fn id_at<T>(views: &[Option<Used<T>>], number: u64) -> Option<u64>
-    ensures { result ≡ id_seen (seen_with views.now) (Some number) }
+fn id_at<T, V: ViewTable<T>>(views: &V, number: u64) -> Option<u64>
+    ensures { result ≡ id_seen (seen_with (V.views views.now)) (Some number) }
 {
     Some(seen(views, number)?.id)
 }
 
 /// The base that a call writes on: an update's is where its view stands.
-pub fn base<T>(views: &[Option<Used<T>>], call: &Call<T>) -> Option<u64>
-    ensures { result ≡ base_seen (seen_with views.now) call.now }
+pub fn base<T, V: ViewTable<T>>(views: &V, call: &Call<T>) -> Option<u64>
+    ensures { result ≡ base_seen (seen_with (V.views views.now)) call.now }
 {
     match call {
         Call::Plain(PlainCall::Write(base, _)) => *base,

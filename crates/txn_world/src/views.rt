@@ -11,22 +11,22 @@ use crate::numbers::{clear, new_sets};
 use std::alloc::{AllocError, Global};
 use std::collections::HashSet;
 use txn_clients::operations::Usage;
-use txn_clients::views::{self, Answers};
+use txn_clients::views::{self, Answers, ViewTable};
 use txn_history::view::View;
 use txn_machine::doing::Ending;
 use txn_machine_views::used::Used;
 use txn_rows::sets::insert_id;
 
 /// The client of the view of this number, where it stands.
-fn owner<T>(used: &[Option<Used<T>>], number: u64) -> Option<u64>
-    ensures { result ≡ owner_of (used_by used.now (Some number)) }
+fn owner<T: Drop>(used: &Vec<Option<Used<T>>>, number: u64) -> Option<u64>
+    ensures { result ≡ owner_of (used_by used.now.items (Some number)) }
 {
     Some(views::get(used, number)?.client)
 }
 
 /// Whether the view of this number stands.
-fn stands<T>(used: &[Option<Used<T>>], number: u64) -> bool
-    ensures { result ≡ is_some (used_by used.now (Some number)) }
+fn stands<T: Drop>(used: &Vec<Option<Used<T>>>, number: u64) -> bool
+    ensures { result ≡ is_some (used_by used.now.items (Some number)) }
 {
     views::get(used, number).is_some()
 }
@@ -76,7 +76,7 @@ fn end_views<T: Drop>(used: &mut Vec<Option<Used<T>>>, numbers: &HashSet<u64>)
     ensures { (n : ℕ) → numbered used.new.items n ≡ emptied_where (contains nat_eq numbers.now n) (numbered used.old.items n) }
 {
     for number in numbers {
-        views::put(used, *number, None);
+        used.put(*number, None);
     }
 }
 

@@ -6,6 +6,6 @@ use Rattle.txn_clients.proofs.views.let_go.Goals as goal
 
 pub returns : goal.returns
 returns g c =
-    let views = c.args.views.now.items in
-    let is = put_in views c.take_out.new.views.items c.put.new.views.items c.in-Some.number c.left-used.result c.take_out.ensures.rest c.put.ensures in
+    let views = g.V.ViewTable.views c.args.views.now in
+    let is = put_in views (g.V.ViewTable.views c.take_out.new.self) (g.V.ViewTable.views c.put.new.self) c.in-Some.number c.left-used.result c.take_out.ensures.rest c.put.ensures in
     record { used = rw c.in-Some.is (is ∙ ap (with_used views (Some c.in-Some.number)) (c.left-used.ensures ∙ ap (λ u. changed u (let_go c.args.claims)) c.take_out.ensures.used)) }

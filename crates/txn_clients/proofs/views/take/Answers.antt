@@ -7,6 +7,6 @@ use Rattle.txn_clients.proofs.views.take.Goals as goal
 
 pub returns : goal.returns
 returns g c =
-    let views = c.args.views.now.items in
-    let is = put_in views c.take_out.new.views.items c.put.new.views.items c.in-Some.number c.taken-used.result c.take_out.ensures.rest c.put.ensures in
+    let views = g.V.ViewTable.views c.args.views.now in
+    let is = put_in views (g.V.ViewTable.views c.take_out.new.self) (g.V.ViewTable.views c.put.new.self) c.in-Some.number c.taken-used.result c.take_out.ensures.rest c.put.ensures in
     record { used = rw c.in-Some.is (is ∙ ap (with_used views (Some c.in-Some.number)) (c.taken-used.ensures ∙ ap (option_map (with_busy (Some c.args.op))) c.take_out.ensures.used)) }

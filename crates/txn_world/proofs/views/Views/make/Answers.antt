@@ -1,5 +1,5 @@
-use Rattle.std.proofs.Common.{◌∙◌, ◌+◌, Some, is_some, ap}
-use Rattle.txn_machine.specs.Machine.{used_by, views_after}
+use Rattle.std.proofs.Common.{◌∙◌, ◌+◌, Some, ap}
+use Rattle.txn_machine.specs.Machine.{views_after}
 use Rattle.txn_world.proofs.Owning.{owned_by_made}
 use Rattle.txn_world.proofs.views.Views.make.Goals as goal
 
@@ -10,5 +10,5 @@ invariant_of-self g c =
     record {
       each = c.own.ensures.len ∙ t.each;
       all_owned = owned_by_made t.owned.items c.own.new.owned.items t.used.items c.settle-answers.new.views.items c.args.of.client number c.args.ending c.stands-made.result t.all_owned (ap (λ n. n + 1) c.len-number.ensures)
-          (c.settle-answers.ensures.used ∙ ap (λ v. views_after t.used.items c.args.of.client v c.args.of.claims (Some c.args.ending)) c.requires.uses) (c.stands-made.ensures ∙ ap (λ us. is_some (used_by us (Some number))) c.deref.ensures.value) c.own.ensures.entered;
+          (c.settle-answers.ensures.used ∙ ap (λ v. views_after t.used.items c.args.of.client v c.args.of.claims (Some c.args.ending)) c.requires.uses) c.stands-made.ensures c.own.ensures.entered;
     }
