@@ -5,4 +5,4 @@ pub mod Calling
 pub mod Asking
 pub mod Stopping
 pub mod Recording
-pub mod Retrying
+pub mod Going

@@ -12,7 +12,8 @@ use Rattle.txn_journals.specs.declared.rows.Act.TheVariants as acts
 use Rattle.txn_journals.specs.declared.rows.Step.{Step}
 use Rattle.txn_journals.specs.declared.rows.Step.TheVariants as steps
 use Rattle.txn_journals.specs.declared.rows.JournalRow.{JournalRow}
-use Rattle.txn_diary.specs.Keepers.{KeeperState, keeper_asked, DoesAll}
+use Rattle.txn_machine.specs.Machine.{used_by}
+use Rattle.txn_diary.specs.Keepers.{KeeperState, keeper_asked, DoesAll, Forgets}
 use Rattle.txn_diary.specs.Reading.{with_answer, answers_from}
 use Rattle.txn_client.specs.declared.stop.Stop.{Stop}
 use Rattle.txn_client.specs.declared.stop.Stop.TheVariants as stops
@@ -79,6 +80,15 @@ module _ {T C E : Type 0} where
   -- how many operations of a client began
   abbrev pub begun_in : KeeperState T C E → ℕ
   begun_in keeper = length keeper.part.operations
+
+module _ {T C E R S : Type 0} where
+  -- A client let a view go, and nothing else happened.
+  pub record LetsGo (view : ℕ) (old new : ClientState T C E R S) : Type 0 where
+    pub forgets : Forgets old.keeper new.keeper
+    pub ended : used_by new.keeper.part.views (Some view) ≡ None
+    pub recorder : new.recorder ≡ old.recorder
+    pub store : new.store ≡ old.store
+    pub goes_on : new.goes_on ≡ old.goes_on
 
 module _ {T C E : Type 0} where
   -- a store call of this operation, for what it asks

@@ -2,4 +2,3 @@ pub mod Noted
 pub mod Happenings
 pub mod Calling
 pub mod Working
-pub mod Retrying

@@ -10,6 +10,9 @@ use txn_history::event::{Answer, Call};
 use txn_types::codec::ObjectCodec;
 use txn_types::epoch::EpochField;
 
+/// Of how many of the last answers a client keeps the ids, unless another number is set.
+pub const LAST: usize = 1024;
+
 /// One client of a store, which hands what it does to a recorder as it happens: each call that it makes hands over what the
 /// call's rows tell, as a journal would have them, looks aside, and calls the store once for each reply that they tell. It keeps
 /// no journal itself.
@@ -18,6 +21,8 @@ use txn_types::epoch::EpochField;
 pub struct Client<T: Clone, C: ObjectCodec<T> + Drop, E: EpochField<T>, S, R: Recorder<T>> {
     work: Work<T, C, E, S, R>,
     goes_on: bool,
+    /// Of how many of the last answers it keeps the ids.
+    last: usize,
 }
 
 impl<T: Clone, C: ObjectCodec<T> + Drop, E: EpochField<T>, S: Drop, R: Recorder<T> + Drop> Drop
@@ -27,6 +32,7 @@ impl<T: Clone, C: ObjectCodec<T> + Drop, E: EpochField<T>, S: Drop, R: Recorder<
         let Client {
             work: _,
             goes_on: _,
+            last: _,
         } = self;
     }
 }
@@ -54,8 +60,8 @@ impl<
     ghost use Rattle.std.specs.Prelude.{◌≡◌, ◌≤◌, Some, true, IfOk, IfErr};
     ghost use Rattle.txn_types.specs.Clones.{IsExactClone};
     ghost use Rattle.txn_journals.specs.Parts.{no_part};
-    ghost use Rattle.txn_diary.specs.Keepers.{keeper_refusal, Does};
-    ghost use Rattle.txn_client.specs.Calling.{MakesCall, Stops};
+    ghost use Rattle.txn_diary.specs.Keepers.{keeper_refusal, DoesAndForgets};
+    ghost use Rattle.txn_client.specs.Calling.{MakesCall, Stops, LetsGo};
 
     /// A client of this number, at least 1, that has done nothing, over a store and a recorder. A listing
     /// has pages of at most `page` files, at least 1. The only error is want of memory.
@@ -82,6 +88,7 @@ impl<
         Ok(Client {
             work,
             goes_on: true,
+            last: LAST,
         })
     }
 
@@ -114,6 +121,22 @@ impl<
         *goes_on
     }
 
+    /// Sets of how many of the last answers it keeps the ids. A write on a base that is older than these is not permitted, where no
+    /// view of the client stands at it.
+    pub fn keep_last(&mut self, last: usize)
+        ensures { self.new ≡ self.old }
+    {
+        self.last = last;
+    }
+
+    /// Lets a view go: the client has it no more, and its value is freed. Nothing happens where it has none of this number. It is no
+    /// call: nothing is handed to the recorder, and the store is not called.
+    pub fn end_view(&mut self, view: u64)
+        ensures { LetsGo view self.old self.new }
+    {
+        self.work.keeper.end_view(view);
+    }
+
     /// Makes a call, which takes at most `steps` looks and store calls: the answer. What is asked is handed to the recorder
     /// before the store is called, which is called for it once, and the reply before the operation takes it.
     ///
@@ -124,8 +147,8 @@ impl<
     /// [`Stop::Unrecorded`] and [`Stop::NoMemory`] it makes no further call, and each is [`Stop::Ended`].
     pub fn call(&mut self, call: Call<T>, steps: u64) -> Result<Answer<T>, Stop>
         requires { IsExactClone T.is_clone }
-        ensures ok { IfOk result (λ answer. MakesCall R.hands S.serves (Does C.encoded C.decoded E.epoch_of E.with_epoch) steps call (Some answer) self.old self.new) }
-        ensures err { IfErr result (Stops R.hands S.serves (Does C.encoded C.decoded E.epoch_of E.with_epoch) (keeper_refusal (E.epoch_of self.old.keeper.epochs) self.old.keeper call) steps call self.old self.new) }
+        ensures ok { IfOk result (λ answer. MakesCall R.hands S.serves (DoesAndForgets C.encoded C.decoded E.epoch_of E.with_epoch) steps call (Some answer) self.old self.new) }
+        ensures err { IfErr result (Stops R.hands S.serves (DoesAndForgets C.encoded C.decoded E.epoch_of E.with_epoch) (keeper_refusal (E.epoch_of self.old.keeper.epochs) self.old.keeper call) steps call self.old self.new) }
     {
         if !self.goes_on {
             drop(call);
@@ -136,6 +159,8 @@ impl<
         drop(call);
         let done = done?;
         self.goes_on = true;
-        settled(done)
+        let answer = settled(done)?;
+        self.work.keeper.forget(self.last);
+        Ok(answer)
     }
 }

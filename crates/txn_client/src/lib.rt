@@ -3,7 +3,6 @@
 
 pub mod client;
 pub mod recorder;
-pub mod retry;
 pub mod serve;
 pub mod stop;
 mod work;

@@ -1,3 +1,6 @@
+pub mod Kept
+pub mod Forgetting
+pub mod Places
 pub mod Sound
 pub mod Diaries
 pub mod Killing

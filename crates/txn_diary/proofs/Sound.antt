@@ -28,6 +28,7 @@ use Rattle.txn_clients.specs.Views.{IsFromOne}
 use Rattle.txn_journals.specs.Parts.{Part, seen_in, knows_base, is_low, epoch_told, is_in_use, client_begin_fault}
 use Rattle.txn_journals.proofs.Begun.{Passed, passed}
 use Rattle.txn_journals.specs.Journals.{TakesTurn, Follows, Replays}
+use Rattle.txn_diary.specs.Forgetting.{forgotten, AreKeptOperations}
 use Rattle.txn_diary.specs.Keepers.{IsSound, AreSound}
 
 module _ {T : Type 0} where
@@ -95,3 +96,11 @@ module _ {T : Type 0} (page : ℕ) (room : 1 ≤ page) (encode : T → List ℕ)
       nothing zero o e = cc
       nothing (suc k) o e = cc
   replays_sound client (row ∷ rows) part h = step_sound client h.0 row.step row.answer part h.2 (replays_sound client rows h.0 h.1)
+
+module _ {T : Type 0} where
+  -- those of which some were forgotten
+  pub kept_sound : (old new : List (Operation T)) → AreKeptOperations old new → AreSound old → AreSound new
+  kept_sound old new kept all op o found = elim (kept.each op) [
+    | inl same ↦ all op o (sym same ∙ found)
+    | inr gone ↦ (let sound : IsSound (forgotten {T = T}) = record { can = tt; view = λ n e. absurd (cc) } in subst (λ (x : Operation T). IsSound x) (same_Some forgotten o (sym gone.1 ∙ found)) sound)
+  ]

@@ -20,14 +20,14 @@ use Rattle.txn_history.specs.Facts.{is_high}
 use Rattle.txn_machine.specs.Machine.{used_by}
 use Rattle.txn_journals.specs.Parts.{Part, seen_in, knows_base, is_low, epoch_told, is_in_use, client_begin_fault}
 use Rattle.txn_journals.specs.Journals.{goes_on, Follows}
-use Rattle.txn_diary.specs.Keepers.{KeeperState, keeper_asked, end_fault, fault_if, IsReceiptFault, AreSound, Does, IsLed}
+use Rattle.txn_diary.specs.Keepers.{KeeperState, keeper_asked, end_fault, fault_if, IsReceiptFault, AreSound, Does, Forgets, IsLed}
 use Rattle.txn_diary.specs.Diaries.{DiaryState, lives, asked_in}
 use Rattle.txn_diary.specs.declared.tables.Tables.{Tables}
-use Rattle.txn_diary.specs.Shown.{shown, keeper_of}
+use Rattle.txn_diary.specs.Shown.{operations_of, shown, keeper_of}
 use Rattle.txn_logged.specs.Logged.{IsOfKind}
 use Rattle.txn_journals.specs.declared.rows.Receipt.{Receipt}
-use Rattle.txn_diary.proofs.Sound.{replays_sound}
-use Rattle.txn_diary.proofs.Diaries.{leads_on}
+use Rattle.txn_diary.proofs.Sound.{replays_sound, kept_sound}
+use Rattle.txn_diary.proofs.Diaries.{led_on, led_still}
 
 -- what is asked for
 
@@ -143,14 +143,19 @@ module _ {T C E : Type 0} (encoded : C → T → List ℕ) (decoded : C → List
   IsKept k = (1 ≤ k.client) × (1 ≤ k.page) × IsLed encoded decoded epoch_of with_epoch k
 
   sound_of : (k : KeeperState T C E) → IsKept k → AreSound k.part.operations
-  sound_of k kept = replays_sound k.page kept.1 (encoded k.codec) (decoded k.codec) (epoch_of k.epochs) (with_epoch k.epochs) k.client kept.2.rows k.part kept.2.replays
+  sound_of k kept =
+      let led = kept.2 in
+      kept_sound led.whole.operations k.part.operations led.remembers.operations (replays_sound k.page kept.1 (encoded k.codec) (decoded k.codec) (epoch_of k.epochs) (with_epoch k.epochs) k.client led.rows led.whole led.replays)
 
   -- one row more
   kept_more : (old new : KeeperState T C E) (step : Step T) (answer : Option (Answer T)) → IsKept old → Does encoded decoded epoch_of with_epoch old step answer new → IsKept new
   kept_more old new step answer kept does =
-      let led = kept.2 in
-      let on = leads_on encoded decoded epoch_of with_epoch old new led.rows step answer (led.alive, led.replays) does in
-      (subst (λ n. 1 ≤ n) (sym does.client) kept.0, subst (λ n. 1 ≤ n) (sym does.page) kept.1, record { rows = record { step = step; answer = answer } ∷ led.rows; alive = on.0; replays = on.1 })
+      (subst (λ n. 1 ≤ n) (sym does.client) kept.0, subst (λ n. 1 ≤ n) (sym does.page) kept.1, led_on encoded decoded epoch_of with_epoch old new step answer kept.2 does)
+
+  -- something less
+  pub kept_still : (old new : KeeperState T C E) → IsKept old → Forgets old new → IsKept new
+  kept_still old new kept forgets =
+      (subst (λ n. 1 ≤ n) (sym forgets.client) kept.0, subst (λ n. 1 ≤ n) (sym forgets.page) kept.1, led_still encoded decoded epoch_of with_epoch old new kept.2 forgets)
 
 module _ {T C E : Type 0} {codec : coding.Ghosts C T} {field : fields.Ghosts E T} where
   -- What a step finds: the tables are this client, which its type keeps.
@@ -172,11 +177,11 @@ module _ {T C E : Type 0} {codec : coding.Ghosts C T} {field : fields.Ghosts E T
 
 module _ {T C E : Type 0} {codec : coding.Ghosts C T} {field : fields.Ghosts E T} {now : KeeperState T C E} {t : Tables T C E codec field} {alive : Bool} (ready : IsReady now t alive) where
   -- what a step finds can take what it asks for
-  pub ready_sound : AreSound t.operations.items
+  pub ready_sound : AreSound (operations_of t.calls)
   ready_sound = subst (λ (k : KeeperState T C E). AreSound k.part.operations) (sym ready.is) (sound_of codec.encoded codec.decoded field.epoch_of field.with_epoch now ready.kept)
 
   -- a step finds that an operation asks for what it asked for, and that its client lives
-  pub ready_asks : (op : ℕ) (ask : Ask) → keeper_asked now op ≡ Some ask → (alive ≡ true) × (asked_by t.operations.items op ≡ Some ask)
+  pub ready_asks : (op : ℕ) (ask : Ask) → keeper_asked now op ≡ Some ask → (alive ≡ true) × (asked_by (operations_of t.calls) op ≡ Some ask)
   ready_asks op ask asks = (let found = keeper_alive now op ask asks in (ap (λ (k : KeeperState T C E). k.alive) ready.is ∙ found.0, ap (λ (k : KeeperState T C E). asked_by k.part.operations op) ready.is ∙ found.1))
 
   -- a step of a living client

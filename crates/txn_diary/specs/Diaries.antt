@@ -1,5 +1,5 @@
 -- What a client's diary is, and what is added to it. Its journal stands oldest first.
-use Rattle.std.specs.Prelude.{◌≡◌, ◌+◌, ℕ, List, [], ◌∷◌, ◌++◌, Bool, false, if◌then◌else◌, Option, None, length, reverse}
+use Rattle.std.specs.Prelude.{◌≡◌, ◌+◌, ℕ, List, [], ◌∷◌, ◌++◌, Bool, false, Option, None, length, reverse}
 use Rattle.txn_history.specs.declared.event.EventFault.{EventFault}
 use Rattle.txn_history.specs.declared.event.ToldOf.TheVariants as told
 use Rattle.txn_history.specs.Added.{told_of}
@@ -7,15 +7,14 @@ use Rattle.txn_history.specs.Seen.{Ask}
 use Rattle.txn_history.specs.declared.event.Call.{Call}
 use Rattle.txn_history.specs.declared.event.Answer.{Answer}
 use Rattle.txn_history.specs.Trace.{Told}
-use Rattle.txn_clients.specs.Operations.{asked_by}
 use Rattle.txn_journals.specs.declared.rows.Act.{Act}
 use Rattle.txn_journals.specs.declared.rows.Step.{Step}
 use Rattle.txn_journals.specs.declared.rows.Step.TheVariants as steps
 use Rattle.txn_journals.specs.declared.rows.JournalRow.{JournalRow}
-use Rattle.txn_journals.specs.Parts.{Part, client_begin_fault}
+use Rattle.txn_journals.specs.Parts.{Part}
 use Rattle.txn_journals.specs.Journals.{goes_on, Follows}
 use Rattle.txn_journals.specs.Verdict.{AuditedDiary}
-use Rattle.txn_diary.specs.Keepers.{KeeperState, lives_after, fault_if}
+use Rattle.txn_diary.specs.Keepers.{KeeperState, lives_after, fault_if, keeper_asked, keeper_refusal}
 
 -- A client with its journal: its number, how many files a page of a listing has at most, its codec, where its values keep their epochs, what it keeps, and what it did.
 pub record DiaryState (T C E : Type 0) : Type 0 where
@@ -47,13 +46,17 @@ module _ {T : Type 0} where
   lives rows = lives_after (reverse rows)
 
 module _ {T C E : Type 0} where
+  -- the client of a diary, without its journal
+  abbrev pub keeper_in : DiaryState T C E → KeeperState T C E
+  keeper_in diary = record { client = diary.client; page = diary.page; codec = diary.codec; epochs = diary.epochs; part = diary.part; alive = lives diary.rows }
+
   -- what an operation of a diary asks for: nothing where it has ended, or its client was killed
   abbrev pub asked_in : DiaryState T C E → ℕ → Option Ask
-  asked_in diary op = if lives diary.rows then asked_by diary.part.operations op else None
+  asked_in diary op = keeper_asked (keeper_in diary) op
 
   -- why a begin is refused
   abbrev pub refusal_of : (T → ℕ) → DiaryState T C E → Call T → Option EventFault
-  refusal_of get_epoch diary call = fault_if (lives diary.rows) (client_begin_fault get_epoch diary.client diary.part call)
+  refusal_of get_epoch diary call = keeper_refusal get_epoch (keeper_in diary) call
 
 module _ {T : Type 0} where
   -- why a kill is refused: the client was killed before

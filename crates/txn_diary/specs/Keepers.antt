@@ -18,6 +18,7 @@ use Rattle.txn_journals.specs.Parts.{Part, client_begin_fault}
 use Rattle.txn_journals.specs.Journals.{goes_on, Follows, Replays}
 use Rattle.txn_logged.specs.Logged.{IsReceiptOf}
 use Rattle.txn_takes.specs.Taking.{CanTake}
+use Rattle.txn_diary.specs.Forgetting.{Remembers}
 
 -- A client without a journal: its number, how many files a page of a listing has at most, its codec, where its values keep their epochs, what it keeps, and whether it was not killed.
 pub record KeeperState (T C E : Type 0) : Type 0 where
@@ -75,6 +76,16 @@ IsTurn acts.Lacks = Unit {0}
 IsTurn (acts.GiveUp left) = ⊥
 IsTurn (acts.Fails request) = ⊥
 
+module _ {T C E : Type 0} where
+  -- A client forgot something, or nothing, and did nothing else.
+  pub record Forgets (old new : KeeperState T C E) : Type 0 where
+    pub remembers : Remembers old.part new.part
+    pub client : new.client ≡ old.client
+    pub page : new.page ≡ old.page
+    pub codec : new.codec ≡ old.codec
+    pub epochs : new.epochs ≡ old.epochs
+    pub alive : new.alive ≡ old.alive
+
 -- How a codec's values are written and read, and where their epochs stand, comes from traits.
 module _ {T C E : Type 0} (encoded : C → T → List ℕ) (decoded : C → List ℕ → Option T) (epoch_of : E → T → ℕ) (with_epoch : E → T → ℕ → T) where
   -- A client that was not killed did this, with this answer, if one: what it keeps follows.
@@ -87,11 +98,19 @@ module _ {T C E : Type 0} (encoded : C → T → List ℕ) (decoded : C → List
     pub codec : new.codec ≡ old.codec
     pub epochs : new.epochs ≡ old.epochs
 
-  -- Some journal, the newest row first, leads from a client that has done nothing to what this one keeps.
+  -- Some journal, the newest row first, leads from a client that has done nothing to this part, of which this client keeps all but what it forgot.
   pub record IsLed (keeper : KeeperState T C E) : Type 0 where
     pub rows : List (JournalRow T)
+    pub whole : Part T
     pub alive : keeper.alive ≡ lives_after rows
-    pub replays : Replays keeper.page (encoded keeper.codec) (decoded keeper.codec) (epoch_of keeper.epochs) (with_epoch keeper.epochs) keeper.client rows keeper.part
+    pub replays : Replays keeper.page (encoded keeper.codec) (decoded keeper.codec) (epoch_of keeper.epochs) (with_epoch keeper.epochs) keeper.client rows whole
+    pub remembers : Remembers whole keeper.part
+
+  -- A client did this, with this answer, if one, and then perhaps forgot something.
+  pub record DoesAndForgets (old : KeeperState T C E) (step : Step T) (answer : Option (Answer T)) (new : KeeperState T C E) : Type 0 where
+    pub between : KeeperState T C E
+    pub does : Does old step answer between
+    pub forgets : Forgets between new
 
 module _ {T C E : Type 0} (does : KeeperState T C E → Step T → Option (Answer T) → KeeperState T C E → Type 0) where
   -- A client did these things, one after another, the oldest first.

@@ -1,8 +1,6 @@
 -- What a kill does, place by place.
 use Rattle.std.specs.Prelude.{◌≡◌, ℕ, List, Option, Some, None, if◌then◌else◌, slice_set, slice_get, ◌==◌}
 use Rattle.txn_store.specs.declared.request.Request.{Request}
-use Rattle.txn_machine_views.specs.Layer.{Used}
-use Rattle.txn_machine_views.specs.Steps.{view_without}
 use Rattle.txn_machine.specs.declared.doing.Operation.{Operation}
 use Rattle.txn_machine.specs.Doing.{asked}
 use Rattle.txn_machine.specs.Machine.{ended_by}
@@ -18,9 +16,3 @@ module _ {T : Type 0} where
     pub operation : Operation T
     pub found : slice_get old place ≡ Some operation
     pub ended : new ≡ slice_set old place (ended_by client operation)
-
-  -- The view at this place has ended, where it is this client's.
-  pub record EmptiesAt (client place : ℕ) (old new : List (Option (Used T))) : Type 0 where
-    pub used : Option (Used T)
-    pub found : slice_get old place ≡ Some used
-    pub emptied : new ≡ slice_set old place (view_without client used)

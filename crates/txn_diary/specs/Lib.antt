@@ -1,7 +1,9 @@
+pub mod Maps
 pub mod Notes
-pub mod Room
 pub mod Kills
+pub mod Forgetting
 pub mod Keepers
+pub mod Room
 pub mod Diaries
 pub mod Reading
 pub mod Shown

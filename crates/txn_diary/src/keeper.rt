@@ -1,7 +1,7 @@
 //! A client that writes nothing down: what it keeps, and what each thing that it does makes of that.
 ghost use Rattle.std.specs.Option.{ForSome};
-ghost use Rattle.std.specs.Prelude.{◌≡◌, ◌<◌, ℕ, Option, IfOk, IfErr, OnOk, vec_len, vec_capacity};
-ghost use Rattle.txn_diary.specs.Room.{HasRoom};
+ghost use Rattle.std.specs.Prelude.{◌≡◌, ℕ, Option, IfOk, IfErr, OnOk};
+ghost use Rattle.txn_diary.specs.Room.{HasRoom, HasRoomForCall, HasRoomForView};
 ghost use Rattle.txn_diary.specs.Shown.{shown};
 ghost use Rattle.txn_logged.specs.Logged.{IsReceiptOf};
 ghost use Rattle.txn_machine.specs.Doing.{refusal_in};
@@ -72,7 +72,8 @@ impl<T: Clone, C: ObjectCodec<T> + Drop, E: EpochField<T>> Keeper<T, C, E> {
     ghost use Rattle.txn_journals.specs.declared.rows.Act.TheVariants as acts;
     ghost use Rattle.txn_journals.specs.declared.rows.Step.TheVariants as steps;
     ghost use Rattle.txn_journals.specs.Parts.{no_part};
-    ghost use Rattle.txn_diary.specs.Keepers.{keeper_asked, keeper_refusal, end_fault, fault_if, IsReceiptFault, IsTurn, IsLed, Does};
+    ghost use Rattle.txn_diary.specs.Keepers.{keeper_asked, keeper_refusal, end_fault, fault_if, IsReceiptFault, IsTurn, IsLed, Does, Forgets};
+    ghost use Rattle.txn_diary.specs.Forgetting.{KeepsBases};
 
     /// A client of this number, at least 1, that has done nothing. A listing has pages of at most `page` files, at least 1.
     /// The only error is want of memory.
@@ -107,7 +108,7 @@ impl<T: Clone, C: ObjectCodec<T> + Drop, E: EpochField<T>> Keeper<T, C, E> {
         ensures is { result ≡ length self.now.part.operations }
         ensures few { result < 2 ^ 64 - 1 }
     {
-        self.tables.operations.len() as u64
+        self.tables.calls.len()
     }
 
     /// What an operation asks for: nothing where it is not there, or has ended, and where the client was killed. It takes no
@@ -147,6 +148,27 @@ impl<T: Clone, C: ObjectCodec<T> + Drop, E: EpochField<T>> Keeper<T, C, E> {
         } else {
             Some(EventFault::UnknownNumber)
         }
+    }
+
+    /// Lets a view go: it is not there any more, and its value is freed. It is no step, and no journal tells it. Nothing happens
+    /// where there is no such view. It takes no memory.
+    pub fn end_view(&mut self, number: u64)
+        ensures forgets { Forgets self.old self.new }
+        ensures ended { used_by self.new.part.views (Some number) ≡ None }
+    {
+        self.tables.end_view(number);
+    }
+
+    /// Forgets what it no longer needs: its operations, where none of them runs, and of the ids that its checked calls answered
+    /// all but the bases of its views, the greatest, and those of the last answers, so many as are asked for. It is no step, and
+    /// no journal tells it. It only refuses more begins then: those on a base that it forgot. Where memory is wanting it keeps
+    /// what it has. The time that it takes is spread over the answers since it forgot before.
+    pub fn forget(&mut self, last: usize)
+        ensures forgets { Forgets self.old self.new }
+        ensures views { self.new.part.views ≡ self.old.part.views }
+        ensures bases { KeepsBases self.old.part self.new.part }
+    {
+        self.tables.forget(last);
     }
 
     /// Begins a call as the operation of the next number: its answer, where it is refused at once, for a journal and for the
@@ -363,9 +385,8 @@ fn make_room<T: Clone, C: ObjectCodec<T> + Drop, E: EpochField<T>>(
     ensures layout { tables.new.layout ≡ tables.old.layout }
     ensures epochs { tables.new.epochs ≡ tables.old.epochs }
     ensures err { IfErr result (λ fault. fault ≡ EventFault.NoMemory) }
-    ensures room_operations { OnOk result (vec_len tables.new.operations < vec_capacity tables.new.operations) }
-    ensures room_writes { OnOk result (vec_len tables.new.writes < vec_capacity tables.new.writes) }
-    ensures room_views { OnOk result (vec_len tables.new.views < vec_capacity tables.new.views) }
+    ensures room_call { OnOk result (HasRoomForCall tables.new.calls) }
+    ensures room_views { OnOk result (HasRoomForView tables.new.views) }
     ensures room_notes { OnOk result (HasRoom tables.new.notes) }
 {
     match tables.reserve() {

@@ -1,18 +1,20 @@
 //! What a client leaves that is killed.
-ghost use Rattle.std.specs.Prelude.{◌≡◌, ◌<◌, ◌++◌, IfOk, map, vec_len, vec_capacity};
+ghost use Rattle.std.specs.Prelude.{◌≡◌, ◌≤◌, ◌<◌, ◌+◌, ◌^◌, ◌++◌, IfOk, Some, map, vec_len, vec_capacity};
 ghost use Rattle.txn_history.specs.GoesOn.{as_loose, all_left_loose};
 ghost use Rattle.txn_machine_views.specs.Steps.{view_without};
-ghost use Rattle.txn_machine.specs.Machine.{ended_by, seen_operations};
+ghost use Rattle.txn_machine.specs.Machine.{ended_by, seen_operations, used_by, with_used};
 ghost use Rattle.txn_journals.specs.Journals.{as_pair};
-ghost use Rattle.txn_diary.specs.Kills.{EndsAt, EmptiesAt, left_here};
+ghost use Rattle.txn_diary.specs.Kills.{EndsAt, left_here};
+ghost use Rattle.txn_diary.specs.Shown.{views_of};
 
+use crate::standing::Standing;
 use crate::tables::Tables;
 use std::alloc::{AllocError, Global};
 use txn_caches::caches::Caches;
 use txn_clients::operations::loose_copy;
+use txn_clients::views::ViewTable;
 use txn_journals::rows::Left;
 use txn_machine::doing::Operation;
-use txn_machine_views::used::Used;
 use txn_store::request::Request;
 use txn_types::codec::ObjectCodec;
 use txn_types::epoch::EpochField;
@@ -40,17 +42,19 @@ fn add_left(lefts: &mut Vec<Left>, op: u64, left: Option<Request>)
     }
 }
 
-/// The puts and deletes that the client's operations ask for, in the order of their numbers. The only error is want of
-/// memory.
-fn left_by<T: Drop>(
+/// The puts and deletes that the client's operations ask for, in the order of their numbers, of which this is the first. The only
+/// error is want of memory.
+pub(crate) fn left_by<T: Drop>(
     alloc: Global,
     client: u64,
+    first: u64,
     operations: &[Operation<T>],
 ) -> Result<Vec<Left>, AllocError>
-    ensures { IfOk result (λ lefts. map as_pair lefts.items ≡ all_left_loose client 1 (seen_operations operations.now)) }
+    requires { first ≤ 2 ^ 62 + 1 }
+    ensures { IfOk result (λ lefts. map as_pair lefts.items ≡ all_left_loose client first (seen_operations operations.now)) }
 {
     let mut lefts = Vec::new(alloc);
-    let mut op = 1;
+    let mut op = first;
     for operation in operations {
         let left = left_here(client, operation)?;
         lefts.reserve(1)?;
@@ -72,7 +76,7 @@ fn end_at<T: Drop>(operations: &mut Vec<Operation<T>>, client: u64, place: usize
 }
 
 /// Ends the client's operations.
-fn end_all<T: Drop>(operations: &mut Vec<Operation<T>>, client: u64)
+pub(crate) fn end_all<T: Drop>(operations: &mut Vec<Operation<T>>, client: u64)
     ensures { operations.new.items ≡ map (ended_by client) operations.old.items }
 {
     for place in 0..operations.len() {
@@ -80,27 +84,25 @@ fn end_all<T: Drop>(operations: &mut Vec<Operation<T>>, client: u64)
     }
 }
 
-/// Ends the view at this place, where it is the client's.
-fn empty_at<T: Drop>(views: &mut Vec<Option<Used<T>>>, client: u64, place: usize)
-    requires { place < vec_len views.old }
-    ensures { EmptiesAt client place views.old.items views.new.items }
+/// Ends the view of this number, where it is the client's.
+fn end_view_of<T: Drop>(views: &mut Standing<T>, client: u64, number: u64)
+    requires { 1 ≤ number }
+    ensures { views_of views.new ≡ with_used (views_of views.old) (Some number) (view_without client (used_by (views_of views.old) (Some number))) }
 {
-    let view = &mut views[place];
-    let ends = match view {
-        Some(used) => used.view.client == client,
-        None => false,
+    let Some(used) = views.used(number) else {
+        return;
     };
-    if ends {
-        drop(view.take());
+    if used.view.client == client {
+        views.put(number, None);
     }
 }
 
 /// Ends the client's views.
-fn empty_all<T: Drop>(views: &mut Vec<Option<Used<T>>>, client: u64)
-    ensures { views.new.items ≡ map (view_without client) views.old.items }
+fn end_views_of<T: Drop>(views: &mut Standing<T>, client: u64)
+    ensures { views_of views.new ≡ map (view_without client) (views_of views.old) }
 {
-    for place in 0..views.len() {
-        empty_at(views, client, place);
+    for before in 0..views.count {
+        end_view_of(views, client, before + 1);
     }
 }
 
@@ -119,9 +121,9 @@ impl<T: Clone, C: ObjectCodec<T> + Drop, E: EpochField<T>> Tables<T, C, E> {
         ensures err { OnErr result (shown self.new ≡ shown self.old) }
         ensures ok { IfOk result (λ lefts. IsKilled self.old.client (shown self.old) lefts.items None (shown self.new)) }
     {
-        let lefts = left_by(self.alloc, self.client, &self.operations)?;
-        end_all(&mut self.operations, self.client);
-        empty_all(&mut self.views, self.client);
+        let lefts = self.calls.left_by(self.alloc, self.client)?;
+        self.calls.end_all(self.client);
+        end_views_of(&mut self.views, self.client);
         self.caches = Caches::new();
         Ok(lefts)
     }

@@ -2,11 +2,14 @@
 #![tactic(auto)]
 
 mod begins;
+mod calls;
 pub mod diary;
 pub mod keeper;
 mod kills;
 pub mod laws;
+mod maps;
 mod notes;
 mod reading;
+mod standing;
 mod step;
 mod tables;

@@ -3,11 +3,14 @@ ghost use Rattle.std.specs.Prelude.{◌≡◌, ◌++◌, ◌<◌, ◌≤◌, ℕ
 ghost use Rattle.std.specs.HashMap.{get, spare};
 ghost use Rattle.txn_journals.specs.Parts.{knows_base, is_below_known, epoch_told, epoch_written, note_of, note_plain, note_wrote, written_in};
 ghost use Rattle.txn_history.specs.Lists.{numbered};
-ghost use Rattle.txn_diary.specs.Notes.{note_at, as_told, first_epoch};
+ghost use Rattle.txn_diary.specs.Notes.{note_at, as_told};
 
+use crate::maps::insert_within;
+use crate::standing::Standing;
 use std::alloc::{AllocError, Global};
 use std::collections::HashMap;
 use txn_history::event::{Answer, Call, PlainAnswer, PlainCall};
+use txn_machine_views::used::Used;
 use txn_types::epoch::EpochField;
 use txn_types::room::push_within;
 
@@ -84,11 +87,12 @@ pub(crate) struct Notes {
 }
 
 impl Notes {
-    ghost use Rattle.std.specs.Prelude.{◌≡◌, ◌++◌, ◌<◌, ◌≤◌, [], OnOk, reverse, vec_len, vec_capacity};
-    ghost use Rattle.std.specs.HashMap.{spare};
+    ghost use Rattle.std.specs.Prelude.{◌≡◌, ◌++◌, ◌<◌, ◌≤◌, [], All, OnOk, IfOk, Some, true, reverse, vec_len, vec_capacity};
+    ghost use Rattle.std.specs.HashMap.{spare, values};
     ghost use Rattle.txn_journals.specs.Parts.{knows_base, is_below_known, epoch_told};
     ghost use Rattle.txn_diary.specs.Notes.{as_told};
     ghost use Rattle.txn_diary.specs.Room.{HasRoom};
+    ghost use Rattle.txn_diary.specs.Forgetting.{WereKnown, StillKnown, BaseStays, AreKeptNotes};
 
     /// No notes.
     pub fn new(alloc: Global) -> Notes
@@ -148,15 +152,91 @@ impl Notes {
             self.greatest = self.greatest.max(id);
         }
     }
-}
 
-/// Enters the epoch of an id, where there is room.
-fn insert_within(epochs: &mut HashMap<u64, u64>, id: u64, epoch: u64)
-    requires { 1 ≤ spare epochs.old }
-    ensures { (n : ℕ) → get nat_eq epochs.new n ≡ first_epoch n id epoch (get nat_eq epochs.old n) }
-{
-    match epochs.insert(id, epoch) {
-        Ok(_) => {}
-        Err(_) => unreachable!(),
+    /// Notes of this id what all notes say, where they say something. The only error is want of memory, and then nothing changes.
+    fn note(&mut self, all: &Notes, id: u64) -> Result<(), AllocError>
+        requires { WereKnown (reverse all.now.noted.items) (reverse self.old.noted.items) }
+        ensures known { WereKnown (reverse all.now.noted.items) (reverse self.new.noted.items) }
+        ensures more { StillKnown (reverse self.old.noted.items) (reverse self.new.noted.items) }
+        ensures noted { OnOk result (knows_base (reverse all.now.noted.items) (Some id) ≡ true → knows_base (reverse self.new.noted.items) (Some id) ≡ true) }
+    {
+        let Some(epoch) = all.epochs.get(&id) else {
+            return Ok(());
+        };
+        self.reserve()?;
+        self.add(Some((id, *epoch)));
+        Ok(())
+    }
+
+    /// Notes the ids of the last of all notes, so many.
+    fn note_last(&mut self, all: &Notes, last: usize) -> Result<(), AllocError>
+        requires { WereKnown (reverse all.now.noted.items) (reverse self.old.noted.items) }
+        ensures known { WereKnown (reverse all.now.noted.items) (reverse self.new.noted.items) }
+        ensures more { StillKnown (reverse self.old.noted.items) (reverse self.new.noted.items) }
+    {
+        let from = all.noted.len().saturating_sub(last);
+        for note in &all.noted.as_slice()[from..] {
+            self.note(all, note.0)?;
+        }
+        Ok(())
+    }
+
+    /// Notes the id at which a view stands, where it does.
+    fn note_base<T: Drop>(&mut self, all: &Notes, used: &Option<Used<T>>) -> Result<(), AllocError>
+        requires { WereKnown (reverse all.now.noted.items) (reverse self.old.noted.items) }
+        ensures known { WereKnown (reverse all.now.noted.items) (reverse self.new.noted.items) }
+        ensures more { StillKnown (reverse self.old.noted.items) (reverse self.new.noted.items) }
+        ensures base { OnOk result (BaseStays (reverse all.now.noted.items) (reverse self.new.noted.items) used.now) }
+    {
+        match used {
+            Some(used) => self.note(all, used.view.id),
+            None => Ok(()),
+        }
+    }
+
+    /// Notes the ids at which views stand.
+    fn note_bases<T: Drop>(&mut self, all: &Notes, views: &Standing<T>) -> Result<(), AllocError>
+        requires { WereKnown (reverse all.now.noted.items) (reverse self.old.noted.items) }
+        ensures known { WereKnown (reverse all.now.noted.items) (reverse self.new.noted.items) }
+        ensures more { StillKnown (reverse self.old.noted.items) (reverse self.new.noted.items) }
+        ensures bases { OnOk result (All (BaseStays (reverse all.now.noted.items) (reverse self.new.noted.items)) (values views.now.used)) }
+    {
+        for used in views.used.values() {
+            self.note_base(all, used)?;
+        }
+        Ok(())
+    }
+
+    /// What is left of all notes once some are forgotten.
+    fn kept<T: Drop>(
+        all: &Notes,
+        alloc: Global,
+        views: &Standing<T>,
+        last: usize,
+    ) -> Result<Notes, AllocError>
+        ensures notes { IfOk result (λ kept. AreKeptNotes (reverse all.now.noted.items) (reverse kept.noted.items)) }
+        ensures bases { IfOk result (λ kept. All (BaseStays (reverse all.now.noted.items) (reverse kept.noted.items)) (values views.now.used)) }
+    {
+        let mut kept = Notes::new(alloc);
+        kept.note(all, 0)?;
+        kept.note(all, all.greatest)?;
+        kept.note_last(all, last)?;
+        kept.note_bases(all, views)?;
+        Ok(kept)
+    }
+
+    /// Forgets the ids that were noted before the last notes, so many, but for the greatest and those at which views stand. It does
+    /// where it has more than twice as many notes as are left then, and memory suffices.
+    pub fn forget<T: Drop>(&mut self, alloc: Global, views: &Standing<T>, last: usize)
+        ensures notes { AreKeptNotes (reverse self.old.noted.items) (reverse self.new.noted.items) }
+        ensures bases { All (BaseStays (reverse self.old.noted.items) (reverse self.new.noted.items)) (values views.now.used) }
+    {
+        let left = last.saturating_add(views.used.len()).saturating_add(2);
+        if self.noted.len() / 2 < left {
+            return;
+        }
+        if let Ok(kept) = Notes::kept(self, alloc, views, last) {
+            *self = kept;
+        }
     }
 }

@@ -2,23 +2,23 @@
 ghost use Rattle.std.specs.Prelude.{◌≡◌, IfOk};
 ghost use Rattle.txn_history.specs.Names.{world_names, world_boundary};
 
-use crate::notes::{Notes, epoch_written, note_of, written_at};
+use crate::calls::Calls;
+use crate::notes::{Notes, epoch_written, note_of};
+use crate::standing::Standing;
 use std::alloc::{AllocError, Global};
 use txn_caches::ask::Ask;
 use txn_caches::caches::Caches;
 use txn_clients::calls::view_used;
 use txn_clients::layout::world_layout;
-use txn_clients::operations::{Usage, asked, end, loose_copy, turn, usage_at};
+use txn_clients::operations::{Usage, loose_copy};
 use txn_clients::views::{Answers, find, let_go, settle, take};
 use txn_history::event::Call;
 use txn_machine::doing::{Ending, Operation, Twice, is_claim, start};
 use txn_machine::work::Work;
-use txn_machine_views::used::Used;
 use txn_store::request::{Reply, Request};
 use txn_types::codec::ObjectCodec;
 use txn_types::epoch::EpochField;
 use txn_types::layout::Layout;
-use txn_types::room::push_within;
 
 /// All that a client keeps but its journal.
 #[derive(Drop)]
@@ -29,12 +29,10 @@ pub(crate) struct Tables<T: Drop, C: ObjectCodec<T> + Drop, E: EpochField<T>> {
     pub layout: Layout<C>,
     pub epochs: E,
     pub caches: Caches,
-    /// Its operations, numbered from 1.
-    pub operations: Vec<Operation<T>>,
-    /// Its views, numbered from 1. One that has ended is none.
-    pub views: Vec<Option<Used<T>>>,
-    /// Of each operation that is a checked write, the epoch of its value.
-    pub writes: Vec<Option<u64>>,
+    /// Its operations.
+    pub calls: Calls<T>,
+    /// Its views.
+    pub views: Standing<T>,
     /// What its checked calls told.
     pub notes: Notes,
     ghost names: { layout.names ≡ world_names },
@@ -50,15 +48,16 @@ impl<T: Clone, C: ObjectCodec<T> + Drop, E: EpochField<T>> Tables<T, C, E> {
     ghost use Rattle.txn_machine_inner.specs.Doing.{asks_as, first_of};
     ghost use Rattle.txn_history.specs.Calls.{view_used};
     ghost use Rattle.txn_machine.specs.Doing.{refused, refusal_in};
-    ghost use Rattle.txn_machine.specs.Machine.{answered, views_after};
+    ghost use Rattle.txn_machine.specs.Machine.{answered, used_by, views_after};
     ghost use Rattle.txn_machine.specs.declared.doing.Operation.{Operation};
     ghost use Rattle.txn_clients.specs.Operations.{asked_by, TakesReply};
     ghost use Rattle.txn_clients.specs.Views.{IsFromOne};
     ghost use Rattle.txn_journals.specs.Parts.{no_part, client_begin_fault, answer_in, note_of, written_in, turned_with};
     ghost use Rattle.txn_journals.specs.Journals.{BeginsCall, TakesTurn, GivesUp};
     ghost use Rattle.txn_diary.specs.Keepers.{AreSound};
-    ghost use Rattle.txn_diary.specs.Room.{HasRoom};
-    ghost use Rattle.txn_diary.specs.Shown.{shown};
+    ghost use Rattle.txn_diary.specs.Forgetting.{Remembers, KeepsBases};
+    ghost use Rattle.txn_diary.specs.Room.{HasRoom, HasRoomForCall, HasRoomForView};
+    ghost use Rattle.txn_diary.specs.Shown.{shown, views_of, writes_of};
 
     pub fn new(
         alloc: Global,
@@ -79,9 +78,8 @@ impl<T: Clone, C: ObjectCodec<T> + Drop, E: EpochField<T>> Tables<T, C, E> {
             layout: world_layout(alloc, codec, page)?,
             epochs,
             caches: Caches::new(),
-            operations: Vec::new(alloc),
-            views: Vec::new(alloc),
-            writes: Vec::new(alloc),
+            calls: Calls::new(alloc),
+            views: Standing::new(alloc),
             notes: Notes::new(alloc),
         })
     }
@@ -90,7 +88,7 @@ impl<T: Clone, C: ObjectCodec<T> + Drop, E: EpochField<T>> Tables<T, C, E> {
     pub fn asks(&self, op: u64) -> Option<Ask<'_>>
         ensures { asks_as result ≡ asked_by (shown self.now).operations op }
     {
-        asked(&self.operations, op)
+        self.calls.asks(op)
     }
 
     /// Makes room for what one step adds: an operation, a view and a note.
@@ -99,14 +97,12 @@ impl<T: Clone, C: ObjectCodec<T> + Drop, E: EpochField<T>> Tables<T, C, E> {
         ensures client { self.new.client ≡ self.old.client }
         ensures layout { self.new.layout ≡ self.old.layout }
         ensures epochs { self.new.epochs ≡ self.old.epochs }
-        ensures room_operations { OnOk result (vec_len self.new.operations < vec_capacity self.new.operations) }
-        ensures room_writes { OnOk result (vec_len self.new.writes < vec_capacity self.new.writes) }
-        ensures room_views { OnOk result (vec_len self.new.views < vec_capacity self.new.views) }
+        ensures room_call { OnOk result (HasRoomForCall self.new.calls) }
+        ensures room_views { OnOk result (HasRoomForView self.new.views) }
         ensures room_notes { OnOk result (HasRoom self.new.notes) }
     {
-        self.operations.reserve(1)?;
-        self.writes.reserve(1)?;
-        self.views.reserve(1)?;
+        self.calls.reserve()?;
+        self.views.reserve()?;
         self.notes.reserve()
     }
 
@@ -116,13 +112,12 @@ impl<T: Clone, C: ObjectCodec<T> + Drop, E: EpochField<T>> Tables<T, C, E> {
         requires exact { IsExactClone T.is_clone }
         requires permits { client_begin_fault (E.epoch_of self.old.epochs) self.old.client (shown self.old) call.now ≡ None }
         requires view { IsFromOne (view_used call.now) }
-        requires room_operations { vec_len self.old.operations < vec_capacity self.old.operations }
-        requires room_writes { vec_len self.old.writes < vec_capacity self.old.writes }
+        requires room_call { HasRoomForCall self.old.calls }
         ensures client { self.new.client ≡ self.old.client }
         ensures layout { self.new.layout ≡ self.old.layout }
         ensures epochs { self.new.epochs ≡ self.old.epochs }
         ensures err { OnErr result (shown self.new ≡ shown self.old) }
-        ensures ok { IfOk result (λ refusal. BeginsCall self.old.layout.page (C.encoded self.old.layout.codec) (C.decoded self.old.layout.codec) (E.epoch_of self.old.epochs) (E.with_epoch self.old.epochs) self.old.client (shown self.old) call.now (answered (length self.old.views.items) (view_used call.now) (refusal_in refusal)) (shown self.new)) }
+        ensures ok { IfOk result (λ refusal. BeginsCall self.old.layout.page (C.encoded self.old.layout.codec) (C.decoded self.old.layout.codec) (E.epoch_of self.old.epochs) (E.with_epoch self.old.epochs) self.old.client (shown self.old) call.now (answered (length (views_of self.old.views)) (view_used call.now) (refusal_in refusal)) (shown self.new)) }
     {
         let of = Usage {
             client: self.client,
@@ -132,17 +127,14 @@ impl<T: Clone, C: ObjectCodec<T> + Drop, E: EpochField<T>> Tables<T, C, E> {
         let view = find(&self.views, of.view);
         let (doing, refusal) = start(self.alloc, &self.layout, &self.epochs, call, view)?;
         let work = Work::new(self.alloc, doing)?;
-        let op = self.operations.len() as u64 + 1;
-        push_within(
-            &mut self.operations,
-            Operation {
-                client: of.client,
-                view: of.view,
-                claims: of.claims,
-                doing: work,
-            },
-        );
-        push_within(&mut self.writes, epoch_written(&self.epochs, call));
+        let op = self.calls.len() + 1;
+        let operation = Operation {
+            client: of.client,
+            view: of.view,
+            claims: of.claims,
+            doing: work,
+        };
+        self.calls.add(operation, epoch_written(&self.epochs, call));
         take(&mut self.views, of.view, op);
         if refusal.is_some() {
             let_go(&mut self.views, of.view, of.claims);
@@ -153,22 +145,21 @@ impl<T: Clone, C: ObjectCodec<T> + Drop, E: EpochField<T>> Tables<T, C, E> {
     /// Notes what an operation's end tells, and what becomes of its view; the answer twice, where it ends.
     fn settle(&mut self, op: u64, of: Usage, ending: Option<Ending<T>>) -> Option<Answers<T>>
         requires view { IsFromOne of.view }
-        requires room_views { vec_len self.old.views < vec_capacity self.old.views }
+        requires room_views { HasRoomForView self.old.views }
         requires room_notes { HasRoom self.old.notes }
         ensures client { self.new.client ≡ self.old.client }
         ensures layout { self.new.layout ≡ self.old.layout }
         ensures epochs { self.new.epochs ≡ self.old.epochs }
         ensures caches { self.new.caches ≡ self.old.caches }
-        ensures operations { self.new.operations ≡ self.old.operations }
-        ensures writes { self.new.writes ≡ self.old.writes }
-        ensures views { self.new.views.items ≡ views_after self.old.views.items of.client of.view of.claims ending }
-        ensures answer { first_of result ≡ answered (length self.old.views.items) of.view ending }
-        ensures told { (shown self.new).told ≡ note_of (E.epoch_of self.old.epochs) (written_in (numbered self.old.writes.items op)) (answered (length self.old.views.items) of.view ending) ++ (shown self.old).told }
+        ensures calls { self.new.calls ≡ self.old.calls }
+        ensures views { views_of self.new.views ≡ views_after (views_of self.old.views) of.client of.view of.claims ending }
+        ensures answer { first_of result ≡ answered (length (views_of self.old.views)) of.view ending }
+        ensures told { (shown self.new).told ≡ note_of (E.epoch_of self.old.epochs) (written_in (numbered (writes_of self.old.calls) op)) (answered (length (views_of self.old.views)) of.view ending) ++ (shown self.old).told }
         ensures twice { ForSome result (λ pair. pair.1 ≡ pair.0) }
     {
         let answers = settle(&mut self.views, of, ending);
         if let Some((answer, _)) = &answers {
-            let written = written_at(&self.writes, op);
+            let written = self.calls.written(op);
             self.notes.add(note_of(&self.epochs, written, answer));
         }
         answers
@@ -180,7 +171,8 @@ impl<T: Clone, C: ObjectCodec<T> + Drop, E: EpochField<T>> Tables<T, C, E> {
         requires exact { IsExactClone T.is_clone }
         requires sound { AreSound (shown self.old).operations }
         requires takes { TakesReply (shown self.old).operations op reply }
-        requires room_views { vec_len self.old.views < vec_capacity self.old.views }
+        requires runs { IsSome (asked_by (shown self.old).operations op) }
+        requires room_views { HasRoomForView self.old.views }
         requires room_notes { HasRoom self.old.notes }
         ensures client { self.new.client ≡ self.old.client }
         ensures layout { self.new.layout ≡ self.old.layout }
@@ -188,12 +180,11 @@ impl<T: Clone, C: ObjectCodec<T> + Drop, E: EpochField<T>> Tables<T, C, E> {
         ensures turned { (ask : seen.Ask) → asked_by (shown self.old).operations op ≡ Some ask → TakesTurn self.old.layout.page (C.encoded self.old.layout.codec) (C.decoded self.old.layout.codec) (E.epoch_of self.old.epochs) (E.with_epoch self.old.epochs) (shown self.old) op ask reply (first_of result) (shown self.new) }
         ensures twice { ForSome result (λ pair. pair.1 ≡ pair.0) }
     {
-        let of = usage_at(&self.operations, op);
-        let ending = turn(
+        let of = self.calls.usage_at(op);
+        let ending = self.calls.turn(
             self.alloc,
             &self.layout,
             &self.epochs,
-            &mut self.operations,
             &mut self.caches,
             op,
             reply,
@@ -205,7 +196,7 @@ impl<T: Clone, C: ObjectCodec<T> + Drop, E: EpochField<T>> Tables<T, C, E> {
     pub fn refuse(&mut self, op: u64, number: u8) -> Option<Answers<T>>
         requires sound { AreSound (shown self.old).operations }
         requires runs { IsSome (asked_by (shown self.old).operations op) }
-        requires room_views { vec_len self.old.views < vec_capacity self.old.views }
+        requires room_views { HasRoomForView self.old.views }
         requires room_notes { HasRoom self.old.notes }
         ensures client { self.new.client ≡ self.old.client }
         ensures layout { self.new.layout ≡ self.old.layout }
@@ -214,8 +205,8 @@ impl<T: Clone, C: ObjectCodec<T> + Drop, E: EpochField<T>> Tables<T, C, E> {
         ensures shown { (o : Operation T) → numbered (shown self.old).operations op ≡ Some o → shown self.new ≡ turned_with (E.epoch_of self.old.epochs) (shown self.old) op o (refused number) (shown self.old).caches }
         ensures twice { ForSome result (λ pair. pair.1 ≡ pair.0) }
     {
-        let of = usage_at(&self.operations, op);
-        end(&mut self.operations, op);
+        let of = self.calls.usage_at(op);
+        self.calls.end(op);
         self.settle(op, of, Some(Ending::Answers(Twice::refused(number))))
     }
 
@@ -230,10 +221,34 @@ impl<T: Clone, C: ObjectCodec<T> + Drop, E: EpochField<T>> Tables<T, C, E> {
         ensures err { OnErr result (shown self.new ≡ shown self.old) }
         ensures ok { IfOk result (λ left. GivesUp (shown self.old) op left None (shown self.new)) }
     {
-        let left = loose_copy(asked(&self.operations, op))?;
-        let of = usage_at(&self.operations, op);
-        end(&mut self.operations, op);
+        let left = loose_copy(self.calls.asks(op))?;
+        let of = self.calls.usage_at(op);
+        self.calls.end(op);
         let_go(&mut self.views, of.view, of.claims);
         Ok(left)
+    }
+
+    /// Lets the view of this number go, where it stands.
+    pub fn end_view(&mut self, number: u64)
+        ensures client { self.new.client ≡ self.old.client }
+        ensures layout { self.new.layout ≡ self.old.layout }
+        ensures epochs { self.new.epochs ≡ self.old.epochs }
+        ensures remembers { Remembers (shown self.old) (shown self.new) }
+        ensures ended { used_by (shown self.new).views (Some number) ≡ None }
+    {
+        self.views.end(number);
+    }
+
+    /// Forgets the operations, where none of them runs, and what was told before the last of it, so much, but for what is needed.
+    pub fn forget(&mut self, last: usize)
+        ensures client { self.new.client ≡ self.old.client }
+        ensures layout { self.new.layout ≡ self.old.layout }
+        ensures epochs { self.new.epochs ≡ self.old.epochs }
+        ensures remembers { Remembers (shown self.old) (shown self.new) }
+        ensures views { (shown self.new).views ≡ (shown self.old).views }
+        ensures bases { KeepsBases (shown self.old) (shown self.new) }
+    {
+        self.calls.forget();
+        self.notes.forget(self.alloc, &self.views, last);
     }
 }

@@ -6,4 +6,4 @@ use Rattle.txn_diary.proofs.kills.left_by.Given as goal
 
 -- with what the rest leaves it is what all leave
 abbrev pub invariant-loop-operation : goal.invariant-loop-operation
-invariant-loop-operation g l = (map as_pair l.lefts.items ++ all_left_loose l.fn.client l.op (seen_operations (drop l.operation-index l.operations)) ≡ all_left_loose l.fn.client 1 (seen_operations l.operations)) × (l.op ≡ l.operation-index + 1)
+invariant-loop-operation g l = (map as_pair l.lefts.items ++ all_left_loose l.fn.client l.op (seen_operations (drop l.operation-index l.operations)) ≡ all_left_loose l.fn.client l.fn.first (seen_operations l.operations)) × (l.op ≡ l.operation-index + l.fn.first)

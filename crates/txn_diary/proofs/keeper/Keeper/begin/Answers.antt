@@ -6,6 +6,7 @@ use Rattle.txn_journals.specs.Parts.{client_begin_fault}
 use Rattle.txn_diary.specs.Keepers.{KeeperState}
 use Rattle.txn_diary.proofs.Stepping.{alive_so, permits_so, met_begin, room_made, stepped, IsReady, IsStepped}
 use Rattle.txn_diary.proofs.keeper.Keeper.begin.Goals.{In_ok-make_room, After-refusals}
+use Rattle.txn_diary.specs.Shown.{views_of}
 use Rattle.txn_diary.proofs.keeper.Keeper.begin.Goals as goal
 
 -- room was made in what the client keeps
@@ -17,7 +18,7 @@ begun g c =
     let k = c.args.self.now in
     let lived = alive_so k.alive (client_begin_fault (g.E.EpochField.epoch_of k.epochs) k.client k.part c.args.call.now) c.in_default.ensures in
     let live = ap (λ (keeper : KeeperState _ _ _). keeper.alive) c.self.view_is ∙ lived in
-    stepped (ready g (goal.at.After-refusals g c).In_ok-make_room) live live (rw (c.refusals.ensures.answer (length c.make_room.new.tables.views.items) (view_used c.args.call.now)) c.in-Ok.ensures.ok) c.begin.ensures.client c.begin.ensures.layout c.begin.ensures.epochs
+    stepped (ready g (goal.at.After-refusals g c).In_ok-make_room) live live (rw (c.refusals.ensures.answer (length (views_of c.make_room.new.tables.views)) (view_used c.args.call.now)) c.in-Ok.ensures.ok) c.begin.ensures.client c.begin.ensures.layout c.begin.ensures.epochs
 
 pub invariant_of-self-2 : goal.invariant_of-self-2
 invariant_of-self-2 g c = (begun g (goal.at.invariant_of-self-2 g c).After-refusals).kept

@@ -7,7 +7,7 @@ use Rattle.txn_clients.specs.Operations.{asked_by, request_of}
 use Rattle.txn_journals.specs.declared.rows.Act.TheVariants as acts
 use Rattle.txn_journals.specs.declared.rows.Step.TheVariants as steps
 use Rattle.txn_diary.specs.Keepers.{keeper_asked}
-use Rattle.txn_diary.specs.Shown.{shown}
+use Rattle.txn_diary.specs.Shown.{operations_of, shown}
 use Rattle.txn_diary.proofs.Acting.{fails_so}
 use Rattle.txn_diary.proofs.Stepping.{met_ask, stores_so, room_made, ready_sound, ready_asks, stepped, IsReady, IsStepped}
 use Rattle.txn_diary.proofs.keeper.Keeper.failed.Goals.{In_ok-make_room, After-refuse-answers}
@@ -27,7 +27,7 @@ ready : (g : _) (c : In_ok-make_room g) → IsReady c.args.self.now c.make_room.
 ready g c = room_made c.args.self.now c.self.inside.tables c.make_room.new.tables c.self.inside.alive c.self.view_is c.self.invariant c.make_room.ensures.client c.make_room.ensures.layout c.make_room.ensures.epochs c.make_room.ensures.shown
 
 -- the operation asks for the store call that was copied
-asks : (g : _) (c : In_ok-make_room g) → (c.self.inside.alive ≡ true) × (asked_by c.make_room.new.tables.operations.items c.args.op ≡ Some (Store c.in-Ok.request))
+asks : (g : _) (c : In_ok-make_room g) → (c.self.inside.alive ≡ true) × (asked_by (operations_of c.make_room.new.tables.calls) c.args.op ≡ Some (Store c.in-Ok.request))
 asks g c =
     let is = stores_so (keeper_asked c.args.self.now c.args.op) (c.in_default.ensures ∙ ap (ask_fault true) c.asks.ensures) in
     let same = same_Some c.in-Ok.request is.0 (ap Some c.in-Ok.ensures ∙ (c.in-Some-request_of.ensures ∙ (ap request_of c.asks-2.ensures ∙ ap request_of is.1))) in

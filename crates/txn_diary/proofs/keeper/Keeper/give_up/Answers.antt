@@ -6,6 +6,7 @@ use Rattle.txn_journals.specs.declared.rows.Step.TheVariants as steps
 use Rattle.txn_diary.specs.Keepers.{keeper_asked, end_fault}
 use Rattle.txn_diary.proofs.Stepping.{met_end, asks_so, room_made, ready_sound, ready_asks, stepped, IsReady, IsStepped}
 use Rattle.txn_diary.proofs.keeper.Keeper.give_up.Goals.{In_default, In-Ok}
+use Rattle.txn_diary.specs.Shown.{operations_of}
 use Rattle.txn_diary.proofs.keeper.Keeper.give_up.Goals as goal
 
 pub returns-in-Some-clause-refused : goal.returns-in-Some-clause-refused
@@ -16,7 +17,7 @@ ready : (g : _) (c : In_default g) → IsReady c.args.self.now c.self.inside.tab
 ready g c = room_made c.args.self.now c.self.inside.tables c.self.inside.tables c.self.inside.alive c.self.view_is c.self.invariant refl refl refl refl
 
 -- the operation asks for something
-asks : (g : _) (c : In_default g) → (ask : Ask) × ((c.self.inside.alive ≡ true) × (asked_by c.self.inside.tables.operations.items c.args.op ≡ Some ask))
+asks : (g : _) (c : In_default g) → (ask : Ask) × ((c.self.inside.alive ≡ true) × (asked_by (operations_of c.self.inside.tables.calls) c.args.op ≡ Some ask))
 asks g c = (let is = asks_so (keeper_asked c.args.self.now c.args.op) (c.in_default.ensures ∙ ap end_fault c.asks.ensures) in (is.0, ready_asks (ready g c) c.args.op is.0 is.1))
 
 pub give_up-requires-clause-sound : goal.give_up-requires-clause-sound

@@ -9,6 +9,7 @@ use Rattle.txn_diary.specs.Keepers.{keeper_asked}
 use Rattle.txn_diary.proofs.Acting.{takes_so}
 use Rattle.txn_diary.proofs.Stepping.{met_ask, looks_so, room_made, ready_sound, ready_asks, stepped, IsReady, IsStepped}
 use Rattle.txn_diary.proofs.keeper.Keeper.look.Goals.{In_ok-make_room, After-turn}
+use Rattle.txn_diary.specs.Shown.{operations_of}
 use Rattle.txn_diary.proofs.keeper.Keeper.look.Goals as goal
 
 pub returns-in-Some-clause-refused : goal.returns-in-Some-clause-refused
@@ -19,7 +20,7 @@ ready : (g : _) (c : In_ok-make_room g) → IsReady c.args.self.now c.make_room.
 ready g c = room_made c.args.self.now c.self.inside.tables c.make_room.new.tables c.self.inside.alive c.self.view_is c.self.invariant c.make_room.ensures.client c.make_room.ensures.layout c.make_room.ensures.epochs c.make_room.ensures.shown
 
 -- the operation asks for a look
-asks : (g : _) (c : In_ok-make_room g) → (c.self.inside.alive ≡ true) × (asked_by c.make_room.new.tables.operations.items c.args.op ≡ Some Look)
+asks : (g : _) (c : In_ok-make_room g) → (c.self.inside.alive ≡ true) × (asked_by (operations_of c.make_room.new.tables.calls) c.args.op ≡ Some Look)
 asks g c = ready_asks (ready g c) c.args.op Look (looks_so (keeper_asked c.args.self.now c.args.op) (c.in_default.ensures ∙ ap (ask_fault false) c.asks.ensures))
 
 pub turn-requires-clause-sound : goal.turn-requires-clause-sound
@@ -28,7 +29,7 @@ turn-requires-clause-sound g c = ready_sound (ready g (goal.at.turn-requires-cla
 pub turn-requires-clause-takes : goal.turn-requires-clause-takes
 turn-requires-clause-takes g c =
     let at = (goal.at.turn-requires-clause-takes g c).In_ok-make_room in
-    takes_so c.make_room.new.tables.operations.items c.args.op Look None (ready_sound (ready g at)) (asks g at).1 tt
+    takes_so (operations_of c.make_room.new.tables.calls) c.args.op Look None (ready_sound (ready g at)) (asks g at).1 tt
 
 looked : (g : _) (c : After-turn g) → IsStepped c.args.self.now (steps.Act c.args.op acts.Look) (first_of c.turn.result) c.turn.new.self c.self.inside.alive
 looked g c =

@@ -10,6 +10,7 @@ use Rattle.txn_diary.specs.Keepers.{keeper_asked, IsReceiptFault}
 use Rattle.txn_diary.proofs.Acting.{takes_so}
 use Rattle.txn_diary.proofs.Stepping.{met_receipt, receives_so, room_made, ready_sound, ready_asks, stepped, IsReady, IsStepped}
 use Rattle.txn_diary.proofs.keeper.Keeper.receive.Goals.{In_ok-make_room, After-turn}
+use Rattle.txn_diary.specs.Shown.{operations_of}
 use Rattle.txn_diary.proofs.keeper.Keeper.receive.Goals as goal
 
 pub returns-in-Some-clause-refused : goal.returns-in-Some-clause-refused
@@ -23,7 +24,7 @@ ready g c = room_made c.args.self.now c.self.inside.tables c.make_room.new.table
 receives : (g : _) (c : In_ok-make_room g) → (keeper_asked c.args.self.now c.args.op ≡ Some (Store c.args.receipt.now.request)) × IsOfKind c.args.receipt.now.request c.args.receipt.now.reply
 receives g c = receives_so (keeper_asked c.args.self.now c.args.op) c.args.receipt.now (subst (λ a. IsReceiptFault a c.args.receipt.now None) c.asks.ensures c.in_default.ensures)
 
-asks : (g : _) (c : In_ok-make_room g) → (c.self.inside.alive ≡ true) × (asked_by c.make_room.new.tables.operations.items c.args.op ≡ Some (Store c.args.receipt.now.request))
+asks : (g : _) (c : In_ok-make_room g) → (c.self.inside.alive ≡ true) × (asked_by (operations_of c.make_room.new.tables.calls) c.args.op ≡ Some (Store c.args.receipt.now.request))
 asks g c = ready_asks (ready g c) c.args.op (Store c.args.receipt.now.request) (receives g c).0
 
 pub turn-requires-clause-sound : goal.turn-requires-clause-sound
@@ -32,7 +33,7 @@ turn-requires-clause-sound g c = ready_sound (ready g (goal.at.turn-requires-cla
 pub turn-requires-clause-takes : goal.turn-requires-clause-takes
 turn-requires-clause-takes g c =
     let at = (goal.at.turn-requires-clause-takes g c).In_ok-make_room in
-    takes_so c.make_room.new.tables.operations.items c.args.op (Store c.args.receipt.now.request) (Some c.in-Ok.reply) (ready_sound (ready g at)) (asks g at).1 (subst (λ (r : Reply). IsOfKind c.args.receipt.now.request r) (sym c.in-Ok.ensures) (receives g at).1)
+    takes_so (operations_of c.make_room.new.tables.calls) c.args.op (Store c.args.receipt.now.request) (Some c.in-Ok.reply) (ready_sound (ready g at)) (asks g at).1 (subst (λ (r : Reply). IsOfKind c.args.receipt.now.request r) (sym c.in-Ok.ensures) (receives g at).1)
 
 received : (g : _) (c : After-turn g) → IsStepped c.args.self.now (steps.Act c.args.op (acts.Receive c.args.receipt.now)) (first_of c.turn.result) c.turn.new.self c.self.inside.alive
 received g c =

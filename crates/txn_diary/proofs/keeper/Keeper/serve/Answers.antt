@@ -8,7 +8,7 @@ use Rattle.txn_journals.specs.declared.rows.Act.TheVariants as acts
 use Rattle.txn_journals.specs.declared.rows.Step.TheVariants as steps
 use Rattle.txn_logged.specs.Logged.{IsOfKind}
 use Rattle.txn_diary.specs.Keepers.{keeper_asked}
-use Rattle.txn_diary.specs.Shown.{shown}
+use Rattle.txn_diary.specs.Shown.{operations_of, shown}
 use Rattle.txn_diary.proofs.Acting.{takes_so, lacks_so}
 use Rattle.txn_diary.proofs.Stepping.{stores_so, room_made, ready_sound, ready_asks, stepped, IsReady, IsStepped}
 use Rattle.txn_diary.proofs.keeper.Keeper.serve.Goals.{In_ok-make_room, In-Some, After-turn-answers, After-refuse-answers}
@@ -25,7 +25,7 @@ unreachable-requires g c =
     cc
 
 -- the operation asks for the store call that is served
-asks : (g : _) (c : In-Some g) → (c.self.inside.alive ≡ true) × (asked_by c.make_room.new.tables.operations.items c.args.op ≡ Some (Store c.in-Some.request.now))
+asks : (g : _) (c : In-Some g) → (c.self.inside.alive ≡ true) × (asked_by (operations_of c.make_room.new.tables.calls) c.args.op ≡ Some (Store c.in-Some.request.now))
 asks g c =
     let r = ready g (goal.at.In-Some g c).In_ok-make_room in
     let is = stores_so (keeper_asked c.args.self.now c.args.op) (sym c.requires.asks) in
@@ -38,7 +38,7 @@ turn-answers-requires-clause-sound g c = ready_sound (ready g (goal.at.turn-answ
 pub turn-answers-requires-clause-takes : goal.turn-answers-requires-clause-takes
 turn-answers-requires-clause-takes g c =
     let at = goal.at.turn-answers-requires-clause-takes g c in
-    takes_so c.make_room.new.tables.operations.items c.args.op (Store c.in-Some.request.now) (Some c.in-Ok.reply) (ready_sound (ready g at.In_ok-make_room)) (asks g at.In-Some).1 (subst (λ (x : Reply). IsOfKind c.in-Some.request.now x) (sym c.in-Ok.ensures.again) c.in-Ok.ensures.receipt.kind)
+    takes_so (operations_of c.make_room.new.tables.calls) c.args.op (Store c.in-Some.request.now) (Some c.in-Ok.reply) (ready_sound (ready g at.In_ok-make_room)) (asks g at.In-Some).1 (subst (λ (x : Reply). IsOfKind c.in-Some.request.now x) (sym c.in-Ok.ensures.again) c.in-Ok.ensures.receipt.kind)
 
 served : (g : _) (c : After-turn-answers g) → IsStepped c.args.self.now (steps.Act c.args.op (acts.Receive c.in-Ok.taken)) (first_of c.turn-answers.result) c.turn-answers.new.self c.self.inside.alive
 served g c =
