@@ -77,14 +77,14 @@ impl Readings {
 
 /// When a call began, and how long it may take, in milliseconds.
 #[derive(Clone, Copy, Debug)]
-pub(crate) struct Deadline {
+pub struct Deadline {
     start: u64,
     timeout: u64,
 }
 
 impl Deadline {
     /// From the time on that the clock reads.
-    pub(crate) fn starting<K: SystemClock>(clock: &mut K, timeout: u64) -> Deadline
+    pub fn starting<K: SystemClock>(clock: &mut K, timeout: u64) -> Deadline
         ensures timeout { result.timeout ≡ timeout }
         ensures read { K.readings clock.new ≡ K.readings clock.old ++ result.start ∷ [] }
     {
@@ -94,10 +94,7 @@ impl Deadline {
 
     /// Reads the clock. At the start plus the timeout or later it is `ObjectUpdateTimeout`; a reading below the start counts
     /// as the start.
-    pub(crate) fn check<K: SystemClock>(
-        &self,
-        clock: &mut K,
-    ) -> Result<(), TransactionalObjectError>
+    pub fn check<K: SystemClock>(&self, clock: &mut K) -> Result<(), TransactionalObjectError>
         ensures in_time { OnOk result (ReadsOne (λ r. r - self.now.start < self.now.timeout) (K.readings clock.old) (K.readings clock.new)) }
         ensures late { IfErr result (λ e. (e ≡ TransactionalObjectError.ObjectUpdateTimeout self.now.timeout) × ReadsOne (λ r. self.now.timeout ≤ r - self.now.start) (K.readings clock.old) (K.readings clock.new)) }
     {

@@ -129,7 +129,7 @@ impl<T: Clone, Id: Copy, I: Clone> SimpleTransactionalObject<T, Id, I> {
 }
 
 /// Tests the invariants in their order, up to the first that fails.
-fn test_all<T, I: Invariant<T>>(
+pub fn test_all<T, I: Invariant<T>>(
     invariants: &[I],
     dirty: &T,
     current: &T,

@@ -1,0 +1,9 @@
+pub mod Stores
+pub mod Errors
+pub mod Answers
+pub mod Calls
+pub mod Rounds
+pub mod Collecting
+pub mod Objects
+pub mod Retrying
+pub mod Claims
