@@ -74,7 +74,7 @@ pub enum Doing {
 }
 
 /// What went wrong: the step, and the system's error where there was one.
-#[derive(Debug, Drop)]
+#[derive(Clone, Copy, Debug)]
 pub struct Fault {
     pub doing: Doing,
     pub error: Option<io::Error>,

@@ -1,146 +1,136 @@
--- What a session's calls were answered, by what its client did, and what is printed of it.
-use Rattle.std.specs.Prelude.{◌≡◌, ℕ, List, Option, Some, None}
+-- What is printed of what a client was answered. `said` is what the writer has before, and `said'` after it.
+use Rattle.std.specs.Prelude.{◌≡◌, ◌<◌, ◌≤◌, ◌⊎◌, ℕ, Bool, true, false, List, [], ◌∷◌, Option, Some, None, Result, Ok, Err, IfSome}
 use Rattle.std.specs.Fmt.{decimal}
 use Rattle.std.specs.Io.KnownBytes.{Appends}
 use Rattle.std.specs.declared.ops.Bound.TheVariants.{Unbounded}
-use Rattle.txn_store.specs.declared.request.Request.{Request}
-use Rattle.txn_store.specs.declared.request.Reply.{Reply}
-use Rattle.txn_history.specs.declared.event.PlainCall.{PlainCall}
 use Rattle.txn_history.specs.declared.event.PlainCall.TheVariants as plain_calls
-use Rattle.txn_history.specs.declared.event.PlainAnswer.TheVariants as plain_answers
-use Rattle.txn_history.specs.declared.event.ViewCall.{ViewCall}
 use Rattle.txn_history.specs.declared.event.ViewCall.TheVariants as view_calls
 use Rattle.txn_history.specs.declared.event.Call.{Call}
 use Rattle.txn_history.specs.declared.event.Call.TheVariants as calls
 use Rattle.txn_history.specs.declared.event.Answer.{Answer}
-use Rattle.txn_history.specs.declared.event.Answer.TheVariants as answers
-use Rattle.txn_journals.specs.declared.rows.Step.{Step}
-use Rattle.txn_diary.specs.Keepers.{KeeperState, Does}
-use Rattle.txn_client.specs.Noted.{Noted}
-use Rattle.txn_client.specs.Calling.{ClientState, MakesCall}
-use Rattle.txn_client.specs.declared.retry.Viewed.{Viewed}
+use Rattle.txn_client.specs.declared.stop.Stop.{Stop}
+use Rattle.txnobj.specs.declared.answers.Viewed.{Viewed}
+use Rattle.txn_types.specs.declared.dirty.DirtyObject.{DirtyObject}
+use Rattle.txn_types.specs.declared.invariant.NoInvariant.{NoInvariant}
 use Rattle.txn_entries.specs.declared.entry.Entry.{Entry}
-use Rattle.txn_entries.specs.Entry.{entry_bytes, entry_read}
-use Rattle.txn_entries.specs.declared.entry.EntryCodec.{EntryCodec}
-use Rattle.txn_entries.specs.declared.entry.EntryEpoch.{EntryEpoch}
-use Rattle.txnobj_said.specs.Said.{with_feed, lines_of}
-use Rattle.txnobj_cli.specs.declared.session.Version.{Version}
-use Rattle.txnobj_cli.specs.Calls.{IsPutOn, version_words}
+use Rattle.txn_entries.specs.Holder.{FollowsEpoch}
+use Rattle.txn_entries.specs.Text.{entry_text}
+use Rattle.txnobj.specs.Answers.{ids_in, value_in}
+use Rattle.txnobj.specs.Calls.{Ends, ViewEnds}
+use Rattle.txnobj.specs.Objects.{Begins, Refreshes, Updates, refresh_of, update_of}
+use Rattle.txnobj.specs.Rounds.{Rounds, AfterRounds}
+use Rattle.txnobj.specs.Retrying.{Lent, Tries, Round}
+use Rattle.txnobj.specs.Claims.{ClaimEnds}
+use Rattle.txnobj.specs.Collecting.{Collects, ReadEnds}
+use Rattle.txnobj.specs.declared.fenceable.FenceableTransactionalObject.{FenceableTransactionalObject}
+use Rattle.txnobj_said.specs.Said.{with_feed, lines_of, stored_text}
+use Rattle.txnobj_cli.specs.Calls.{Object, AsksNext, version_words}
 
--- an answer gives a version in its view
-pub record IsView (answer : Answer Entry) (version : Version) : Type 0 where
-  pub value : Entry
-  pub answer_is : answer ≡ answers.View version.view version.id value
-  pub epoch : version.epoch ≡ value.epoch
-
--- an answer gives a holder's version, with its epoch
-pub record IsHeld (answer : Answer Entry) (version : Version) : Type 0 where
-  pub value : Entry
-  pub answer_is : answer ≡ answers.Held version.view version.id value version.epoch
-
--- an answer gives what was read, in no view
-pub record IsRead (answer : Answer Entry) (version : Version) : Type 0 where
-  pub value : Entry
-  pub answer_is : answer ≡ answers.Plain (plain_answers.Read (Some (version.id, value)))
-  pub epoch : version.epoch ≡ value.epoch
-
-abbrev pub IsReadOf : Answer Entry → Option Version → Type 0
-IsReadOf answer None = answer ≡ answers.Plain (plain_answers.Read None)
-IsReadOf answer (Some version) = IsRead answer version
-
--- the claim that a view makes, at an epoch where one is asked for
-abbrev pub claim_of : ℕ → Option ℕ → ViewCall Entry
-claim_of view None = view_calls.Claim view
-claim_of view (Some epoch) = view_calls.ClaimAt view epoch
-
-module _ {R S : Type 0} (hands : R → Noted Entry → R → Type 0) (serves : S → Request → Reply → S → Type 0) where
-  -- the client of a session
-  abbrev pub Client : Type 0
-  Client = ClientState Entry EntryCodec EntryEpoch R S
-
-  -- it did this, and what it keeps follows, as entries are written and read
-  abbrev pub Did : KeeperState Entry EntryCodec EntryEpoch → Step Entry → Option (Answer Entry) → KeeperState Entry EntryCodec EntryEpoch → Type 0
-  Did = Does (λ _ value. entry_bytes value) (λ _ bytes. entry_read bytes) (λ _ value. value.epoch) (λ _ value epoch. record value { epoch = epoch })
-
-  -- it made this call, and was answered so
-  abbrev pub Made : Call Entry → Answer Entry → Client → Client → Type 0
-  Made call answer old new = MakesCall hands serves Did 100000 call (Some answer) old new
-
-  -- it made this call, and this holds of its answer
-  pub record Answered (call : Call Entry) (says : Answer Entry → Type 0) (old new : Client) : Type 0 where
-    pub answer : Answer Entry
-    pub made : Made call answer old new
-    pub so : says answer
-
-  abbrev pub Gives : ViewCall Entry → Version → Client → Client → Type 0
-  Gives call version old new = Answered (calls.View call) (λ answer. IsView answer version) old new
-
-  abbrev pub Reads : Option Version → Client → Client → Type 0
-  Reads read old new = Answered (calls.Plain plain_calls.Read) (λ answer. IsReadOf answer read) old new
-
-  -- a plain call was done
-  abbrev pub IsDone : PlainCall Entry → Client → Client → Type 0
-  IsDone call old new = Made (calls.Plain call) (answers.Plain plain_answers.Done) old new
-
-  -- the newest version, with what it says
-  abbrev pub Loads : Viewed Entry → Client → Client → Type 0
-  Loads viewed old new = Made (calls.View view_calls.Load) (answers.View viewed.view viewed.id viewed.value) old new
-
-  abbrev pub Lists : List ℕ → Client → Client → Type 0
-  Lists ids old new = Made (calls.Plain (plain_calls.ListIds Unbounded Unbounded)) (answers.Plain (plain_answers.Ids ids)) old new
-
-  -- A version was loaded, it was the base, and an update of its view by this payload gave a version of this id.
-  pub record PutsOn (base : ℕ) (holder : Option ℕ) (payload : List ℕ) (id : ℕ) (old new : Client) : Type 0 where
-    pub newest : Version
-    pub between : Client
-    pub loaded : Gives view_calls.Load newest old between
-    pub call : ViewCall Entry
-    pub put : IsPutOn newest base holder payload call
-    pub version : Version
-    pub given : Gives call version between new
-    pub id_is : id ≡ version.id
-
-  -- A version was loaded, and a claim on its view was held, with this version.
-  pub record Holds (asked : Option ℕ) (version : Version) (old new : Client) : Type 0 where
-    pub newest : Version
-    pub between : Client
-    pub loaded : Gives view_calls.Load newest old between
-    pub held : Answered (calls.View (claim_of newest.view asked)) (λ answer. IsHeld answer version) between new
-
-  -- What is printed: `said` is what the writer has before, and `said'` after it.
+module _ {F P : Type 0} (made : P → Call Entry → Answer Entry → P → Type 0) (stopped : P → Call Entry → Stop → P → Type 0) (tells : P → Option F → Type 0) where
+  -- the newest version was loaded
+  abbrev pub Loads : Object → P → P → Type 0
+  Loads object old new = Begins made stopped tells view_calls.Load old (Ok object) new
 
   -- the id of the first version, in epoch 0
-  pub record PrintsFirst (payload : List ℕ) (old new : Client) (said said' : Option (List ℕ)) : Type 0 where
-    pub version : Version
-    pub given : Gives (view_calls.Init (record { epoch = 0; payload = payload })) version old new
-    pub line : Appends said said' (with_feed (decimal version.id))
+  pub record PrintsFirst (payload : List ℕ) (old new : P) (said said' : Option (List ℕ)) : Type 0 where
+    pub first : Object
+    pub begun : Begins made stopped tells (view_calls.Init (record { epoch = 0; payload = payload })) old (Ok first) new
+    pub line : Appends said said' (with_feed (decimal first.id))
 
   -- the id and the epoch of the newest version
-  pub record PrintsNewest (old new : Client) (said said' : Option (List ℕ)) : Type 0 where
-    pub version : Version
-    pub given : Gives view_calls.Load version old new
-    pub line : Appends said said' (with_feed (version_words version))
+  pub record PrintsNewest (old new : P) (said said' : Option (List ℕ)) : Type 0 where
+    pub newest : Object
+    pub loaded : Loads newest old new
+    pub line : Appends said said' (with_feed (version_words (record { id = newest.id; epoch = newest.object.epoch })))
 
   -- its bytes
-  pub record PrintsValue (old new : Client) (said said' : Option (List ℕ)) : Type 0 where
-    pub viewed : Viewed Entry
-    pub loaded : Loads viewed old new
-    pub bytes : Appends said said' viewed.value.payload
+  pub record PrintsValue (old new : P) (said said' : Option (List ℕ)) : Type 0 where
+    pub newest : Object
+    pub loaded : Loads newest old new
+    pub bytes : Appends said said' newest.object.payload
 
-  -- the id of a version on this base
-  pub record PrintsPut (base : ℕ) (holder : Option ℕ) (payload : List ℕ) (old new : Client) (said said' : Option (List ℕ)) : Type 0 where
-    pub id : ℕ
-    pub put : PutsOn base holder payload id old new
-    pub line : Appends said said' (with_feed (decimal id))
+  -- The id of a version on this base: the newest version was loaded, it was the base, and one update of its view, by this payload in its epoch, gave a version of this id. A holder's is of its own epoch.
+  pub record PrintsPut (base : ℕ) (holder : Option ℕ) (payload : List ℕ) (old new : P) (said said' : Option (List ℕ)) : Type 0 where
+    pub newest : Object
+    pub between : P
+    pub loaded : Loads newest old between
+    pub at : newest.id ≡ base
+    pub entry : Entry
+    pub follows : FollowsEpoch holder newest.object.epoch payload entry
+    pub written : Viewed Entry
+    pub put : ViewEnds made stopped tells (view_calls.Update newest.view entry) between (Ok written) new
+    pub line : Appends said said' (with_feed (decimal written.id))
 
-  -- the id and the epoch of a claimed version
-  pub record PrintsClaim (asked : Option ℕ) (old new : Client) (said said' : Option (List ℕ)) : Type 0 where
-    pub version : Version
-    pub held : Holds asked version old new
-    pub line : Appends said said' (with_feed (version_words version))
+  -- The id of a version on the newest: that was loaded, and after fewer rounds than an update is tried an update by what a put asks for, of the object as it was then, was written. Each round was such an update that was a conflict, and a refresh.
+  pub record PrintsPutOnNewest (most : P → ℕ) (holder : Option ℕ) (payload : List ℕ) (old new : P) (said said' : Option (List ℕ)) : Type 0 where
+    pub newest : Object
+    pub between : P
+    pub loaded : Loads newest old between
+    pub object : Object
+    pub written : AfterRounds (Round (AsksNext holder payload) (Refreshes made stopped tells (refresh_of false)) (Updates (λ _ _ _. Unit {0}) (λ _ _ _ _. ⊥) made stopped tells (update_of false))) (most between) (record { object = newest; protocol = between }) (λ last. Tries (AsksNext holder payload) (Refreshes made stopped tells (refresh_of false)) (Updates (λ _ _ _. Unit {0}) (λ _ _ _ _. ⊥) made stopped tells (update_of false)) last (Ok tt) (record { object = object; protocol = new }))
+    pub line : Appends said said' (with_feed (decimal object.id))
 
-  -- the ids of the stored versions, a line each
-  pub record PrintsIds (old new : Client) (said said' : Option (List ℕ)) : Type 0 where
+  -- The id and the epoch of a claimed version: the newest version was loaded, and a claim of its view, which is tried as often as a claim is and may take any time, was held.
+  pub record PrintsClaim (most : P → ℕ) (asked : Option ℕ) (old : P) (readings : List ℕ) (new : P) (readings' : List ℕ) (said said' : Option (List ℕ)) : Type 0 where
+    pub newest : Object
+    pub between : P
+    pub loaded : Loads newest old between
+    pub holder : FenceableTransactionalObject Entry NoInvariant
+    pub claimed : ClaimEnds made stopped tells asked 18446744073709551615 (most between) newest between readings (Ok holder) new readings'
+    pub line : Appends said said' (with_feed (version_words (record { id = holder.delegate.id; epoch = holder.local_epoch })))
+
+  -- the ids of the stored versions
+  abbrev pub Lists : List ℕ → P → P → Type 0
+  Lists ids old new = Ends made stopped tells ids_in (calls.Plain (plain_calls.ListIds Unbounded Unbounded)) old (Ok ids) new
+
+  -- a line each
+  pub record PrintsIds (old new : P) (said said' : Option (List ℕ)) : Type 0 where
     pub ids : List ℕ
     pub listed : Lists ids old new
     pub lines : Appends said said' (lines_of decimal ids)
+
+  -- a stored version, if it still stands, and else nothing
+  abbrev pub PrintsLine : ℕ → Option Entry → Option (List ℕ) → Option (List ℕ) → Type 0
+  PrintsLine id None said said' = said' ≡ said
+  PrintsLine id (Some entry) said said' = Appends said said' (with_feed (stored_text entry_text id entry))
+
+  -- the version of an id, as it was read
+  pub record PrintsStored (id : ℕ) (old new : P) (said said' : Option (List ℕ)) : Type 0 where
+    pub value : Option Entry
+    pub read : Ends made stopped tells value_in (calls.Plain (plain_calls.ReadUnchecked id)) old (Ok value) new
+    pub line : PrintsLine id value said said'
+
+  -- each of these versions, the first first
+  abbrev pub PrintsEach : List ℕ → P → P → Option (List ℕ) → Option (List ℕ) → Type 0
+  PrintsEach [] old new said said' = (new ≡ old) × (said' ≡ said)
+  PrintsEach (id ∷ ids) old new said said' = (between : P) × (saying : Option (List ℕ)) × PrintsStored id old between said saying × PrintsEach ids between new saying said'
+
+  -- the stored versions
+  pub record PrintsHistory (old new : P) (said said' : Option (List ℕ)) : Type 0 where
+    pub ids : List ℕ
+    pub between : P
+    pub listed : Lists ids old between
+    pub lines : PrintsEach ids between new said said'
+
+  -- how many versions were found below the newest
+  pub record PrintsCollected (old new : P) (said said' : Option (List ℕ)) : Type 0 where
+    pub found : ℕ
+    pub collected : Collects made stopped tells 18446744073709551615 old (Ok found) new
+    pub line : Appends said said' (with_feed (decimal found))
+
+  -- the newest version was read, and it is above this id, or it is not, or there is none
+  abbrev pub IsAbove : ℕ → (ℕ × Entry) → P → P → Type 0
+  IsAbove after found old new = ReadEnds made stopped tells old (Ok (Some found)) new × (after < found.0)
+
+  abbrev pub IsNotAbove : ℕ → P → P → Type 0
+  IsNotAbove after old new = (found : Option (ℕ × Entry)) × ReadEnds made stopped tells old (Ok found) new × IfSome found (λ version. version.0 ≤ after)
+
+  -- the id and the epoch of the newest version, if it is above this id, and else nothing
+  abbrev pub PrintsSeen : ℕ → Bool → P → P → Option (List ℕ) → Option (List ℕ) → Type 0
+  PrintsSeen after true old new said said' = (found : ℕ × Entry) × IsAbove after found old new × Appends said said' (with_feed (version_words (record { id = found.0; epoch = found.1.epoch })))
+  PrintsSeen after false old new said said' = IsNotAbove after old new × (said' ≡ said)
+
+  -- the same, after some looks that found none
+  abbrev pub PrintsWatched : ℕ → Bool → P → P → Option (List ℕ) → Option (List ℕ) → Type 0
+  PrintsWatched after true old new said said' = (looks : ℕ) × (last : P) × Rounds (IsNotAbove after) looks old last × PrintsSeen after true last new said said'
+  PrintsWatched after false old new said said' = (looks : ℕ) × Rounds (IsNotAbove after) looks old new × (said' ≡ said)

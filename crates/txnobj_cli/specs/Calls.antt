@@ -1,18 +1,24 @@
--- What a command asks for of the version that it read, and how a version is printed.
-use Rattle.std.specs.Prelude.{◌≡◌, ℕ, List, ◌∷◌, ◌++◌, Option}
+-- What a put asks for of the version that it is written on, and how a version is printed.
+use Rattle.std.specs.Prelude.{◌≡◌, ◌≢◌, ℕ, List, ◌∷◌, ◌++◌, Option, Some, None, Result, Ok, Err}
 use Rattle.std.specs.Fmt.{decimal}
 use Rattle.txn_entries.specs.declared.entry.Entry.{Entry}
-use Rattle.txn_entries.specs.Holder.{FollowsEpoch}
-use Rattle.txn_history.specs.declared.event.ViewCall.{ViewCall}
-use Rattle.txn_history.specs.declared.event.ViewCall.TheVariants.{Update}
-use Rattle.txnobj_cli.specs.declared.session.Version.{Version}
+use Rattle.txn_entries.specs.Holder.{may_write, FollowsEpoch}
+use Rattle.txn_types.specs.declared.callback.CallbackFault.{CallbackFault}
+use Rattle.txn_types.specs.declared.callback.CallbackFault.TheVariants.{NoMemory}
+use Rattle.txn_types.specs.declared.dirty.DirtyObject.{DirtyObject}
+use Rattle.txn_types.specs.declared.invariant.NoInvariant.{NoInvariant}
+use Rattle.txnobj.specs.declared.simple.SimpleTransactionalObject.{SimpleTransactionalObject}
+use Rattle.txnobj_cli.specs.declared.printed.Version.{Version}
 
--- A put on a base asks for an update of the view that stands at it, in the epoch of its version; a holder's is of its own epoch.
-pub record IsPutOn (newest : Version) (base : ℕ) (holder : Option ℕ) (payload : List ℕ) (call : ViewCall Entry) : Type 0 where
-  pub at : newest.id ≡ base
-  pub entry : Entry
-  pub follows : FollowsEpoch holder newest.epoch payload entry
-  pub call_is : call ≡ Update newest.view entry
+-- a version in a view
+abbrev pub Object : Type 0
+Object = SimpleTransactionalObject Entry NoInvariant
+
+-- What a put on the newest version asks for: a candidate of the object's version, in its epoch; a holder's is of its own epoch, and where that is another, nothing is asked for.
+abbrev pub AsksNext : Option ℕ → List ℕ → Object → Result (Option (DirtyObject Entry ℕ)) CallbackFault → Type 0
+AsksNext holder payload object (Ok (Some dirty)) = (dirty.id ≡ object.id) × FollowsEpoch holder object.object.epoch payload dirty.value
+AsksNext holder payload object (Ok None) = may_write holder object.object.epoch ≢ Ok tt
+AsksNext holder payload object (Err fault) = fault ≡ NoMemory
 
 -- the id, a space and the epoch
 abbrev pub version_words : Version → List ℕ

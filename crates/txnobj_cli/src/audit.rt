@@ -3,7 +3,7 @@ ghost use Rattle.std.specs.Prelude.{◌≡◌, IfOk, length};
 ghost use Rattle.txn_audit.specs.HistoryEnds.{HistoriesEndAt};
 ghost use Rattle.txn_entries.specs.declared.entry.Entry.{Entry};
 
-use crate::ending::{Halt, NOT_ONE_HISTORY, bytes_in};
+use crate::ending::{Halt, NOT_ONE_HISTORY};
 use std::alloc::{AllocError, Global};
 use std::fmt;
 use txn_audit::ending::{HistoryEnd, end_of_history};
@@ -19,6 +19,7 @@ use txn_recordings::texts::{text_in, whole_lines};
 use txn_replayed::audit::{OneHistory, audit_recordings};
 use txn_replayed::fates::undecided;
 use txn_replayed::refusal::Refusal;
+use txnobj_folder::error::bytes_in;
 use txnobj_said::audited::{Ended, Undecided};
 use txnobj_said::lines::print_line;
 

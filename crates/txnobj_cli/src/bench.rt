@@ -1,8 +1,8 @@
 //! What calls of the store in a folder take: one is added to a number again and again, or its versions are listed, by the
 //! store's calls alone.
 
-use crate::ending::{Halt, store_failed};
-use crate::session::store_of;
+use crate::ending::Halt;
+use crate::opened::store_of;
 use bytes::Bytes;
 use std::alloc::{AllocError, Global};
 use std::rt::Clock;
@@ -243,7 +243,7 @@ impl Calls<'_> {
             (Stopped::NotItsOwn, _) => Halt::Words(
                 "bench wants an object of its own: a version of this one says no number in epoch 0, or its boundary was raised",
             ),
-            (Stopped::Failed, Some(fault)) => store_failed(self.alloc, fault),
+            (Stopped::Failed, Some(fault)) => Halt::Store(*fault),
             (Stopped::Failed, None) => Halt::NoMemory,
         }
     }

@@ -1,12 +1,12 @@
 //! How the program ends: why it goes no further, the words for that, and the status.
 
-use std::alloc::{AllocError, AllocFailed, Global};
-use std::io::Read;
-use std::{fmt, fs, io};
+use std::alloc::{AllocError, AllocFailed};
+use std::{fmt, io};
 use txn_client::stop::Stop;
 use txn_files::fault::Fault;
 use txn_history::event::EventFault;
-use txn_store::path::PathFault;
+use txnobj::error::Error;
+use txnobj_folder::error::OpenError;
 
 /// The status of a fault of the system.
 pub const FAULT: u8 = 1;
@@ -27,14 +27,14 @@ pub enum Halt {
     NoMemory,
     /// The system's error.
     Io(io::Error),
-    /// The system's error at a file, and that file.
-    File(String),
+    /// The object, or a file, was not opened.
+    Open(OpenError),
     /// A row of the recording could not be written.
     Unrecorded(io::Error),
-    /// A store call failed: the step, and the system's error.
-    Store(String),
-    /// An object's name or a suffix that no file can have.
-    BadName,
+    /// A store call failed.
+    Store(Fault),
+    /// The same, of a call that a client made for a command, which may have been a write.
+    Call(Fault),
     /// Words that do not go together.
     Words(&'static str),
     /// A call was refused with this number.
@@ -45,13 +45,22 @@ pub enum Halt {
     NoEnd,
 }
 
+/// The status of what was not opened.
+fn status_of(error: &OpenError) -> u8 {
+    match error {
+        OpenError::NoMemory | OpenError::File(_, _) | OpenError::System(_) => FAULT,
+        _ => USAGE,
+    }
+}
+
 impl Halt {
     /// The status that the program ends with.
     pub fn status(&self) -> u8 {
         match self {
-            Halt::NoMemory | Halt::Io(_) | Halt::File(_) | Halt::Unrecorded(_) | Halt::Store(_) =>
+            Halt::NoMemory | Halt::Io(_) | Halt::Unrecorded(_) | Halt::Store(_) | Halt::Call(_) =>
                 FAULT,
-            Halt::BadName | Halt::Words(_) => USAGE,
+            Halt::Open(error) => status_of(error),
+            Halt::Words(_) => USAGE,
             Halt::Refused(number) => number.saturating_add(REFUSED),
             Halt::NotPermitted(fault) => fault.number().saturating_add(NOT_PERMITTED),
             Halt::NoEnd => REFUSED + 11,
@@ -98,15 +107,14 @@ impl Halt {
     fn words(&self) -> &str {
         match self {
             Halt::NoMemory => "no memory",
-            Halt::File(words) | Halt::Store(words) => words.as_str(),
-            Halt::BadName =>
-                "a name or a suffix has letters, digits, `-`, `_` and `.` alone, and one at least; a suffix has no `.`, and a name is not `.` or `..`",
+            Halt::Open(OpenError::EmptyRoot) => "--root is empty",
+            Halt::Open(OpenError::RootIsNoFolder) => "--root is no folder",
             Halt::Words(words) => words,
             Halt::Refused(number) => meaning(*number),
             Halt::NotPermitted(fault) => reason(*fault),
             Halt::NoEnd =>
                 "no answer in sight: others write all the time (try again), or the boundary stands at or above the newest version, as where files of several times were put together",
-            Halt::Io(_) | Halt::Unrecorded(_) => "",
+            _ => "",
         }
     }
 }
@@ -115,51 +123,18 @@ impl fmt::Display for Halt {
     fn fmt<W: fmt::Write>(&self, f: &mut fmt::Formatter<W>) -> fmt::Result {
         match self {
             Halt::Io(error) => write!(f, "{error}"),
+            Halt::Open(OpenError::EmptyRoot | OpenError::RootIsNoFolder) => f.write_str(
+                self.words(),
+            ),
+            Halt::Open(error) => write!(f, "{error}"),
             Halt::Unrecorded(error) => write!(
                 f,
                 "writing the recording: {error}; what was asked for may have taken effect: read again"
             ),
+            Halt::Store(fault) => write!(f, "{fault}"),
+            Halt::Call(fault) => write!(f, "{fault}; a write may have taken effect: read again"),
             halt => f.write_str(halt.words()),
         }
-    }
-}
-
-/// The system's error at a file.
-pub fn at_file(alloc: Global, path: &str, error: &io::Error) -> Halt {
-    match format!(in alloc; "{path}: {error}") {
-        Ok(words) => Halt::File(words),
-        Err(_) => Halt::NoMemory,
-    }
-}
-
-/// That a store call failed, in these words.
-fn at_store(words: Result<String, AllocError>) -> Halt {
-    match words {
-        Ok(words) => Halt::Store(words),
-        Err(_) => Halt::NoMemory,
-    }
-}
-
-/// The fault of a store call that failed.
-pub fn store_failed(alloc: Global, fault: &Fault) -> Halt {
-    at_store(format!(in alloc; "{fault}"))
-}
-
-/// The same of a call that a client made for a command, which may have been a write.
-pub fn call_failed(alloc: Global, fault: &Fault) -> Halt {
-    at_store(format!(in alloc; "{fault}; a write may have taken effect: read again"))
-}
-
-/// What a file holds.
-pub fn bytes_in(rt: &HostRuntime, path: &str) -> Result<Vec<u8>, Halt> {
-    let mut bytes = Vec::new(rt.alloc());
-    let mut file = match fs::open(rt, path) {
-        Ok(file) => file,
-        Err(error) => return Err(at_file(rt.alloc(), path, &error)),
-    };
-    match file.read_to_end(&mut bytes) {
-        Ok(_) => Ok(bytes),
-        Err(error) => Err(at_file(rt.alloc(), path, &error)),
     }
 }
 
@@ -181,11 +156,28 @@ impl From<io::Error> for Halt {
     }
 }
 
-impl From<PathFault> for Halt {
-    fn from(fault: PathFault) -> Halt {
-        match fault {
-            PathFault::NoMemory => Halt::NoMemory,
-            PathFault::BadSegment => Halt::BadName,
+impl From<OpenError> for Halt {
+    fn from(error: OpenError) -> Halt {
+        Halt::Open(error)
+    }
+}
+
+/// A refusal, by the number of its kind.
+fn refused(error: Error<Fault>) -> Halt {
+    let number = error.number();
+    drop(error);
+    Halt::Refused(number)
+}
+
+impl From<Error<Fault>> for Halt {
+    fn from(error: Error<Fault>) -> Halt {
+        match error {
+            Error::ObjectStoreError(Some(fault)) => Halt::Call(fault),
+            Error::NotPermitted(fault) => Halt::NotPermitted(fault),
+            Error::Unrecorded(error) => Halt::Unrecorded(error),
+            Error::TurnsExhausted => Halt::NoEnd,
+            Error::Ended => Halt::NoMemory,
+            other => refused(other),
         }
     }
 }

@@ -4,11 +4,11 @@
 mod audit;
 mod bench;
 mod ending;
+mod opened;
 mod printed;
-mod recording;
 mod run;
-mod session;
 mod values;
+mod watch;
 
 use crate::ending::{FAULT, Halt};
 use crate::run::run;

@@ -1,8 +1,9 @@
 //! Values, from where an argument says.
 
-use crate::ending::{Halt, bytes_in};
+use crate::ending::Halt;
 use bytes::Bytes;
 use std::io::Read;
+use txnobj_folder::error::bytes_in;
 use txnobj_words::options::Source;
 
 /// All bytes of the standard input.

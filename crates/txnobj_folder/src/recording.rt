@@ -1,14 +1,14 @@
 //! A recording that grows by whole rows, each by one write, as things happen.
 
-use crate::ending::{Halt, at_file, bytes_in};
+use crate::error::{OpenError, at_file, bytes_in};
 use std::fs::{File, OpenFile, OpenOptions, TryLockError};
 use std::io::{Read, Seek, SeekFrom, Write};
 use std::rt::Clock;
 use std::{fs, io};
 use txn_client::recorder::Recorder;
-use txn_entries::entry::Entry;
 use txn_files::written::{nanos_of, number_now};
 use txn_history::event::{Answer, Call};
+use txn_lines::text_form::LineValue;
 use txn_recorded::source::Source;
 use txn_recordings::rows::{
     add_answered, add_asked, add_begun, add_failed, add_first_rows, add_gave_up, add_replied,
@@ -44,40 +44,40 @@ fn is_whole(rt: &HostRuntime, path: &str) -> io::Result<bool> {
 }
 
 /// Takes off what follows the last whole row of a recording.
-fn cut_off(rt: &HostRuntime, path: &str, file: &File) -> Result<(), Halt> {
+fn cut_off(rt: &HostRuntime, path: &str, file: &File) -> Result<(), OpenError> {
     let bytes = bytes_in(rt, path)?;
     match file.set_len(whole_lines(bytes.as_slice()) as u64) {
         Ok(()) => Ok(()),
-        Err(error) => Err(at_file(rt.alloc(), path, &error)),
+        Err(error) => Err(at_file(rt.alloc(), path, error)),
     }
 }
 
 /// Locks a recording, of which this process alone writes, and takes off a row that was cut off as a client was killed.
-fn begin_on(rt: &HostRuntime, path: &str, file: &File) -> Result<(), Halt> {
+fn begin_on(rt: &HostRuntime, path: &str, file: &File) -> Result<(), OpenError> {
     match file.try_lock() {
         Ok(()) => {}
         Err(TryLockError::WouldBlock) => {
-            return Err(Halt::Words("another process writes this recording: give each its own"));
+            return Err(OpenError::RecordingInUse);
         }
-        Err(TryLockError::Error(error)) => return Err(at_file(rt.alloc(), path, &error)),
+        Err(TryLockError::Error(error)) => return Err(at_file(rt.alloc(), path, error)),
     }
     match is_whole(rt, path) {
         Ok(true) => Ok(()),
         Ok(false) => cut_off(rt, path, file),
-        Err(error) => Err(at_file(rt.alloc(), path, &error)),
+        Err(error) => Err(at_file(rt.alloc(), path, error)),
     }
 }
 
 /// Opens a recording, of which this process alone writes, and takes off a row that was cut off as a client was killed.
-fn opened(rt: &HostRuntime, path: &str) -> Result<File, Halt> {
+fn opened(rt: &HostRuntime, path: &str) -> Result<File, OpenError> {
     let mut options = OpenOptions::new();
     let file = match options.append(true).create(true).open(rt, path) {
         Ok(file) => file,
-        Err(error) => return Err(at_file(rt.alloc(), path, &error)),
+        Err(error) => return Err(at_file(rt.alloc(), path, error)),
     };
     match begin_on(rt, path, &file) {
         Ok(()) => Ok(file),
-        Err(halt) => Err(halt),
+        Err(error) => Err(error),
     }
 }
 
@@ -89,7 +89,7 @@ fn machine_clock(rt: &HostRuntime) -> Option<String> {
 }
 
 /// The name of the clock of a machine since it was started. Where the machine does not say, it is one of this client's own.
-fn clock_name(rt: &HostRuntime, client: u64) -> Result<String, Halt> {
+fn clock_name(rt: &HostRuntime, client: u64) -> Result<String, OpenError> {
     match machine_clock(rt) {
         Some(name) => Ok(name),
         None => {
@@ -107,7 +107,7 @@ impl Recording<File> {
         object: &str,
         client: u64,
         page: u64,
-    ) -> Result<Recording<File>, Halt> {
+    ) -> Result<Recording<File>, OpenError> {
         let out = match path {
             Some(path) => Some(opened(&rt, path)?),
             None => None,
@@ -120,7 +120,7 @@ impl Recording<File> {
     }
 
     /// Adds the rows that stand before all others, by one write.
-    fn begin(&mut self, object: &str, client: u64, page: u64) -> Result<(), Halt> {
+    fn begin(&mut self, object: &str, client: u64, page: u64) -> Result<(), OpenError> {
         let since = number_now(&self.rt)?;
         let source = Source {
             object: String::from_str(self.rt.alloc(), object)?,
@@ -142,13 +142,12 @@ fn now(rt: &HostRuntime) -> io::Result<u64> {
 }
 
 /// What it is handed is a row more of what its writer has, each with its line feed; nothing where it has none.
-impl<W: Write + Drop> Recorder<Entry> for Recording<W> {
-    ghost use Rattle.txn_entries.specs.Text.{entry_text};
-    ghost use Rattle.txnobj_cli.specs.Recorded.{Records};
+impl<T: LineValue, W: Write + Drop> Recorder<T> for Recording<W> {
+    ghost use Rattle.txnobj_folder.specs.Recorded.{Records};
 
-    ghost hands = { λ old note new. Records entry_text W.contents old.out note new.out };
+    ghost hands = { λ old note new. Records T.text W.contents old.out note new.out };
 
-    fn begun(&mut self, op: u64, call: &Call<Entry>) -> io::Result<()> {
+    fn begun(&mut self, op: u64, call: &Call<T>) -> io::Result<()> {
         let alloc = self.rt.alloc();
         match &mut self.out {
             None => Ok(()),
@@ -188,7 +187,7 @@ impl<W: Write + Drop> Recorder<Entry> for Recording<W> {
         }
     }
 
-    fn answered(&mut self, op: u64, answer: &Answer<Entry>) -> io::Result<()> {
+    fn answered(&mut self, op: u64, answer: &Answer<T>) -> io::Result<()> {
         let alloc = self.rt.alloc();
         match &mut self.out {
             None => Ok(()),

@@ -1,0 +1,55 @@
+//! The object that the options name, as a client of it or as its store.
+
+use crate::ending::Halt;
+use txn_entries::entry::{EntryCodec, EntryEpoch};
+use txn_folder::store::FolderStore;
+use txnobj_folder::opening::{self, EntryClient, Opening, test_root};
+use txnobj_words::options::Options;
+
+/// The folder that the options name.
+fn named_root<'a>(options: &Options<'a>) -> Result<&'a str, Halt> {
+    match options.root {
+        None => Err(Halt::Words("this wants --root DIR before the command")),
+        Some(root) => Ok(root),
+    }
+}
+
+/// The same, where it is there.
+pub fn root_of<'a>(rt: &HostRuntime, options: &Options<'a>) -> Result<&'a str, Halt> {
+    let root = named_root(options)?;
+    test_root(rt, root)?;
+    Ok(root)
+}
+
+/// The object's name that the options give.
+fn name_of<'a>(options: &Options<'a>) -> Result<&'a str, Halt> {
+    match options.name {
+        None => Err(Halt::Words("this wants --name NAME before the command")),
+        Some(name) => Ok(name),
+    }
+}
+
+/// How the options have it opened.
+fn opening_of<'a>(options: &Options<'a>) -> Opening<'a> {
+    Opening {
+        suffix: options.suffix,
+        syncs: options.syncs,
+        number: options.client,
+        recording: options.diary,
+    }
+}
+
+/// The store of the object that the options name.
+pub fn store_of(rt: &HostRuntime, options: &Options<'_>) -> Result<FolderStore<HostRuntime>, Halt> {
+    let root = root_of(rt, options)?;
+    let name = name_of(options)?;
+    Ok(opening::open_store(rt, root, name, &opening_of(options))?)
+}
+
+/// A client of the object that the options name.
+pub fn open(rt: &HostRuntime, options: &Options<'_>) -> Result<EntryClient, Halt> {
+    let root = root_of(rt, options)?;
+    let name = name_of(options)?;
+    let opening = opening_of(options);
+    Ok(opening::open(rt, root, name, &opening, EntryCodec, EntryEpoch)?)
+}
