@@ -27,8 +27,9 @@ BUILDS = ("", ".by-rattle")
 # of its folders. What any other prints, `rt ci` holds against its own stdout.
 PROGRAM_OF_CASES = "txnworld_cli"
 CASES = {PROGRAM_OF_CASES: ("cases", []), "txnport_cli": ("cases of the port", ["--folder", PORT])}
-# The program of which processes are let work on one folder.
+# The program of which processes are let work on one folder, and the examples of the library, which work there too.
 PROGRAM_OF_FOLDERS = "txnobj_cli"
+EXAMPLES = ("example_leader", "example_counter")
 # For how many seconds processes of a program are killed that passed this on this machine before.
 SECONDS_AGAIN = 10
 # How the name of a crate of tests begins.
@@ -218,12 +219,12 @@ def refusal_steps(root, programs):
         yield step("refused growths", [f"{root}/tools/refuse-growths", *builds], root, count_of_refusals)
 
 
-def mark_of_folders(root, build):
-    """The file that says that this build passed on a folder on this machine, as tools/try-folder now is; "" where nothing is
+def mark_of_folders(root, builds):
+    """The file that says that these builds passed on a folder on this machine, as tools/try-folder now is; "" where nothing is
     kept."""
     folder, tools = cache_folder(os.environ), f"{root}/tools"
     tool = [f"{tools}/{it}" for it in ("try-folder", "refuse_growths.py", "watch.c")] + sorted(glob.glob(f"{tools}/try_folder*.py"))
-    return folder and f"{folder}/processes/{sum_of(*map(sum_of_file, [build, *tool]))[:40]}"
+    return folder and f"{folder}/processes/{sum_of(*map(sum_of_file, [*builds, *tool]))[:40]}"
 
 
 def keep_mark(mark, is_passed):
@@ -239,16 +240,18 @@ def keep_mark(mark, is_passed):
 
 
 def folder_steps(root, programs, anew=False):
-    """Lets processes of the program work on one folder at once, where LLVM's build of it was made, and for less long where
-    just this build did so before."""
+    """Lets processes of the program, and of the examples, work on one folder at once, where LLVM's build of it was made, and for
+    less long where just these builds did so before."""
     build = builds_of(root, PROGRAM_OF_FOLDERS)[0]
     if PROGRAM_OF_FOLDERS in programs and os.path.isfile(build):
-        mark = mark_of_folders(root, build)
+        examples = [builds_of(root, it)[0] for it in EXAMPLES if it in programs]
+        with_examples = ["--examples", *examples] * (len(examples) == len(EXAMPLES) and all(map(os.path.isfile, examples)))
+        mark = mark_of_folders(root, [build, *with_examples[1:]])
         again = not anew and os.path.isfile(mark)
         if again:
             say(f"this build passed on this machine before: processes are killed for {SECONDS_AGAIN} seconds")
         how_long = ["--seconds", f"{SECONDS_AGAIN}"] * again
-        done = step("processes on a folder", [f"{root}/tools/try-folder", build, *how_long], root)
+        done = step("processes on a folder", [f"{root}/tools/try-folder", build, *how_long, *with_examples], root)
         if mark:
             keep_mark(mark, not done.failed)
         yield done
@@ -309,7 +312,7 @@ def steps_of(root, top, given):
     with_edits = [it for it in given.crates if os.path.isdir(f"{top}/crates/{it}/wrong-bodies")]
     if not edited and (with_edits or not given.crates):
         yield step("wrong bodies", [f"{top}/tools/wrong-bodies", *with_edits, "--after-ci", *every, *anew], top)
-    programs = programs_in(top) if given.crates else sorted({*programs_in(top), *CASES, PROGRAM_OF_FOLDERS})
+    programs = programs_in(top) if given.crates else sorted({*programs_in(top), *CASES, PROGRAM_OF_FOLDERS, *EXAMPLES})
     yield from case_steps(top, programs)
     yield from refusal_steps(top, programs)
     yield from folder_steps(top, programs, given.anew)

@@ -14,6 +14,8 @@ import time
 from refuse_growths import NoLibrary, make_library
 
 PROCESSES, COUNTS = 8, 100
+# How many updates a client makes whose memory is measured, and how many KiB more it may take than after the first of them.
+FIRST_UPDATES, ALL_UPDATES, MOST_GROWN = 10_000, 100_000, 256
 VIEW = re.compile(r"(?:view|holder) (\d+) at (\d+) (\d+):(\d+)")
 
 
@@ -71,9 +73,9 @@ class Object:
 class Shell:
     """A process that keeps a view: a `txnobj shell`."""
 
-    def __init__(self, an_object):
+    def __init__(self, an_object, recorded=True):
         pipe = {"stdin": subprocess.PIPE, "stdout": subprocess.PIPE, "stderr": subprocess.DEVNULL, "text": True}
-        self.process = subprocess.Popen(an_object.words("shell"), **pipe)
+        self.process = subprocess.Popen(an_object.words("shell", recorded=recorded), **pipe)
 
     def ask(self, call):
         """The answer to a call, or nothing where the process was killed."""
@@ -486,16 +488,55 @@ def orders(program, root, _seconds):
     return ["what a put, an advance and a delete change is asked for in its order, with syncs and without"]
 
 
-CHECKS = counts, orders, kills, claims, collections, odd_files, benches, strangers, unfit_words, tampering, recordings
+def own_memory(process):
+    """The memory that a process has asked for, in KiB, whether the system has it in its own memory now or not."""
+    with open(f"/proc/{process.pid}/status", encoding="ascii") as said:
+        return int(re.search(r"VmData:\s*(\d+) kB", said.read())[1])
 
 
-def main(words, usage, checks):
+def goes_on(shell, times):
+    """Updates a view so many times, in blocks of calls, and reads beside it."""
+    block = "update 1 0:7\nread\nrefresh 1\nupdate 1 0:8\n" * 50
+    for _ in range(times // 100):
+        shell.process.stdin.write(block)
+        shell.process.stdin.flush()
+        for _ in range(200):
+            said = shell.process.stdout.readline()
+            expect(said.startswith(("view ", "read ")), f"a call of many is answered {said}")
+
+
+def lasting(program, root, _seconds):
+    """What a client keeps does not grow with its updates, recorded or not, once it has all the ids that it keeps: only its heap is cut
+    up a little more."""
+    grown = []
+    for recorded in False, True:
+        it = Object(program, root, f"lasting-{recorded}".lower())
+        it.told("init", "0")
+        shell = Shell(it, recorded)
+        shell.ask("load")
+        goes_on(shell, FIRST_UPDATES)
+        first = own_memory(shell.process)
+        goes_on(shell, ALL_UPDATES - FIRST_UPDATES)
+        grown.append(own_memory(shell.process) - first)
+        expect(grown[-1] <= MOST_GROWN, f"{ALL_UPDATES} updates take {grown[-1]} KiB more than {FIRST_UPDATES}")
+        shell.end()
+    return [f"a client takes at most {MOST_GROWN} KiB more after {ALL_UPDATES} updates than after {FIRST_UPDATES}"]
+
+
+CHECKS = counts, orders, kills, claims, collections, odd_files, benches, strangers, unfit_words, lasting, tampering, recordings
+
+
+def main(words, usage, checks, checks_of_examples):
     form = argparse.RawDescriptionHelpFormatter
     parser = argparse.ArgumentParser(prog="tools/try-folder", description=usage, formatter_class=form)
     parser.add_argument("programs", nargs="+", metavar="PROGRAM")
     parser.add_argument("--seconds", type=float, default=60, metavar="N", help="how long processes are killed")
     parser.add_argument("--keep", action="store_true", help="leave the folders, and say where")
+    examples = {"nargs": 2, "metavar": ("LEADER", "COUNTER"), "help": "builds of the two examples"}
+    parser.add_argument("--examples", **examples)
     given = parser.parse_args(words)
+    if given.examples:
+        checks = [*checks, *checks_of_examples(*map(os.path.abspath, given.examples))]
     passed = failed = 0
     for program in given.programs:
         program = os.path.abspath(program)

@@ -161,6 +161,26 @@ class Steps(unittest.TestCase):
         os.remove(build)
         self.assertEqual(silently(lambda: list(folder_steps(self.room, ["txnobj_cli"]))), [])
 
+    def test_processes_of_examples(self):
+        self.file("tools/try-folder", "#!/bin/sh\nshift\necho \"$*\" > told\necho \"2 passed, 0 failed\"\n", 0o755)
+        for name in ("try_folder.py", "refuse_growths.py", "watch.c"):
+            self.file(f"tools/{name}", "checks")
+        programs = ["example_counter", "example_leader", "txnobj_cli"]
+        builds = [self.file(f"crates/{it}/out/{it}", "one") for it in programs]
+
+        def told():
+            with mock.patch.dict(os.environ, TENDRIFALO_CACHE=f"{self.room}/cache"):
+                silently(lambda: list(folder_steps(self.room, programs)))
+            with open(f"{self.room}/told", encoding="utf-8") as file:
+                return file.read()
+
+        given = f"--examples {builds[1]} {builds[0]}\n"
+        self.assertEqual([told(), told()], [given, f"--seconds 10 {given}"])
+        self.file("crates/example_counter/out/example_counter", "two")
+        self.assertEqual([told(), told()], [given, f"--seconds 10 {given}"])
+        os.remove(builds[0])
+        self.assertEqual(told(), "\n")
+
     def test_a_part(self):
         uses = {"base": [], "low": ["base"], "high": ["low"], "side": [], "tests_some": ["high", "low", "side"], "app": ["high"]}
         self.assertEqual(part_of(uses, ["base"]), {"base"})
@@ -208,8 +228,8 @@ class Steps(unittest.TestCase):
 
     def test_all_crates_where_they_are(self):
         status, said = self.run_command()
-        self.assertEqual((status, said.split("\n")[-2]), (1, "16 passed, 6 failed"))
-        for it in ("txnworld_cli", "txnport_cli", "txnobj_cli"):
+        self.assertEqual((status, said.split("\n")[-2]), (1, "16 passed, 10 failed"))
+        for it in ("txnworld_cli", "txnport_cli", "txnobj_cli", "example_leader", "example_counter"):
             self.assertIn(f"FAILED: rt ci built no {it} and no {it}.by-rattle", said)
         self.assertIn("edits of --after-ci\n", said)
         self.assertRegex(said, "swept \\S+/out/txnworld_cli \\S+/out/txnworld_cli.by-rattle\n")

@@ -7,7 +7,6 @@ use std::io::ErrorKind;
 use std::test::Fail;
 use txn_client::client::Client;
 use txn_client::recorder::Recorder;
-use txn_client::retry::{Applied, Viewed};
 use txn_client::serve::Serve;
 use txn_client::stop::Stop;
 use txn_history::event::{Answer, Call};
@@ -144,11 +143,6 @@ write - 0:1 = refused 5 ObjectVersionExists
 /// first two; the third finds the name taken.
 const LETTERS: &str = "b?s!?s!ab?s!?s!ab?s!a";
 
-/// The view stays at version 1, while version 2 is written.
-const OVERTAKEN: &str = "init 0:1 = view 1 at 1 0:1
-write 1 0:7 = wrote 2
-";
-
 /// What happens where a recorder fails after so many things: nothing more, and no further call is made. The store is called for
 /// what the recorder has alone.
 const FAILING: &str = "0 unrecorded false
@@ -209,45 +203,46 @@ fn all_failing(alloc: Global) -> Result<String, AllocError> {
     Ok(text)
 }
 
-/// One more than what a version says.
-fn next_of(value: &Record) -> Result<Option<Record>, AllocError> {
-    Ok(Some(Record {
-        epoch: value.epoch,
-        payload: value.payload.saturating_add(1),
-    }))
-}
+/// Ten versions, one after another.
+const VERSIONS: &str = "init 0:1
+update 1 0:2
+update 1 0:3
+update 1 0:4
+update 1 0:5
+update 1 0:6
+update 1 0:7
+update 1 0:8
+update 1 0:9
+update 1 0:10
+";
 
-/// What an update ends with that is made again after a conflict.
-fn updated(alloc: Global, client: &mut Recorded<'_>, view: u64) -> Result<String, AllocError> {
-    match client.maybe_apply_update(view, 3, STEPS, &next_of) {
-        Ok(Applied::Written(Viewed { view, id, value })) => {
-            format!(in alloc; "written: view {view} at {id} {value}")
-        }
-        Ok(_) => String::from_str(alloc, "not written"),
-        Err(stop) => format!(in alloc; "{stop}"),
-    }
-}
+/// A base that is older than what the client keeps is not known, and a view is not there that it let go.
+const FORGOTTEN: &str = "write 2 0:11 = the client does not permit the call: fault 3
+refresh 1 = view 1 at 10 0:10
+the client does not permit the call: fault 1";
 
-/// What a client is answered that was overtaken, and then its update, and one of a view that is not there.
-fn overtaken(alloc: Global) -> Result<String, AllocError> {
+/// What a client is answered that keeps the id of its last answer alone, and then lets its view go.
+fn forgetful(alloc: Global) -> Result<String, AllocError> {
     let letters = none(alloc);
     let mut client = client(alloc, &letters, u64::MAX)?;
-    let text = played(alloc, &mut client, OVERTAKEN)?;
-    let written = updated(alloc, &mut client, 1)?;
-    let refused = updated(alloc, &mut client, 2)?;
-    format!(in alloc; "{text}{written}\n{refused}")
+    client.keep_last(1);
+    drop(played(alloc, &mut client, VERSIONS)?);
+    let text = played(alloc, &mut client, "write 2 0:11\nrefresh 1")?;
+    client.end_view(1);
+    let gone = told(alloc, &mut client, "refresh 1")?;
+    format!(in alloc; "{text}{gone}")
 }
 
-/// An update is made again after a conflict, of what its view is at.
-const UPDATED: &str = "written: view 1 at 3 0:8
-the client does not permit the call: fault 1";
+#[test]
+fn client_forgets_what_it_does_not_need(rt: HostRuntime) -> Result<(), Fail> {
+    assert_eq!(rt; forgetful(rt.alloc())?.as_str(), FORGOTTEN);
+    Ok(())
+}
 
 #[test]
 fn calls_are_answered_and_recorded(rt: HostRuntime) -> Result<(), Fail> {
     let expected = format!(in rt.alloc(); "{CALLS}{LETTERS} true")?;
     assert_eq!(rt; recorded(rt.alloc(), CALLS)?.as_str(), expected.as_str());
-    let expected = format!(in rt.alloc(); "{OVERTAKEN}{UPDATED}")?;
-    assert_eq!(rt; overtaken(rt.alloc())?.as_str(), expected.as_str());
     Ok(())
 }
 
