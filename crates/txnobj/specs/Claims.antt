@@ -53,27 +53,29 @@ module _ {T F P : Type 0} (made : P → Call T → Answer T → P → Type 0) (s
       pub spent : Attempts old (Err error.TurnsExhausted) between new.readings
       pub loaded : LoadsView between (Ok new.view) new.protocol
 
+  module _ (lets_go : P → ℕ → P → Type 0) where
     -- How a claim ends after rounds alone.
-    pub data EndsSo (last : Claiming P) (result : Result (Held T) (Error F)) (new : P) (readings : List ℕ) : Type 0 where
-      -- the deadline was reached, and no call was made
-      TimedOut : Late start timeout last.readings readings → result ≡ Err (error.ObjectUpdateTimeout timeout) → new ≡ last.protocol → EndsSo last result new readings
+    pub data EndsSo (asked : Option ℕ) (start timeout : ℕ) (last : Claiming P) (result : Result (Held T) (Error F)) (new : P) (readings : List ℕ) : Type 0 where
+      -- the deadline was reached, no call was made, and the view was let go
+      TimedOut : Late start timeout last.readings readings → result ≡ Err (error.ObjectUpdateTimeout timeout) → lets_go last.protocol last.view new → EndsSo asked start timeout last result new readings
       -- the claim was held, or refused, or stopped
-      Answered : Attempts last result new readings → (result ≡ Err error.TurnsExhausted → ⊥) → EndsSo last result new readings
+      Answered : Attempts asked start timeout last result new readings → (result ≡ Err error.TurnsExhausted → ⊥) → EndsSo asked start timeout last result new readings
       -- it was not answered within its steps, and the load failed
-      NotLoaded : (between : P) (e : Error F) → Attempts last (Err error.TurnsExhausted) between readings → LoadsView between (Err e) new → result ≡ Err e → EndsSo last result new readings
+      NotLoaded : (between : P) (e : Error F) → Attempts asked start timeout last (Err error.TurnsExhausted) between readings → LoadsView between (Err e) new → result ≡ Err e → EndsSo asked start timeout last result new readings
 
-  -- What came of a claim of a view that is tried at most so many times: the clock was read at the start, and then it ended after fewer rounds than these, or each attempt was a round.
-  pub record Claims (asked : Option ℕ) (timeout attempts view : ℕ) (old : P) (readings : List ℕ) (result : Result (Held T) (Error F)) (new : P) (readings' : List ℕ) : Type 0 where
-    pub start : ℕ
-    pub ends : AfterRounds (Round asked start timeout) attempts (record { view = view; protocol = old; readings = readings ++ start ∷ [] }) (λ last. EndsSo asked start timeout last result new readings')
-        ⊎ ((last : ℕ) × Rounds (Round asked start timeout) attempts (record { view = view; protocol = old; readings = readings ++ start ∷ [] }) (record { view = last; protocol = new; readings = readings' }) × (result ≡ Err error.TurnsExhausted))
+    -- What came of a claim of a view that is tried at most so many times: the clock was read at the start, and then it ended after fewer rounds than these, or each attempt was a round, and the last view was let go.
+    pub record Claims (asked : Option ℕ) (timeout attempts view : ℕ) (old : P) (readings : List ℕ) (result : Result (Held T) (Error F)) (new : P) (readings' : List ℕ) : Type 0 where
+      pub start : ℕ
+      pub ends : AfterRounds (Round asked start timeout) attempts (record { view = view; protocol = old; readings = readings ++ start ∷ [] }) (λ last. EndsSo asked start timeout last result new readings')
+          ⊎ ((last : ℕ) × (before : P) × Rounds (Round asked start timeout) attempts (record { view = view; protocol = old; readings = readings ++ start ∷ [] }) (record { view = last; protocol = before; readings = readings' }) × lets_go before last new × (result ≡ Err error.TurnsExhausted))
 
-  module _ {I : Type 0} where
-    -- the holder of what a claim gave
-    abbrev pub holder_of : SimpleTransactionalObject T I → Held T → FenceableTransactionalObject T I
-    holder_of delegate held = record { delegate = record delegate { view = held.view; id = held.id; object = held.value }; local_epoch = held.epoch }
+module _ {T I : Type 0} where
+  -- the holder of what a claim gave
+  abbrev pub holder_of : SimpleTransactionalObject T I → Held T → FenceableTransactionalObject T I
+  holder_of delegate held = record { delegate = record delegate { view = held.view; id = held.id; object = held.value }; local_epoch = held.epoch }
 
-    -- a claim of an object's view gave a holder, or it failed
-    abbrev pub ClaimEnds : Option ℕ → (timeout attempts : ℕ) → SimpleTransactionalObject T I → P → List ℕ → Result (FenceableTransactionalObject T I) (Error F) → P → List ℕ → Type 0
-    ClaimEnds asked timeout attempts delegate old readings (Ok holder) new readings' = (held : Held T) × (holder ≡ holder_of delegate held) × Claims asked timeout attempts delegate.view old readings (Ok held) new readings'
-    ClaimEnds asked timeout attempts delegate old readings (Err e) new readings' = Claims asked timeout attempts delegate.view old readings (Err e) new readings'
+module _ {T F P I : Type 0} (made : P → Call T → Answer T → P → Type 0) (stopped : P → Call T → Stop → P → Type 0) (tells : P → Option F → Type 0) (lets_go : P → ℕ → P → Type 0) where
+  -- a claim of an object's view gave a holder, or it failed
+  abbrev pub ClaimEnds : Option ℕ → (timeout attempts : ℕ) → SimpleTransactionalObject T I → P → List ℕ → Result (FenceableTransactionalObject T I) (Error F) → P → List ℕ → Type 0
+  ClaimEnds asked timeout attempts delegate old readings (Ok holder) new readings' = (held : Held T) × (holder ≡ holder_of delegate held) × Claims made stopped tells lets_go asked timeout attempts delegate.view old readings (Ok held) new readings'
+  ClaimEnds asked timeout attempts delegate old readings (Err e) new readings' = Claims made stopped tells lets_go asked timeout attempts delegate.view old readings (Err e) new readings'

@@ -28,7 +28,8 @@ impl<T: Clone, I: Drop> FenceableTransactionalObject<T, I> {
     /// is at that. The invariants are not tested, since the epoch alone changes. The clock is read at the start and before each
     /// attempt: at the start plus the timeout (in milliseconds) or later it is `ObjectUpdateTimeout`. A claim that was not
     /// answered within its looks and store calls is tried again, on the newest version. Where the epoch or the id is the
-    /// greatest it is `IdExhausted`. After an error the delegate is gone; a version that was to be written may stand.
+    /// greatest it is `IdExhausted`. After an error the delegate is gone, and the client keeps no view of it; a version that was
+    /// to be written may stand.
     pub fn init<P: TransactionalStorageProtocol<T>, K: SystemClock>(
         delegate: SimpleTransactionalObject<T, I>,
         protocol: &mut P,
@@ -36,7 +37,7 @@ impl<T: Clone, I: Drop> FenceableTransactionalObject<T, I> {
         system_clock: &mut K,
     ) -> Result<FenceableTransactionalObject<T, I>, Error<P::Fault>>
         requires { IsExactClone T.is_clone }
-        ensures { ClaimEnds P.made P.stopped P.tells None object_update_timeout (P.most protocol.old) delegate protocol.old (K.readings system_clock.old) result protocol.new (K.readings system_clock.new) }
+        ensures { ClaimEnds P.made P.stopped P.tells P.lets_go None object_update_timeout (P.most protocol.old) delegate protocol.old (K.readings system_clock.old) result protocol.new (K.readings system_clock.new) }
     {
         let view = delegate.view;
         let held = claim(view, protocol, object_update_timeout, system_clock, None)?;
@@ -53,7 +54,7 @@ impl<T: Clone, I: Drop> FenceableTransactionalObject<T, I> {
         epoch: u64,
     ) -> Result<FenceableTransactionalObject<T, I>, Error<P::Fault>>
         requires { IsExactClone T.is_clone }
-        ensures { ClaimEnds P.made P.stopped P.tells (Some epoch) object_update_timeout (P.most protocol.old) delegate protocol.old (K.readings system_clock.old) result protocol.new (K.readings system_clock.new) }
+        ensures { ClaimEnds P.made P.stopped P.tells P.lets_go (Some epoch) object_update_timeout (P.most protocol.old) delegate protocol.old (K.readings system_clock.old) result protocol.new (K.readings system_clock.new) }
     {
         let view = delegate.view;
         let held = claim(
@@ -134,7 +135,8 @@ fn holder<T: Drop, I>(
     }
 }
 
-/// Claims a view, and where that is not answered within its looks and store calls the newest version in another.
+/// Claims a view, and where that is not answered within its looks and store calls the newest version in another. A claim ends
+/// the view that it is of, and one that is not made lets it go.
 fn claim<T: Clone, P: TransactionalStorageProtocol<T>, K: SystemClock>(
     view: u64,
     protocol: &mut P,
@@ -143,12 +145,13 @@ fn claim<T: Clone, P: TransactionalStorageProtocol<T>, K: SystemClock>(
     asked: Option<u64>,
 ) -> Result<Held<T>, Error<P::Fault>>
     requires { IsExactClone T.is_clone }
-    ensures { Claims P.made P.stopped P.tells asked timeout (P.most protocol.old) view protocol.old (K.readings clock.old) result protocol.new (K.readings clock.new) }
+    ensures { Claims P.made P.stopped P.tells P.lets_go asked timeout (P.most protocol.old) view protocol.old (K.readings clock.old) result protocol.new (K.readings clock.new) }
 {
     let deadline = Deadline::starting(clock, timeout);
     let mut view = view;
     for _attempt in 0..protocol.attempts() {
         if !is_in_time(&deadline, clock) {
+            protocol.end_view(view);
             return Err(Error::ObjectUpdateTimeout { timeout });
         }
         match held(protocol, claim_call(view, asked)) {
@@ -158,6 +161,7 @@ fn claim<T: Clone, P: TransactionalStorageProtocol<T>, K: SystemClock>(
         }
         view = newest_view(protocol)?;
     }
+    protocol.end_view(view);
     Err(Error::TurnsExhausted)
 }
 

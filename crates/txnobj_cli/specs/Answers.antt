@@ -71,12 +71,12 @@ module _ {F P : Type 0} (made : P → Call Entry → Answer Entry → P → Type
     pub line : Appends said said' (with_feed (decimal object.id))
 
   -- The id and the epoch of a claimed version: the newest version was loaded, and a claim of its view, which is tried as often as a claim is and may take any time, was held.
-  pub record PrintsClaim (most : P → ℕ) (asked : Option ℕ) (old : P) (readings : List ℕ) (new : P) (readings' : List ℕ) (said said' : Option (List ℕ)) : Type 0 where
+  pub record PrintsClaim (lets_go : P → ℕ → P → Type 0) (most : P → ℕ) (asked : Option ℕ) (old : P) (readings : List ℕ) (new : P) (readings' : List ℕ) (said said' : Option (List ℕ)) : Type 0 where
     pub newest : Object
     pub between : P
     pub loaded : Loads newest old between
     pub holder : FenceableTransactionalObject Entry NoInvariant
-    pub claimed : ClaimEnds made stopped tells asked 18446744073709551615 (most between) newest between readings (Ok holder) new readings'
+    pub claimed : ClaimEnds made stopped tells lets_go asked 18446744073709551615 (most between) newest between readings (Ok holder) new readings'
     pub line : Appends said said' (with_feed (version_words (record { id = holder.delegate.id; epoch = holder.local_epoch })))
 
   -- the ids of the stored versions

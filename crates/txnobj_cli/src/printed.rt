@@ -182,7 +182,7 @@ fn claimed<P: TransactionalStorageProtocol<Entry, Fault = Fault>, K: SystemClock
     clock: &mut K,
     epoch: Option<u64>,
 ) -> Result<Holder, Error<Fault>>
-    ensures { ClaimEnds P.made P.stopped P.tells epoch 18446744073709551615 (P.most protocol.old) newest protocol.old (K.readings clock.old) result protocol.new (K.readings clock.new) }
+    ensures { ClaimEnds P.made P.stopped P.tells P.lets_go epoch 18446744073709551615 (P.most protocol.old) newest protocol.old (K.readings clock.old) result protocol.new (K.readings clock.new) }
 {
     match epoch {
         None => FenceableTransactionalObject::init(newest, protocol, u64::MAX, clock),
@@ -200,7 +200,7 @@ pub fn print_claim<W: Write, P: TransactionalStorageProtocol<Entry, Fault = Faul
     clock: &mut K,
     epoch: Option<u64>,
 ) -> Result<(), Halt>
-    ensures { OnOk result (PrintsClaim P.made P.stopped P.tells P.most epoch protocol.old (K.readings clock.old) protocol.new (K.readings clock.new) (W.contents out.old) (W.contents out.new)) }
+    ensures { OnOk result (PrintsClaim P.made P.stopped P.tells P.lets_go P.most epoch protocol.old (K.readings clock.old) protocol.new (K.readings clock.new) (W.contents out.old) (W.contents out.new)) }
 {
     let newest: Object = SimpleTransactionalObject::load(alloc, protocol)?;
     let held = claimed(newest, protocol, clock, epoch)?;

@@ -10,7 +10,7 @@ pub returns-then-not-is_in_time : goal.returns-then-not-is_in_time
 returns-then-not-is_in_time g c =
     record {
       start = c.starting-deadline.result.start;
-      ends = inl (after_rounds c.loop-attempt._attempt _ (omega arith) c.loop-attempt.invariant (TimedOut (rw c.starting-deadline.ensures.timeout at c.if-not-is_in_time.ensures) refl refl));
+      ends = inl (after_rounds c.loop-attempt._attempt _ (omega arith) c.loop-attempt.invariant (TimedOut (rw c.starting-deadline.ensures.timeout at c.if-not-is_in_time.ensures) refl c.end_view.ensures));
     }
 
 pub returns-in-Ok : goal.returns-in-Ok
@@ -62,5 +62,5 @@ returns g c =
     let all : c.loop-attempt._attempt ≡ g.P.TransactionalStorageProtocol.most c.args.protocol.now = omega arith in
     record {
       start = c.starting-deadline.result.start;
-      ends = inr (c.loop-attempt.view, subst (λ count. Rounds (Round g.P.TransactionalStorageProtocol.made g.P.TransactionalStorageProtocol.stopped g.P.TransactionalStorageProtocol.tells c.args.asked c.starting-deadline.result.start c.args.timeout) count (record { view = c.args.view; protocol = c.args.protocol.now; readings = g.K.SystemClock.readings c.args.clock.now ++ c.starting-deadline.result.start ∷ [] }) (record { view = c.loop-attempt.view; protocol = c.loop-attempt.protocol; readings = g.K.SystemClock.readings c.loop-attempt.clock })) all c.loop-attempt.invariant, refl);
+      ends = inr (c.loop-attempt.view, c.loop-attempt.protocol, subst (λ count. Rounds (Round g.P.TransactionalStorageProtocol.made g.P.TransactionalStorageProtocol.stopped g.P.TransactionalStorageProtocol.tells c.args.asked c.starting-deadline.result.start c.args.timeout) count (record { view = c.args.view; protocol = c.args.protocol.now; readings = g.K.SystemClock.readings c.args.clock.now ++ c.starting-deadline.result.start ∷ [] }) (record { view = c.loop-attempt.view; protocol = c.loop-attempt.protocol; readings = g.K.SystemClock.readings c.loop-attempt.clock })) all c.loop-attempt.invariant, c.end_view-2.ensures, refl);
     }
