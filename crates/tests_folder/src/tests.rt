@@ -6,6 +6,7 @@ mod doctors;
 mod failing;
 mod failures;
 mod folders;
+mod locked;
 mod objects;
 mod order;
 mod scenes;

@@ -49,7 +49,7 @@ impl SharedStore for Shared<'_> {
 
 /// Keeps nothing.
 #[derive(Drop)]
-struct Unkept;
+pub struct Unkept;
 
 impl Recorder<Record> for Unkept {
     ghost hands = { λ _ _ _. Unit {0} };
@@ -98,7 +98,7 @@ impl SystemClock for Ticks {
 
 type One<'a> = ObjectClient<Record, RecordCodec, RecordEpoch, Shared<'a>, Unkept>;
 
-type View = SimpleTransactionalObject<Record, NoInvariant>;
+pub type View = SimpleTransactionalObject<Record, NoInvariant>;
 
 type Holder = FenceableTransactionalObject<Record, NoInvariant>;
 
@@ -118,7 +118,7 @@ fn client<'a>(alloc: Global, place: &'a Place, number: u64) -> Result<One<'a>, A
 }
 
 /// One more than what a version says, as the next candidate.
-fn next_of(view: &View) -> Result<Option<DirtyObject<Record, MonotonicId>>, CallbackFault> {
+pub fn next_of(view: &View) -> Result<Option<DirtyObject<Record, MonotonicId>>, CallbackFault> {
     let mut dirty = view.prepare_dirty()?;
     dirty.value.payload = dirty.value.payload.saturating_add(1);
     Ok(Some(dirty))
