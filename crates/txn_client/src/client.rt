@@ -11,7 +11,7 @@ use txn_types::codec::ObjectCodec;
 use txn_types::epoch::EpochField;
 
 /// Of how many of the last answers a client keeps the ids, unless another number is set.
-pub const LAST: usize = 1024;
+pub const LAST: usize = 128;
 
 /// One client of a store, which hands what it does to a recorder as it happens: each call that it makes hands over what the
 /// call's rows tell, as a journal would have them, looks aside, and calls the store once for each reply that they tell. It keeps

@@ -1,8 +1,8 @@
 -- What a client does that forgot something, one that forgot nothing could do.
-use Rattle.std.proofs.Common.{◌≡◌, ℕ, ◌+◌, List, [], ◌∷◌, ◌++◌, length, map, Bool, true, false, cond, ◌==◌, ◌&&◌, ◌||◌, not, is_some, Option, Some, None, option_map, ◌⊎◌, inl, inr, refl, sym, ◌∙◌, ap, subst, slice_get, zero, suc, arith}
+use Rattle.std.proofs.Common.{◌≡◌, ℕ, ◌+◌, List, [], ◌∷◌, ◌++◌, length, Bool, true, cond, ◌==◌, ◌&&◌, not, Option, Some, None, option_map, ◌⊎◌, inl, inr, refl, sym, ◌∙◌, ap, subst, slice_get, suc, arith}
+use Rattle.std.proofs.lemmas.Bool.{and_parts}
 use Rattle.std.proofs.lemmas.Option.{same_Some}
 use Rattle.txn_types.specs.Numbers.{number_of}
-use Rattle.txn_store.specs.declared.request.Request.{Request}
 use Rattle.txn_store.specs.declared.request.Reply.{Reply}
 use Rattle.txn_caches.specs.declared.caches.Caches.{Caches}
 use Rattle.txn_history.specs.declared.event.Call.{Call}
@@ -14,24 +14,22 @@ use Rattle.txn_history.specs.Facts.{is_high}
 use Rattle.txn_history.specs.Allowed.{is_client, is_own, may_use, id_seen, base_seen}
 use Rattle.txn_history.specs.Calls.{plain_has_low_boundary, view_used, is_holders, value_written}
 use Rattle.txn_history.specs.OneHistory.{base_of}
-use Rattle.txn_history.specs.Views.{View}
 use Rattle.txn_history.specs.GoesOn.{left_loose, all_left_loose}
 use Rattle.txn_machine_views.specs.Layer.{Used}
 use Rattle.txn_machine_views.specs.Parts.{is_claim_call}
 use Rattle.txn_machine.specs.declared.doing.Operation.{Operation}
 use Rattle.txn_machine.specs.Doing.{Next, asked, ended, refused, started, caches_after, Turns}
-use Rattle.txn_machine.specs.Machine.{seen_view, seen_views, seen_operations, used_in, used_by, let_go, views_after, views_taken, new_operation, answered, doing_next}
+use Rattle.txn_machine.specs.Machine.{seen_view, seen_operations, used_in, used_by, let_go, views_after, views_taken, new_operation, answered, doing_next}
 use Rattle.txn_machine.proofs.Crashing.{numbered_mapped}
 use Rattle.txn_journals.specs.declared.rows.Act.TheVariants as acts
 use Rattle.txn_journals.specs.declared.rows.Step.{Step}
 use Rattle.txn_journals.specs.declared.rows.Step.TheVariants as steps
-use Rattle.txn_journals.specs.declared.rows.JournalRow.{JournalRow}
-use Rattle.txn_journals.specs.declared.rows.Left.{Left}
-use Rattle.txn_journals.specs.Parts.{Part, seen_in, knows_base, is_below_known, is_low, epoch_told, epoch_written, is_in_use, client_begin_fault, note_of, written_in, answer_in, begun, turned, turned_with, given_up, killed}
-use Rattle.txn_journals.specs.Journals.{BeginsCall, TakesTurn, FailsAt, LacksAt, GivesUp, IsKilled, Follows}
+use Rattle.txn_journals.specs.Parts.{Part, seen_in, knows_base, is_low, epoch_told, epoch_written, is_in_use, client_begin_fault, note_of, written_in, answer_in, begun, turned, turned_with, given_up, killed}
+use Rattle.txn_journals.specs.Journals.{BeginsCall, TakesTurn, Follows}
 use Rattle.txn_journals.proofs.Begun.{Passed, passed, all_pass}
-use Rattle.txn_diary.specs.Forgetting.{forgotten, HasEnded, AreKeptOperations, AreKeptWrites, AreKeptViews, AreKeptNotes, WereKnown, Remembers}
+use Rattle.txn_diary.specs.Forgetting.{forgotten, HasEnded, AreKeptOperations, AreKeptViews, AreKeptNotes, Remembers}
 use Rattle.txn_diary.proofs.Kept.{operations_same, running_kept, operations_set, operations_more, operations_ended, writes_same, writes_running, writes_set, writes_more, writes_ended, views_same, views_change, views_take, views_ended, views_gone, notes_same, notes_more}
+use Rattle.txn_diary.proofs.Places.{none_left}
 
 module _ {T : Type 0} where
   pub remembers_all : (part : Part T) → Remembers part part
@@ -59,11 +57,6 @@ module _ {T : Type 0} (get_epoch : T → ℕ) where
         views = views_ended old.views new.views kept.views o.client o.view o.claims next.1;
         told = subst (λ (ns : List (ℕ × ℕ)). AreKeptNotes (note_of get_epoch (written_in (numbered old.writes op)) (answer_in old o next) ++ old.told) (ns ++ new.told)) (sym notes) (notes_more (note_of get_epoch (written_in (numbered old.writes op)) (answer_in old o next)) old.told new.told kept.told);
       }
-
-none_left : (b : Bool) (op : ℕ) (ask : Option Ask) → ask ≡ None → cond b (left_loose op ask) [] ≡ []
-none_left true op None e = refl
-none_left true op (Some ask) e = cc
-none_left false op ask e = refl
 
 known_then : (old new : List (ℕ × ℕ)) → AreKeptNotes old new → (base : Option ℕ) → knows_base new base ≡ true → (knows_base old base ≡ true) × (epoch_told new (number_of base) ≡ epoch_told old (number_of base))
 known_then old new kept None h = (refl, kept.none)
@@ -147,10 +140,6 @@ module _ {T : Type 0} where
   low_same old new kept (calls.View call) = refl
 
 module _ {T : Type 0} (get_epoch : T → ℕ) where
-  and_both : (a b : Bool) → (a && b) ≡ true → (a ≡ true) × (b ≡ true)
-  and_both true b h = (refl, h)
-  and_both false b h = cc
-
   -- What a begin that is permitted finds as it was.
   record FindsSame (client : ℕ) (old new : Part T) (call : Call T) : Type 0 where
     used : used_by new.views (view_used call) ≡ used_by old.views (view_used call)
@@ -162,7 +151,7 @@ module _ {T : Type 0} (get_epoch : T → ℕ) where
       let base = base_seen (seen_in client new) call in
       let ok : Passed (is_client client client && may_use (seen_in client new) client (is_holders call) view) (not (is_in_use (used_by new.views view))) (knows_base new.told base) (is_low new.told call) (is_high get_epoch (epoch_told new.told (number_of base)) (value_written call)) =
       passed (is_client client client && may_use (seen_in client new) client (is_holders call) view) (not (is_in_use (used_by new.views view))) (knows_base new.told base) (is_low new.told call) (is_high get_epoch (epoch_told new.told (number_of base)) (value_written call)) permits in
-      let both = and_both (is_client client client) (may_use (seen_in client new) client (is_holders call) view) ok.one_is in
+      let both = and_parts (is_client client client) (may_use (seen_in client new) client (is_holders call) view) ok.one_is in
       let same = used_same client old new kept (is_holders call) view both.1 in
       let id : base_seen (seen_in client old) call ≡ base = sym (ap (λ at. base_of at call) (id_same client old new view same)) in
       let known = known_then old.told new.told kept.told base ok.three_is in

@@ -1,7 +1,7 @@
 -- What is left of lists of which some was forgotten stays so, whatever is done to both.
 use Rattle.std.proofs.Common.{◌≡◌, ◌≢◌, ℕ, zero, suc, ◌+◌, ◌-◌, ◌<◌, ◌≤◌, List, [], ◌∷◌, ◌++◌, length, map, set, Bool, true, false, cond, ◌==◌, nat_eq, nat_lt, ◌||◌, Option, Some, None, option_map, ◌⊎◌, inl, inr, refl, sym, ◌∙◌, ap, subst, append-nil, arith}
 use Rattle.std.proofs.lemmas.List.{length-append, length-map, length-set}
-use Rattle.std.proofs.lemmas.Bool.{cases_lt, cases_eq, eq-eqb, ne_eqb}
+use Rattle.std.proofs.lemmas.Bool.{cases_lt, cases_eq}
 use Rattle.std.proofs.lemmas.Option.{same_Some}
 use Rattle.txn_history.specs.Lists.{numbered}
 use Rattle.txn_history.specs.Seen.{Ask}
@@ -9,17 +9,17 @@ use Rattle.txn_history.proofs.Lists.{get_other, numbered_kept}
 use Rattle.txn_machine_views.specs.Layer.{Used, Change, changed, with_busy}
 use Rattle.txn_machine_views.specs.Steps.{view_without}
 use Rattle.txn_machine_inner.proofs.Lists.{within, numbered_new, numbered_here, numbered_other, numbered_of_map, numbered_there}
-use Rattle.txn_machine.specs.declared.doing.Doing.{Doing}
 use Rattle.txn_machine.specs.declared.doing.Ending.{Ending}
 use Rattle.txn_machine.specs.declared.doing.Ending.TheVariants as endings
 use Rattle.txn_machine.specs.declared.doing.Operation.{Operation}
 use Rattle.txn_machine.specs.Doing.{asked}
-use Rattle.txn_machine.specs.Machine.{used_in, used_by, with_used, views_changed, views_taken, views_after, made_by, change_of, with_doing, doing_next, ended_by}
+use Rattle.txn_machine.specs.Machine.{used_in, used_by, views_changed, views_taken, views_after, made_by, change_of, doing_next, ended_by}
 use Rattle.txn_machine.proofs.Crashing.{numbered_mapped}
 use Rattle.txn_view_steps.specs.declared.outcome.Outcome.TheVariants as outcomes
 use Rattle.txn_clients.proofs.Acting.{numbered_past}
-use Rattle.txn_journals.specs.Parts.{knows_base, is_below_known, epoch_told, written_in}
-use Rattle.txn_diary.specs.Forgetting.{forgotten, HasEnded, AreKeptOperations, AreKeptWrites, AreKeptViews, WereKnown, AreKeptNotes}
+use Rattle.txn_journals.specs.Parts.{knows_base, epoch_told, written_in}
+use Rattle.txn_diary.specs.Forgetting.{forgotten, HasEnded, AreKeptOperations, AreKeptWrites, AreKeptViews, AreKeptNotes}
+use Rattle.txn_diary.proofs.Noting.{eq_turned}
 
 -- lists
 
@@ -237,9 +237,6 @@ module _ {T : Type 0} where
 
 pub notes_same : (told : List (ℕ × ℕ)) → AreKeptNotes told told
 notes_same told = record { known = λ id h. (h, refl); none = refl; greatest = λ to. refl }
-
-eq_turned : (a b : ℕ) → (a == b) ≡ nat_eq b a
-eq_turned a b = elim (cases_eq a b) [ inl same ↦ eq-eqb a b same ∙ sym (eq-eqb b a (sym same)) | inr ne ↦ ne_eqb a b ne ∙ sym (ne_eqb b a (λ e. ne (sym e))) ]
 
 notes_one : (old new : List (ℕ × ℕ)) → AreKeptNotes old new → (note : ℕ × ℕ) → AreKeptNotes (note ∷ old) (note ∷ new)
 notes_one old new kept note = record {

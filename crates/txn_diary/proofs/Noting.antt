@@ -1,6 +1,6 @@
 -- What was told, as it is looked up.
-use Rattle.std.proofs.Common.{◌≡◌, ℕ, zero, suc, ◌<◌, ◌≤◌, nat_eq, nat_lt, ◌==◌, ◌||◌, List, [], ◌∷◌, Bool, true, false, cond, is_some, Option, Some, None, ◌⊎◌, inl, inr, refl, sym, ◌∙◌, ap, arith}
-use Rattle.std.proofs.lemmas.Bool.{cases_eq, cases_lt, eq-eqb, ne_eqb, ltb-true, lt-ltb}
+use Rattle.std.proofs.Common.{◌≡◌, ℕ, zero, suc, ◌<◌, ◌≤◌, nat_eq, nat_lt, ◌==◌, ◌||◌, List, [], ◌∷◌, Bool, true, false, cond, is_some, Option, Some, None, inl, inr, refl, sym, ◌∙◌, ap, arith}
+use Rattle.std.proofs.lemmas.Bool.{cases_eq, cases_lt, eq-eqb, ne_eqb, ltb-true, lt-ltb, or_cases, or_right}
 use Rattle.std.proofs.lemmas.Bool.Decides.{Decides-eqb}
 use Rattle.txn_machine_views.specs.Layer.{Used}
 use Rattle.txn_journals.specs.Parts.{knows_base, is_below_known, epoch_told}
@@ -16,7 +16,7 @@ known_by (note ∷ told) id = by (nat_eq id note.0) (note_at told id) (knows_bas
     by true found knows h = refl
     by false found knows h = h
 
-eq_turned : (a b : ℕ) → (a == b) ≡ (b == a)
+pub eq_turned : (a b : ℕ) → (a == b) ≡ (b == a)
 eq_turned a b = elim (cases_eq a b) [ inl same ↦ eq-eqb a b same ∙ sym (eq-eqb b a (sym same)) | inr ne ↦ ne_eqb a b ne ∙ sym (ne_eqb b a (λ e. ne (sym e))) ]
 
 -- the epoch of a note, 0 where there is none
@@ -55,14 +55,6 @@ unknown_epoch told id h = sym (epoch_by told id) ∙ by (note_at told id) (known
     by : (found : Option ℕ) → is_some found ≡ false → epoch_in found ≡ 0
     by None e = refl
     by (Some epoch) e = cc
-
-or_cases : (a b : Bool) → (a || b) ≡ true → (a ≡ true) ⊎ (b ≡ true)
-or_cases true b h = inl refl
-or_cases false b h = inr h
-
-or_right : (a b : Bool) → b ≡ true → (a || b) ≡ true
-or_right true b h = refl
-or_right false b h = h
 
 below_from : (told : List (ℕ × ℕ)) (to : ℕ) → is_below_known told to ≡ true → (id : ℕ) × (nat_lt to id ≡ true) × (knows_base told (Some id) ≡ true)
 below_from [] to h = cc

@@ -2,6 +2,7 @@
 use Rattle.std.proofs.Common.{◌≡◌, ◌≢◌, ℕ, zero, suc, ◌+◌, ◌-◌, ◌<◌, ◌≤◌, List, [], ◌∷◌, ◌++◌, length, map, set, take, drop, replicate, get_or, slice_get, Bool, true, false, cond, ◌==◌, nat_eq, is_some, IfSome, Option, Some, None, unwrap_or, All, ◌⊎◌, inl, inr, refl, sym, ◌∙◌, ap, subst, arith}
 use Rattle.std.specs.List.{range_with_len}
 use Rattle.std.proofs.lemmas.List.{append-nil, length-append, length-map, length-take-le, length-drop, take_all, drop_all, set-get_or, length-replicate, length-set, set-append_right, get_or-set_same, get_or-set_other, same_lists}
+use Rattle.std.proofs.lemmas.List.Elements.{All-nil, All-tail, All-append, All-replicate}
 use Rattle.std.proofs.lemmas.List.FromFn.{length-map-range_with_len, get_or-map-range_with_len, map-range_with_len_more}
 use Rattle.std.specs.HashMap.{HashMap, get, values}
 use Rattle.std.proofs.lemmas.Map.Views.{IfSome-lookup_from_All}
@@ -11,9 +12,10 @@ use Rattle.txn_store.specs.declared.request.Reply.{Reply}
 use Rattle.txn_caches.specs.declared.caches.Caches.{Caches}
 use Rattle.txn_history.specs.Lists.{numbered}
 use Rattle.txn_history.specs.GoesOn.{left_loose, all_left_loose}
+use Rattle.txn_history.specs.Seen.{Ask}
 use Rattle.txn_machine_views.specs.Layer.{Used}
 use Rattle.txn_machine_views.specs.Steps.{view_without}
-use Rattle.txn_machine_inner.proofs.Lists.{within, numbered_there}
+use Rattle.txn_machine_inner.proofs.Lists.{numbered_there}
 use Rattle.txn_machine.specs.declared.doing.Doing.{Doing}
 use Rattle.txn_machine.specs.declared.doing.Operation.{Operation}
 use Rattle.txn_machine.specs.declared.doing.Ending.{Ending}
@@ -23,7 +25,7 @@ use Rattle.txn_clients.specs.Operations.{asked_of, asked_by, Ends, TakesReply, T
 use Rattle.txn_clients.proofs.Acting.{numbered_past}
 use Rattle.txn_journals.specs.Parts.{written_in}
 use Rattle.txn_diary.specs.Maps.{value_at}
-use Rattle.txn_diary.specs.Forgetting.{forgotten, HasEnded, AreKeptOperations, AreKeptWrites}
+use Rattle.txn_diary.specs.Forgetting.{forgotten, HasEnded, HaveEnded, AreForgotten, AreKeptOperations, AreKeptWrites}
 use Rattle.txn_diary.proofs.Killing.{changed_next}
 use Rattle.txn_diary.proofs.Kept.{forgotten_stays}
 
@@ -56,9 +58,11 @@ module _ {A : Type 0} (x : A) where
   pub length_behind : (n : ℕ) (xs : List A) → length (replicate n x ++ xs) ≡ n + length xs
   length_behind n xs = length-append (replicate n x) xs ∙ ap (λ m. m + length xs) (length-replicate n x)
 
-none_left : (b : Bool) (op : ℕ) → cond b (left_loose op None) [] ≡ []
-none_left true op = refl
-none_left false op = refl
+-- an operation that has ended leaves nothing
+pub none_left : (b : Bool) (op : ℕ) (ask : Option Ask) → ask ≡ None → cond b (left_loose op ask) [] ≡ []
+none_left true op None e = refl
+none_left true op (Some ask) e = cc
+none_left false op ask e = refl
 
 module _ {T : Type 0} where
   -- one that runs was not forgotten
@@ -92,7 +96,7 @@ module _ {T : Type 0} where
   lefts_from client zero op xs = let same : op ≡ op + 0 = omega arith in ap (λ m. all_left_loose client m (seen_operations xs)) same
   lefts_from client (suc n) op xs =
       let next : op + 1 + n ≡ op + suc n = omega arith in
-      ap (λ ls. ls ++ all_left_loose client (op + 1) (seen_operations (replicate n forgotten ++ xs))) (none_left (0 == client) op) ∙ (lefts_from client n (op + 1) xs ∙ ap (λ m. all_left_loose client m (seen_operations xs)) next)
+      ap (λ ls. ls ++ all_left_loose client (op + 1) (seen_operations (replicate n forgotten ++ xs))) (none_left (0 == client) op None refl) ∙ (lefts_from client n (op + 1) xs ∙ ap (λ m. all_left_loose client m (seen_operations xs)) next)
 
   -- what a kill leaves
   pub lefts_behind : (client n first : ℕ) (xs : List (Operation T)) → first ≡ n + 1 → all_left_loose client 1 (seen_operations (replicate n forgotten ++ xs)) ≡ all_left_loose client first (seen_operations xs)
@@ -124,6 +128,14 @@ module _ {T : Type 0} where
               inl (numbered_past (replicate m (forgotten {T = T}) ++ []) (suc k) (omega (arith, gt, length_behind (forgotten {T = T}) m [])) ∙ sym (numbered_past (replicate n forgotten ++ xs) (suc k) (omega (arith, gt, count, length_behind (forgotten {T = T}) n xs)))))
         ])
   ]
+
+  -- where all have ended, those that are kept have
+  pub ended_kept : (n : ℕ) (xs : List (Operation T)) → HaveEnded (replicate n forgotten ++ xs) → HaveEnded xs
+  ended_kept zero xs all = all
+  ended_kept (suc n) xs all = ended_kept n xs (All-tail (λ (o : Operation T). asked o.doing ≡ None) forgotten (replicate n forgotten ++ xs) all)
+
+  pub all_forgotten : (n : ℕ) → AreForgotten (replicate n (forgotten {T = T}) ++ [])
+  all_forgotten n = All-append (λ (o : Operation T). o ≡ forgotten) (replicate n forgotten) [] (All-replicate (λ (o : Operation T). o ≡ forgotten) n forgotten refl) (All-nil (λ (o : Operation T). o ≡ forgotten))
 
   pub operations_forgotten : (n m : ℕ) (xs : List (Operation T)) → All (λ o. asked o.doing ≡ None) xs → m ≡ n + length xs → AreKeptOperations (replicate n forgotten ++ xs) (replicate m forgotten ++ [])
   operations_forgotten n m xs all count = record { count = length_behind (forgotten {T = T}) m [] ∙ (omega (arith, count) ∙ sym (length_behind (forgotten {T = T}) n xs)); each = λ op. forgets_at n m op xs all count }

@@ -1,5 +1,5 @@
 -- What a client may forget of what it keeps. It then permits itself less, and whatever it does, one that forgot nothing could do.
-use Rattle.std.specs.Prelude.{◌≡◌, ◌⊎◌, ℕ, List, true, false, Option, Some, None, length}
+use Rattle.std.specs.Prelude.{◌≡◌, ◌⊎◌, ℕ, All, List, true, false, Option, Some, None, length}
 use Rattle.txn_history.specs.Lists.{numbered}
 use Rattle.txn_machine_views.specs.Layer.{Used}
 use Rattle.txn_machine.specs.declared.doing.Operation.{Operation}
@@ -15,6 +15,14 @@ module _ {T : Type 0} where
   -- an operation is there, and has ended
   abbrev pub HasEnded : List (Operation T) → ℕ → Type 0
   HasEnded operations op = (o : Operation T) × (numbered operations op ≡ Some o) × (asked o.doing ≡ None)
+
+  -- each of these operations has ended
+  abbrev pub HaveEnded : List (Operation T) → Type 0
+  HaveEnded operations = All (λ (o : Operation T). asked o.doing ≡ None) operations
+
+  -- each of these operations was forgotten
+  abbrev pub AreForgotten : List (Operation T) → Type 0
+  AreForgotten operations = All (λ (o : Operation T). o ≡ forgotten) operations
 
   -- Of these operations some that have ended were forgotten. Their numbers stay.
   pub record AreKeptOperations (old new : List (Operation T)) : Type 0 where

@@ -1,6 +1,7 @@
 //! The operations of a client, which it may forget once they have ended.
-ghost use Rattle.std.specs.Prelude.{◌≡◌, ◌≤◌, ◌^◌, All, None, IsTrue, vec_len};
+ghost use Rattle.std.specs.Prelude.{◌≡◌, ◌≤◌, ◌^◌, None, Decides, vec_len};
 ghost use Rattle.txn_machine.specs.Doing.{asked};
+ghost use Rattle.txn_diary.specs.Forgetting.{HaveEnded};
 
 use crate::kills::{end_all, left_by};
 use crate::notes::written_at;
@@ -35,7 +36,7 @@ pub(crate) struct Calls<T: Drop> {
 
 /// Whether an operation has ended: it asks for nothing.
 fn has_ended<T: Drop>(operation: &Operation<T>) -> bool
-    ensures { IsTrue result → asked operation.now.doing ≡ None }
+    ensures { Decides result (asked operation.now.doing ≡ None) }
 {
     match operation.doing.ask() {
         None => true,
@@ -46,13 +47,13 @@ fn has_ended<T: Drop>(operation: &Operation<T>) -> bool
 
 /// Whether each of these operations has ended.
 fn have_ended<T: Drop>(operations: &[Operation<T>]) -> bool
-    ensures { IsTrue result → All (λ o. asked o.doing ≡ None) operations.now }
+    ensures { Decides result (HaveEnded operations.now) }
 {
     operations.iter().all(|operation| has_ended(operation))
 }
 
 impl<T: Drop> Calls<T> {
-    ghost use Rattle.std.specs.Prelude.{◌≡◌, ◌++◌, ◌∷◌, ◌<◌, ◌-◌, ◌^◌, [], None, IfOk, Some, OnOk, IsSome, length, map};
+    ghost use Rattle.std.specs.Prelude.{◌≡◌, ◌++◌, ◌∷◌, ◌<◌, ◌≤◌, ◌-◌, ◌^◌, [], None, IfOk, Some, OnOk, IsSome, length, map};
     ghost use Rattle.std.specs.Option.{option_map};
     ghost use Rattle.txn_history.specs.Lists.{numbered};
     ghost use Rattle.txn_history.specs.GoesOn.{all_left_loose};
@@ -61,7 +62,7 @@ impl<T: Drop> Calls<T> {
     ghost use Rattle.txn_clients.specs.Operations.{asked_by, usage_of, Ends};
     ghost use Rattle.txn_journals.specs.Parts.{written_in};
     ghost use Rattle.txn_journals.specs.Journals.{as_pair};
-    ghost use Rattle.txn_diary.specs.Forgetting.{AreKeptOperations, AreKeptWrites};
+    ghost use Rattle.txn_diary.specs.Forgetting.{AreKeptOperations, AreKeptWrites, HaveEnded, AreForgotten};
     ghost use Rattle.txn_diary.specs.Shown.{operations_of, writes_of};
     ghost use Rattle.txn_diary.specs.Room.{HasRoomForCall};
 
@@ -144,6 +145,7 @@ impl<T: Drop> Calls<T> {
 
     /// Forgets all operations, where none of them runs.
     pub fn forget(&mut self)
+        ensures ended { length (operations_of self.old) ≤ 2 ^ 62 → HaveEnded (operations_of self.old) → AreForgotten (operations_of self.new) }
         ensures operations { AreKeptOperations (operations_of self.old) (operations_of self.new) }
         ensures writes { AreKeptWrites (operations_of self.old) (writes_of self.old) (writes_of self.new) }
     {

@@ -73,7 +73,7 @@ impl<T: Clone, C: ObjectCodec<T> + Drop, E: EpochField<T>> Keeper<T, C, E> {
     ghost use Rattle.txn_journals.specs.declared.rows.Step.TheVariants as steps;
     ghost use Rattle.txn_journals.specs.Parts.{no_part};
     ghost use Rattle.txn_diary.specs.Keepers.{keeper_asked, keeper_refusal, end_fault, fault_if, IsReceiptFault, IsTurn, IsLed, Does, Forgets};
-    ghost use Rattle.txn_diary.specs.Forgetting.{KeepsBases};
+    ghost use Rattle.txn_diary.specs.Forgetting.{KeepsBases, HaveEnded, AreForgotten};
 
     /// A client of this number, at least 1, that has done nothing. A listing has pages of at most `page` files, at least 1.
     /// The only error is want of memory.
@@ -165,6 +165,8 @@ impl<T: Clone, C: ObjectCodec<T> + Drop, E: EpochField<T>> Keeper<T, C, E> {
     /// what it has. The time that it takes is spread over the answers since it forgot before.
     pub fn forget(&mut self, last: usize)
         ensures forgets { Forgets self.old self.new }
+        // (more than 2^62 operations no client makes)
+        ensures ended { length self.old.part.operations ≤ 2 ^ 62 → HaveEnded self.old.part.operations → AreForgotten self.new.part.operations }
         ensures views { self.new.part.views ≡ self.old.part.views }
         ensures bases { KeepsBases self.old.part self.new.part }
     {

@@ -9,6 +9,7 @@ use crate::maps::insert_within;
 use crate::standing::Standing;
 use std::alloc::{AllocError, Global};
 use std::collections::HashMap;
+use std::mem::swap;
 use txn_history::event::{Answer, Call, PlainAnswer, PlainCall};
 use txn_machine_views::used::Used;
 use txn_types::epoch::EpochField;
@@ -207,27 +208,37 @@ impl Notes {
         Ok(())
     }
 
-    /// What is left of all notes once some are forgotten.
-    fn kept<T: Drop>(
+    /// Has no notes any more. What they took in memory it keeps for others.
+    fn clear(&mut self)
+        ensures { self.new.noted.items ≡ [] }
+    {
+        self.noted.clear();
+        self.epochs.clear();
+        self.greatest = 0;
+    }
+
+    /// Becomes what is left of all notes once some are forgotten.
+    fn keep<T: Drop>(
+        &mut self,
         all: &Notes,
-        alloc: Global,
         views: &Standing<T>,
         last: usize,
-    ) -> Result<Notes, AllocError>
-        ensures notes { IfOk result (λ kept. AreKeptNotes (reverse all.now.noted.items) (reverse kept.noted.items)) }
-        ensures bases { IfOk result (λ kept. All (BaseStays (reverse all.now.noted.items) (reverse kept.noted.items)) (values views.now.used)) }
+    ) -> Result<(), AllocError>
+        ensures notes { OnOk result (AreKeptNotes (reverse all.now.noted.items) (reverse self.new.noted.items)) }
+        ensures bases { OnOk result (All (BaseStays (reverse all.now.noted.items) (reverse self.new.noted.items)) (values views.now.used)) }
     {
-        let mut kept = Notes::new(alloc);
-        kept.note(all, 0)?;
-        kept.note(all, all.greatest)?;
-        kept.note_last(all, last)?;
-        kept.note_bases(all, views)?;
-        Ok(kept)
+        self.clear();
+        self.note(all, 0)?;
+        self.note(all, all.greatest)?;
+        self.note_last(all, last)?;
+        self.note_bases(all, views)?;
+        Ok(())
     }
 
     /// Forgets the ids that were noted before the last notes, so many, but for the greatest and those at which views stand. It does
-    /// where it has more than twice as many notes as are left then, and memory suffices.
-    pub fn forget<T: Drop>(&mut self, alloc: Global, views: &Standing<T>, last: usize)
+    /// where it has more than twice as many notes as are left then, and memory suffices. What is left it writes to other notes, and
+    /// changes places with them, so that notes take the same two places in memory again and again.
+    pub fn forget<T: Drop>(&mut self, other: &mut Notes, views: &Standing<T>, last: usize)
         ensures notes { AreKeptNotes (reverse self.old.noted.items) (reverse self.new.noted.items) }
         ensures bases { All (BaseStays (reverse self.old.noted.items) (reverse self.new.noted.items)) (values views.now.used) }
     {
@@ -235,8 +246,8 @@ impl Notes {
         if self.noted.len() / 2 < left {
             return;
         }
-        if let Ok(kept) = Notes::kept(self, alloc, views, last) {
-            *self = kept;
+        if other.keep(self, views, last).is_ok() {
+            swap(self, other);
         }
     }
 }

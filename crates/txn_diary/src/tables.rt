@@ -35,12 +35,14 @@ pub(crate) struct Tables<T: Drop, C: ObjectCodec<T> + Drop, E: EpochField<T>> {
     pub views: Standing<T>,
     /// What its checked calls told.
     pub notes: Notes,
+    /// Notes that count for nothing: what is left of the others is written to them, and takes their place.
+    other: Notes,
     ghost names: { layout.names ≡ world_names },
     ghost boundary_file: { layout.boundary ≡ world_boundary },
 }
 
 impl<T: Clone, C: ObjectCodec<T> + Drop, E: EpochField<T>> Tables<T, C, E> {
-    ghost use Rattle.std.specs.Prelude.{◌≡◌, ◌++◌, ◌<◌, None, Some, IfOk, OnOk, OnErr, IsSome, length, vec_len, vec_capacity};
+    ghost use Rattle.std.specs.Prelude.{◌≡◌, ◌++◌, ◌<◌, ◌≤◌, ◌^◌, None, Some, IfOk, OnOk, OnErr, IsSome, length, vec_len, vec_capacity};
     ghost use Rattle.std.specs.Option.{ForSome};
     ghost use Rattle.txn_types.specs.Clones.{IsExactClone};
     ghost use Rattle.txn_history.specs.Seen as seen;
@@ -55,7 +57,7 @@ impl<T: Clone, C: ObjectCodec<T> + Drop, E: EpochField<T>> Tables<T, C, E> {
     ghost use Rattle.txn_journals.specs.Parts.{no_part, client_begin_fault, answer_in, note_of, written_in, turned_with};
     ghost use Rattle.txn_journals.specs.Journals.{BeginsCall, TakesTurn, GivesUp};
     ghost use Rattle.txn_diary.specs.Keepers.{AreSound};
-    ghost use Rattle.txn_diary.specs.Forgetting.{Remembers, KeepsBases};
+    ghost use Rattle.txn_diary.specs.Forgetting.{Remembers, KeepsBases, HaveEnded, AreForgotten};
     ghost use Rattle.txn_diary.specs.Room.{HasRoom, HasRoomForCall, HasRoomForView};
     ghost use Rattle.txn_diary.specs.Shown.{shown, views_of, writes_of};
 
@@ -81,6 +83,7 @@ impl<T: Clone, C: ObjectCodec<T> + Drop, E: EpochField<T>> Tables<T, C, E> {
             calls: Calls::new(alloc),
             views: Standing::new(alloc),
             notes: Notes::new(alloc),
+            other: Notes::new(alloc),
         })
     }
 
@@ -245,10 +248,11 @@ impl<T: Clone, C: ObjectCodec<T> + Drop, E: EpochField<T>> Tables<T, C, E> {
         ensures layout { self.new.layout ≡ self.old.layout }
         ensures epochs { self.new.epochs ≡ self.old.epochs }
         ensures remembers { Remembers (shown self.old) (shown self.new) }
+        ensures ended { length (shown self.old).operations ≤ 2 ^ 62 → HaveEnded (shown self.old).operations → AreForgotten (shown self.new).operations }
         ensures views { (shown self.new).views ≡ (shown self.old).views }
         ensures bases { KeepsBases (shown self.old) (shown self.new) }
     {
         self.calls.forget();
-        self.notes.forget(self.alloc, &self.views, last);
+        self.notes.forget(&mut self.other, &self.views, last);
     }
 }

@@ -97,7 +97,7 @@ impl<
         self.attempts = attempts;
     }
 
-    /// Sets of how many of the last answers the client keeps the ids (1,024 unless another number is set). A write on a base that is
+    /// Sets of how many of the last answers the client keeps the ids (128 unless another number is set). A write on a base that is
     /// older is `NotPermitted`, where no object of the client stands at it.
     pub fn keep_last(&mut self, last: usize)
         ensures { self.new ≡ self.old }

@@ -1,4 +1,4 @@
-use Rattle.std.proofs.Common.{ap, refl, subst, sym}
+use Rattle.std.proofs.Common.{ap, refl}
 use Rattle.txn_diary.specs.Shown.{keeper_of}
 use Rattle.txn_diary.proofs.Stepping.{kept_still}
 use Rattle.txn_diary.proofs.keeper.Keeper.forget.Goals as goal

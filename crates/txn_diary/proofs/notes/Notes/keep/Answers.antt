@@ -1,6 +1,6 @@
 use Rattle.std.proofs.Common.{reverse}
 use Rattle.txn_diary.proofs.Noting.{kept_so}
-use Rattle.txn_diary.proofs.notes.Notes.kept.Goals as goal
+use Rattle.txn_diary.proofs.notes.Notes.keep.Goals as goal
 
 pub returns-clause-notes : goal.returns-clause-notes
 returns-clause-notes g c =
