@@ -5,6 +5,7 @@ import os
 import random
 import re
 import subprocess
+import tempfile
 import threading
 import time
 
@@ -23,6 +24,16 @@ TRIED = (
     "locks a file against a second open",
     "syncs files and folders",
     "removes files",
+)
+# What `doctor --beside` tries besides, of each mount.
+SHOWN = (
+    "finds a new name that was missing before",
+    "reads what was renamed over an old file",
+    "reads it beside an open old file",
+    "lists a new name",
+    "lists a removed name no more",
+    "misses a removed name beside its open file, and finds it made again",
+    "is refused a lock that is held, and gets it then",
 )
 
 
@@ -303,7 +314,19 @@ def doctors(program, root, _seconds):
     said = [line.partition(": ") for line in ran.stdout.splitlines()]
     expect([line[0] for line in said] == list(TRIED), f"doctor of /proc says {ran.stdout}")
     expect(ran.returncode == 3 and said[0][2].startswith("no: "), f"doctor of /proc: status {ran.returncode}: {ran.stdout}")
-    return ["each thing that a folder has to carry is tried, and one that does not serve is refused"]
+    beside = ("both are mounts of one folder", *(f"the {mount} {shown}" for mount in ("other", "first") for shown in SHOWN), "nothing is left")
+    ran = subprocess.run([*words, "--beside", os.path.join(root, ".")], **how)
+    expect((ran.returncode, ran.stdout) == (0, "".join(f"{tried}: yes\n" for tried in (*TRIED, *beside))), f"doctor --beside: status {ran.returncode}: {ran.stdout}")
+    expect(os.listdir(root) == [], f"doctor --beside leaves {os.listdir(root)}")
+    with tempfile.TemporaryDirectory(dir=root) as other:
+        ran = subprocess.run([*words, "--beside", other], **how)
+        said = [line.partition(": ") for line in ran.stdout.splitlines()]
+        expect([line[0] for line in said] == [*TRIED, *beside], f"doctor beside another folder says {ran.stdout}")
+        expect(ran.returncode == 3 and [line[2] for line in said[len(TRIED) + 1 : -1]] == ["no: not tried"] * 14, f"doctor beside another folder: status {ran.returncode}: {ran.stdout}")
+        expect(os.listdir(root) == [os.path.basename(other)] and os.listdir(other) == [], f"doctor beside another folder leaves {os.listdir(root)}")
+    ran = subprocess.run([*words, "--beside", os.path.join(root, "none")], **how)
+    expect((ran.returncode, ran.stdout) == (2, ""), f"doctor beside a folder that is missing: status {ran.returncode}: {ran.stdout}")
+    return ["each thing that a folder has to carry is tried, and one that does not serve is refused", "two mounts of one folder are tried against each other, and another folder is refused"]
 
 
 def clocks(program, root, _seconds):

@@ -1,4 +1,5 @@
 pub mod Findings
 pub mod Halts
 pub mod Names
+pub mod Sights
 pub mod Times

@@ -203,11 +203,15 @@ fn trial_in<R: Clock>(rt: &R, alloc: Global, folder: &str) -> Result<Trial, Allo
 fn fault_of<T: Drop>(done: Result<T, Halt>) -> Option<Fault> {
     match done {
         Ok(_) => None,
-        Err(Halt::Fault(fault)) => Some(fault),
-        Err(Halt::NoMemory) => {
-            let error = io::Error::from(ErrorKind::OutOfMemory);
-            Some(Fault::of(Doing::Looking, error))
-        }
+        Err(halt) => Some(fault_at(halt)),
+    }
+}
+
+/// The fault of a halt: want of memory is one too.
+pub(crate) fn fault_at(halt: Halt) -> Fault {
+    match halt {
+        Halt::Fault(fault) => fault,
+        Halt::NoMemory => Fault::of(Doing::Looking, io::Error::from(ErrorKind::OutOfMemory)),
     }
 }
 
@@ -285,7 +289,7 @@ fn replaces<R: Files + Alloc<A = Global>>(rt: &R, trial: &Trial) -> Result<(), H
 }
 
 /// Whether a lock is taken now.
-fn is_locked<F: LockFile>(file: &F, sharing: Sharing) -> Result<bool, Halt> {
+pub(crate) fn is_locked<F: LockFile>(file: &F, sharing: Sharing) -> Result<bool, Halt> {
     match file.try_lock_file(sharing) {
         Ok(is_locked) => Ok(is_locked),
         Err(error) => Err(at_error(Doing::Locking, error)),
@@ -304,7 +308,8 @@ where
     done
 }
 
-fn locks_against<F: LockFile>(one: &F, other: &F) -> Result<(), Halt> {
+/// Whether a lock through one open keeps the other out, alone and with others.
+pub(crate) fn locks_against<F: LockFile>(one: &F, other: &F) -> Result<(), Halt> {
     if !is_locked(one, Sharing::Alone)? {
         return Err(at(Doing::Locking));
     }

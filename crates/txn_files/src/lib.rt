@@ -2,6 +2,7 @@
 //! linked, replaced, removed, locked and made to last, each with its fault, and a doctor that tries them in a folder.
 #![tactic(auto)]
 
+pub mod beside;
 pub mod doctor;
 pub mod fault;
 pub mod lock;

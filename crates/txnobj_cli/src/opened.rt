@@ -21,6 +21,14 @@ pub fn root_of<'a>(rt: &HostRuntime, options: &Options<'a>) -> Result<&'a str, H
     Ok(root)
 }
 
+/// Another mount of it, where one is given, and where that is there.
+pub fn other_root<'a>(rt: &HostRuntime, other: Option<&'a str>) -> Result<Option<&'a str>, Halt> {
+    if let Some(root) = other {
+        test_root(rt, root)?;
+    }
+    Ok(other)
+}
+
 /// The object's name that the options give.
 fn name_of<'a>(options: &Options<'a>) -> Result<&'a str, Halt> {
     match options.name {

@@ -3,7 +3,7 @@
 use crate::audit::audit;
 use crate::bench::bench;
 use crate::ending::{Halt, NOTHING, reason};
-use crate::opened::{open, root_of, store_of};
+use crate::opened::{open, other_root, root_of, store_of};
 use crate::printed::{
     print_claim, print_collected, print_first, print_history, print_ids, print_newest, print_put,
     print_put_on, print_value,
@@ -12,6 +12,7 @@ use crate::values::bytes_of;
 use crate::watch::watch;
 use std::time::{Duration, SystemTime};
 use txn_entries::entry::Entry;
+use txn_files::beside::examine_beside;
 use txn_files::doctor::{Report, examine};
 use txn_history::event::{Answer, Call, PlainAnswer};
 use txn_lines::printed::Answered;
@@ -36,7 +37,7 @@ pub fn run(rt: &HostRuntime, options: &Options<'_>) -> Result<u8, Halt> {
             diaries,
             clock_error,
         } => audit(rt, diaries.as_slice(), *clock_error),
-        Command::Doctor => doctor(rt, options),
+        Command::Doctor { beside } => doctor(rt, options, *beside),
         Command::Clean(seconds) => clean(rt, options, *seconds),
         Command::Bench { times, lists } => bench(rt, options, *times, *lists),
         command => of_client(rt, &mut open(rt, options)?, command),
@@ -153,10 +154,26 @@ fn say_halt(rt: &HostRuntime, halt: Halt) -> Result<(), Halt> {
     Ok(())
 }
 
-/// Tests the folder of the options.
-fn doctor(rt: &HostRuntime, options: &Options<'_>) -> Result<u8, Halt> {
-    let report = examine(rt, rt.alloc(), root_of(rt, options)?)?;
-    say_report(rt, &report)
+/// Tests the folder of the options, and then beside another mount of it, where the first serves alone.
+fn doctor(rt: &HostRuntime, options: &Options<'_>, beside: Option<&str>) -> Result<u8, Halt> {
+    let root = root_of(rt, options)?;
+    let other = other_root(rt, beside)?;
+    let report = examine(rt, rt.alloc(), root)?;
+    let status = say_report(rt, &report)?;
+    match other {
+        Some(other) if status == 0 => doctor_beside(rt, root, other),
+        _ => Ok(status),
+    }
+}
+
+/// Tests two mounts of one folder: the status.
+fn doctor_beside(rt: &HostRuntime, root: &str, other: &str) -> Result<u8, Halt> {
+    let report = examine_beside(rt, rt.alloc(), root, other)?;
+    rt.print(&report)?;
+    if report.serves() {
+        return Ok(0);
+    }
+    Ok(NOTHING)
 }
 
 /// Prints a report, and says whether the folder serves: the status.

@@ -53,7 +53,10 @@ pub enum Command<'a> {
     /// Reads calls from the standard input, a line each.
     Shell,
     /// Tests whether the folder can carry an object.
-    Doctor,
+    Doctor {
+        /// Another mount of the same folder, which has to show what is done through the first, and the other way round.
+        beside: Option<&'a str>,
+    },
     /// Removes temporary files that are older than so many seconds.
     Clean(u64),
     /// Times so many additions of one to a number, or so many listings.
@@ -93,7 +96,10 @@ impl Command<'_> {
     {
         !matches!(
             self,
-            Command::Audit { .. } | Command::Doctor | Command::Clean(_) | Command::Bench { .. }
+            Command::Audit { .. }
+                | Command::Doctor { .. }
+                | Command::Clean(_)
+                | Command::Bench { .. }
         )
     }
 }
@@ -294,8 +300,13 @@ const COMMANDS: &[Row] = &[
     (
         "doctor",
         "Test whether the file system of a folder that is there can carry an object",
-        "Example: txnobj --root /srv/meta doctor",
-        &[],
+        "Example: txnobj --root /srv/meta doctor --beside /mnt/meta",
+        &[(
+            "beside",
+            Kind::Text("DIR"),
+            "",
+            "Test too what another mount of the same folder shows of what is done through this one, and the other way round",
+        )],
     ),
     (
         "clean",
@@ -480,7 +491,9 @@ fn command_of<'a>(name: &str, found: &ArgMatches<'a>) -> Command<'a> {
             times: number_in(found, "TIMES"),
             lists: found.get_flag("list"),
         },
-        _ => Command::Doctor,
+        _ => Command::Doctor {
+            beside: found.get_str("beside"),
+        },
     }
 }
 
@@ -505,7 +518,7 @@ fn command_in<'a>(alloc: Global, found: &ArgMatches<'a>) -> Result<Command<'a>, 
             clock_error: number_in(of, "clock-error"),
         }),
         Some((name, of)) => Ok(command_of(name, of)),
-        None => Ok(Command::Doctor),
+        None => Ok(Command::Doctor { beside: None }),
     }
 }
 

@@ -9,6 +9,7 @@ use std::cell::Cell;
 use std::io::ErrorKind;
 use std::test::Fail;
 use std::{fs, io};
+use txn_files::beside::examine_beside;
 use txn_files::doctor::{Report, examine};
 
 const SERVES: &str = "keeps a file and its time to the nanosecond: yes
@@ -28,6 +29,42 @@ locks a file against a second open: yes
 syncs files and folders: this file system has no sync of folders: names last as it lets them
 removes files: yes
 it serves, and 0 names are left";
+
+const BESIDE: &str = "both are mounts of one folder: yes
+the other finds a new name that was missing before: yes
+the other reads what was renamed over an old file: yes
+the other reads it beside an open old file: yes
+the other lists a new name: yes
+the other lists a removed name no more: yes
+the other misses a removed name beside its open file, and finds it made again: yes
+the other is refused a lock that is held, and gets it then: yes
+the first finds a new name that was missing before: yes
+the first reads what was renamed over an old file: yes
+the first reads it beside an open old file: yes
+the first lists a new name: yes
+the first lists a removed name no more: yes
+the first misses a removed name beside its open file, and finds it made again: yes
+the first is refused a lock that is held, and gets it then: yes
+nothing is left: yes
+serves: true, and 0 names are left";
+
+const APART: &str = "both are mounts of one folder: no: the old was seen for 5.000 s and longer
+the other finds a new name that was missing before: no: not tried
+the other reads what was renamed over an old file: no: not tried
+the other reads it beside an open old file: no: not tried
+the other lists a new name: no: not tried
+the other lists a removed name no more: no: not tried
+the other misses a removed name beside its open file, and finds it made again: no: not tried
+the other is refused a lock that is held, and gets it then: no: not tried
+the first finds a new name that was missing before: no: not tried
+the first reads what was renamed over an old file: no: not tried
+the first reads it beside an open old file: no: not tried
+the first lists a new name: no: not tried
+the first lists a removed name no more: no: not tried
+the first misses a removed name beside its open file, and finds it made again: no: not tried
+the first is refused a lock that is held, and gets it then: no: not tried
+nothing is left: yes
+serves: false, and 0 names are left";
 
 /// The call of the system that links a file.
 const LINKS: u64 = 2;
@@ -148,5 +185,55 @@ fn try_folders(rt: &HostRuntime, wrong: &mut String) -> io::Result<()> {
 fn folders_are_examined(rt: HostRuntime) -> Result<(), Fail> {
     let mut wrong = String::new(rt.alloc());
     let done = try_folders(&rt, &mut wrong);
+    verdict(done, wrong.as_str())
+}
+
+/// Writes what two folders show of each other's changes, as mounts of one folder. The clock's pauses take no time.
+fn write_beside(
+    rt: &HostRuntime,
+    first: &str,
+    other: &str,
+    text: &mut String,
+) -> Result<(), AllocError> {
+    let left = Cell::new(NONE);
+    let log = Log::new(rt.alloc(), first);
+    let report = examine_beside(&never_failing(rt, &left, &log), rt.alloc(), first, other)?;
+    let lines = format!(in rt.alloc(); "{report}serves: {}", report.serves())?;
+    text.push_str(lines.as_str())?;
+    write_left(rt, first, text)
+}
+
+/// The same, unless that is what is wanted.
+fn try_beside(
+    rt: &HostRuntime,
+    first: &str,
+    other: &str,
+    wanted: &str,
+    wrong: &mut String,
+) -> Result<(), AllocError> {
+    let mut text = String::new(rt.alloc());
+    write_beside(rt, first, other, &mut text)?;
+    if text.as_str() != wanted {
+        wrong.push_str(text.as_str())?;
+    }
+    Ok(())
+}
+
+/// Examines a folder beside itself, and beside another one.
+fn try_mounts(rt: &HostRuntime, wrong: &mut String) -> io::Result<()> {
+    let first = folder_of(rt, "beside")?;
+    let other = folder_of(rt, "apart")?;
+    fs::create_dir(rt, first.as_str())?;
+    fs::create_dir(rt, other.as_str())?;
+    try_beside(rt, first.as_str(), first.as_str(), BESIDE, wrong)?;
+    try_beside(rt, first.as_str(), other.as_str(), APART, wrong)?;
+    fs::remove_dir(rt, other.as_str())?;
+    fs::remove_dir(rt, first.as_str())
+}
+
+#[test]
+fn mounts_are_examined(rt: HostRuntime) -> Result<(), Fail> {
+    let mut wrong = String::new(rt.alloc());
+    let done = try_mounts(&rt, &mut wrong);
     verdict(done, wrong.as_str())
 }
