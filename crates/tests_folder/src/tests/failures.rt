@@ -192,3 +192,49 @@ fn each_call_of_the_system_fails(rt: HostRuntime) -> Result<(), Fail> {
     let done = fail_each(&rt, &mut wrong);
     verdict(done, wrong.as_str())
 }
+
+/// Gets whose file is none any more as it is opened, after it was found, as a network can have it: each looks it up anew.
+const LOOKED_UP_ANEW: &[&str] = &["get 1 = got 0:1\n", "get boundary = got 1\n"];
+
+/// The call of the system, in a get, that opens the file.
+const OPENS: u64 = 1;
+
+/// How a get goes whose file is none any more as it is opened.
+fn stale(rt: &HostRuntime, root: &str, table: &str) -> Result<Outcome, AllocError> {
+    let left = Cell::new(OPENS);
+    let log = Log::new(rt.alloc(), root);
+    let failing = Failing {
+        kind: ErrorKind::StaleNetworkFileHandle,
+        ..never_failing(rt, &left, &log)
+    };
+    outcome_of(failing, root, false, table)
+}
+
+/// Plays these gets, and writes those that are answered otherwise than if nothing had happened.
+fn look_up_anew(rt: &HostRuntime, root: &str, wrong: &mut String) -> Result<(), AllocError> {
+    if !are_told(rt, root, BEFORE)? {
+        wrong.push_str(BEFORE)?;
+    }
+    for table in LOOKED_UP_ANEW {
+        if stale(rt, root, table)? != Outcome::Done {
+            wrong.push_str(table)?;
+        }
+    }
+    Ok(())
+}
+
+/// The same in a folder of its own.
+fn look_up_anew_alone(rt: &HostRuntime, wrong: &mut String) -> io::Result<()> {
+    let root = folder_of(rt, "stale")?;
+    fs::create_dir(rt, root.as_str())?;
+    let done = look_up_anew(rt, root.as_str(), wrong);
+    let _ = fs::remove_dir_all(rt, root.as_str());
+    Ok(done?)
+}
+
+#[test]
+fn stale_files_are_looked_up_anew(rt: HostRuntime) -> Result<(), Fail> {
+    let mut wrong = String::new(rt.alloc());
+    let done = look_up_anew_alone(&rt, &mut wrong);
+    verdict(done, wrong.as_str())
+}
