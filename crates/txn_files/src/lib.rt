@@ -9,4 +9,5 @@ pub mod lock;
 pub mod name;
 pub mod new_file;
 pub mod publish;
+pub mod removals;
 pub mod written;

@@ -8,3 +8,4 @@ pub mod Pages
 pub mod Told
 pub mod Places
 pub mod Listings
+pub mod Repairs

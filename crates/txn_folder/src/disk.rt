@@ -1,5 +1,5 @@
 //! The files of an object on a file system, by their places.
-ghost use Rattle.std.specs.Prelude.{◌≡◌, ◌<◌, ◌≤◌, IfOk, IfSome, if◌then◌else◌, string_bytes};
+ghost use Rattle.std.specs.Prelude.{◌≡◌, ◌<◌, ◌≤◌, Ok, IfOk, IfSome, if◌then◌else◌, string_bytes};
 ghost use Rattle.txn_files.specs.Names.{IsHeld, known, lasting, seen};
 ghost use Rattle.txn_files.specs.declared.lock.Sharing.TheVariants.{Alone};
 ghost use Rattle.txn_files.specs.declared.name.Deed.TheVariants as deeds;
@@ -7,15 +7,20 @@ ghost use Rattle.txn_folder.specs.Places.{IsGoneAt, IsToldAt, created_at, place_
 ghost use Rattle.txn_store.specs.VersionName.{Names};
 ghost use Rattle.txn_folder.specs.Tokens.{IsTokenAt, IsFoundAt};
 ghost use Rattle.txn_folder.specs.Pages.{IsPageAfter};
+ghost use Rattle.txn_files.specs.Removed.{removed};
+ghost use Rattle.txn_files.specs.Removed as gone;
+ghost use Rattle.txn_folder.specs.Repairs.{IsDone, IsRepairedAt};
 ghost use Rattle.txn_folder.specs.Listings.{IsNewest, IsToldLast, WasSeen};
 
 use crate::clean::clean_in;
 use crate::folder::Folder;
 use crate::found::{Found, read_file};
 use crate::lasting::Lasting;
-use crate::listing::{Listed, Newest, page_after};
+use crate::listing::{Listed, Newest, page_after, standing};
 use crate::numbers::Numbers;
 use crate::place::{Place, number_at, number_in, shown};
+use crate::repair::{Kept, Repaired, goes_on_at};
+use crate::tear::tear_in;
 use bytes::Bytes;
 use std::alloc::Global;
 use std::fs;
@@ -27,9 +32,11 @@ use txn_files::lock::{Lock, LockFile, Sharing, take_lock};
 use txn_files::name::{Deed, Name, link, look, remove, replace};
 use txn_files::new_file::Written;
 use txn_files::publish::{make_folder, stands};
+use txn_files::removals::{Removals, remove_each};
 use txn_store::page::{Listing, Page};
 use txn_store::store::Token;
 use txn_store::version_names::VersionNames;
+use txn_types::codec::ObjectCodec;
 
 /// What a put told, and what is known of the name that it gave a file.
 #[derive(Drop)]
@@ -308,6 +315,67 @@ impl<R: Files + Clock + Alloc<A = Global> + Clone + Drop> Disk<R>
 where
     R::File: LockFile,
 {
+    /// What the boundary says: 0 where there is none, and nothing where it says no number.
+    fn boundary(&self, alloc: Global) -> Result<Option<u64>, Halt> {
+        let file = self.folder.file_of(alloc, Place::Boundary)?;
+        match read_file(&self.rt, Place::Boundary, file)? {
+            Some(found) => Ok(number_in(found.token)),
+            None => Ok(Some(0)),
+        }
+    }
+
+    /// Makes removals last, where that is asked.
+    fn sync_removals(&self, removals: Removals<R::File>) -> Result<Removals<R::File>, Halt>
+        ensures { IfOk result (λ told. removed told ≡ (if self.now.syncs then gone.lasting (removed removals) else removed removals)) }
+    {
+        if !self.syncs {
+            return Ok(removals);
+        }
+        removals.make_last(&self.rt)
+    }
+
+    /// Removes these torn versions, the first first, under the lock of removals, which is held until that lasts. The object then
+    /// goes on at the newest version that is left.
+    fn remove_torn(
+        &self,
+        alloc: Global,
+        lock: Lock<R::File>,
+        newest: u64,
+        ids: Vec<u64>,
+    ) -> Result<Repaired<R::File>, Halt>
+        requires { IsHeld (versions_lock self.now.folder) Alone lock }
+        ensures { IfOk result (IsDone self.now.folder self.now.syncs ids.items (Ok newest)) }
+    {
+        let files = self.folder.files_of(alloc, &ids)?;
+        let removals = self.sync_removals(remove_each(&self.rt, lock, files)?)?;
+        Ok(Repaired::Removed {
+            newest,
+            ids,
+            removals,
+        })
+    }
+
+    /// Removes the versions above the newest that the codec reads as a value, where the object goes on at that one. Whatever
+    /// halts it, only such versions are gone, the greatest of them.
+    pub fn repair<T: Drop, C: ObjectCodec<T>>(
+        &self,
+        alloc: Global,
+        codec: &C,
+    ) -> Result<Repaired<R::File>, Halt>
+        ensures { IfOk result (IsRepairedAt self.now.folder self.now.syncs) }
+    {
+        if !self.has_versions()? {
+            return Ok(Repaired::Kept(Kept::NoVersion));
+        }
+        let lock = self.lock_versions(alloc, Sharing::Alone)?;
+        let ids = standing(&self.rt, &self.folder, &lock)?;
+        let tear = tear_in(&self.rt, codec, &self.folder, &ids)?;
+        match goes_on_at(&tear, self.boundary(alloc)?) {
+            Err(why) => Ok(Repaired::Kept(why)),
+            Ok(newest) => self.remove_torn(alloc, lock, newest, tear.ids(alloc)?),
+        }
+    }
+
     /// Removes temporary files that are older than a time, and tells how many.
     pub fn clean(&self, before: SystemTime) -> Result<u64, Fault> {
         let versions = clean_in(&self.rt, &self.folder, self.folder.versions(), before)?;

@@ -1,5 +1,5 @@
 //! The names of an object's files in a folder.
-ghost use Rattle.std.specs.Prelude.{◌≡◌, ◌↔◌, ◌||◌, ℕ, ◌<◌, ◌^◌, List, Some, true, not, IfOk, IsErrOf, Decides, MatchOption, string_bytes};
+ghost use Rattle.std.specs.Prelude.{◌≡◌, ◌↔◌, ◌||◌, ℕ, ◌<◌, ◌^◌, List, Some, true, not, IfOk, IsErrOf, Decides, MatchOption, map, string_bytes};
 ghost use Rattle.txn_store.specs.Paths.{is_plain};
 ghost use Rattle.txn_store.specs.Digits.{padded};
 ghost use Rattle.txn_store.specs.VersionName.{is_suffix, version_name};
@@ -107,6 +107,17 @@ impl Folder {
         let suffix = self.suffix.as_str();
         let file = format!(in alloc; "{versions}/{id:020}.{suffix}")?;
         Ok(file)
+    }
+
+    /// The files of versions, in this order. The only error is want of memory.
+    pub(crate) fn files_of(&self, alloc: Global, ids: &[u64]) -> Result<Vec<String>, AllocError>
+        ensures { IfOk result (λ files. map string_bytes files.items ≡ map (version_file self.now) ids.now) }
+    {
+        let mut files = Vec::new(alloc);
+        for id in ids {
+            files.push(self.version(alloc, *id)?)?;
+        }
+        Ok(files)
     }
 
     /// The file at a place. The only error is want of memory.

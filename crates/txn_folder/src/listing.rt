@@ -1,8 +1,9 @@
 //! Listings of the folder of the versions.
 ghost use Rattle.std.specs.Prelude.{◌≡◌, ◌≤◌, ◌<◌, ℕ, Option, All, Decides, IfOk, IfSome, map};
+ghost use Rattle.std.specs.List.Sorted.{IsStrictlyIncreasing};
 ghost use Rattle.txn_store.specs.VersionName.{version_path};
 ghost use Rattle.txn_files.specs.Names.{IsHeld, known, seen};
-ghost use Rattle.txn_files.specs.declared.lock.Sharing.TheVariants.{WithOthers};
+ghost use Rattle.txn_files.specs.declared.lock.Sharing.TheVariants.{Alone, WithOthers};
 ghost use Rattle.txn_files.specs.declared.name.Deed.TheVariants.{Stands};
 ghost use Rattle.txn_folder.specs.Files.{version_file};
 ghost use Rattle.txn_folder.specs.Pages.{AscendAbove, IsAbove, IsPageAfter, locations};
@@ -171,6 +172,23 @@ pub(crate) fn page_after<R: Files + Alloc<A = Global> + Clone + Drop>(
         }
     }
     Err(Halt::Fault(Fault::at(Doing::Unsettled)))
+}
+
+/// The ids, ascending, of the versions that stand. Nothing is removed meanwhile: the lock of removals is held.
+pub(crate) fn standing<R: Files + Alloc<A = Global> + Clone + Drop>(
+    rt: &R,
+    folder: &Folder,
+    _lock: &Lock<R::File>,
+) -> Result<Vec<u64>, Halt>
+    requires { IsHeld (versions_lock folder.now) Alone _lock.now }
+    ensures { IfOk result (λ ids. IsStrictlyIncreasing ids.items) }
+{
+    let search = Search {
+        rt,
+        folder,
+        after: None,
+    };
+    search.settled()
 }
 
 /// How many of so many versions a page has.

@@ -3,11 +3,13 @@ ghost use Rattle.std.specs.Prelude.{◌≡◌, ◌≤◌, is_some, false, IfErr,
 ghost use Rattle.txn_store.specs.VersionName.{version_path};
 ghost use Rattle.txn_folder.specs.Tokens.{IsAt, IsTokenOf};
 ghost use Rattle.txn_folder.specs.Replies.{IsReplyTo, IsHalt, IsPutError, IsGetError, is_failed, has_failed, reply_failed};
+ghost use Rattle.txn_folder.specs.Repairs.{IsRepair};
 ghost use Rattle.txn_folder.specs.Told.{Tells, IsGotOf, IsListing};
 
 use crate::disk::Disk;
 use crate::folder::Folder;
 use crate::place::{Place, number_in, place_of, shown};
+use crate::repair::Repair;
 use bytes::Bytes;
 use std::alloc::Global;
 use std::rt::{Clock, Files};
@@ -18,6 +20,7 @@ use txn_store::path::Path;
 use txn_store::request::{Reply, Request};
 use txn_store::store::{Got, Paged, PutMode, StoreError, Token};
 use txn_store::version_names::VersionNames;
+use txn_types::codec::ObjectCodec;
 
 /// The files of one object in a folder, under the names that requests have for them.
 pub struct FolderStore<R: Files + Drop> {
@@ -95,7 +98,7 @@ where
     R::File: LockFile,
 {
     /// The store of the files in `folder`, for requests that name versions by `names` and the boundary by `boundary`. With
-    /// `syncs`, what is told lasts when the power fails.
+    /// `syncs`, what is told lasts when the power fails; without, a cut can also leave versions that are no value (`repair`).
     pub fn new(
         rt: R,
         folder: Folder,
@@ -161,6 +164,28 @@ where
     /// step that fails, whose fault it answers, and which `fault()` does not tell; what it removed before stays removed.
     pub fn clean(&mut self, before: SystemTime) -> Result<u64, Fault> {
         self.disk.clean(before)
+    }
+
+    /// Removes the versions above the newest that the codec reads as a value, the greatest first, where there are such versions
+    /// and that one is above the boundary; else it removes nothing, and tells why. It holds the lock of removals alone
+    /// meanwhile. An update that was answered with the id of one that it removes is lost, and so is one with a greater id.
+    ///
+    /// The codec has to be that of the object: what it does not read is taken as torn. Nobody else is to write meanwhile.
+    ///
+    /// # Errors
+    ///
+    /// `NoMemory`, which leaves the files as they were; a fault, of a step that failed, which `fault()` does not tell. Of a
+    /// fault of the steps `Removing` and `SyncingFolder` the greatest of those versions may be gone, and no others: a further
+    /// repair goes on. Any other leaves the files as they were.
+    pub fn repair<T: Drop, C: ObjectCodec<T>>(
+        &self,
+        alloc: Global,
+        codec: &C,
+    ) -> Result<Repair, Halt>
+        ensures { IfOk result IsRepair }
+    {
+        let repaired = self.disk.repair(alloc, codec)?;
+        Ok(repaired.told())
     }
 
     fn put(

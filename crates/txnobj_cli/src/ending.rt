@@ -3,7 +3,8 @@
 use std::alloc::{AllocError, AllocFailed};
 use std::{fmt, io};
 use txn_client::stop::Stop;
-use txn_files::fault::Fault;
+use txn_files::fault::{self, Fault};
+use txn_folder::repair::Kept;
 use txn_history::event::EventFault;
 use txnobj::error::Error;
 use txnobj_folder::error::OpenError;
@@ -16,6 +17,10 @@ pub const USAGE: u8 = 2;
 pub const NOTHING: u8 = 3;
 /// The status of an audit that does not agree.
 pub const NOT_ONE_HISTORY: u8 = 4;
+/// The status of a repair of an object of which nothing is torn.
+const NOTHING_TORN: u8 = 5;
+/// The status of a repair that would leave no version at which the object goes on.
+const NOT_REPAIRED: u8 = 6;
 /// A call's refusal n ends with this and n.
 const REFUSED: u8 = 10;
 /// A call that the client does not permit, by fault n, ends with this and n.
@@ -35,6 +40,8 @@ pub enum Halt {
     Store(Fault),
     /// The same, of a call that a client made for a command, which may have been a write.
     Call(Fault),
+    /// A repair removed nothing.
+    Kept(Kept),
     /// Words that do not go together.
     Words(&'static str),
     /// A call was refused with this number.
@@ -53,6 +60,17 @@ fn status_of(error: &OpenError) -> u8 {
     }
 }
 
+/// The status of a repair that removed nothing. Where there is no version, and where the boundary says no number, it is that of
+/// any other call of such an object.
+fn status_of_kept(kept: &Kept) -> u8 {
+    match kept {
+        Kept::NoVersion => REFUSED + 4,
+        Kept::NothingTorn(_) => NOTHING_TORN,
+        Kept::NoBoundary => REFUSED + 7,
+        Kept::NoValue | Kept::NotAbove { .. } => NOT_REPAIRED,
+    }
+}
+
 impl Halt {
     /// The status that the program ends with.
     pub fn status(&self) -> u8 {
@@ -60,6 +78,7 @@ impl Halt {
             Halt::NoMemory | Halt::Io(_) | Halt::Unrecorded(_) | Halt::Store(_) | Halt::Call(_) =>
                 FAULT,
             Halt::Open(error) => status_of(error),
+            Halt::Kept(kept) => status_of_kept(kept),
             Halt::Words(_) => USAGE,
             Halt::Refused(number) => number.saturating_add(REFUSED),
             Halt::NotPermitted(fault) => fault.number().saturating_add(NOT_PERMITTED),
@@ -109,6 +128,10 @@ impl Halt {
             Halt::NoMemory => "no memory",
             Halt::Open(OpenError::EmptyRoot) => "--root is empty",
             Halt::Open(OpenError::RootIsNoFolder) => "--root is no folder",
+            Halt::Kept(Kept::NoVersion) => meaning(4),
+            Halt::Kept(Kept::NoBoundary) => meaning(7),
+            Halt::Kept(Kept::NoValue) =>
+                "no version that stands is a value of this program: there is none to go on at, and none was removed",
             Halt::Words(words) => words,
             Halt::Refused(number) => meaning(*number),
             Halt::NotPermitted(fault) => reason(*fault),
@@ -130,6 +153,14 @@ impl fmt::Display for Halt {
             Halt::Unrecorded(error) => write!(
                 f,
                 "writing the recording: {error}; what was asked for may have taken effect: read again"
+            ),
+            Halt::Kept(Kept::NothingTorn(newest)) => write!(
+                f,
+                "nothing is torn: the newest version, {newest}, is a value"
+            ),
+            Halt::Kept(Kept::NotAbove { newest, boundary }) => write!(
+                f,
+                "the newest version that is a value, {newest}, is not above the boundary, {boundary}: there is none to go on at, and none was removed"
             ),
             Halt::Store(fault) => write!(f, "{fault}"),
             Halt::Call(fault) => write!(f, "{fault}; a write may have taken effect: read again"),
@@ -178,6 +209,15 @@ impl From<Error<Fault>> for Halt {
             Error::TurnsExhausted => Halt::NoEnd,
             Error::Ended => Halt::NoMemory,
             other => refused(other),
+        }
+    }
+}
+
+impl From<fault::Halt> for Halt {
+    fn from(halt: fault::Halt) -> Halt {
+        match halt {
+            fault::Halt::NoMemory => Halt::NoMemory,
+            fault::Halt::Fault(fault) => Halt::Store(fault),
         }
     }
 }

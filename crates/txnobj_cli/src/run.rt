@@ -11,9 +11,10 @@ use crate::printed::{
 use crate::values::bytes_of;
 use crate::watch::watch;
 use std::time::{Duration, SystemTime};
-use txn_entries::entry::Entry;
+use txn_entries::entry::{Entry, EntryCodec};
 use txn_files::beside::examine_beside;
 use txn_files::doctor::{Report, examine};
+use txn_folder::repair::Repair;
 use txn_history::event::{Answer, Call, PlainAnswer};
 use txn_lines::printed::Answered;
 use txn_lines::text_form::TextForm;
@@ -22,6 +23,7 @@ use txnobj::protocol::TransactionalStorageProtocol;
 use txnobj_folder::clock::MachineClock;
 use txnobj_folder::opening::EntryClient;
 use txnobj_said::lines::print_number;
+use txnobj_said::repaired::print_repaired;
 use txnobj_words::options::{Command, Options, Source};
 
 /// The number of a refusal for want of memory.
@@ -39,6 +41,7 @@ pub fn run(rt: &HostRuntime, options: &Options<'_>) -> Result<u8, Halt> {
         } => audit(rt, diaries.as_slice(), *clock_error),
         Command::Doctor { beside } => doctor(rt, options, *beside),
         Command::Clean(seconds) => clean(rt, options, *seconds),
+        Command::Repair => repair(rt, options),
         Command::Bench { times, lists } => bench(rt, options, *times, *lists),
         command => of_client(rt, &mut open(rt, options)?, command),
     }
@@ -195,4 +198,16 @@ fn clean(rt: &HostRuntime, options: &Options<'_>, seconds: u64) -> Result<u8, Ha
     };
     print_number(rt.alloc(), &mut rt.stdout(), removed)?;
     Ok(0)
+}
+
+/// Removes the versions above the newest that is a value, and says which.
+fn repair(rt: &HostRuntime, options: &Options<'_>) -> Result<u8, Halt> {
+    let store = store_of(rt, options)?;
+    match store.repair(rt.alloc(), &EntryCodec)? {
+        Repair::Kept(why) => Err(Halt::Kept(why)),
+        Repair::Removed { newest, removed } => {
+            print_repaired(rt.alloc(), &mut rt.stdout(), newest, removed.as_slice())?;
+            Ok(0)
+        }
+    }
 }

@@ -28,7 +28,8 @@ const MOST_OF_A_SUFFIX: usize = 213;
 pub struct Opening<'a> {
     /// What the names of the versions' files end with. One object has one suffix.
     pub suffix: &'a str,
-    /// Whether what is told lasts when the power fails.
+    /// Whether what is told lasts when the power fails. Where it does not, a cut loses what was told last, and can leave a newest
+    /// version that is no value, on which nothing goes on before a `repair` of the store.
     pub syncs: bool,
     /// The client's number, at least 1, which no other client of the object has, in all runs. None: the nanoseconds since 1970.
     pub number: Option<u64>,

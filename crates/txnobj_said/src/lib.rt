@@ -3,3 +3,4 @@
 
 pub mod audited;
 pub mod lines;
+pub mod repaired;

@@ -8,5 +8,6 @@ abbrev pub is_of_client : Command → Bool
 is_of_client (commands.Audit diaries clock_error) = false
 is_of_client (commands.Doctor beside) = false
 is_of_client (commands.Clean seconds) = false
+is_of_client commands.Repair = false
 is_of_client (commands.Bench times lists) = false
 is_of_client _ = true

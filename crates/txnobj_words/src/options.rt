@@ -59,6 +59,8 @@ pub enum Command<'a> {
     },
     /// Removes temporary files that are older than so many seconds.
     Clean(u64),
+    /// Removes the versions above the newest that is a value.
+    Repair,
     /// Times so many additions of one to a number, or so many listings.
     Bench {
         times: u64,
@@ -99,6 +101,7 @@ impl Command<'_> {
             Command::Audit { .. }
                 | Command::Doctor { .. }
                 | Command::Clean(_)
+                | Command::Repair
                 | Command::Bench { .. }
         )
     }
@@ -195,7 +198,7 @@ const OPTIONS: &[Argument] = &[
         "no-sync",
         Kind::Flag,
         "",
-        "Do not wait until what is written lasts through a power failure",
+        "Do not wait until what is written lasts: a cut of power then loses answered writes, and can leave a newest version that is no value, on which nothing goes on before `repair`",
     ),
 ];
 
@@ -320,6 +323,12 @@ const COMMANDS: &[Row] = &[
         )],
     ),
     (
+        "repair",
+        "After a cut of power with --no-sync, while nobody else writes: remove the versions above the newest that is a value, which are torn, and print their ids, and at which the object goes on; a write that was answered with a greater id is lost",
+        "Example: txnobj --root /srv/meta --name leader repair",
+        &[],
+    ),
+    (
         "bench",
         "Add one to a number again and again, in an object of its own, by the store's calls alone; print how long each took",
         "Example: txnobj --root /dev/shm/bench --name number --no-sync bench 10000",
@@ -350,7 +359,7 @@ const COMMANDS: &[Row] = &[
 ];
 
 const STATUSES: &str =
-    "Statuses: 0 done; 1 a fault of the system or of the folder, or no memory, where a write may have taken effect; 2 wrong words, a recording that another process writes, or an object that is not bench's own; 3 nothing new to see, or a folder that does not serve; 4 an audit that does not agree; 12 the store failed at no known step; 14 there is no version; 15 a conflict; 16 fenced; 17 not in this state; 18 bytes that are no value; 19 no memory; 20 no id or epoch is left; 21 no end in sight: others write all the time, or the boundary stands at or above the newest version; 30 + n the client does not permit the call, by fault n";
+    "Statuses: 0 done; 1 a fault of the system or of the folder, or no memory, where a write may have taken effect; 2 wrong words, a recording that another process writes, or an object that is not bench's own; 3 nothing new to see, or a folder that does not serve; 4 an audit that does not agree; 5 a repair of an object of which nothing is torn; 6 a repair that leaves no version to go on at; 12 the store failed at no known step; 14 there is no version; 15 a conflict; 16 fenced; 17 not in this state; 18 bytes that are no value; 19 no memory; 20 no id or epoch is left; 21 no end in sight: others write all the time, or the boundary stands at or above the newest version; 30 + n the client does not permit the call, by fault n";
 
 impl Kind {
     /// Whether it has to be there.
@@ -487,6 +496,7 @@ fn command_of<'a>(name: &str, found: &ArgMatches<'a>) -> Command<'a> {
         "collect" => Command::Collect,
         "shell" => Command::Shell,
         "clean" => Command::Clean(number_in(found, "SECONDS")),
+        "repair" => Command::Repair,
         "bench" => Command::Bench {
             times: number_in(found, "TIMES"),
             lists: found.get_flag("list"),

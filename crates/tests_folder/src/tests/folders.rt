@@ -114,6 +114,35 @@ const MISSING: &[Block] = &[(
     "get 1 = not found\ncreate 1 0:1 = failed\ncreate boundary 1 = failed\ndelete 1 = deleted\n",
 )];
 
+/// Versions above the newest that is a value are removed, and no others; none where there is none to go on at.
+const REPAIRS: &str = "repair = there is no version
+create 1 0:1 = put
+create 2 = put
+create 3 0:3 = put
+repair = 3 is a value
+create 4 = put
+create 5 torn = put
+repair = removed 5 4, at 3
+list 9 = listed 1 2 3
+repair = 3 is a value
+create 4 = put
+create boundary 3 = put
+repair = 3 is not above 3
+overwrite boundary torn = put
+repair = the boundary is no number
+overwrite boundary 2 = put
+overwrite 1 = put
+overwrite 3 = put
+repair = none is a value
+list 9 = listed 1 2 3 4
+";
+
+#[test]
+fn torn_versions_are_removed(rt: HostRuntime) -> Result<(), Fail> {
+    play_scene(&rt, &[("fast", REPAIRS)])?;
+    play_scene(&rt, &[("synced", REPAIRS)])
+}
+
 #[test]
 fn oddities_are_met(rt: HostRuntime) -> Result<(), Fail> {
     play_scene(&rt, MISSING)?;

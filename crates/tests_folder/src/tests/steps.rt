@@ -2,7 +2,7 @@
 //!
 //! A table has a call a line, and after ` = ` what it is answered. A call is `create NAME BYTES`, `overwrite NAME BYTES`,
 //! `update NAME TOKEN BYTES`, `get NAME`, `get NAME TOKEN`, `delete NAME`, `list LIMIT`, or `list LIMIT ID`, which goes on after
-//! that version. A NAME is the id of a version, `boundary`, or `elsewhere`, which is none of the object's. Before a call may
+//! that version, or `repair`. A NAME is the id of a version, `boundary`, or `elsewhere`, which is none of the object's. Before a call may
 //! stand how many calls of the system that name a file or a folder it takes, `noted`, where lines follow that say what it asks of
 //! the system and in which order, or `other`, where another store in the folder makes it.
 
@@ -13,7 +13,9 @@ use std::rt::Clock;
 use std::time::SystemTime;
 use std::{io, str};
 use txn_folder::folder::Folder;
+use txn_folder::repair::{Kept, Repair};
 use txn_folder::store::FolderStore;
+use txn_lines::record::{Record, RecordCodec};
 use txn_store::digits::read_digits;
 use txn_store::page::Page;
 use txn_store::path::{Path, PathFault};
@@ -213,6 +215,45 @@ fn replied(
     said(alloc, layout, &reply)
 }
 
+/// Why a repair removed nothing.
+fn kept(alloc: Global, why: &Kept) -> Result<String, AllocError> {
+    match why {
+        Kept::NoVersion => String::from_str(alloc, "there is no version"),
+        Kept::NothingTorn(newest) => format!(in alloc; "{newest} is a value"),
+        Kept::NoValue => String::from_str(alloc, "none is a value"),
+        Kept::NoBoundary => String::from_str(alloc, "the boundary is no number"),
+        Kept::NotAbove { newest, boundary } => format!(in alloc;
+            "{newest} is not above {boundary}"
+        ),
+    }
+}
+
+/// Which versions a repair removed, and at which one the object goes on.
+fn removed(alloc: Global, newest: u64, ids: &[u64]) -> Result<String, AllocError> {
+    let mut text = String::from_str(alloc, "removed")?;
+    for id in ids {
+        let word = format!(in alloc; " {id}")?;
+        text.push_str(word.as_str())?;
+    }
+    let end = format!(in alloc; ", at {newest}")?;
+    text.push_str(end.as_str())?;
+    Ok(text)
+}
+
+/// What a repair does, for records.
+fn repaired(alloc: Global, store: &Store<'_>) -> Result<String, AllocError> {
+    match store.repair::<Record, RecordCodec>(alloc, &RecordCodec) {
+        Ok(Repair::Kept(why)) => kept(alloc, &why),
+        Ok(
+            Repair::Removed {
+                newest,
+                removed: ids,
+            },
+        ) => removed(alloc, newest, ids.as_slice()),
+        Err(_) => String::from_str(alloc, "halted"),
+    }
+}
+
 /// What a call is answered.
 fn answered(
     alloc: Global,
@@ -220,6 +261,9 @@ fn answered(
     store: &mut Store<'_>,
     call: &str,
 ) -> Result<String, AllocError> {
+    if call == "repair" {
+        return repaired(alloc, store);
+    }
     match request_of(alloc, layout, call) {
         Ok(request) => replied(alloc, layout, store, &request),
         Err(_) => Err(AllocError),
