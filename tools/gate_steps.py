@@ -30,8 +30,10 @@ CASES = {PROGRAM_OF_CASES: ("cases", []), "txnport_cli": ("cases of the port", [
 # The program of which processes are let work on one folder, and the examples of the library, which work there too.
 PROGRAM_OF_FOLDERS = "txnobj_cli"
 EXAMPLES = ("example_leader", "example_counter")
-# For how many seconds processes of a program are killed that passed this on this machine before.
+# For how many seconds processes of a program are killed that passed this on this machine before, and, as on two mounts, on one
+# folder that is given twice.
 SECONDS_AGAIN = 10
+SECONDS_ON_MOUNTS = 3
 # How the name of a crate of tests begins.
 TESTS = "tests_"
 LAST_LINE = re.compile(r"(\d+) passed, (\d+) failed")
@@ -257,6 +259,15 @@ def folder_steps(root, programs, anew=False):
         yield done
 
 
+def mount_steps(root, programs):
+    """Lets processes of the program work on one folder as by two mounts, where LLVM's build of it was made."""
+    build = builds_of(root, PROGRAM_OF_FOLDERS)[0]
+    if PROGRAM_OF_FOLDERS in programs and os.path.isfile(build):
+        with tempfile.TemporaryDirectory(prefix="mounts-") as folder:
+            how = ["--program", build, "--seconds", f"{SECONDS_ON_MOUNTS}"]
+            yield step("processes on two mounts", [f"{root}/tools/try-mounts", folder, folder, *how], root)
+
+
 def table(steps):
     """The steps as lines: counts, real time and processor time."""
     width = max(len(it.name) for it in steps)
@@ -316,6 +327,7 @@ def steps_of(root, top, given):
     yield from case_steps(top, programs)
     yield from refusal_steps(top, programs)
     yield from folder_steps(top, programs, given.anew)
+    yield from mount_steps(top, programs)
 
 
 def arguments_of(words, usage):

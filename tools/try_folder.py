@@ -3,284 +3,16 @@ from __future__ import annotations
 
 import argparse
 import os
-import random
 import re
-import shutil
 import subprocess
-import tempfile
-import threading
-import time
 
 from refuse_growths import NoLibrary, make_library
+from try_folder_clients import Object, Shell, Wrong, agrees, expect, on_one_folder, room_of_one_folder, together, tried
+from try_folder_pairs import CHECKS as PAIRS
+from try_folder_pairs import COUNTS
 
-PROCESSES, COUNTS = 8, 100
 # How many updates a client makes whose memory is measured, and how many KiB more it may take than after the first of them.
-FIRST_UPDATES, ALL_UPDATES, MOST_GROWN = 10_000, 100_000, 256
-VIEW = re.compile(r"(?:view|holder) (\d+) at (\d+) (\d+):(\d+)")
-
-
-class Wrong(Exception):
-    """Something that was told or left is not as it has to be."""
-
-
-def expect(holds, words):
-    if not holds:
-        raise Wrong(words)
-
-
-class Object:
-    """An object in a folder of its own, and the recordings of its clients."""
-
-    def __init__(self, program, root, name, syncs=False):
-        self.program, self.root, self.name, self.syncs = program, root, name, syncs
-        self.clients, self.lock, self.diaries = 0, threading.Lock(), []
-
-    def words(self, *command, recorded=True):
-        """The words of a command, as a client of its own, with a recording of its own."""
-        words = [self.program, "--root", self.root, "--name", self.name, *["--no-sync"] * (not self.syncs)]
-        if recorded:
-            with self.lock:
-                self.clients += 1
-                diary = f"{self.root}/{self.name}-{self.clients}.diary"
-                self.diaries.append(diary)
-                words += ["--client", str(self.clients), "--diary", diary]
-        return [*words, *command]
-
-    def run(self, *command, recorded=True):
-        """Runs a command: its status, and what it prints."""
-        how = {"stdin": subprocess.DEVNULL, "capture_output": True, "text": True, "check": False, "timeout": 60}
-        ran = subprocess.run(self.words(*command, recorded=recorded), **how)
-        return ran.returncode, ran.stdout
-
-    def told(self, *command):
-        """What a command prints that has to end well."""
-        status, said = self.run(*command)
-        expect(status == 0, f"{' '.join(command)}: status {status}")
-        return said
-
-    def history(self):
-        """The stored versions: the payload of each id."""
-        rows = [line.split() for line in self.told("history").splitlines()]
-        return {int(id): int(text.split(":")[1]) for id, text in rows}
-
-    def audit(self):
-        """The status of an audit of the recordings, and what it says. A client that was killed at once has left none."""
-        words = [self.program, "audit", *filter(os.path.exists, self.diaries)]
-        said = subprocess.run(words, capture_output=True, text=True, check=False, timeout=600)
-        return said.returncode, said.stdout or said.stderr
-
-
-class Shell:
-    """A process that keeps a view: a `txnobj shell`."""
-
-    def __init__(self, an_object, recorded=True):
-        pipe = {"stdin": subprocess.PIPE, "stdout": subprocess.PIPE, "stderr": subprocess.DEVNULL, "text": True}
-        self.process = subprocess.Popen(an_object.words("shell", recorded=recorded), **pipe)
-
-    def ask(self, call):
-        """The answer to a call, or nothing where the process was killed."""
-        try:
-            self.process.stdin.write(f"{call}\n")
-            self.process.stdin.flush()
-            return self.process.stdout.readline().strip()
-        except (OSError, ValueError):
-            return ""
-
-    def kill(self):
-        self.process.kill()
-
-    def end(self):
-        try:
-            self.process.stdin.close()
-        except OSError:
-            pass
-        self.process.wait()
-        self.process.stdout.close()
-
-
-def together(works):
-    """Does these at once, and raises what one of them raised."""
-    raised = []
-
-    def guarded(work):
-        try:
-            work()
-        except Exception as error:  # pylint: disable=broad-except
-            raised.append(error)
-
-    threads = [threading.Thread(target=guarded, args=(it,)) for it in works]
-    for it in threads:
-        it.start()
-    for it in threads:
-        it.join()
-    if raised:
-        raise raised[0]
-
-
-def count_up(shell, times, acknowledged, until=float("inf")):
-    """Adds one to the payload so many times, again after each conflict, or until a time. False where the process was
-    killed."""
-    answer = shell.ask("load")
-    done = 0
-    while done < times and time.monotonic() < until:
-        found = VIEW.match(answer)
-        if not found:
-            return False
-        epoch, payload = found[3], int(found[4]) + 1
-        answer = shell.ask(f"update 1 {epoch}:{payload}")
-        if found := VIEW.match(answer):
-            acknowledged.append((int(found[2]), payload))
-            done += 1
-        elif answer.startswith("refused 5"):
-            answer = shell.ask("refresh 1")
-        else:
-            return False
-    return True
-
-
-def counts(program, root, _seconds):
-    """8 processes by 100 increments: exact, with no gap."""
-    it = Object(program, root, "counter")
-    expect(it.told("init", "0") == "1\n", "the first version is not 1")
-    acknowledged = []
-
-    def work():
-        shell = Shell(it)
-        expect(count_up(shell, COUNTS, acknowledged), "a count ended early")
-        shell.end()
-
-    together([work] * PROCESSES)
-    total = PROCESSES * COUNTS
-    expect(it.history() == {id: id - 1 for id in range(1, total + 2)}, "the versions are not the counts, one by one")
-    expect(sorted(acknowledged) == [(id, id - 1) for id in range(2, total + 2)], "not each count was acknowledged once")
-    agrees(it, total + 1)
-    return [f"{PROCESSES} by {COUNTS} counts are exact and gap-free, and audited"]
-
-
-def agrees(it, entries):
-    """The audit of an object's recordings agrees, and says how many entries there are."""
-    status, said = it.audit()
-    expect(status == 0 and said.startswith("one history: "), f"the audit says: {said.strip()[:400]}")
-    if entries is not None:
-        expect(f" {entries} entries," in f" {said[len('one history:'):].strip()}", f"the audit counts otherwise: {said.strip()}")
-
-
-def kills(program, root, seconds):
-    """Processes are killed at random moments: nothing acknowledged is lost, nothing torn, the boundary never falls, and what
-    all recorded is one history."""
-    it = Object(program, root, "killed")
-    it.told("init", "0")
-    acknowledged, shells, until, killed, removed = [], {}, time.monotonic() + seconds, [0], [0]
-
-    def count(worker):
-        while time.monotonic() < until:
-            shells[worker] = Shell(it)
-            count_up(shells[worker], 1_000_000, acknowledged, until)
-            shells[worker].end()
-
-    def raise_boundary():
-        while time.monotonic() < until:
-            shell = shells["boundary"] = Shell(it)
-            for _ in range(20):
-                found = re.match(r"read (\d+) ", shell.ask("read"))
-                if not found or int(found[1]) < 12:
-                    break
-                behind = int(found[1]) - 10
-                shell.ask(f"advance {behind}")
-                while removed[0] + 1 < behind:
-                    removed[0] += 1
-                    if not shell.ask(f"delete {removed[0]}"):
-                        break
-            shell.end()
-
-    def kill():
-        chance = random.Random(1)
-        while time.monotonic() < until:
-            time.sleep(chance.uniform(0.02, 0.3))
-            for shell in chance.sample(list(shells.values()), k=min(1, len(shells))):
-                shell.kill()
-                killed[0] += 1
-        for shell in list(shells.values()):
-            shell.kill()
-
-    def watch():
-        last, file = 0, f"{root}/gc/killed.boundary"
-        while time.monotonic() < until:
-            if os.path.exists(file):
-                with open(file, encoding="ascii") as text:
-                    now = int(text.read())
-                expect(last <= now, f"the boundary fell from {last} to {now}")
-                last = now
-            time.sleep(0.001)
-
-    together([*(lambda w=w: count(w) for w in range(4)), raise_boundary, kill, watch])
-    stored = it.history()
-    for id, payload in acknowledged:
-        gone = id <= removed[0] and id not in stored
-        expect(gone or stored.get(id) == payload, f"version {id} says {stored.get(id)}, acknowledged was {payload}")
-    expect(max(stored) >= max(id for id, _ in acknowledged), "an acknowledged version is lost")
-    expect(all(payload == id - 1 for id, payload in stored.items()), "a stored version is not one more than the one before")
-    agrees(it, max(stored))
-    return [f"{killed[0]} kills in {seconds:.0f} s: nothing of {len(acknowledged)} acknowledged counts is lost, and audited"]
-
-
-def claims(program, root, _seconds):
-    """Two claim: the older is fenced. What is answered lasts, as it does where nothing else is asked for."""
-    it = Object(program, root, "leader", syncs=True)
-    it.told("init", "none")
-    older, newer = Shell(it), Shell(it)
-    expect(older.ask("load") == "view 1 at 1 0:none", "the first version is not loaded")
-    expect(older.ask("claim 1") == "holder 1 at 2 1:none epoch 1", "the first claim is not held")
-    expect(newer.ask("load") == "view 1 at 2 1:none", "the claimed version is not loaded")
-    expect(newer.ask("claim 1") == "holder 1 at 3 2:none epoch 2", "the second claim is not held")
-    expect(newer.ask("holder_update 1 2:new") == "view 1 at 4 2:new", "the newer holder does not write")
-    expect(older.ask("holder_update 1 1:old").startswith("refused 5"), "the older holder wrote on an old version")
-    expect(older.ask("holder_refresh 1").startswith("refused 6"), "the older holder is not fenced")
-    expect(older.ask("holder_update 1 1:old").startswith(("refused 6", "not permitted")), "the older holder wrote")
-    for shell in (older, newer):
-        shell.end()
-    expect(it.run("put", "--epoch", "1", "old")[0] == 16, "a put of the older epoch is not fenced")
-    expect(it.run("put", "--epoch", "3", "early")[0] == 17, "a put of an epoch that nobody claimed is not refused")
-    expect(it.run("put", "--epoch", "2", "newer") == (0, "5\n"), "a put of the newer epoch is refused")
-    expect(it.run("get") == (0, "newer"), "the newest value is not read")
-    expect(it.run("get", "--id") == (0, "5 2\n"), "the newest id and epoch are not printed")
-    expect(it.run("put", "--base", "4", "late")[0] == 15, "a put on an old base is no conflict")
-    expect(it.run("put", "--base", "5", "--epoch", "1", "old")[0] == 16, "a put of the older epoch on the newest is not fenced")
-    expect(it.run("put", "--base", "5", "--epoch", "2", "on") == (0, "6\n"), "a put of the newer epoch on the newest is refused")
-    expect(it.run("claim", "--epoch", "2")[0] == 16, "a claim of an epoch that stands is not refused")
-    expect(it.run("claim", "--epoch", "7") == (0, "7 7\n"), "a claim of a greater epoch is refused")
-    agrees(it, 7)
-    return ["the older of two claimers is fenced, and audited"]
-
-
-def collections(program, root, _seconds):
-    """Readers go on while old versions are removed, and what all recorded is one history."""
-    it = Object(program, root, "collected")
-    it.told("init", "0")
-    shell = Shell(it)
-    expect(count_up(shell, 60, []), "a count ended early")
-    done = threading.Event()
-
-    def read():
-        last = 0
-        while not done.is_set():
-            found = int(it.told("get"))
-            expect(last <= found, f"a read fell from {last} to {found}")
-            last = found
-
-    def collect():
-        try:
-            for _ in range(3):
-                expect(count_up(shell, 10, []), "a count ended early")
-                it.told("collect")
-        finally:
-            done.set()
-
-    together([read, read, collect])
-    shell.end()
-    expect(it.history() == {91: 90}, "old versions are left")
-    agrees(it, 91)
-    return ["reads go on during collections, and audited"]
+FIRST_UPDATES, ALL_UPDATES, MOST_GROWN = 1_000, 100_000, 64
 
 
 def odd_files(program, root, _seconds):
@@ -321,7 +53,7 @@ def strangers(program, root, _seconds):
         was = it.told("history")
         expect(it.run("bench", "2", recorded=False)[0] == 2, f"bench adds to the object {name}")
         expect(it.told("history") == was, f"bench changed the object {name}")
-    for command in (("bench", "2"), ("doctor",), ("clean", "1"), ("audit", "none")):
+    for command in (("bench", "2"), ("doctor",), ("clean", "1"), ("repair",), ("audit", "none")):
         expect(it.run(*command)[0] == 2, f"{command[0]} takes a recording")
     return ["what is not its own is left by bench as it is", "what records nothing refuses a recording"]
 
@@ -435,6 +167,8 @@ ORDERS = {
     ("put", "2"): ("make new 3#", "sync 3#", "link 3# 3", "unlink 3#", "sync versions"),
     ("advance", "2"): ("lock boundary#0", "make new boundary#", "sync boundary#", "rename boundary# boundary", "sync gc"),
     ("delete", "1"): ("lock versions/#0", "unlink 1", "sync versions"),
+    # (the versions above 3 are torn)
+    ("repair",): ("lock versions/#0", "unlink 5", "unlink 4", "sync versions"),
 }
 
 
@@ -470,8 +204,9 @@ def changes(lines):
 
 
 def orders(program, root, _seconds):
-    """A put, an advance and a delete ask the system for what they change in its order: a file is synced before it comes to its
-    name, and its folder after that; the boundary is replaced and a version removed under a lock."""
+    """A put, an advance, a delete and a repair ask the system for what they change in its order: a file is synced before it comes to
+    its name, and its folder after that; the boundary is replaced and a version removed under a lock; of torn versions the greatest
+    goes first."""
     try:
         library = make_library(f"{os.path.dirname(os.path.realpath(__file__))}/watch.c", f"{root}/watch.so")
     except NoLibrary as error:
@@ -481,11 +216,14 @@ def orders(program, root, _seconds):
         for command in (("init", "0"), ("put", "1"), ("advance", "1")):
             expect(it.run(*command, recorded=False)[0] == 0, f"{' '.join(command)} fails")
         for command, wanted in ORDERS.items():
+            if command[0] == "repair":
+                for id in (4, 5):
+                    os.close(os.open(f"{root}/{it.name}/{id:020}.val", os.O_CREAT))
             lines = noted(it, library, command)
             told = [line for line in wanted if syncs or not line.startswith("sync ")]
             expect(syncs or not any(line.startswith("sync ") for line in lines), f"{' '.join(command)} syncs unasked: {lines}")
             expect(changes(lines) == tuple(told), f"{' '.join(command)}, {'synced' if syncs else 'not synced'}, asks for: {lines}")
-    return ["what a put, an advance and a delete change is asked for in its order, with syncs and without"]
+    return ["what a put, an advance, a delete and a repair change is asked for in its order, with syncs and without"]
 
 
 def own_memory(process):
@@ -506,8 +244,7 @@ def goes_on(shell, times):
 
 
 def lasting(program, root, _seconds):
-    """What a client keeps does not grow with its updates, recorded or not, once it has all the ids that it keeps: only its heap is cut
-    up a little more."""
+    """What a client keeps does not grow with its updates, recorded or not, once it has all the ids that it keeps."""
     grown = []
     for recorded in False, True:
         it = Object(program, root, f"lasting-{recorded}".lower())
@@ -523,7 +260,7 @@ def lasting(program, root, _seconds):
     return [f"a client takes at most {MOST_GROWN} KiB more after {ALL_UPDATES} updates than after {FIRST_UPDATES}"]
 
 
-CHECKS = counts, orders, kills, claims, collections, odd_files, benches, strangers, unfit_words, lasting, tampering, recordings
+CHECKS = *map(on_one_folder, PAIRS), orders, odd_files, benches, strangers, unfit_words, lasting, tampering, recordings
 
 
 def main(words, usage, checks, checks_of_examples):
@@ -538,21 +275,8 @@ def main(words, usage, checks, checks_of_examples):
     if given.examples:
         checks = [*checks, *checks_of_examples(*map(os.path.abspath, given.examples))]
     passed = failed = 0
-    for program in given.programs:
-        program = os.path.abspath(program)
-        for check in checks:
-            root = tempfile.mkdtemp(prefix="try-folder-")
-            try:
-                for line in check(program, root, given.seconds):
-                    print(f"{os.path.basename(program)}: {line}", flush=True)
-                    passed += 1
-            except (Wrong, OSError, ValueError, TypeError, subprocess.SubprocessError) as wrong:
-                print(f"FAILED: {os.path.basename(program)}, {check.__name__}: {wrong}", flush=True)
-                failed += 1
-            finally:
-                if given.keep:
-                    print(f"left in {root}", flush=True)
-                else:
-                    shutil.rmtree(root, ignore_errors=True)
+    for program in map(os.path.abspath, given.programs):
+        done = tried(program, checks, given.seconds, given.keep, room_of_one_folder)
+        passed, failed = passed + done[0], failed + done[1]
     print(f"{passed} passed, {failed} failed")
     return 1 if failed else 0

@@ -9,7 +9,7 @@ import tempfile
 import threading
 import time
 
-from try_folder import Object, Shell, agrees, expect, together
+from try_folder_clients import Object, Shell, agrees, expect, together
 
 ROUNDS, WRITERS = 12, 6
 VALUE_OF_EACH_BYTE = bytes(range(256))
@@ -163,28 +163,6 @@ def fenced_puts(program, root, _seconds):
     return [f"{len(told)} puts of holders beside {ROUNDS} claims: none follows the version of a newer epoch, and audited"]
 
 
-def puts_on_a_base(program, root, _seconds):
-    """Processes put on one version at once: one is told an id and stands, and each other is in conflict."""
-    it = Versions(program, root, "based")
-    it.told("init", "0")
-    for base in range(1, ROUNDS + 1):
-        ended = {}
-
-        def put(worker, base=base, ended=ended):
-            ended[worker] = it.run("put", "--base", str(base), f"{base}.{worker}")
-
-        together([lambda w=w: put(w) for w in range(WRITERS)])
-        won = [worker for worker, end in ended.items() if end == (0, f"{base + 1}\n")]
-        lost = [worker for worker, end in ended.items() if end == (15, "")]
-        expect(len(won) == 1 and len(lost) == WRITERS - 1, f"puts on version {base} end with {ended}")
-        expect(it.told("get") == f"{base}.{won[0]}", f"the put on version {base} that was told does not stand")
-    for base in (0, ROUNDS, ROUNDS + 2):
-        expect(it.run("put", "--base", str(base), "late") == (15, ""), f"a put on {base} beside the newest is no conflict")
-    expect(len(it.entries()) == ROUNDS + 1, "a put that was refused left a version")
-    agrees(it, ROUNDS + 1)
-    return [f"of {WRITERS} processes that put on one version one is told an id and stands, {ROUNDS} times, and audited"]
-
-
 def recordings_of_several(program, root, _seconds):
     """A recording grows by each command that names it, one after another, and one process alone writes it."""
     it = Versions(program, root, "recorded")
@@ -300,6 +278,55 @@ def cleanings(program, root, _seconds):
     expect(it.told("history") == was and os.path.exists(boundary), "a clean removes what stands")
     agrees(it, 2)
     return ["temporary files that are old enough are removed and counted, and no others"]
+
+
+LOST = "a write that was answered with a greater id is lost"
+
+
+def repairs(program, root, _seconds):
+    """`repair` removes the versions above the newest that is a value, the greatest first, and the object goes on at that one; of
+    which nothing is torn is left as it is, and so is an object that would have no version to go on at."""
+    it = Versions(program, root, "torn")
+    expect(it.run("repair", recorded=False) == (14, ""), "a repair of no version is not refused")
+    for id, command in enumerate(("init", "put", "put"), 1):
+        expect(it.run(command, f"{id}") == (0, f"{id}\n"), f"{command} does not print its id")
+
+    def file_of(id, name="torn"):
+        return f"{root}/{name}/{id:020}.val"
+
+    def left():
+        return {name: os.path.getsize(f"{root}/torn/{name}") for name in os.listdir(f"{root}/torn") if name.endswith(".val")}
+
+    whole, was = left(), it.told("history")
+    status, said, why = it.heard("repair")
+    expect((status, said) == (5, b"") and b"the newest version, 3, is a value" in why, f"a repair of no torn version: status {status}: {why}")
+    for id, data in ((4, b""), (5, bytes(12)), (6, b"")):
+        make_file(file_of(id), data)
+    for command in (("get",), ("put", "4")):
+        expect(it.run(*command, recorded=False) == (18, ""), f"{command[0]} takes a torn version as a value")
+    expect(it.run("repair")[0] == 2 and len(left()) == 6, "a repair takes a recording")
+    told = "removed 6\nremoved 5\nremoved 4\ngoes on at 3: " + LOST + "\n"
+    expect(it.run("repair", recorded=False) == (0, told), "a repair does not print what it removed")
+    expect(left() == whole and it.told("history") == was, "a repair leaves other versions than those up to the newest that is a value")
+    expect(it.run("repair", recorded=False) == (5, ""), "a second repair is not refused")
+    expect(it.run("put", "4") == (0, "4\n") and it.run("get") == (0, "4"), "a repaired object does not go on")
+    agrees(it, 4)
+    make_file(file_of(2), b"")
+    expect(it.run("repair", recorded=False) == (5, "") and left()[f"{2:020}.val"] == 0, "a torn version below the newest is removed")
+    expect(it.run("advance", "3") == (0, ""), "a boundary below the newest version is refused")
+    make_file(file_of(4), b"4")
+    stands = left()
+    expect(it.run("repair", recorded=False) == (6, "") and left() == stands, "a repair leaves the newest version at the boundary")
+    make_file(f"{root}/gc/torn.boundary", b"2")
+    told = "removed 4\ngoes on at 3: " + LOST + "\n"
+    expect(it.run("repair", recorded=False) == (0, told), "a boundary that was lowered by hand is not taken")
+    make_file(file_of(4), b"4")
+    make_file(f"{root}/gc/torn.boundary", b"")
+    expect(it.run("repair", recorded=False) == (17, "") and left() == stands, "a repair of an object without a boundary is not refused")
+    make_file(file_of(1, "no-value"), b"")
+    none = Versions(program, root, "no-value")
+    expect(none.run("repair", recorded=False) == (6, "") and os.path.exists(file_of(1, "no-value")), "a repair leaves no version")
+    return ["versions above the newest that is a value are removed, and of others none, and what goes on is audited"]
 
 
 def doctors(program, root, _seconds):
@@ -427,6 +454,7 @@ EACH_COMMAND = (
     ("shell",),
     ("doctor",),
     ("clean", "1"),
+    ("repair",),
     ("bench", "1"),
 )
 
@@ -438,7 +466,7 @@ def missing_folders(program, root, _seconds):
     make_file(file, b"")
     for command in EACH_COMMAND:
         it = Versions(program, gone, "missed")
-        options = ("--diary", diary) if command[0] not in ("doctor", "clean", "bench") else ()
+        options = ("--diary", diary) if command[0] not in ("doctor", "clean", "repair", "bench") else ()
         status, said, told = it.heard(*command, options=options)
         expect((status, said) == (2, b"") and b"is it mounted?" in told, f"{command[0]} of a folder that is missing: status {status}: {told}")
         status, said, told = Versions(program, file, "missed").heard(*command)
@@ -484,12 +512,12 @@ CHECKS = (
     watches,
     claims_alone,
     fenced_puts,
-    puts_on_a_base,
     recordings_of_several,
     recordings_at_once,
     stored_versions,
     removals,
     cleanings,
+    repairs,
     doctors,
     clocks,
     suffixes,

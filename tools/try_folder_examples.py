@@ -3,7 +3,7 @@ from __future__ import annotations
 
 import subprocess
 
-from try_folder import Object, agrees, expect
+from try_folder_clients import Object, agrees, expect
 
 COUNTERS, TIMES, TURNS = 4, 50, 50
 

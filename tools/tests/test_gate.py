@@ -14,7 +14,7 @@ sys.path.insert(0, os.path.dirname(os.path.dirname(os.path.realpath(__file__))))
 
 import gate_steps  # noqa: E402
 from gate_steps import Step, case_steps, count_of_ci, count_of_last_line, count_of_refusals  # noqa: E402
-from gate_steps import count_of_unittest, date_builds, folder_steps, part_of, refusal_steps, step, table  # noqa: E402
+from gate_steps import count_of_unittest, date_builds, folder_steps, mount_steps, part_of, refusal_steps, step, table  # noqa: E402
 
 PROGRAM = "txnworld_cli"
 CI = """\
@@ -180,6 +180,16 @@ class Steps(unittest.TestCase):
         self.assertEqual([told(), told()], [given, f"--seconds 10 {given}"])
         os.remove(builds[0])
         self.assertEqual(told(), "\n")
+
+    def test_processes_on_two_mounts(self):
+        self.file("tools/try-mounts", "#!/bin/sh\n[ -d $1 ] && [ $1 = $2 ] && shift 2 && echo \"$*\" > told\necho '7 passed, 0 failed'\n", 0o755)
+        self.assertEqual(silently(lambda: list(mount_steps(self.room, ["txnobj_cli"]))), [])
+        build = self.file("crates/txnobj_cli/out/txnobj_cli", "one")
+        steps = silently(lambda: list(mount_steps(self.room, ["txnobj_cli"])))
+        self.assertEqual([(it.name, it.passed, it.failed) for it in steps], [("processes on two mounts", 7, 0)])
+        with open(f"{self.room}/told", encoding="utf-8") as file:
+            self.assertEqual(file.read(), f"--program {build} --seconds 3\n")
+        self.assertEqual(silently(lambda: list(mount_steps(self.room, ["other"]))), [])
 
     def test_a_part(self):
         uses = {"base": [], "low": ["base"], "high": ["low"], "side": [], "tests_some": ["high", "low", "side"], "app": ["high"]}
