@@ -1,12 +1,13 @@
 -- An operation that acts, and what happens with that.
 use Rattle.std.proofs.Common.{◌≡◌, ℕ, List, [], ◌∷◌, ◌++◌, Bool, true, false, if◌then◌else◌, Option, Some, None, Result, Ok, Err, IfOk, OnOk, refl, sym, ap, subst, ◌∙◌, append-nil}
+use Rattle.std.proofs.lemmas.Option.{same_Some}
 use Rattle.txn_store.specs.declared.request.Request.{Request}
 use Rattle.txn_store.specs.declared.request.Reply.{Reply}
-use Rattle.txn_history.specs.Seen.{Store}
+use Rattle.txn_history.specs.Seen.{Ask, Store, Look}
 use Rattle.txn_history.specs.declared.event.Answer.{Answer}
 use Rattle.txn_machine.specs.declared.doing.Operation.{Operation}
 use Rattle.txn_machine.specs.Doing.{asked}
-use Rattle.txn_clients.specs.Operations.{asked_of}
+use Rattle.txn_clients.specs.Operations.{asked_of, request_of}
 use Rattle.txn_journals.specs.declared.rows.Act.{Act}
 use Rattle.txn_journals.specs.declared.rows.Act.TheVariants as acts
 use Rattle.txn_journals.specs.declared.rows.Step.{Step}
@@ -19,6 +20,12 @@ use Rattle.txn_client.specs.Happenings.{Happening, Handed, act_happens, answer_h
 use Rattle.txn_client.specs.Calling.{IsLookOrCall, IsActOf}
 use Rattle.txn_client.specs.Working.{heard_in, TakesStep, TakesAsked}
 use Rattle.txn_client.proofs.Calling.{act_op}
+
+-- one that asks the store for something
+pub asks_so : (ask : Option Ask) (request : Request) → Some request ≡ request_of ask → ask ≡ Some (Store request)
+asks_so None request h = cc
+asks_so (Some Look) request h = cc
+asks_so (Some (Store other)) request h = ap (λ r. Some (Store r)) (same_Some other request (sym h))
 
 module _ {T : Type 0} where
   act_begun : (such : Act → Type 0) (begun op : ℕ) (step : Step T) → IsActOf op such step → begun_by begun step ≡ begun

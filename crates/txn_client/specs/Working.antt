@@ -1,11 +1,12 @@
 -- Words of private contracts: how what a client keeps, its recorder and its store go on together.
-use Rattle.std.specs.Prelude.{◌≡◌, ◌⊎◌, ◌+◌, ◌-◌, ℕ, All, length, List, [], ◌∷◌, ◌++◌, Option, Some, None, Result, Ok, Err}
+use Rattle.std.specs.Prelude.{◌≡◌, ◌⊎◌, ◌+◌, ℕ, All, length, List, [], ◌∷◌, ◌++◌, Option, Some, None, Result, Ok, Err}
 use Rattle.txn_history.specs.declared.event.EventFault.{EventFault}
 use Rattle.txn_history.specs.declared.event.EventFault.TheVariants as faults
 use Rattle.txn_history.specs.declared.event.Call.{Call}
 use Rattle.txn_history.specs.declared.event.Answer.{Answer}
 use Rattle.txn_store.specs.declared.request.Request.{Request}
 use Rattle.txn_store.specs.declared.request.Reply.{Reply}
+use Rattle.txn_history.specs.Seen.{Ask, Store}
 use Rattle.txn_journals.specs.declared.rows.JournalRow.{JournalRow}
 use Rattle.txn_journals.specs.declared.rows.Act.{Act}
 use Rattle.txn_journals.specs.declared.rows.Step.{Step}
@@ -62,6 +63,19 @@ module _ {T : Type 0} where
   IsOneOrNone such op [] = Unit {0}
   IsOneOrNone such op (row ∷ []) = IsActOf op such row.step
   IsOneOrNone such op (row ∷ next ∷ rows) = ⊥
+
+module _ {T R S : Type 0} (hands : R → Noted T → R → Type 0) (serves : S → Request → Reply → S → Type 0) where
+  -- What an operation asks for, of the store, was handed over, and then the store was called for it, which replied so.
+  pub record CallsFor (op : ℕ) (ask : Option Ask) (reply : Reply) (recorder : R) (store : S) (recorder' : R) (store' : S) : Type 0 where
+    pub request : Request
+    pub asks : ask ≡ Some (Store request)
+    pub handed : hands recorder (Asked op request) recorder'
+    pub served : serves store request reply store'
+
+  -- The store was called for what an operation asks, where it replied, and else nothing happened.
+  abbrev pub IsCalled : ℕ → Option Ask → Option Reply → R → S → R → S → Type 0
+  IsCalled op ask None recorder store recorder' store' = (recorder' ≡ recorder) × (store' ≡ store)
+  IsCalled op ask (Some reply) recorder store recorder' store' = CallsFor op ask reply recorder store recorder' store'
 
 module _ {T C E R S : Type 0} (hands : R → Noted T → R → Type 0) (serves : S → Request → Reply → S → Type 0) (does : KeeperState T C E → Step T → Option (Answer T) → KeeperState T C E → Type 0) where
   -- The same client did these things, what happens with them happened to its recorder and its store, and its count of begins went on.

@@ -12,7 +12,6 @@ use txn_clients::operations::request_of;
 use txn_clients::views::Answers;
 use txn_diary::keeper::Keeper;
 use txn_history::event::{Answer, Call, EventFault};
-use txn_journals::rows::Receipt;
 use txn_journals::same::same_error;
 use txn_store::request::{Reply, Request};
 use txn_store::store::StoreError;
@@ -96,14 +95,15 @@ impl<T: Clone, C: ObjectCodec<T> + Drop, E: EpochField<T>, S: Serve, R: Recorder
     S,
     R,
 > {
-    ghost use Rattle.std.specs.Prelude.{◌≡◌, ◌++◌, ◌∷◌, [], IfOk, IfErr, IfSome, OnOk, Some};
+    ghost use Rattle.std.specs.Prelude.{◌≡◌, ◌++◌, ◌∷◌, [], IfOk, IfErr, OnOk, Some};
     ghost use Rattle.txn_types.specs.Clones.{IsExactClone};
+    ghost use Rattle.txn_store.specs.declared.request.Request.{Request};
     ghost use Rattle.txn_history.specs.Seen.{Store};
     ghost use Rattle.txn_machine_inner.specs.Doing.{first_of};
     ghost use Rattle.txn_diary.specs.Keepers.{keeper_asked, keeper_refusal, Does};
     ghost use Rattle.txn_client.specs.Happenings.{answer_happens, HappensAll, HappensUntil, Served, CallFailed};
     ghost use Rattle.txn_client.specs.Calling.{begun_in, IsLookOrCall, IsGiveUp, CutsOff};
-    ghost use Rattle.txn_client.specs.Working.{heard_in, CutsStep, CutsAsked, CutsBegin, TakesStep, TakesAsked, IsBegun, IsDone};
+    ghost use Rattle.txn_client.specs.Working.{heard_in, CutsStep, CutsAsked, CutsBegin, TakesStep, TakesAsked, IsBegun, IsCalled, IsDone};
     ghost use Rattle.txn_client.specs.declared.stop.Stop.TheVariants.{NoMemory};
 
     /// Hands an operation's answer to the recorder, where it has one.
@@ -135,10 +135,9 @@ impl<T: Clone, C: ObjectCodec<T> + Drop, E: EpochField<T>, S: Serve, R: Recorder
     }
 
     /// The store call of the operation, which the recorder was told of, failed: the operation is answered so.
-    fn fail(&mut self, op: u64, request: &Request) -> Result<Heard<T>, Stop>
-        requires { keeper_asked self.old.keeper op ≡ Some (Store request.now) }
-        ensures ok { IfOk result (λ heard. TakesAsked R.hands S.serves (Does C.encoded C.decoded E.epoch_of E.with_epoch) op request.now (CallFailed request.now) self.old.keeper self.old.recorder self.old.store (begun_in self.old.keeper) heard self.new.keeper self.new.recorder self.new.store (begun_in self.new.keeper)) }
-        ensures err { IfErr result (λ stop. CutsAsked R.hands S.serves (Does C.encoded C.decoded E.epoch_of E.with_epoch) op request.now (CallFailed request.now) stop self.old.keeper self.old.recorder self.old.store self.new.keeper self.new.recorder self.new.store) }
+    fn fail(&mut self, op: u64) -> Result<Heard<T>, Stop>
+        ensures ok { (request : Request) → keeper_asked self.old.keeper op ≡ Some (Store request) → IfOk result (λ heard. TakesAsked R.hands S.serves (Does C.encoded C.decoded E.epoch_of E.with_epoch) op request (CallFailed request) self.old.keeper self.old.recorder self.old.store (begun_in self.old.keeper) heard self.new.keeper self.new.recorder self.new.store (begun_in self.new.keeper)) }
+        ensures err { (request : Request) → keeper_asked self.old.keeper op ≡ Some (Store request) → IfErr result (λ stop. CutsAsked R.hands S.serves (Does C.encoded C.decoded E.epoch_of E.with_epoch) op request (CallFailed request) stop self.old.keeper self.old.recorder self.old.store self.new.keeper self.new.recorder self.new.store) }
     {
         let Ok(did) = self.keeper.failed(op) else {
             return Err(Stop::NoMemory);
@@ -148,50 +147,29 @@ impl<T: Clone, C: ObjectCodec<T> + Drop, E: EpochField<T>, S: Serve, R: Recorder
     }
 
     /// The operation takes the store's reply to what the recorder was told of.
-    fn take(&mut self, op: u64, request: Request, reply: Reply) -> Result<Heard<T>, Stop>
-        requires exact { IsExactClone T.is_clone }
-        requires asks { keeper_asked self.old.keeper op ≡ Some (Store request) }
-        ensures ok { IfOk result (λ heard. TakesAsked R.hands S.serves (Does C.encoded C.decoded E.epoch_of E.with_epoch) op request (Served request reply) self.old.keeper self.old.recorder self.old.store (begun_in self.old.keeper) heard self.new.keeper self.new.recorder self.new.store (begun_in self.new.keeper)) }
-        ensures err { IfErr result (λ stop. CutsAsked R.hands S.serves (Does C.encoded C.decoded E.epoch_of E.with_epoch) op request (Served request reply) stop self.old.keeper self.old.recorder self.old.store self.new.keeper self.new.recorder self.new.store) }
+    fn take(&mut self, op: u64, reply: Reply) -> Result<Heard<T>, Stop>
+        requires { IsExactClone T.is_clone }
+        ensures ok { (request : Request) → keeper_asked self.old.keeper op ≡ Some (Store request) → IfOk result (λ heard. TakesAsked R.hands S.serves (Does C.encoded C.decoded E.epoch_of E.with_epoch) op request (Served request reply) self.old.keeper self.old.recorder self.old.store (begun_in self.old.keeper) heard self.new.keeper self.new.recorder self.new.store (begun_in self.new.keeper)) }
+        ensures err { (request : Request) → keeper_asked self.old.keeper op ≡ Some (Store request) → IfErr result (λ stop. CutsAsked R.hands S.serves (Does C.encoded C.decoded E.epoch_of E.with_epoch) op request (Served request reply) stop self.old.keeper self.old.recorder self.old.store self.new.keeper self.new.recorder self.new.store) }
     {
         self.recorder.replied(op, &reply)?;
-        // Which place it has among the store's calls is found when they are put into an order.
-        let receipt = Receipt {
-            place: 0,
-            request,
-            reply,
-        };
-        let Ok(answers) = self.keeper.receive(op, &receipt) else {
+        let Ok(answers) = self.keeper.reply(op, reply) else {
             return Err(Stop::NoMemory);
         };
         self.hear(op, answers)
     }
 
-    /// The operation has the store called for what it asks, once.
-    fn ask(&mut self, op: u64, request: Request) -> Result<Heard<T>, Stop>
-        requires exact { IsExactClone T.is_clone }
-        requires asks { keeper_asked self.old.keeper op ≡ Some (Store request) }
-        ensures ok { IfOk result (λ heard. TakesStep R.hands S.serves (Does C.encoded C.decoded E.epoch_of E.with_epoch) IsLookOrCall op self.old.keeper self.old.recorder self.old.store (begun_in self.old.keeper) heard self.new.keeper self.new.recorder self.new.store (begun_in self.new.keeper)) }
+    /// The store is called for what the operation asks, once: the reply. Nothing happens where it asks for no store call.
+    fn ask(&mut self, op: u64) -> Result<Option<Reply>, Stop>
+        ensures keeper { self.new.keeper ≡ self.old.keeper }
+        ensures ok { IfOk result (λ reply. IsCalled R.hands S.serves op (keeper_asked self.old.keeper op) reply self.old.recorder self.old.store self.new.recorder self.new.store) }
         ensures err { IfErr result (λ stop. CutsStep R.hands S.serves (Does C.encoded C.decoded E.epoch_of E.with_epoch) IsLookOrCall op (begun_in self.old.keeper) stop self.old.keeper self.old.recorder self.old.store self.new.keeper self.new.recorder self.new.store) }
     {
-        self.recorder.asked(op, &request)?;
-        let reply = self.store.serve(self.alloc, &request);
-        if has_failed(&reply) {
-            self.fail(op, &request)
-        } else {
-            self.take(op, request, reply)
-        }
-    }
-
-    /// What the operation asks the store for, where it does. The only error is want of memory.
-    fn request(&self, op: u64) -> Result<Option<Request>, Stop>
-        ensures ok { IfOk result (λ request. IfSome request (λ asked. keeper_asked self.now.keeper op ≡ Some (Store asked))) }
-        ensures err { IfErr result (λ stop. stop ≡ NoMemory) }
-    {
-        match request_of(self.keeper.asks(op)) {
-            Some(request) => Ok(Some(request.try_clone()?)),
-            None => Ok(None),
-        }
+        let Some(request) = request_of(self.keeper.asks(op)) else {
+            return Ok(None);
+        };
+        self.recorder.asked(op, request)?;
+        Ok(Some(self.store.serve(self.alloc, request)))
     }
 
     /// The operation does what it asks for.
@@ -200,9 +178,14 @@ impl<T: Clone, C: ObjectCodec<T> + Drop, E: EpochField<T>, S: Serve, R: Recorder
         ensures ok { IfOk result (λ heard. TakesStep R.hands S.serves (Does C.encoded C.decoded E.epoch_of E.with_epoch) IsLookOrCall op self.old.keeper self.old.recorder self.old.store (begun_in self.old.keeper) heard self.new.keeper self.new.recorder self.new.store (begun_in self.new.keeper)) }
         ensures err { IfErr result (λ stop. CutsStep R.hands S.serves (Does C.encoded C.decoded E.epoch_of E.with_epoch) IsLookOrCall op (begun_in self.old.keeper) stop self.old.keeper self.old.recorder self.old.store self.new.keeper self.new.recorder self.new.store) }
     {
-        match self.request(op)? {
-            Some(request) => self.ask(op, request),
-            None => self.look(op),
+        let Some(reply) = self.ask(op)? else {
+            return self.look(op);
+        };
+        if has_failed(&reply) {
+            drop(reply);
+            self.fail(op)
+        } else {
+            self.take(op, reply)
         }
     }
 

@@ -2,6 +2,7 @@
 use Rattle.std.proofs.Common.{◌≡◌, ℕ, ◌≤◌, List, [], ◌∷◌, Bool, true, false, if◌then◌else◌, ◌&&◌, not, unwrap_or, Option, Some, None, Err, refl, sym, ◌∙◌, ap, subst}
 use Rattle.std.proofs.lemmas.Option.{same_Some}
 use Rattle.txn_store.specs.declared.request.Request.{Request}
+use Rattle.txn_store.specs.declared.request.Reply.{Reply}
 use Rattle.txn_history.specs.Seen.{Ask, Store, Look}
 use Rattle.txn_history.specs.Allowed.{ask_fault, first_fault}
 use Rattle.txn_history.specs.declared.event.EventFault.{EventFault}
@@ -20,7 +21,7 @@ use Rattle.txn_history.specs.Facts.{is_high}
 use Rattle.txn_machine.specs.Machine.{used_by}
 use Rattle.txn_journals.specs.Parts.{Part, seen_in, knows_base, is_low, epoch_told, is_in_use, client_begin_fault}
 use Rattle.txn_journals.specs.Journals.{goes_on, Follows}
-use Rattle.txn_diary.specs.Keepers.{KeeperState, keeper_asked, end_fault, fault_if, IsReceiptFault, AreSound, Does, Forgets, IsLed}
+use Rattle.txn_diary.specs.Keepers.{KeeperState, keeper_asked, end_fault, fault_if, IsReceiptFault, IsReplyFault, AreSound, Does, Forgets, IsLed}
 use Rattle.txn_diary.specs.Diaries.{DiaryState, lives, asked_in}
 use Rattle.txn_diary.specs.declared.tables.Tables.{Tables}
 use Rattle.txn_diary.specs.Shown.{operations_of, shown, keeper_of}
@@ -72,6 +73,17 @@ met_receipt A (Some (Store request)) receipt faults.EpochLowered h = absurd h
 met_receipt A (Some (Store request)) receipt faults.ViewBusy h = absurd h
 met_receipt A (Some (Store request)) receipt faults.NoMemory h = absurd h
 
+pub met_reply : (A : Type 0) (ask : Option Ask) (reply : Reply) (fault : EventFault) → IsReplyFault ask reply (Some fault) → IsReplyFault ask reply (fault_met {A = A} (Err fault))
+met_reply A None reply fault h = met_so A fault faults.UnknownNumber (same_Some fault faults.UnknownNumber h) refl
+met_reply A (Some Look) reply fault h = met_so A fault faults.NotAsked (same_Some fault faults.NotAsked h) refl
+met_reply A (Some (Store request)) reply faults.NotAsked h = h
+met_reply A (Some (Store request)) reply faults.UnknownNumber h = absurd h
+met_reply A (Some (Store request)) reply faults.UnknownBase h = absurd h
+met_reply A (Some (Store request)) reply faults.BoundaryTooHigh h = absurd h
+met_reply A (Some (Store request)) reply faults.EpochLowered h = absurd h
+met_reply A (Some (Store request)) reply faults.ViewBusy h = absurd h
+met_reply A (Some (Store request)) reply faults.NoMemory h = absurd h
+
 -- why a step stops whose row finds no room
 pub met_lack : (A : Type 0) (fault : EventFault) (due : Option EventFault) → ((met : EventFault) → Some met ≡ due → fault_met {A = A} (Err met) ≡ due) → fault ≡ unwrap_or due faults.NoMemory → fault_met {A = A} (Err fault) ≡ due
 met_lack A fault None meets e = subst (λ f. fault_met {A = A} (Err f) ≡ None) (sym e) refl
@@ -115,6 +127,12 @@ pub receives_so : (ask : Option Ask) (receipt : Receipt) → IsReceiptFault ask 
 receives_so None receipt h = cc
 receives_so (Some Look) receipt h = cc
 receives_so (Some (Store request)) receipt h = (ap (λ r. Some (Store r)) (sym h.request_is), subst (λ r. IsOfKind r receipt.reply) (sym h.request_is) h.kind)
+
+-- a reply that is not refused is of the kind that was asked for
+pub replies_so : (ask : Option Ask) (reply : Reply) → IsReplyFault ask reply None → (request : Request) × (ask ≡ Some (Store request)) × IsOfKind request reply
+replies_so None reply h = cc
+replies_so (Some Look) reply h = cc
+replies_so (Some (Store request)) reply h = (request, refl, h)
 
 pub alive_so : (alive : Bool) (due : Option EventFault) → None ≡ fault_if alive due → alive ≡ true
 alive_so true due h = refl

@@ -1,5 +1,6 @@
 -- What a client keeps that writes nothing down, why it is refused things, and what each thing that it does makes of what it keeps.
 use Rattle.std.specs.Prelude.{◌≡◌, ℕ, List, [], ◌∷◌, Bool, true, if◌then◌else◌, Option, Some, None, is_some}
+use Rattle.txn_store.specs.declared.request.Reply.{Reply}
 use Rattle.txn_history.specs.declared.event.EventFault.{EventFault}
 use Rattle.txn_history.specs.declared.event.EventFault.TheVariants as faults
 use Rattle.txn_history.specs.Seen.{Ask, Store, Look}
@@ -16,7 +17,7 @@ use Rattle.txn_journals.specs.declared.rows.Step.{Step}
 use Rattle.txn_journals.specs.declared.rows.JournalRow.{JournalRow}
 use Rattle.txn_journals.specs.Parts.{Part, client_begin_fault}
 use Rattle.txn_journals.specs.Journals.{goes_on, Follows, Replays}
-use Rattle.txn_logged.specs.Logged.{IsReceiptOf}
+use Rattle.txn_logged.specs.Logged.{IsOfKind, IsReceiptOf}
 use Rattle.txn_takes.specs.Taking.{CanTake}
 use Rattle.txn_diary.specs.Forgetting.{Remembers}
 
@@ -67,6 +68,14 @@ IsReceiptFault (Some Look) receipt fault = fault ≡ Some faults.NotAsked
 IsReceiptFault (Some (Store request)) receipt None = IsReceiptOf request receipt
 IsReceiptFault (Some (Store request)) receipt (Some faults.NotAsked) = IsReceiptOf request receipt → ⊥
 IsReceiptFault (Some (Store request)) receipt _ = ⊥
+
+-- Why an operation that asks for this, or for nothing, is refused a reply: it has ended, or it asks for a look, or for a reply of another kind.
+abbrev pub IsReplyFault : Option Ask → Reply → Option EventFault → Type 0
+IsReplyFault None reply fault = fault ≡ Some faults.UnknownNumber
+IsReplyFault (Some Look) reply fault = fault ≡ Some faults.NotAsked
+IsReplyFault (Some (Store request)) reply None = IsOfKind request reply
+IsReplyFault (Some (Store request)) reply (Some faults.NotAsked) = IsOfKind request reply → ⊥
+IsReplyFault (Some (Store request)) reply _ = ⊥
 
 -- an act that gives an operation what it asked for, or says that its store call was refused for memory
 abbrev pub IsTurn : Act → Type 0

@@ -8,7 +8,7 @@ ghost use Rattle.txn_machine.specs.Doing.{refusal_in};
 ghost use Rattle.txn_machine.specs.Machine.{answered};
 ghost use Rattle.txn_machine_inner.specs.Doing.{first_of};
 
-use crate::step::receipt_refusal;
+use crate::step::{receipt_refusal, reply_refusal};
 use crate::tables::Tables;
 use std::alloc::{AllocError, Global};
 use std::marker::Model;
@@ -66,13 +66,14 @@ impl<T: Clone, C: ObjectCodec<T> + Drop, E: EpochField<T>> Keeper<T, C, E> {
     ghost use Rattle.std.specs.Option.{ForSome, option_copied};
     ghost use Rattle.txn_types.specs.Clones.{IsExactClone};
     ghost use Rattle.txn_history.specs.Allowed.{ask_fault};
+    ghost use Rattle.txn_history.specs.Seen.{Store};
     ghost use Rattle.txn_machine.specs.Machine.{seen_view, used_by};
     ghost use Rattle.txn_machine_inner.specs.Doing.{asks_as, first_of};
     ghost use Rattle.txn_machine_inner.specs.Machine.{fault_met};
     ghost use Rattle.txn_journals.specs.declared.rows.Act.TheVariants as acts;
     ghost use Rattle.txn_journals.specs.declared.rows.Step.TheVariants as steps;
     ghost use Rattle.txn_journals.specs.Parts.{no_part};
-    ghost use Rattle.txn_diary.specs.Keepers.{keeper_asked, keeper_refusal, end_fault, fault_if, IsReceiptFault, IsTurn, IsLed, Does, Forgets};
+    ghost use Rattle.txn_diary.specs.Keepers.{keeper_asked, keeper_refusal, end_fault, fault_if, IsReceiptFault, IsReplyFault, IsTurn, IsLed, Does, Forgets};
     ghost use Rattle.txn_diary.specs.Forgetting.{KeepsBases, HaveEnded, AreForgotten};
 
     /// A client of this number, at least 1, that has done nothing. A listing has pages of at most `page` files, at least 1.
@@ -243,6 +244,28 @@ impl<T: Clone, C: ObjectCodec<T> + Drop, E: EpochField<T>> Keeper<T, C, E> {
         let Ok(reply) = receipt.reply.try_clone() else {
             return Err(EventFault::NoMemory);
         };
+        self.reply(op, reply)
+    }
+
+    /// The same by the store's reply alone, which is taken to be that to what the operation asks for. Nothing is copied.
+    ///
+    /// # Errors
+    ///
+    /// They leave the client as it was: [`EventFault::UnknownNumber`] for an operation that is not there or has ended,
+    /// [`EventFault::NotAsked`] for one that asks for a look, and for a reply of another kind, [`EventFault::NoMemory`] where a
+    /// growth was refused.
+    pub fn reply(&mut self, op: u64, reply: Reply) -> Result<Option<Answers<T>>, EventFault>
+        requires { IsExactClone T.is_clone }
+        ensures refused { IsReplyFault (keeper_asked self.old op) reply (fault_met result) }
+        ensures err { OnErr result (self.new ≡ self.old) }
+        // (whatever place the reply has in a log)
+        ensures ok { (request : Request) (place : ℕ) → keeper_asked self.old op ≡ Some (Store request) → IfOk result (λ answers. Does C.encoded C.decoded E.epoch_of E.with_epoch self.old (steps.Act op (acts.Receive (record { place = place; request = request; reply = reply }))) (first_of answers) self.new) }
+        ensures twice { IfOk result (λ answers. ForSome answers (λ pair. pair.1 ≡ pair.0)) }
+    {
+        if let Some(fault) = reply_refusal(self.asks(op), &reply) {
+            drop(reply);
+            return Err(fault);
+        }
         make_room(&mut self.tables)?;
         Ok(self.tables.turn(op, Some(reply)))
     }

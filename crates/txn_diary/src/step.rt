@@ -6,7 +6,7 @@ ghost use Rattle.txn_history.specs.declared.event.ToldOf.TheVariants as tolds;
 ghost use Rattle.txn_history.specs.Added.{told_of};
 ghost use Rattle.txn_journals.specs.declared.rows.Step.TheVariants as steps;
 ghost use Rattle.txn_machine_inner.specs.Doing.{asks_as, first_of};
-ghost use Rattle.txn_diary.specs.Keepers.{IsReceiptFault};
+ghost use Rattle.txn_diary.specs.Keepers.{IsReceiptFault, IsReplyFault};
 ghost use Rattle.txn_logged.specs.Logged.{IsOfKind};
 
 use txn_caches::ask::Ask;
@@ -39,6 +39,23 @@ pub(crate) fn receipt_refusal(ask: Option<Ask<'_>>, receipt: &Receipt) -> Option
         Some(Ask::Look) => Some(EventFault::NotAsked),
         Some(Ask::Store(request)) => {
             if same_request(request, &receipt.request) && is_of_kind(request, &receipt.reply) {
+                None
+            } else {
+                Some(EventFault::NotAsked)
+            }
+        }
+    }
+}
+
+/// Why an operation that asks for this is refused a reply, where it is.
+pub(crate) fn reply_refusal(ask: Option<Ask<'_>>, reply: &Reply) -> Option<EventFault>
+    ensures { IsReplyFault (asks_as ask.entry) reply.now result }
+{
+    match ask {
+        None => Some(EventFault::UnknownNumber),
+        Some(Ask::Look) => Some(EventFault::NotAsked),
+        Some(Ask::Store(request)) => {
+            if is_of_kind(request, reply) {
                 None
             } else {
                 Some(EventFault::NotAsked)

@@ -1,4 +1,4 @@
-use Rattle.std.proofs.Common.{◌≡◌, ◌∙◌, ap, sym, nat_eq, Option, Some, None, refl, arith}
+use Rattle.std.proofs.Common.{◌≡◌, ◌∙◌, ap, sym, nat_eq, Some, None, refl, arith}
 use Rattle.std.specs.HashMap.{get}
 use Rattle.txn_machine.specs.Machine.{used_in}
 use Rattle.txn_diary.proofs.Places.{used_at_number, used_past_numbers, numbers_out, numbers_set, value_here, value_other, none_of}
