@@ -1,11 +1,11 @@
 -- What two mounts of one folder showed of each other's changes.
 use Rattle.std.specs.Prelude.{Bool, true, false, ◌&&◌}
-use Rattle.txn_files.specs.declared.beside.Change.{Change}
-use Rattle.txn_files.specs.declared.beside.Change.TheVariants as changes
-use Rattle.txn_files.specs.declared.beside.Finding.{Finding}
-use Rattle.txn_files.specs.declared.beside.Finding.TheVariants as findings
-use Rattle.txn_files.specs.declared.beside.Sights.{Sights}
-use Rattle.txn_files.specs.declared.beside.Beside.{Beside}
+use Rattle.txn_files.specs.declared.sights.Change.{Change}
+use Rattle.txn_files.specs.declared.sights.Change.TheVariants as changes
+use Rattle.txn_files.specs.declared.sights.Finding.{Finding}
+use Rattle.txn_files.specs.declared.sights.Finding.TheVariants as findings
+use Rattle.txn_files.specs.declared.sights.Sights.{Sights}
+use Rattle.txn_files.specs.declared.sights.Beside.{Beside}
 
 -- a change showed at once, each time
 abbrev pub is_seen : Finding → Bool

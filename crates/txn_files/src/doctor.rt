@@ -15,7 +15,7 @@ use std::rt::{Clock, Files};
 use std::{fmt, fs, io};
 
 /// What the store asks of a folder.
-#[derive(Clone, Copy, Debug, PartialEq, Eq)]
+#[derive(Clone, Copy)]
 pub enum Check {
     /// A new file is written, with a time to the nanosecond that is kept, and read back.
     Keeps,
@@ -35,7 +35,7 @@ pub enum Check {
 
 impl fmt::Display for Check {
     fn fmt<W: fmt::Write>(&self, f: &mut fmt::Formatter<W>) -> fmt::Result {
-        let text = match self {
+        f.write_str(match self {
             Check::Keeps => "keeps a file and its time to the nanosecond",
             Check::Links => "links a file to a second name",
             Check::RefusesTakenNames => "refuses a link to a taken name",
@@ -43,8 +43,7 @@ impl fmt::Display for Check {
             Check::Locks => "locks a file against a second open",
             Check::Syncs => "syncs files and folders",
             Check::Removes => "removes files",
-        };
-        write!(f, "{text}")
+        })
     }
 }
 
@@ -55,7 +54,7 @@ const YES: &str = "yes";
 const NO_FOLDER_SYNC: &str = "this file system has no sync of folders: names last as it lets them";
 
 /// How each check went: the fault of what the folder does not do.
-#[derive(Debug, Drop)]
+#[derive(Clone, Copy)]
 pub struct Report {
     pub keeps: Option<Fault>,
     pub links: Option<Fault>,
@@ -189,13 +188,18 @@ where
     })
 }
 
+/// The name of a file of an examination.
+fn name_in(alloc: Global, folder: &str, of: &str, number: u64) -> Result<String, AllocError> {
+    format!(in alloc; "{folder}/doctor-{of}#{number:020}")
+}
+
 fn trial_in<R: Clock>(rt: &R, alloc: Global, folder: &str) -> Result<Trial, AllocError> {
     // Where the clock fails, the check of the time is of 1970.
     let number = number_now(rt).unwrap_or(1);
     Ok(Trial {
-        first: format!(in alloc; "{folder}/doctor-first#{number:020}")?,
-        second: format!(in alloc; "{folder}/doctor-second#{number:020}")?,
-        other: format!(in alloc; "{folder}/doctor-other#{number:020}")?,
+        first: name_in(alloc, folder, "first", number)?,
+        second: name_in(alloc, folder, "second", number)?,
+        other: name_in(alloc, folder, "other", number)?,
         number,
     })
 }
@@ -219,23 +223,29 @@ fn at(doing: Doing) -> Halt {
     Halt::Fault(Fault::at(doing))
 }
 
-/// Writes a new file, which has to be there then.
-fn write<R: Files + Alloc<A = Global>>(
+/// Writes a new file, which has to be there then, and reads its time back where that is asked.
+pub(crate) fn write<R: Files + Alloc<A = Global>>(
     rt: &R,
     name: &str,
     number: u64,
     bytes: &[u8],
+    reads_back: bool,
 ) -> Result<(), Halt> {
     let name = String::from_str(rt.alloc(), name)?;
     let how = Writing {
         syncs: false,
-        reads_back: true,
+        reads_back,
     };
-    if write_new(rt, name, number, bytes, how)?.is_some() {
-        return Ok(());
+    match write_new(rt, name, number, bytes, how)? {
+        Some(_) => Ok(()),
+        None => Err(taken()),
     }
+}
+
+/// The halt of a file whose name something has.
+fn taken() -> Halt {
     let error = io::Error::from(ErrorKind::AlreadyExists);
-    Err(Halt::Fault(Fault::of(Doing::WritingTemporary, error)))
+    Halt::Fault(Fault::of(Doing::WritingTemporary, error))
 }
 
 /// Reads a file back, which has to say these bytes.
@@ -254,7 +264,7 @@ fn read_back<R: Files + Alloc<A = Global>>(rt: &R, name: &str, bytes: &[u8]) -> 
 
 fn keeps<R: Files + Alloc<A = Global>>(rt: &R, trial: &Trial) -> Result<(), Halt> {
     let first = trial.first.as_str();
-    write(rt, first, trial.number, b"first")?;
+    write(rt, first, trial.number, b"first", true)?;
     read_back(rt, first, b"first")
 }
 
@@ -269,7 +279,7 @@ fn links<R: Files>(rt: &R, trial: &Trial) -> Result<(), Halt> {
 
 fn refuses_taken_names<R: Files + Alloc<A = Global>>(rt: &R, trial: &Trial) -> Result<(), Halt> {
     let (other, second) = (trial.other.as_str(), trial.second.as_str());
-    write(rt, other, trial.number, b"other")?;
+    write(rt, other, trial.number, b"other", true)?;
     match fs::hard_link(rt, other, second) {
         Ok(()) => Err(at(Doing::LinkingTwice)),
         Err(error) if error.kind() != ErrorKind::AlreadyExists => {
@@ -300,16 +310,24 @@ fn locks<R: Files>(rt: &R, trial: &Trial) -> Result<(), Halt>
 where
     R::File: LockFile,
 {
-    let one = open_lock(rt, trial.first.as_str())?;
-    let other = open_lock(rt, trial.first.as_str())?;
+    locks_between(rt, trial.first.as_str(), trial.first.as_str())
+}
+
+/// Whether a lock through one name of a file keeps out one through the other.
+pub(crate) fn locks_between<R: Files>(rt: &R, one: &str, other: &str) -> Result<(), Halt>
+where
+    R::File: LockFile,
+{
+    let one = open_lock(rt, one)?;
+    let other = open_lock(rt, other)?;
     let done = locks_against(&one, &other);
-    drop(one);
     drop(other);
+    drop(one);
     done
 }
 
 /// Whether a lock through one open keeps the other out, alone and with others.
-pub(crate) fn locks_against<F: LockFile>(one: &F, other: &F) -> Result<(), Halt> {
+fn locks_against<F: LockFile>(one: &F, other: &F) -> Result<(), Halt> {
     if !is_locked(one, Sharing::Alone)? {
         return Err(at(Doing::Locking));
     }

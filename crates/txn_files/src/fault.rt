@@ -4,74 +4,84 @@ ghost use Rattle.std.specs.IoError.{error_kind};
 ghost use Rattle.txn_files.specs.Halts.{LacksFolder};
 
 use std::alloc::AllocError;
+use std::error::Error;
 use std::io::ErrorKind;
 use std::{fmt, io};
-use thiserror::Error;
 
 /// The step that failed.
-#[derive(Clone, Copy, Debug, PartialEq, Eq, Error)]
+#[derive(Clone, Copy, Debug, PartialEq, Eq)]
 pub enum Doing {
     /// The clock told no time, or no number above the last one is left.
-    #[error("reading the clock")]
     ReadingClock,
     /// A folder of the object, or one above it, was to be made.
-    #[error("making the folder")]
     MakingFolder,
     /// A new file was to be written under a name of its own.
-    #[error("writing a temporary file")]
     WritingTemporary,
     /// A new file's time was to be set.
-    #[error("setting the time of a file")]
     SettingTime,
     /// The file system keeps another time than the one that was set.
-    #[error("the file system does not keep the time of a file to the nanosecond")]
     KeepingTime,
     /// A new file was to be made to last.
-    #[error("syncing a temporary file")]
     SyncingTemporary,
     /// A new file was to come to its name, as a hard link.
-    #[error("linking a new file to its name")]
     Linking,
     /// A new file was to take an old one's place.
-    #[error("renaming a new file over an old one")]
     Replacing,
     /// The names in a folder were to be made to last.
-    #[error("syncing the folder")]
     SyncingFolder,
     /// A lock was to be taken.
-    #[error("locking")]
     Locking,
     /// A name was to be looked up.
-    #[error("looking for a file")]
     Looking,
     /// A file was to be read.
-    #[error("reading a file")]
     Reading,
     /// A folder was to be listed.
-    #[error("listing the folder")]
     Listing,
     /// A file was to be removed.
-    #[error("removing a file")]
     Removing,
     /// Something that is no regular file stands at the name.
-    #[error("the name is that of no regular file")]
     NotRegular,
     /// The path is none of the object's.
-    #[error("the path is none of the object's")]
     Elsewhere,
     /// The folder changed at each listing.
-    #[error("the folder changed at each listing")]
     Unsettled,
     /// A second link to a taken name was made, where it had to be refused.
-    #[error("a second link to a taken name is not refused")]
     LinkingTwice,
     /// A second open was locked beside the first.
-    #[error("a second open can lock a locked file")]
     LockingTwice,
     /// Other bytes were read than were written.
-    #[error("other bytes are read than were written")]
     ReadingBack,
 }
+
+impl fmt::Display for Doing {
+    fn fmt<W: fmt::Write>(&self, f: &mut fmt::Formatter<W>) -> fmt::Result {
+        f.write_str(match self {
+            Doing::ReadingClock => "reading the clock",
+            Doing::MakingFolder => "making the folder",
+            Doing::WritingTemporary => "writing a temporary file",
+            Doing::SettingTime => "setting the time of a file",
+            Doing::KeepingTime =>
+                "the file system does not keep the time of a file to the nanosecond",
+            Doing::SyncingTemporary => "syncing a temporary file",
+            Doing::Linking => "linking a new file to its name",
+            Doing::Replacing => "renaming a new file over an old one",
+            Doing::SyncingFolder => "syncing the folder",
+            Doing::Locking => "locking",
+            Doing::Looking => "looking for a file",
+            Doing::Reading => "reading a file",
+            Doing::Listing => "listing the folder",
+            Doing::Removing => "removing a file",
+            Doing::NotRegular => "the name is that of no regular file",
+            Doing::Elsewhere => "the path is none of the object's",
+            Doing::Unsettled => "the folder changed at each listing",
+            Doing::LinkingTwice => "a second link to a taken name is not refused",
+            Doing::LockingTwice => "a second open can lock a locked file",
+            Doing::ReadingBack => "other bytes are read than were written",
+        })
+    }
+}
+
+impl Error for Doing {}
 
 /// What went wrong: the step, and the system's error where there was one.
 #[derive(Clone, Copy, Debug)]
@@ -110,7 +120,7 @@ impl Fault {
 }
 
 /// Why a step did not go on.
-#[derive(Debug, Drop)]
+#[derive(Clone, Copy)]
 pub enum Halt {
     /// A growth was refused, and nothing has changed.
     NoMemory,

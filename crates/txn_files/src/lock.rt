@@ -13,7 +13,7 @@ use std::{fs, io};
 const TRIES: u64 = 3_100;
 
 /// How a file is locked.
-#[derive(Clone, Copy, Debug, PartialEq, Eq)]
+#[derive(Clone, Copy)]
 pub enum Sharing {
     /// No other open has a lock.
     Alone,

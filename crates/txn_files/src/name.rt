@@ -15,7 +15,7 @@ use std::rt::Files;
 use std::{fs, io};
 
 /// What was done to a name, or seen of it.
-#[derive(Clone, Copy, Debug, PartialEq, Eq)]
+#[derive(Clone, Copy, PartialEq, Eq)]
 pub enum Deed {
     /// A new file was linked to it, which nothing had.
     Linked,
