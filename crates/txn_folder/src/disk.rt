@@ -1,5 +1,5 @@
 //! The files of an object on a file system, by their places.
-ghost use Rattle.std.specs.Prelude.{◌≡◌, ◌<◌, ◌≤◌, Ok, IfOk, IfSome, if◌then◌else◌, string_bytes};
+ghost use Rattle.std.specs.Prelude.{◌≡◌, ◌<◌, ◌≤◌, ◌++◌, Ok, IfOk, IfSome, if◌then◌else◌, codes, string_bytes};
 ghost use Rattle.txn_files.specs.Names.{IsHeld, known, lasting, seen};
 ghost use Rattle.txn_files.specs.declared.lock.Sharing.TheVariants.{Alone};
 ghost use Rattle.txn_files.specs.declared.name.Deed.TheVariants as deeds;
@@ -239,21 +239,27 @@ impl<R: Files + Clock + Drop> Disk<R>
 where
     R::File: LockFile,
 {
+    /// The lock of the updates of a file, in a folder that is there.
+    fn lock_there(&self, alloc: Global, file: &str) -> Result<Lock<R::File>, Halt>
+        ensures { IfOk result (IsHeld (file.now ++ codes "#0") Alone) }
+    {
+        let name = format!(in alloc; "{file}#0")?;
+        take_lock(&self.rt, name, Sharing::Alone)
+    }
+
     /// The lock of the updates of the file at a place, and of the boundary's removal, in a folder that is made where it is
     /// missing.
     fn lock(&self, alloc: Global, place: Place, file: &str) -> Result<Lock<R::File>, Halt>
         requires { file.now ≡ place_file self.now.folder place }
         ensures { IfOk result (IsHeld (update_lock self.now.folder place) Alone) }
     {
-        let name = format!(in alloc; "{file}#0")?;
-        let lock = take_lock(&self.rt, name, Sharing::Alone);
+        let lock = self.lock_there(alloc, file);
         if !lacks_folder(&lock) {
             return lock;
         }
         drop(lock);
         make_folder(&self.rt, self.folder.folder_of(place), self.syncs)?;
-        let name = format!(in alloc; "{file}#0")?;
-        take_lock(&self.rt, name, Sharing::Alone)
+        self.lock_there(alloc, file)
     }
 
     /// Writes a file whatever stands there, and tells its token.

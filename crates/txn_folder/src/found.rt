@@ -64,14 +64,12 @@ pub(crate) fn read_file<R: Files + Alloc<A = Global>>(
 
 /// Whether a step did not go on since the file is none any more.
 fn is_stale(halt: &Halt) -> bool {
-    match halt {
-        Halt::Fault(
-            Fault {
-                error: Some(error),
-                ..
-            },
-        ) => error.kind() == ErrorKind::StaleNetworkFileHandle,
-        _ => false,
+    let Halt::Fault(fault) = halt else {
+        return false;
+    };
+    match &fault.error {
+        Some(error) => error.kind() == ErrorKind::StaleNetworkFileHandle,
+        None => false,
     }
 }
 

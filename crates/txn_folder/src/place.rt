@@ -9,7 +9,7 @@ use txn_store::version_names::VersionNames;
 use txn_types::boundary::read_boundary;
 
 /// What a path of a request names.
-#[derive(Clone, Copy, Debug, PartialEq, Eq)]
+#[derive(Clone, Copy)]
 pub(crate) enum Place {
     Version(u64),
     Boundary,

@@ -8,7 +8,7 @@ use std::rt::Files;
 use txn_files::removals::Removals;
 
 /// Why a repair removed nothing.
-#[derive(Clone, Copy, Debug, PartialEq, Eq)]
+#[derive(Clone, Copy)]
 pub enum Kept {
     /// No version stands.
     NoVersion,
@@ -23,7 +23,7 @@ pub enum Kept {
 }
 
 /// What a repair did.
-#[derive(Debug, Drop)]
+#[derive(Drop)]
 pub enum Repair {
     /// It removed nothing.
     Kept(Kept),
