@@ -1,6 +1,9 @@
-//! The recordings that files hold: which lines of a file count, which row each line is, and which rows are of one client.
+//! The recordings that files hold: which lines of a file count, which row each line is, and which rows are of one client. Their
+//! tokens are renamed, so that those of different files of the store differ.
 #![tactic(auto)]
 
 pub mod recordings;
 pub mod rows;
 pub mod texts;
+mod token_table;
+pub mod tokens;

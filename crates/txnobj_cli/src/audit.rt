@@ -1,7 +1,11 @@
 //! The audit of recordings, from their files.
-ghost use Rattle.std.specs.Prelude.{◌≡◌, IfOk, length};
+ghost use Rattle.std.specs.Prelude.{◌≡◌, IfOk, OnOk, length, map};
 ghost use Rattle.txn_audit.specs.HistoryEnds.{HistoriesEndAt};
+ghost use Rattle.txn_diary.specs.Diaries.{as_diary};
 ghost use Rattle.txn_entries.specs.declared.entry.Entry.{Entry};
+ghost use Rattle.txn_recordings.specs.Tokens.{RenamesTokens};
+ghost use Rattle.txn_replayed.specs.OneHistory.{IsOneHistoryOf};
+ghost use Rattle.txn_types.specs.Clones.{IsExactClone};
 
 use crate::ending::{Halt, NOT_ONE_HISTORY};
 use std::alloc::{AllocError, Global};
@@ -11,14 +15,18 @@ use txn_effects::clock::Clock;
 use txn_entries::entry::{Entry, EntryCodec, EntryEpoch};
 use txn_journals::audited::Logged;
 use txn_journals::fault::AuditFault;
+use txn_lines::text_form::LineValue;
 use txn_ordered::order::CallPlace;
 use txn_recorded::row::RecordedRow;
 use txn_recorded::source::Source;
 use txn_recordings::recordings::Recordings;
 use txn_recordings::texts::{text_in, whole_lines};
+use txn_recordings::tokens::rename_tokens;
 use txn_replayed::audit::{OneHistory, audit_recordings};
 use txn_replayed::fates::undecided;
 use txn_replayed::refusal::Refusal;
+use txn_types::codec::ObjectCodec;
+use txn_types::epoch::EpochField;
 use txnobj_folder::error::bytes_in;
 use txnobj_said::audited::{Ended, Undecided};
 use txnobj_said::lines::print_line;
@@ -115,7 +123,7 @@ pub fn audit(rt: &HostRuntime, files: &[&str], clock_error: u64) -> Result<u8, H
         rt.println("not one history: there is no recording")?;
         return Ok(NOT_ONE_HISTORY);
     }
-    held(rt, files, &recordings, clock_error)
+    held(rt, files, &mut recordings, clock_error)
 }
 
 /// Says by how much the clocks of recordings may be off, where they have several.
@@ -148,16 +156,34 @@ fn not_one_history(
     Ok(NOT_ONE_HISTORY)
 }
 
+/// Renames the tokens of recordings, whose times are of these clocks, so that those of two files differ, and holds the recordings
+/// against each other under these. A token says which put of its file was the last one, and no call compares it with one of
+/// another file, so the recordings say the same under both. The errors are those of `audit_recordings`.
+fn audited<T: Clone + LineValue, C: ObjectCodec<T> + Copy + Drop, E: EpochField<T> + Copy>(
+    alloc: Global,
+    codec: C,
+    epochs: E,
+    recordings: &mut Vec<Vec<RecordedRow<T>>>,
+    clocks: &[Clock],
+) -> Result<OneHistory<T, C, E>, Refusal>
+    requires exact { IsExactClone T.is_clone }
+    ensures renamed { OnOk result (RenamesTokens (map (λ rows. rows.items) recordings.old.items) (map (λ rows. rows.items) recordings.new.items)) }
+    ensures one_history { IfOk result (λ found. IsOneHistoryOf T.text (C.encoded codec) (C.decoded codec) (E.epoch_of epochs) (E.with_epoch epochs) (map (λ rows. rows.items) recordings.new.items) clocks.now found.log (map as_diary found.diaries.items)) }
+{
+    rename_tokens(alloc, recordings)?;
+    audit_recordings(alloc, codec, epochs, recordings.as_slice(), clocks)
+}
+
 /// Says whether recordings, whose times are of these clocks, are one history.
 fn judged(
     rt: &HostRuntime,
     files: &[&str],
-    recordings: &Recordings<Entry>,
+    recordings: &mut Recordings<Entry>,
     clocks: &[Clock],
 ) -> Result<u8, Halt> {
-    let rows = recordings.rows.as_slice();
-    match audit_recordings(rt.alloc(), EntryCodec, EntryEpoch, rows, clocks) {
-        Ok(found) => one_history(rt, rows, &found),
+    let alloc = rt.alloc();
+    match audited(alloc, EntryCodec, EntryEpoch, &mut recordings.rows, clocks) {
+        Ok(found) => one_history(rt, recordings.rows.as_slice(), &found),
         Err(Refusal::NoMemory) => Err(Halt::NoMemory),
         Err(refusal) => not_one_history(rt, files, recordings, &refusal),
     }
@@ -167,7 +193,7 @@ fn judged(
 fn held(
     rt: &HostRuntime,
     files: &[&str],
-    recordings: &Recordings<Entry>,
+    recordings: &mut Recordings<Entry>,
     clock_error: u64,
 ) -> Result<u8, Halt> {
     let clocks = clocks_of(rt.alloc(), recordings, clock_error)?;
