@@ -1,9 +1,9 @@
 -- Rows and recordings that are renamed in their places, one more at a time, and replies that are pages.
-use Rattle.std.proofs.Common.{◌≡◌, ℕ, ◌+◌, ◌-◌, ◌<◌, ◌≤◌, Bool, List, [], ◌∷◌, ◌++◌, length, map, take, drop, get_or, Option, Some, None, Ok, Err, Result, refl, sym, ap, subst, ◌∙◌, arith}
+use Rattle.std.proofs.Common.{◌≡◌, ℕ, ◌+◌, ◌-◌, ◌<◌, ◌≤◌, Bool, List, [], ◌∷◌, ◌++◌, length, map, take, drop, get_or, Option, None, Ok, Err, Result, refl, sym, ap, subst, ◌∙◌, arith}
 use Rattle.std.specs.List.{AllZip}
 use Rattle.std.specs.Prelude.{OnOk}
 use Rattle.std.proofs.Math.ListN.{set}
-use Rattle.std.proofs.lemmas.List.{length-drop, length-set, drop-drop, drop-set-lt, get_or-drop, take_all, take_more, take_more_set, map-append}
+use Rattle.std.proofs.lemmas.List.{length-drop, drop-drop, drop-set-lt, get_or-drop, take_all, take_more, take_more_set, map-append}
 use Rattle.std.proofs.Math.Seq.{take-append_seam}
 use Rattle.std.proofs.lemmas.List.Elements.{AllZip-push}
 use Rattle.txn_store.specs.Paths.{Segments}

@@ -1,4 +1,4 @@
-use Rattle.std.proofs.Common.{◌≡◌, ℕ, ◌<◌, length, None, map, take, arith}
+use Rattle.std.proofs.Common.{◌<◌, length, None, arith}
 use Rattle.txn_recordings.specs.Tokens.{RenamesRows}
 use Rattle.txn_recordings.specs.TokenTables.{renaming_in}
 use Rattle.txn_recordings.proofs.Renamings.{rest_stays, zip_more, zip_end}

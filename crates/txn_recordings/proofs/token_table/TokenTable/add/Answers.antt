@@ -1,4 +1,4 @@
-use Rattle.std.proofs.Common.{◌≡◌, ◌+◌, ℕ, arith}
+use Rattle.std.proofs.Common.{◌≡◌, ◌+◌}
 use Rattle.txn_recordings.proofs.TokenTables.{extended, up_to_next, stays_one_to_one}
 use Rattle.txn_recordings.proofs.token_table.TokenTable.add.Goals as goal
 
