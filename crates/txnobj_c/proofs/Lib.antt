@@ -1,0 +1,4 @@
+mod Values
+mod HeldValues
+mod OfClients
+mod Opening

@@ -1,0 +1,9 @@
+pub mod Owned
+pub mod Held
+pub mod Clients
+pub mod Numbers
+pub mod Told
+pub mod Copied
+pub use Rattle.txn_seat.specs.Seats
+pub use Rattle.txn_seat.specs.Waiting
+pub mod Asking

@@ -1,0 +1,15 @@
+//! Clients of shared objects for C, whose host makes the store calls.
+#![tactic(auto)]
+
+pub mod answers;
+pub mod asks;
+pub mod begins;
+mod calls;
+pub mod client;
+mod copied;
+mod loose;
+mod numbers;
+pub mod opens;
+pub mod replies;
+pub mod told;
+pub mod views;
