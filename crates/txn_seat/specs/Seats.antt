@@ -2,7 +2,7 @@
 use Rattle.std.specs.Prelude.{◌≡◌, ◌+◌, ◌≤◌, ◌^◌, ℕ, List, [], ◌++◌, true, false, Option, Some, None, Result, Ok, Err, length}
 use Rattle.txn_store.specs.declared.request.Request.{Request}
 use Rattle.txn_store.specs.declared.request.Reply.{Reply}
-use Rattle.txn_history.specs.Seen.{Ask, Store, Look}
+use Rattle.txn_history.specs.Seen.{Ask, Store}
 use Rattle.txn_history.specs.declared.event.EventFault.{EventFault}
 use Rattle.txn_history.specs.declared.event.EventFault.TheVariants as faults
 use Rattle.txn_history.specs.declared.event.Call.{Call}
@@ -21,7 +21,7 @@ use Rattle.txn_entries.specs.declared.entry.Entry.{Entry}
 use Rattle.txn_entries.specs.declared.entry.EntryCodec.{EntryCodec}
 use Rattle.txn_entries.specs.declared.entry.EntryEpoch.{EntryEpoch}
 use Rattle.txn_entries.specs.Entry.{entry_bytes, entry_read}
-use Rattle.txn_seat.specs.Waiting.{waits_at, without, as_waiting}
+use Rattle.txn_seat.specs.Waiting.{without, as_waiting}
 
 -- what a client of entries keeps
 abbrev pub Keeping : Type 0

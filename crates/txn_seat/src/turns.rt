@@ -57,11 +57,7 @@ pub(crate) fn begin(
 }
 
 /// An operation looks at the client's caches.
-pub(crate) fn look(
-    keeper: &mut Kept,
-    waiting: &mut Waiting,
-    op: u64,
-) -> Result<(), EventFault>
+pub(crate) fn look(keeper: &mut Kept, waiting: &mut Waiting, op: u64) -> Result<(), EventFault>
     ensures { IsLook op (seat_of keeper.old waiting.old.items) result (seat_of keeper.new waiting.new.items) }
 {
     if let Err(fault) = make_room(waiting) {

@@ -1,5 +1,5 @@
 -- What a call of C does with the client of a handle, and the code that it is answered with.
-use Rattle.std.specs.Prelude.{◌≡◌, ◌||◌, ℕ, ◌==◌, if◌then◌else◌, List, Option, Some, None, is_some, Result, Ok, Err}
+use Rattle.std.specs.Prelude.{◌≡◌, ◌||◌, ℕ, ◌==◌, if◌then◌else◌, Option, Some, None, is_some, Result, Ok, Err}
 use Rattle.std.specs.Option.{option_map}
 use Rattle.txn_history.specs.Seen.{Ask}
 use Rattle.txn_history.specs.declared.event.EventFault.{EventFault}

@@ -1,7 +1,7 @@
 -- What is copied out to C.
 use Rattle.std.specs.Prelude.{ℕ, List, length, Bool, true, false, Option, Some, None, if◌then◌else◌, ◌==◌}
 use Rattle.txn_store.specs.declared.request.Request.TheVariants as requests
-use Rattle.txn_history.specs.Seen.{Ask, Store, Look}
+use Rattle.txn_history.specs.Seen.{Ask, Store}
 use Rattle.txn_history.specs.declared.event.Answer.{Answer}
 use Rattle.txn_history.specs.declared.event.Answer.TheVariants as answers
 use Rattle.txn_history.specs.declared.event.PlainAnswer.{PlainAnswer}

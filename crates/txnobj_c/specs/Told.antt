@@ -1,5 +1,5 @@
 -- What an operation asks for, how it ended, and what a view is, in numbers of C's. It stands alone, because it names the structs that C reads.
-use Rattle.std.specs.Prelude.{◌≡◌, ◌≤◌, ◌<◌, ◌^◌, ◌↔◌, ℕ, Bool, true, false, List, length, Option, Some, None}
+use Rattle.std.specs.Prelude.{◌≡◌, ◌≤◌, ◌<◌, ◌^◌, ◌↔◌, ℕ, Bool, true, false, length, Option, Some, None}
 use Rattle.txn_store.specs.Paths.{Segments}
 use Rattle.txn_store.specs.VersionName.{version_path}
 use Rattle.txn_store.specs.declared.request.Request.TheVariants as requests

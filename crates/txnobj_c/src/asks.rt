@@ -12,12 +12,7 @@ use std::alloc::Global;
 
 /// Says what an operation asks for: nothing, where it is not there or has ended.
 #[unsafe(no_mangle)]
-pub extern "C" fn txnobj_asked(
-    alloc: Global,
-    client: &mut Client,
-    op: u64,
-    out: &mut Asked,
-) -> u8
+pub extern "C" fn txnobj_asked(alloc: Global, client: &mut Client, op: u64, out: &mut Asked) -> u8
     ensures client { client.new.value ≡ client.old.value }
     ensures told { TellsAsked client.old.value op out.old result out.new }
 {

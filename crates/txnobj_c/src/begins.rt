@@ -12,11 +12,7 @@ use txn_history::event::{Call, PlainCall, ViewCall};
 
 /// Reads the newest version. Answered READ or READ_NONE.
 #[unsafe(no_mangle)]
-pub extern "C" fn txnobj_read(
-    alloc: Global,
-    client: &mut Client,
-    op: &mut u64,
-) -> u8
+pub extern "C" fn txnobj_read(alloc: Global, client: &mut Client, op: &mut u64) -> u8
     ensures { TellsNumber (λ told. OfClient (IsBegin (Call.Plain PlainCall.Read)) client.old.value told client.new.value) op.old result op.new }
 {
     begin(alloc, client, &Call::Plain(PlainCall::Read), op)
@@ -32,17 +28,17 @@ pub extern "C" fn txnobj_read_version(
 ) -> u8
     ensures { TellsNumber (λ told. OfClient (IsBegin (Call.Plain (PlainCall.ReadUnchecked id))) client.old.value told client.new.value) op.old result op.new }
 {
-    begin(alloc, client, &Call::Plain(PlainCall::ReadUnchecked(id)), op)
+    begin(
+        alloc,
+        client,
+        &Call::Plain(PlainCall::ReadUnchecked(id)),
+        op,
+    )
 }
 
 /// The same, from the client's cache where it is there; else what is found is cached.
 #[unsafe(no_mangle)]
-pub extern "C" fn txnobj_read_seen(
-    alloc: Global,
-    client: &mut Client,
-    id: u64,
-    op: &mut u64,
-) -> u8
+pub extern "C" fn txnobj_read_seen(alloc: Global, client: &mut Client, id: u64, op: &mut u64) -> u8
     ensures { TellsNumber (λ told. OfClient (IsBegin (Call.Plain (PlainCall.ReadSeen id))) client.old.value told client.new.value) op.old result op.new }
 {
     begin(alloc, client, &Call::Plain(PlainCall::ReadSeen(id)), op)
@@ -61,17 +57,17 @@ pub extern "C" fn txnobj_list(
 ) -> u8
     ensures { TellsNumber (λ told. OfClient (IsBegin (Call.Plain (PlainCall.ListIds (bounded from_kind from) (bounded to_kind to)))) client.old.value told client.new.value) op.old result op.new }
 {
-    begin(alloc, client, &Call::Plain(PlainCall::ListIds(bounded(from_kind, from), bounded(to_kind, to))), op)
+    begin(
+        alloc,
+        client,
+        &Call::Plain(PlainCall::ListIds(bounded(from_kind, from), bounded(to_kind, to))),
+        op,
+    )
 }
 
 /// Removes the version of this id, which is at or below the boundary. Answered DONE.
 #[unsafe(no_mangle)]
-pub extern "C" fn txnobj_delete(
-    alloc: Global,
-    client: &mut Client,
-    id: u64,
-    op: &mut u64,
-) -> u8
+pub extern "C" fn txnobj_delete(alloc: Global, client: &mut Client, id: u64, op: &mut u64) -> u8
     ensures { TellsNumber (λ told. OfClient (IsBegin (Call.Plain (PlainCall.Delete id))) client.old.value told client.new.value) op.old result op.new }
 {
     begin(alloc, client, &Call::Plain(PlainCall::Delete(id)), op)
@@ -79,12 +75,7 @@ pub extern "C" fn txnobj_delete(
 
 /// Checks that the id is above the boundary. Answered DONE.
 #[unsafe(no_mangle)]
-pub extern "C" fn txnobj_check(
-    alloc: Global,
-    client: &mut Client,
-    id: u64,
-    op: &mut u64,
-) -> u8
+pub extern "C" fn txnobj_check(alloc: Global, client: &mut Client, id: u64, op: &mut u64) -> u8
     ensures { TellsNumber (λ told. OfClient (IsBegin (Call.Plain (PlainCall.Check id))) client.old.value told client.new.value) op.old result op.new }
 {
     begin(alloc, client, &Call::Plain(PlainCall::Check(id)), op)
@@ -92,12 +83,7 @@ pub extern "C" fn txnobj_check(
 
 /// Raises the boundary to this id, which is 0 or below an id that a checked call of this client answered. Answered DONE.
 #[unsafe(no_mangle)]
-pub extern "C" fn txnobj_advance(
-    alloc: Global,
-    client: &mut Client,
-    to: u64,
-    op: &mut u64,
-) -> u8
+pub extern "C" fn txnobj_advance(alloc: Global, client: &mut Client, to: u64, op: &mut u64) -> u8
     ensures { TellsNumber (λ told. OfClient (IsBegin (Call.Plain (PlainCall.Advance to))) client.old.value told client.new.value) op.old result op.new }
 {
     begin(alloc, client, &Call::Plain(PlainCall::Advance(to)), op)
@@ -116,7 +102,12 @@ pub extern "C" fn txnobj_write(
     ensures { TellsNumber (λ told. OfClient (IsBegin (Call.Plain (PlainCall.Write (based base) (entry_of epoch bytes.now)))) client.old.value told client.new.value) op.old result op.new }
 {
     match entry(alloc, epoch, bytes) {
-        Ok(value) => begin(alloc, client, &Call::Plain(PlainCall::Write(based(base), value)), op),
+        Ok(value) => begin(
+            alloc,
+            client,
+            &Call::Plain(PlainCall::Write(based(base), value)),
+            op,
+        ),
         Err(_) => lack_value(client, op),
     }
 }
@@ -134,7 +125,12 @@ pub extern "C" fn txnobj_write_unchecked(
     ensures { TellsNumber (λ told. OfClient (IsBegin (Call.Plain (PlainCall.WriteUnchecked (based base) (entry_of epoch bytes.now)))) client.old.value told client.new.value) op.old result op.new }
 {
     match entry(alloc, epoch, bytes) {
-        Ok(value) => begin(alloc, client, &Call::Plain(PlainCall::WriteUnchecked(based(base), value)), op),
+        Ok(value) => begin(
+            alloc,
+            client,
+            &Call::Plain(PlainCall::WriteUnchecked(based(base), value)),
+            op,
+        ),
         Err(_) => lack_value(client, op),
     }
 }
@@ -158,11 +154,7 @@ pub extern "C" fn txnobj_init(
 
 /// Reads the newest version. Answered VIEW, of a new view.
 #[unsafe(no_mangle)]
-pub extern "C" fn txnobj_load(
-    alloc: Global,
-    client: &mut Client,
-    op: &mut u64,
-) -> u8
+pub extern "C" fn txnobj_load(alloc: Global, client: &mut Client, op: &mut u64) -> u8
     ensures { TellsNumber (λ told. OfClient (IsBegin (Call.View ViewCall.Load)) client.old.value told client.new.value) op.old result op.new }
 {
     begin(alloc, client, &Call::View(ViewCall::Load), op)
@@ -170,12 +162,7 @@ pub extern "C" fn txnobj_load(
 
 /// Reads the newest version into the view. Answered VIEW.
 #[unsafe(no_mangle)]
-pub extern "C" fn txnobj_refresh(
-    alloc: Global,
-    client: &mut Client,
-    view: u64,
-    op: &mut u64,
-) -> u8
+pub extern "C" fn txnobj_refresh(alloc: Global, client: &mut Client, view: u64, op: &mut u64) -> u8
     ensures { TellsNumber (λ told. OfClient (IsBegin (Call.View (ViewCall.Refresh view))) client.old.value told client.new.value) op.old result op.new }
 {
     begin(alloc, client, &Call::View(ViewCall::Refresh(view)), op)
@@ -194,19 +181,19 @@ pub extern "C" fn txnobj_update(
     ensures { TellsNumber (λ told. OfClient (IsBegin (Call.View (ViewCall.Update view (entry_of epoch bytes.now)))) client.old.value told client.new.value) op.old result op.new }
 {
     match entry(alloc, epoch, bytes) {
-        Ok(value) => begin(alloc, client, &Call::View(ViewCall::Update(view, value)), op),
+        Ok(value) => begin(
+            alloc,
+            client,
+            &Call::View(ViewCall::Update(view, value)),
+            op,
+        ),
         Err(_) => lack_value(client, op),
     }
 }
 
 /// Makes the view a holder of the next epoch. Answered HELD; a claim that is not held ends its view.
 #[unsafe(no_mangle)]
-pub extern "C" fn txnobj_claim(
-    alloc: Global,
-    client: &mut Client,
-    view: u64,
-    op: &mut u64,
-) -> u8
+pub extern "C" fn txnobj_claim(alloc: Global, client: &mut Client, view: u64, op: &mut u64) -> u8
     ensures { TellsNumber (λ told. OfClient (IsBegin (Call.View (ViewCall.Claim view))) client.old.value told client.new.value) op.old result op.new }
 {
     begin(alloc, client, &Call::View(ViewCall::Claim(view)), op)
@@ -223,7 +210,12 @@ pub extern "C" fn txnobj_claim_at(
 ) -> u8
     ensures { TellsNumber (λ told. OfClient (IsBegin (Call.View (ViewCall.ClaimAt view epoch))) client.old.value told client.new.value) op.old result op.new }
 {
-    begin(alloc, client, &Call::View(ViewCall::ClaimAt(view, epoch)), op)
+    begin(
+        alloc,
+        client,
+        &Call::View(ViewCall::ClaimAt(view, epoch)),
+        op,
+    )
 }
 
 /// Reads the newest version into the holder's view. Answered VIEW.
@@ -236,7 +228,12 @@ pub extern "C" fn txnobj_holder_refresh(
 ) -> u8
     ensures { TellsNumber (λ told. OfClient (IsBegin (Call.View (ViewCall.HolderRefresh view))) client.old.value told client.new.value) op.old result op.new }
 {
-    begin(alloc, client, &Call::View(ViewCall::HolderRefresh(view)), op)
+    begin(
+        alloc,
+        client,
+        &Call::View(ViewCall::HolderRefresh(view)),
+        op,
+    )
 }
 
 /// Writes the value, of the holder's epoch, directly on the version of the holder's view. Answered VIEW.
@@ -252,7 +249,12 @@ pub extern "C" fn txnobj_holder_update(
     ensures { TellsNumber (λ told. OfClient (IsBegin (Call.View (ViewCall.HolderUpdate view (entry_of epoch bytes.now)))) client.old.value told client.new.value) op.old result op.new }
 {
     match entry(alloc, epoch, bytes) {
-        Ok(value) => begin(alloc, client, &Call::View(ViewCall::HolderUpdate(view, value)), op),
+        Ok(value) => begin(
+            alloc,
+            client,
+            &Call::View(ViewCall::HolderUpdate(view, value)),
+            op,
+        ),
         Err(_) => lack_value(client, op),
     }
 }

@@ -5,12 +5,12 @@ ghost use Rattle.txnobj_c.specs.Owned.{owned};
 ghost use Rattle.txn_seat.specs.contracts.seat.Seat as state;
 ghost use Rattle.txnobj_c.specs.Held.{held_in, boxed_in};
 
-use txn_seat::seat::Seat;
 use crate::loose::Loose;
 use std::alloc::Global;
 use std::marker::Model;
 use std::mem;
 use std::ptr::null_mut;
+use txn_seat::seat::Seat;
 
 /// Where a state lies, if one was made. Zero bytes are none.
 #[repr(C)]

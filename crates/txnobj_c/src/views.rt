@@ -29,12 +29,7 @@ fn say(view: Option<&View<Entry>>, out: &mut Viewed) -> u8
 
 /// Says where a view stands. Code 1 for one that is not there or has ended.
 #[unsafe(no_mangle)]
-pub extern "C" fn txnobj_view(
-    alloc: Global,
-    client: &mut Client,
-    view: u64,
-    out: &mut Viewed,
-) -> u8
+pub extern "C" fn txnobj_view(alloc: Global, client: &mut Client, view: u64, out: &mut Viewed) -> u8
     ensures client { client.new.value ≡ client.old.value }
     ensures told { (result, out.new) ≡ viewed (view_in client.old.value view) out.old }
 {

@@ -8,10 +8,13 @@ returns-in-Ok c = record {
   request = c.args.request;
   asks = c.requires.asks;
   kind = c.requires.kind;
-  failed = λ says. (c.in-Ok.field-0-0, record {
-    answer = first_of c.in-Ok.answers;
-    does = c.in-Ok.ensures.ok;
-    waits = c.wait.ensures ∙ ap (λ l. l ++ as_waiting c.args.op (first_of c.in-Ok.answers)) c.make_room.ensures.items;
-  });
+  failed = λ says. (
+    c.in-Ok.field-0-0,
+    record {
+      answer = first_of c.in-Ok.answers;
+      does = c.in-Ok.ensures.ok;
+      waits = c.wait.ensures ∙ ap (λ l. l ++ as_waiting c.args.op (first_of c.in-Ok.answers)) c.make_room.ensures.items;
+    },
+  );
   replied = λ served. absurd (served c.requires.failed);
 }

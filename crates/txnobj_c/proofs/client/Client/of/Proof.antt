@@ -1,6 +1,6 @@
 -- `of` takes the pointer out of what it is given, and keeps what lies there.
 use Rattle.std.proofs.Common.{◌≡◌, List, [], ◌∷◌, ◌++◌, refl, sym, subst}
-use Rattle.std.specs.Prelude.{true, Option, Some}
+use Rattle.std.specs.Prelude.{true, Some}
 use mir.Val.{Val, vptr}
 use base.Logic.{SProp, ent, emp, id⊢}
 use prog.Wp.{WpFn}

@@ -1,8 +1,7 @@
 -- `open` gives what lies there, where a state was made.
-use Rattle.std.proofs.Common.{◌≡◌, List, [], ◌∷◌, ◌++◌, refl, sym, ap, subst, lit<}
-use Rattle.std.specs.Prelude.{Bool, true, false, Option, Some, None}
-use lib.Dec.{T}
-use mir.Val.{Val, vptr, vcons, vnil, has_ty}
+use Rattle.std.proofs.Common.{◌≡◌, List, [], ◌∷◌, ◌++◌, refl, sym, subst, lit<}
+use Rattle.std.specs.Prelude.{Bool, true, false, Some, None}
+use mir.Val.{Val, vptr, vcons, vnil}
 use base.Logic.{SProp, ent, emp, id⊢}
 use prog.Wp.{WpFn}
 use types.Kit.{‵, raw, ◌⊛◌, at_ret, ◌$◌, ◌∵◌, !, qed, by, move, keep, drop, split, fsplit, fsplit3, fjoin, rewrite, suffices, use0, use1}
