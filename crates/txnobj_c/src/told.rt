@@ -5,6 +5,7 @@ ghost use Rattle.txn_history.specs.Names.{world_names};
 ghost use Rattle.txn_history.specs.Seen.{Store};
 ghost use Rattle.txn_machine_inner.specs.Doing.{asks_as};
 
+use bytes::Bytes;
 use txn_caches::ask::Ask;
 use txn_entries::entry::Entry;
 use txn_history::event::{Answer, PlainAnswer};
@@ -125,37 +126,49 @@ fn plain(kind: u8) -> Asked
     }
 }
 
+/// What a put is, in numbers.
+fn put_told(names: &VersionNames, path: &Path, bytes: &Bytes, mode: &PutMode) -> Asked
+    requires { names.now ≡ world_names }
+    ensures { TellsAsk (Some (Store (Request.Put path.now bytes.now mode.now))) result }
+{
+    let (mode, token) = mode_of(mode);
+    Asked {
+        kind: 2,
+        mode,
+        version: version_of(names, path),
+        token,
+        limit: 0,
+        len: bytes.len(),
+    }
+}
+
+/// What a get is, in numbers.
+fn get_told(names: &VersionNames, path: &Path, known: Option<Token>) -> Asked
+    requires { names.now ≡ world_names }
+    ensures { TellsAsk (Some (Store (Request.Get path.now known))) result }
+{
+    let (mode, token) = known_of(known);
+    Asked {
+        kind: 3,
+        mode,
+        version: version_of(names, path),
+        token,
+        limit: 0,
+        len: 0,
+    }
+}
+
 /// What a store call is, in numbers.
 fn request_told(names: &VersionNames, request: &Request) -> Asked
     requires { names.now ≡ world_names }
     ensures { TellsAsk (Some (Store request.now)) result }
 {
     match request {
-        Request::Put { path, bytes, mode } => {
-            let (mode, token) = mode_of(mode);
-            Asked {
-                kind: 2,
-                mode,
-                version: version_of(names, path),
-                token,
-                limit: 0,
-                len: bytes.len(),
-            }
-        }
+        Request::Put { path, bytes, mode } => put_told(names, path, bytes, mode),
         Request::Get {
             path,
             if_none_match,
-        } => {
-            let (mode, token) = known_of(*if_none_match);
-            Asked {
-                kind: 3,
-                mode,
-                version: version_of(names, path),
-                token,
-                limit: 0,
-                len: 0,
-            }
-        }
+        } => get_told(names, path, *if_none_match),
         Request::List {
             prefix: _,
             after,
