@@ -34,6 +34,8 @@ EXAMPLES = ("example_leader", "example_counter")
 # folder that is given twice.
 SECONDS_AGAIN = 10
 SECONDS_ON_MOUNTS = 3
+# The crate of the C library.
+CRATE_OF_BINDINGS = "txnobj_c"
 # How the name of a crate of tests begins.
 TESTS = "tests_"
 LAST_LINE = re.compile(r"(\d+) passed, (\d+) failed")
@@ -268,6 +270,12 @@ def mount_steps(root, programs):
             yield step("processes on two mounts", [f"{root}/tools/try-mounts", folder, folder, *how], root)
 
 
+def binding_steps(root):
+    """Builds the C library, where its crate is, and runs what tests it from other languages."""
+    if os.path.isdir(f"{root}/crates/{CRATE_OF_BINDINGS}"):
+        yield step("bindings", [f"{root}/tools/try-bindings"], root)
+
+
 def table(steps):
     """The steps as lines: counts, real time and processor time."""
     width = max(len(it.name) for it in steps)
@@ -302,7 +310,7 @@ def copied(root, names):
     """A copy of the repository with these crates alone, as they now stand, without what was made of them."""
     with tempfile.TemporaryDirectory(prefix="test-") as room:
         top = f"{room}/{os.path.basename(root)}"
-        for it in ("tools", "cases", "examples", *(f"crates/{name}" for name in sorted(names))):
+        for it in ("tools", "cases", "examples", "bindings", *(f"crates/{name}" for name in sorted(names))):
             shutil.copytree(f"{root}/{it}", f"{top}/{it}", symlinks=True, ignore=shutil.ignore_patterns("out"))
         shutil.copy2(f"{root}/HANDLES", top)
         with open(f"{top}/crates.txt", "w", encoding="utf-8") as file:
@@ -328,6 +336,7 @@ def steps_of(root, top, given):
     yield from refusal_steps(top, programs)
     yield from folder_steps(top, programs, given.anew)
     yield from mount_steps(top, programs)
+    yield from binding_steps(top)
 
 
 def arguments_of(words, usage):

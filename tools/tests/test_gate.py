@@ -206,7 +206,7 @@ class Steps(unittest.TestCase):
             self.file(f"repository/crates/{name}/out/made")
         for name in ("low", "high"):
             self.file(f"repository/crates/{name}/wrong-bodies/first.edit")
-        for it in ("HANDLES", "cases/a", "examples/a"):
+        for it in ("HANDLES", "cases/a", "examples/a", "bindings/a"):
             self.file(f"repository/{it}")
         self.file("repository/tools/tests/test_one.py", "import unittest\nclass One(unittest.TestCase):\n  def test(self): pass\n")
         self.file("repository/tools/wrong-bodies", '#!/bin/sh\necho "edits of $*"\necho "4 passed, 0 failed"\n', 0o755)

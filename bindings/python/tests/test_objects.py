@@ -1,0 +1,165 @@
+"""Objects, as programs use them."""
+
+import os
+import subprocess
+import tempfile
+import threading
+import unittest
+
+from txnobj import (
+    Conflict,
+    Fenced,
+    FolderStore,
+    Json,
+    MemoryStore,
+    NotPermitted,
+    NoVersion,
+    Object,
+    StoreFailed,
+    Text,
+)
+
+#: The program, where it is built.
+PROGRAM = os.environ.get(
+    "TXNOBJ_PROGRAM",
+    os.path.join(os.path.dirname(__file__), "..", "..", "..", "crates", "txnobj_cli", "out", "txnobj_cli"),
+)
+ADDED = 25
+
+
+class Failing(MemoryStore):
+    """A store whose puts can lose their replies."""
+
+    loses = False
+
+    def put(self, name, data, mode):
+        token = super().put(name, data, mode)
+        if self.loses:
+            raise ConnectionError("the reply is lost")
+        return token
+
+
+class Objects(unittest.TestCase):
+    def setUp(self):
+        self.store = MemoryStore()
+
+    def test_values_are_read_back(self):
+        with Object(self.store, "config", Json()) as config:
+            with self.assertRaises(NoVersion):
+                config.load()
+            self.assertEqual(config.load_or_init({"a": 1}), {"a": 1})
+            self.assertEqual(config.update(lambda it: {**it, "b": [2]}), {"a": 1, "b": [2]})
+            self.assertEqual((config.id, config.epoch, config.value), (2, 0, {"a": 1, "b": [2]}))
+        with Object(self.store, "config", Json()) as again:
+            self.assertEqual(again.load(), {"a": 1, "b": [2]})
+            with self.assertRaises(Conflict):
+                again.init({})
+
+    def test_a_function_that_answers_nothing_writes_nothing(self):
+        with Object(self.store, "text", Text()) as text:
+            text.init("as it is")
+            self.assertEqual(text.update(lambda it: None), "as it is")
+            self.assertEqual(text.id, 1)
+
+    def test_threads_lose_no_count(self):
+        def count(_worker):
+            with Object(self.store, "counter", Json()) as counter:
+                counter.load_or_init(0)
+                for _ in range(ADDED):
+                    counter.update(lambda it: it + 1)
+
+        workers = [threading.Thread(target=count, args=(worker,)) for worker in range(4)]
+        for worker in workers:
+            worker.start()
+        for worker in workers:
+            worker.join()
+        with Object(self.store, "counter", Json()) as counter:
+            self.assertEqual(counter.load(), 4 * ADDED)
+            self.assertEqual(counter.id, 4 * ADDED + 1)
+
+    def test_a_holder_is_shut_out(self):
+        with Object(self.store, "leader", Text()) as one, Object(self.store, "leader", Text()) as other:
+            one.init("nobody")
+            first = one.claim()
+            self.assertEqual(first.update(lambda _: "one"), "one")
+            second = other.claim(timeout=10)
+            self.assertEqual((first.holds, second.holds), (1, 2))
+            with self.assertRaises(Fenced):
+                first.update(lambda _: "late")
+            self.assertEqual(second.value, "one")
+            with self.assertRaises(Fenced):
+                other.claim(epoch=2)
+            self.assertEqual(other.claim(epoch=7).holds, 7)
+
+    def test_what_is_not_needed_is_collected(self):
+        with Object(self.store, "counter", Json()) as counter:
+            counter.init(0)
+            for _ in range(9):
+                counter.update(lambda it: it + 1)
+            self.assertEqual(counter.collect(keep=3), 7)
+            self.assertEqual(counter.client.list(), [8, 9, 10])
+            with self.assertRaises(NotPermitted):
+                counter.client.advance(10)
+
+    def test_new_versions_are_watched(self):
+        with Object(self.store, "counter", Json()) as counter, Object(self.store, "counter", Json()) as other:
+            counter.init(0)
+            seen = []
+            for id, value in other.watch(poll=0.001, timeout=0.05):
+                seen.append((id, value))
+                if value < 5:
+                    counter.update(lambda it: it + 1)
+            self.assertEqual(seen, [(n + 1, n) for n in range(6)])
+
+    def test_a_lost_reply_is_told(self):
+        store = Failing()
+        with Object(store, "counter", Json()) as counter:
+            counter.init(0)
+            store.loses = True
+            with self.assertRaises(StoreFailed) as told:
+                counter.update(lambda it: it + 1)
+            self.assertIsInstance(told.exception.__cause__, ConnectionError)
+            store.loses = False
+            # The version was written all the same: the next attempt is a conflict with it, and goes on after it.
+            self.assertEqual(counter.update(lambda it: it + 1), 2)
+
+    def test_a_client_keeps_no_more_as_it_goes_on(self):
+        with Object(self.store, "counter", Json()) as counter:
+            counter.init(0)
+            for _ in range(500):
+                counter.update(lambda it: it + 1)
+            with self.assertRaises(NotPermitted):
+                counter.client.write(3, b"old")
+            self.assertEqual(counter.load(), 500)
+
+
+@unittest.skipUnless(os.path.exists(PROGRAM), "the program txnobj is not built")
+class BesideTheProgram(unittest.TestCase):
+    def test_counts_are_exact_and_gap_free(self):
+        with tempfile.TemporaryDirectory() as room:
+            words = [PROGRAM, "--root", room, "--name", "number", "--no-sync"]
+            subprocess.run([*words, "bench", "1"], check=True, stdout=subprocess.DEVNULL)
+            programs = [subprocess.Popen([*words, "bench", str(4 * ADDED)], stdout=subprocess.DEVNULL) for _ in range(2)]
+
+            def count(_worker):
+                with Object(FolderStore(room, syncs=False), "number", Json()) as number:
+                    for _ in range(ADDED):
+                        number.update(lambda it: it + 1)
+
+            workers = [threading.Thread(target=count, args=(worker,)) for worker in range(2)]
+            for worker in workers:
+                worker.start()
+            for worker in workers:
+                worker.join()
+            self.assertEqual([program.wait() for program in programs], [0, 0])
+            total = 1 + 2 * ADDED + 8 * ADDED
+            with Object(FolderStore(room, syncs=False), "number", Json()) as number:
+                self.assertEqual((number.load(), number.id), (total, total))
+                self.assertEqual(number.client.list(), list(range(1, total + 1)))
+                self.assertEqual(number.collect(keep=2), total - 2)
+            told = subprocess.run([*words, "list"], check=True, capture_output=True, text=True).stdout
+            self.assertEqual(told.split(), [str(total - 1), str(total)])
+
+
+if __name__ == "__main__":
+    unittest.main()
