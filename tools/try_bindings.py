@@ -46,13 +46,18 @@ def exports_of(root):
     return found
 
 
+def unnamed(parameter):
+    """What a parameter takes, without its name."""
+    return parameter if parameter.endswith("*") else re.sub(r"(?<=[ *])\w+$", "", parameter).strip()
+
+
 def prototypes_of(root):
     """The functions of the header by their names, without the names of what they take."""
     with open(f"{root}/{HEADER}", encoding="utf-8") as file:
         text = re.sub(r"/\*.*?\*/", "", file.read(), flags=re.S)
     found = {}
     for it in re.finditer(r"^(\w+) (txnobj_\w+)\(([^)]*)\);", text, re.M):
-        takes = [re.sub(r"(\*|\b)\s*(?<=[ *])\w+$", r"\1", part.strip()) if not part.strip().endswith("*") else part.strip() for part in it[3].split(",")]
+        takes = [unnamed(part.strip()) for part in it[3].split(",")]
         found[it[2]] = [*(" ".join(part.replace("*", " * ").split()) for part in takes), it[1]]
     return found
 
@@ -115,7 +120,8 @@ class Checks:
     def python(self, shared):
         tests = f"{ROOT}/bindings/python"
         words = [sys.executable, "-B", "-m", "unittest", "discover", "-q", "-s", f"{tests}/tests", "-t", tests]
-        done = subprocess.run(words, env={**os.environ, "TXNOBJ_LIBRARY": shared}, cwd=tests, capture_output=True, text=True, check=False)
+        environment = {**os.environ, "TXNOBJ_LIBRARY": shared}
+        done = subprocess.run(words, env=environment, cwd=tests, capture_output=True, text=True, check=False)
         ran = re.findall(r"^Ran (\d+) tests? in ", done.stderr, re.M)
         bad = sum(map(int, re.findall(r"(?:failures|errors)=(\d+)", done.stderr)))
         if done.returncode or not ran:

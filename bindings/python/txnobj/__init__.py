@@ -1,5 +1,6 @@
-"""An object in a store that others share, as numbered versions that many clients update by compare and swap, and claims of an epoch
-that shut out older holders. What each client does next is decided by a library whose steps are proved; the store calls are made here.
+"""An object in a store that others share, as numbered versions that many clients update by compare and swap, and claims of an
+epoch that shut out older holders. What each client does next is decided by a library whose steps are proved; the store calls are
+made here.
 
     from txnobj import FolderStore, Json, Object
 

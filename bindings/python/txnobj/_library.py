@@ -124,9 +124,6 @@ class Library:
             function.restype, function.argtypes = answer, takes
             setattr(self, name, function)
 
-    def __getattr__(self, name: str) -> object:
-        raise AttributeError(name)
-
 
 _loaded: list[Library] = []
 
