@@ -6,6 +6,7 @@ import os
 import random
 import subprocess
 import sys
+import tempfile
 import threading
 import time
 import unittest
@@ -16,6 +17,8 @@ sys.path[:0] = [f"{ROOT}/bindings/python"]
 from try_s3_server import KEY, SECRET, Server, missing  # noqa: E402
 
 BUCKET, PROCESSES = "versions", 4
+# The program that audits recordings.
+PROGRAM = f"{ROOT}/crates/txnobj_cli/out/txnobj_cli"
 # One in so many puts loses its reply.
 LOST = 20
 
@@ -41,11 +44,21 @@ def store_at(url, prefix, loses=False):
     return Losing(client, BUCKET, prefix or "", quotes=False)
 
 
-def count(url):
+def audited(program, folder):
+    """Has the program audit all recordings of a folder, where it is built, and says what it found."""
+    if not os.path.exists(program):
+        return "not audited: txnobj is not built"
+    diaries = [f"{folder}/{name}" for name in sorted(os.listdir(folder))]
+    told = subprocess.run([program, "audit", *diaries], capture_output=True, text=True, check=False)
+    assert told.returncode == 0, told.stdout + told.stderr
+    return told.stdout.strip()
+
+
+def count(url, diary):
     """A process that counts up, and prints the id of each count that was acknowledged."""
     from txnobj import Json, Object, StoreFailed
 
-    counter = Object(store_at(url, "counts", loses=True), "counter", Json())
+    counter = Object(store_at(url, "counts", loses=True), "counter", Json(), recording=diary)
     while True:
         try:
             counter.load_or_init(0)
@@ -59,10 +72,9 @@ def count(url):
 class Counter:
     """A process that counts up, which can be killed, and what it was told."""
 
-    def __init__(self, url, told):
-        self.process = subprocess.Popen(
-            [sys.executable, "-B", f"{ROOT}/tools/try_s3.py", url], stdout=subprocess.PIPE, text=True, stderr=subprocess.DEVNULL
-        )
+    def __init__(self, url, diary, told):
+        words = [sys.executable, "-B", f"{ROOT}/tools/try_s3.py", url, diary]
+        self.process = subprocess.Popen(words, stdout=subprocess.PIPE, text=True, stderr=subprocess.DEVNULL)
         self.reader = threading.Thread(target=self.read, args=(told,))
         self.reader.start()
 
@@ -77,17 +89,18 @@ class Counter:
         self.process.wait()
 
 
-def counts(server, seconds):
+def counts(server, folder, seconds):
     """Counts are exact and gap-free, whatever is killed and lost."""
     from txnobj import Json, Object
 
     told, kills, until, killed = [], 0, time.monotonic() + seconds, False
-    counters = [Counter(server.url, told) for _ in range(PROCESSES)]
+    diaries = [f"{folder}/{at}.diary" for at in range(PROCESSES)]
+    counters = [Counter(server.url, diary, told) for diary in diaries]
     while time.monotonic() < until:
         time.sleep(random.uniform(0.3, 1.5))
         at = random.randrange(PROCESSES)
         counters[at].kill()
-        counters[at], kills = Counter(server.url, told), kills + 1
+        counters[at], kills = Counter(server.url, diaries[at], told), kills + 1
         if not killed and time.monotonic() > until - seconds / 2:
             server.kill_gateway()
             time.sleep(2)
@@ -105,12 +118,13 @@ def counts(server, seconds):
     return f"{newest} counts, {len(told)} of them told, beside {kills} kills and a restart of the gateway: exact and gap-free"
 
 
-def claims(server, _seconds):
+def claims(server, folder, _seconds):
     """Of two claimers the older is fenced."""
     from txnobj import Conflict, Fenced, Object, Text
 
     store = store_at(server.url, "claims")
-    with Object(store, "leader", Text()) as one, Object(store, "leader", Text()) as other:
+    a, b = (Object(store, "leader", Text(), recording=f"{folder}/{name}.diary") for name in "ab")
+    with a as one, b as other:
         one.init("nobody")
         for turn in range(1, 11):
             first, second = one.claim(), other.claim()
@@ -124,12 +138,13 @@ def claims(server, _seconds):
     return "20 claims: the older of two is fenced each time"
 
 
-def late(server, _seconds):
+def late(server, folder, _seconds):
     """A write on a version that was removed is refused."""
     from txnobj import Conflict, Json, Object
 
     store = store_at(server.url, "late")
-    with Object(store, "counter", Json()) as slow, Object(store, "counter", Json()) as fast:
+    a, b = (Object(store, "counter", Json(), recording=f"{folder}/{name}.diary") for name in "ab")
+    with a as slow, b as fast:
         slow.init(0)
         view = slow.client.load()
         fast.load()
@@ -145,7 +160,7 @@ def late(server, _seconds):
     return "a late write of a removed version is refused"
 
 
-def answers(server, _seconds):
+def answers(server, _folder, _seconds):
     """The store answers call by call as each store has to."""
     from tests.test_stores import Answers
 
@@ -166,6 +181,7 @@ def main(words, usage):
     form = argparse.RawDescriptionHelpFormatter
     parser = argparse.ArgumentParser(prog="tools/try-s3", description=usage, formatter_class=form)
     parser.add_argument("--seconds", type=float, default=30, metavar="N", help="how long processes are killed")
+    parser.add_argument("--program", default=PROGRAM, metavar="PROGRAM", help="a build of txnobj, which audits")
     parser.add_argument("--keep", action="store_true", help="leave the server's files, and say where")
     given = parser.parse_args(words)
     lacking = missing()
@@ -184,7 +200,10 @@ def main(words, usage):
         store_at(server.url, None)
         for check in (answers, claims, late, counts):
             try:
-                print(f"ok: {check(server, given.seconds)}", flush=True)
+                with tempfile.TemporaryDirectory(prefix="try-s3-") as folder:
+                    done = check(server, folder, given.seconds)
+                    said = f"; {audited(given.program, folder)}" if os.listdir(folder) else ""
+                print(f"ok: {done}{said}", flush=True)
                 passed += 1
             except Exception as wrong:  # pylint: disable=broad-except
                 print(f"FAILED: {check.__name__}: {wrong!r}", flush=True)
@@ -194,4 +213,4 @@ def main(words, usage):
 
 
 if __name__ == "__main__":
-    count(sys.argv[1])
+    count(sys.argv[1], sys.argv[2])

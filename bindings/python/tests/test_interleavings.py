@@ -1,8 +1,12 @@
 """Clients whose steps are mixed at random over one store in memory: what each was told is held against the store."""
 
+import os
 import random
+import subprocess
+import tempfile
 import unittest
 
+from tests.programs import AUDIT
 from txnobj import Client, Conflict, Fenced, MemoryStore
 
 #: How many runs there are.
@@ -10,13 +14,16 @@ RUNS = 300
 
 
 class Run:
-    """One run, by its seed."""
+    """One run, by its seed. Where it has a folder, its clients are recorded there."""
 
-    def __init__(self, seed):
+    def __init__(self, seed, folder=None):
         self.random = random.Random(seed)
         self.store = MemoryStore()
         many = self.random.randint(2, 4)
-        self.clients = [Client(self.store, "counter", number=n + 1, page=self.random.randint(1, 4)) for n in range(many)]
+        self.clients, page = [], self.random.randint(1, 4)
+        for number in range(1, many + 1):
+            recording = folder and os.path.join(folder, f"{number}.diary")
+            self.clients.append(Client(self.store, "counter", number=number, page=page, recording=recording))
         self.clients[0].init(b"0")
         self.views = [client.load() for client in self.clients]
         self.running = [None] * many
@@ -88,6 +95,29 @@ class Interleavings(unittest.TestCase):
                 removed = run.clients[0].collect(keep=2)
                 self.assertEqual(removed, max(newest - 2, 0))
                 self.assertEqual(run.clients[1].list(), [id for id in (newest - 1, newest) if id > 0])
+
+
+@unittest.skipUnless(AUDIT, "the program txnobj is not built")
+class Audited(unittest.TestCase):
+    def test_each_run_is_one_history(self):
+        for seed in range(RUNS):
+            with self.subTest(seed=seed), tempfile.TemporaryDirectory() as folder:
+                run = Run(seed, folder)
+                run.count()
+                one, other = run.clients[:2]
+                held = one.claim(one.load())
+                other.claim(other.load())
+                with self.assertRaises((Conflict, Fenced)):
+                    one.update(held, b"late", held.holds)
+                one.collect(keep=2)
+                other.list()
+                entries = run.clients[1].read().id
+                for client in run.clients:
+                    client.close()
+                diaries = [os.path.join(folder, name) for name in sorted(os.listdir(folder))]
+                told = subprocess.run([AUDIT, "audit", *diaries], capture_output=True, text=True, check=False)
+                self.assertEqual(told.returncode, 0, told.stdout + told.stderr)
+                self.assertIn(f"one history: {entries} entries, boundary {entries - 2}, {len(diaries)} clients", told.stdout)
 
 
 if __name__ == "__main__":

@@ -6,6 +6,7 @@ import tempfile
 import threading
 import unittest
 
+from tests.programs import AUDIT, COUNTER
 from txnobj import (
     Conflict,
     Fenced,
@@ -19,11 +20,6 @@ from txnobj import (
     Text,
 )
 
-#: The program, where it is built.
-PROGRAM = os.environ.get(
-    "TXNOBJ_PROGRAM",
-    os.path.join(os.path.dirname(__file__), "..", "..", "..", "crates", "txnobj_cli", "out", "txnobj_cli"),
-)
 ADDED = 25
 
 
@@ -133,32 +129,42 @@ class Objects(unittest.TestCase):
             self.assertEqual(counter.load(), 500)
 
 
-@unittest.skipUnless(os.path.exists(PROGRAM), "the program txnobj is not built")
-class BesideTheProgram(unittest.TestCase):
-    def test_counts_are_exact_and_gap_free(self):
+@unittest.skipUnless(AUDIT and COUNTER, "the programs are not built")
+class BesideThePrograms(unittest.TestCase):
+    def count(self, room, worker):
+        """Counts up as a client of this process."""
+        diary = os.path.join(room, f"python-{worker}.diary")
+        with Object(FolderStore(room, syncs=False), "counter", Text(), recording=diary) as counter:
+            for _ in range(ADDED):
+                counter.update(lambda it: str(int(it or 0) + 1))
+
+    def audited(self, room):
+        """What an audit says of all recordings in a folder."""
+        diaries = [os.path.join(room, name) for name in sorted(os.listdir(room)) if name.endswith(".diary")]
+        told = subprocess.run([AUDIT, "audit", *diaries], capture_output=True, text=True, check=False)
+        self.assertEqual(told.returncode, 0, told.stdout + told.stderr)
+        return told.stdout
+
+    def test_counts_are_exact_gap_free_and_audited(self):
         with tempfile.TemporaryDirectory() as room:
-            words = [PROGRAM, "--root", room, "--name", "number", "--no-sync"]
-            subprocess.run([*words, "bench", "1"], check=True, stdout=subprocess.DEVNULL)
-            programs = [subprocess.Popen([*words, "bench", str(4 * ADDED)], stdout=subprocess.DEVNULL) for _ in range(2)]
-
-            def count(_worker):
-                with Object(FolderStore(room, syncs=False), "number", Json()) as number:
-                    for _ in range(ADDED):
-                        number.update(lambda it: it + 1)
-
-            workers = [threading.Thread(target=count, args=(worker,)) for worker in range(2)]
+            subprocess.run([COUNTER, room, "first", "1"], check=True, stdout=subprocess.DEVNULL)
+            programs = [subprocess.Popen([COUNTER, room, name, f"{4 * ADDED}"], stdout=subprocess.DEVNULL) for name in "ab"]
+            workers = [threading.Thread(target=self.count, args=(room, worker)) for worker in range(2)]
             for worker in workers:
                 worker.start()
             for worker in workers:
                 worker.join()
             self.assertEqual([program.wait() for program in programs], [0, 0])
             total = 1 + 2 * ADDED + 8 * ADDED
-            with Object(FolderStore(room, syncs=False), "number", Json()) as number:
-                self.assertEqual((number.load(), number.id), (total, total))
-                self.assertEqual(number.client.list(), list(range(1, total + 1)))
-                self.assertEqual(number.collect(keep=2), total - 2)
-            told = subprocess.run([*words, "list"], check=True, capture_output=True, text=True).stdout
-            self.assertEqual(told.split(), [str(total - 1), str(total)])
+            diary = os.path.join(room, "last.diary")
+            with Object(FolderStore(room, syncs=False), "counter", Text(), recording=diary) as counter:
+                self.assertEqual((counter.load(), counter.id), (str(total), total + 1))
+                self.assertEqual(counter.client.list(), list(range(1, total + 2)))
+                self.assertEqual(counter.collect(keep=2), total - 1)
+            words = [AUDIT, "--root", room, "--name", "counter", "list"]
+            told = subprocess.run(words, check=True, capture_output=True, text=True).stdout
+            self.assertEqual(told.split(), [str(total), str(total + 1)])
+            self.assertIn(f"one history: {total + 1} entries, boundary {total - 1}, 6 clients", self.audited(room))
 
 
 if __name__ == "__main__":

@@ -12,6 +12,7 @@ from typing import Any, Generator, Optional, Union
 
 from . import _library as lib
 from .errors import REFUSALS, Busy, Error, NotPermitted, StoreFailed
+from .recording import Recording, refusal_text, value_text, path_text
 from .stores.base import (
     AlreadyExists,
     Create,
@@ -32,10 +33,13 @@ LAST = 128
 #: How many texts that are tokens a client remembers, to name them to the store again.
 _TOKENS = 64
 
+#: Answers that give nothing, as they are written down.
+_NOTHING = {lib.DONE: "done", lib.READ_NONE: "read none", lib.VALUE_NONE: "value none"}
 #: How many clients the process had before, so that two that are made at one moment have numbers of their own.
 _CLIENTS = itertools.count()
 
-#: The steps of a call: each look and each store call yields once, and then the answer is returned.
+#: The steps of a call: before each look and each store call it yields, but before no look of a client that is recorded, and then
+#: the answer is returned.
 Steps = Generator[None, None, Any]
 
 
@@ -86,9 +90,20 @@ class Client:
 
     :param number: its number, at least 1, which no other client of the object has, in all runs; without one, the nanoseconds
         since 1970.
+    :param recording: the path of a file at whose end the client is recorded, for ``txnobj audit``. A client that is recorded
+        makes one call at a time.
     """
 
-    def __init__(self, store: Store, name: str, *, number: Optional[int] = None, page: int = PAGE, last: int = LAST) -> None:
+    def __init__(
+        self,
+        store: Store,
+        name: str,
+        *,
+        number: Optional[int] = None,
+        page: int = PAGE,
+        last: int = LAST,
+        recording: Optional[str] = None,
+    ) -> None:
         self._lib: Any = lib.library()
         self._handle = lib.Handle()
         self._me = lib.byref(self._handle)
@@ -97,6 +112,10 @@ class Client:
         self._failure: Optional[BaseException] = None
         self.number = number if number is not None else time.time_ns() + next(_CLIENTS)
         self._test(self._lib.open(self._me, self.number, page))
+        self._recording: Optional[Recording] = None
+        self._running: Optional[int] = None
+        if recording is not None:
+            self._recording = Recording(recording, f"{name}.{self._names.suffix}", self.number, page)
 
     # The calls
 
@@ -194,6 +213,8 @@ class Client:
     def close(self) -> None:
         """Frees the client. What its operations asked for may still reach the store."""
         self._lib.close(self._me)
+        if getattr(self, "_recording", None) is not None:
+            self._recording.close()
 
     def __enter__(self) -> "Client":
         return self
@@ -211,8 +232,13 @@ class Client:
         """Begins a call of the library, by its name there. It is made step by step, so that several calls of a client, or of
         several, can go on beside one another.
         """
+        if self._recording is not None and self._running is not None:
+            raise Busy("a client that is recorded makes one call at a time")
         op = ctypes.c_uint64()
         self._test(getattr(self._lib, name)(self._me, *words, lib.byref(op)))
+        self._running = op.value
+        if self._recording is not None:
+            self._recording.begun(op.value, name, words)
         return self._steps(op.value)
 
     @staticmethod
@@ -231,12 +257,17 @@ class Client:
                 self._test(self._lib.asked(self._me, op, lib.byref(asked)))
                 if asked.kind == lib.ASKS_NOTHING:
                     return self._answer(op)
-                yield
+                # A recording tells no looks: a client that is recorded looks as soon as it wants to, so that an audit which
+                # makes its steps once more finds it where it is.
+                if self._recording is None or asked.kind != lib.ASKS_LOOK:
+                    yield
                 self._step(op, asked)
         finally:
+            self._running = None
             # What was not brought to its answer is given up; an answer is let go.
-            if self._lib.end(self._me, op) != lib.OK:
-                self._lib.give_up(self._me, op)
+            if self._lib.end(self._me, op) != lib.OK and self._lib.give_up(self._me, op) == lib.OK:
+                if self._recording is not None:
+                    self._recording.gave_up(op)
             self._lib.forget(self._me, self._last)
 
     def _step(self, op: int, asked: lib.Asked) -> None:
@@ -253,23 +284,60 @@ class Client:
         self._test(code)
 
     def _reply(self, op: int, asked: lib.Asked) -> tuple[Any, ...]:
-        name = self._names.boundary if asked.version == 0 else self._names.version(asked.version)
-        if asked.kind == lib.ASKS_PUT:
-            data = self._bytes(self._lib.asked_bytes, op, asked.len)
-            error, token = self._called(self._store.put, name, data, self._mode(asked))
-            return "put", error, self._number(token)
-        if asked.kind == lib.ASKS_GET:
-            known = self._token(asked.token) if asked.mode else None
-            error, got = self._called(self._store.get, name, known)
-            data = got.data if got is not None else b""
-            return "got", error, self._number(got.token if got is not None else None), data, len(data)
-        if asked.kind == lib.ASKS_DELETE:
-            error, _ = self._called(self._store.delete, name)
-            return "deleted", error
+        """Makes the store call that an operation asks for: the function that takes the reply, and the reply."""
+        reply = {lib.ASKS_PUT: self._put, lib.ASKS_GET: self._get, lib.ASKS_LIST: self._list, lib.ASKS_DELETE: self._delete}
+        return reply[asked.kind](op, asked)
+
+    def _name(self, version: int) -> str:
+        return self._names.boundary if version == 0 else self._names.version(version)
+
+    def _told(self, op: int, kind: str, error: int, told: str) -> None:
+        """Writes down what came of a store call."""
+        if self._recording is None:
+            return
+        if error == lib.FAILED:
+            self._recording.failed(op)
+        else:
+            self._recording.replied(op, kind, error, told)
+
+    def _put(self, op: int, asked: lib.Asked) -> tuple[Any, ...]:
+        data = self._bytes(self._lib.asked_bytes, op, asked.len)
+        if self._recording is not None:
+            self._recording.asked_put(op, asked.version, asked.mode, asked.token, data)
+        error, token = self._called(self._store.put, self._name(asked.version), data, self._mode(asked))
+        number = self._number(token)
+        self._told(op, "put", error, f"{number}")
+        return "put", error, number
+
+    def _get(self, op: int, asked: lib.Asked) -> tuple[Any, ...]:
+        known = asked.token if asked.mode else None
+        if self._recording is not None:
+            self._recording.asked_get(op, asked.version, known)
+        error, got = self._called(self._store.get, self._name(asked.version), None if known is None else self._token(known))
+        data, number = (b"", 0) if got is None else (got.data, self._number(got.token))
+        self._told(op, "get", error, f"{number} {data.hex()}")
+        return "got", error, number, data, len(data)
+
+    def _list(self, op: int, asked: lib.Asked) -> tuple[Any, ...]:
         after = None if asked.version == 0 else self._names.version(asked.version)
+        if self._recording is not None:
+            self._recording.asked_list(op, asked.version, asked.limit)
         error, page = self._called(self._store.list, self._names.folder, after, asked.limit)
-        ids = [] if page is None else [id for id in map(self._names.id_of, page.names) if id is not None]
-        return "listed", error, (ctypes.c_uint64 * max(1, len(ids)))(*ids), len(ids), page is not None and page.more
+        ids, metas, more = [], [], page is not None and page.more
+        for file in page.files if page is not None else ():
+            id = self._names.id_of(file.name)
+            if id is not None:
+                ids.append(id)
+                metas.append(f" {path_text(id)}:{self._number(file.token)}:{file.size}")
+        self._told(op, "list", error, ("more" if more else "last") + "".join(metas))
+        return "listed", error, (ctypes.c_uint64 * max(1, len(ids)))(*ids), len(ids), more
+
+    def _delete(self, op: int, asked: lib.Asked) -> tuple[Any, ...]:
+        if self._recording is not None:
+            self._recording.asked_delete(op, asked.version)
+        error, _ = self._called(self._store.delete, self._name(asked.version))
+        self._told(op, "delete", error, "done")
+        return "deleted", error
 
     def _called(self, function: Any, *words: Any) -> tuple[int, Any]:
         """Makes a store call: 0 and what it answers, or the number of why it answers nothing."""
@@ -319,23 +387,37 @@ class Client:
     def _answer(self, op: int) -> Any:
         told = lib.Answered()
         self._test(self._lib.answered(self._me, op, lib.byref(told)))
+        answer, text = self._read_answer(op, told)
+        if self._recording is not None:
+            self._recording.answered(op, text)
         if told.kind == lib.REFUSED:
             self._refuse(told.refusal)
+        return answer
+
+    def _read_answer(self, op: int, told: lib.Answered) -> tuple[Any, str]:
+        """What an answer gives, and how it is written down."""
+        if told.kind == lib.REFUSED:
+            return None, refusal_text(told.refusal)
         if told.kind == lib.IDS:
             ids = (ctypes.c_uint64 * max(1, told.len))()
             if not self._lib.answered_ids(self._me, op, ids, told.len):
                 raise AssertionError("the library tells another length")
-            return list(ids)[: told.len]
+            found = list(ids)[: told.len]
+            return found, " ".join(["ids", *map(str, found or ["none"])])
         if told.kind == lib.WROTE:
-            return told.id
-        if told.kind in (lib.DONE, lib.READ_NONE, lib.VALUE_NONE):
-            return None
+            return told.id, f"wrote {told.id}"
+        if told.kind in _NOTHING:
+            return None, _NOTHING[told.kind]
         data = self._bytes(self._lib.answered_bytes, op, told.len)
+        text = value_text(told.epoch, data)
         if told.kind == lib.READ:
-            return Version(told.id, told.epoch, data)
+            return Version(told.id, told.epoch, data), f"read {told.id} {text}"
         if told.kind == lib.VALUE:
-            return told.epoch, data
-        return View(told.view, told.id, told.epoch, data, told.holder if told.kind == lib.HELD else None)
+            return (told.epoch, data), f"value {text}"
+        if told.kind == lib.HELD:
+            view = View(told.view, told.id, told.epoch, data, told.holder)
+            return view, f"holder {told.view} at {told.id} {text} epoch {told.holder}"
+        return View(told.view, told.id, told.epoch, data), f"view {told.view} at {told.id} {text}"
 
     @staticmethod
     def _version(id: int, told: Optional[tuple[int, bytes]]) -> Optional[Version]:

@@ -26,6 +26,7 @@ class Object(Generic[V]):
     :param codec: how values are written as bytes. Without one, values are bytes.
     :param number: the client's number, at least 1, which no other client of the object has, in all runs. Without one, it is drawn
         from the clock.
+    :param recording: the path of a file at whose end the client is recorded, for ``txnobj audit``. Without one, it is not.
     """
 
     def __init__(
@@ -35,9 +36,10 @@ class Object(Generic[V]):
         codec: Optional[Codec[V]] = None,
         *,
         number: Optional[int] = None,
+        recording: Optional[str] = None,
     ) -> None:
         self._codec: Codec[Any] = codec if codec is not None else Raw()
-        self._client = Client(store, name, number=number)
+        self._client = Client(store, name, number=number, recording=recording)
         self._view: Optional[View] = None
 
     # What it is at

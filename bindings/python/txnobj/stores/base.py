@@ -58,11 +58,25 @@ class Got:
 
 
 @dataclass(frozen=True)
-class Page:
-    """The names of some files, ascending, and whether more follow."""
+class Listed:
+    """A file as a listing tells it: its name, its token, and how many bytes it has."""
 
-    names: Sequence[str]
+    name: str
+    token: Token
+    size: int
+
+
+@dataclass(frozen=True)
+class Page:
+    """Some files, by ascending names, and whether more follow."""
+
+    files: Sequence[Listed]
     more: bool
+
+    @property
+    def names(self) -> list[str]:
+        """The names of the files."""
+        return [file.name for file in self.files]
 
 
 class Store(Protocol):
@@ -88,8 +102,8 @@ class Store(Protocol):
         """
 
     def list(self, folder: str, after: Optional[str], limit: int) -> Page:
-        """The first names in a folder, at most ``limit`` of them, that stand at one moment: those after a name, where one is
-        given.
+        """The first files in a folder by their names, at most ``limit`` of them, as they stand at one moment: those after a name,
+        where one is given.
         """
 
     def delete(self, name: str) -> None:

@@ -11,7 +11,7 @@ from contextlib import contextmanager
 from pathlib import Path
 from typing import Iterator, Optional, Sequence, Union
 
-from .base import AlreadyExists, Create, Got, NotFound, NotModified, Overwrite, Page, PreconditionFailed, PutMode, Token, Update
+from .base import AlreadyExists, Create, Got, Listed, NotFound, NotModified, Overwrite, Page, PreconditionFailed, PutMode, Token, Update
 
 #: How many temporary names are tried, how often a get looks again, and how often a listing begins again.
 _TRIES, _LOOKS, _LISTINGS = 64, 8, 16
@@ -311,8 +311,25 @@ class FolderStore:
         if os.path.exists(lock):
             flags = os.O_RDONLY
         with self._lock(lock, fcntl.LOCK_SH, flags):
-            ids = self._settled(folder, -1 if after is None else self._id(after) or 0)
-            names = [f"{folder}/{id:020}.{self._suffix}" for id in ids[:limit]]
-        if names and not self._known_to_last(names[-1], None):
-            self._make_last(names[-1], None)
-        return Page(names, len(ids) > limit)
+            for _ in range(_LISTINGS):
+                ids = self._settled(folder, -1 if after is None else self._id(after) or 0)
+                files = self._listed(folder, ids[:limit])
+                if files is not None:
+                    break
+            else:
+                raise OSError(errno.EAGAIN, "the folder changed at each listing", path)
+        if files and not self._known_to_last(files[-1].name, None):
+            self._make_last(files[-1].name, None)
+        return Page(files, len(ids) > limit)
+
+    def _listed(self, folder: str, ids: Sequence[int]) -> Optional[list[Listed]]:
+        """What a listing tells of these versions, nothing where one of them was removed since."""
+        files = []
+        for id in ids:
+            name = f"{folder}/{id:020}.{self._suffix}"
+            try:
+                times = os.lstat(self._file(name))
+            except FileNotFoundError:
+                return None
+            files.append(Listed(name, self._number(name, b"", times) or 0, times.st_size))
+        return files

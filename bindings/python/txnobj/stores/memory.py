@@ -5,7 +5,7 @@ from __future__ import annotations
 import threading
 from typing import Optional
 
-from .base import AlreadyExists, Create, Got, NotFound, NotModified, Page, PreconditionFailed, PutMode, Token, Update
+from .base import AlreadyExists, Create, Got, Listed, NotFound, NotModified, Page, PreconditionFailed, PutMode, Token, Update
 
 
 class MemoryStore:
@@ -40,7 +40,8 @@ class MemoryStore:
         prefix = folder + "/"
         with self._lock:
             names = sorted(n for n in self._files if n.startswith(prefix) and (after is None or n > after))
-        return Page(names[:limit], len(names) > limit)
+            files = [Listed(n, self._files[n].token, len(self._files[n].data)) for n in names[:limit]]
+        return Page(files, len(names) > limit)
 
     def delete(self, name: str) -> None:
         with self._lock:

@@ -5,7 +5,7 @@ from __future__ import annotations
 import threading
 from typing import Any, Optional
 
-from .base import AlreadyExists, Create, Got, NotFound, NotModified, Page, PreconditionFailed, PutMode, Token, Update
+from .base import AlreadyExists, Create, Got, Listed, NotFound, NotModified, Page, PreconditionFailed, PutMode, Token, Update
 
 #: How often a put is made that the server refuses, with no effect, because of another one on the same name.
 _TRIES = 16
@@ -100,8 +100,9 @@ class S3Store:
         answer = self._client.list_objects_v2(
             Bucket=self._bucket, Prefix=self._key(folder) + "/", MaxKeys=min(limit, 1000), **start
         )
-        names = [entry["Key"][len(self._prefix) :] for entry in answer.get("Contents", [])]
-        return Page(names, bool(answer.get("IsTruncated")))
+        entries = answer.get("Contents", [])
+        files = [Listed(entry["Key"][len(self._prefix) :], entry["ETag"], entry["Size"]) for entry in entries]
+        return Page(files, bool(answer.get("IsTruncated")))
 
     def delete(self, name: str) -> None:
         self._client.delete_object(Bucket=self._bucket, Key=self._key(name))
