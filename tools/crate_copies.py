@@ -35,6 +35,12 @@ def libraries_listed(root):
     return uses
 
 
+def is_static(root, name):
+    """Whether crates.txt lists a crate as a static library, which no other crate uses."""
+    heads = (line.partition("#")[0].partition(":")[0].split() for line in lines_of_crates(root, [name]))
+    return any("staticlib" in head for head in heads)
+
+
 def crates_listed(root):
     """The crates of crates.txt, each with the crates of the repository that it uses, those below first."""
     uses = libraries_listed(root)
@@ -182,8 +188,11 @@ class Copies:
         return copy
 
     def words_of_crate(self, copy, is_library):
-        """The words that name the crate of a copy: by itself, or as a library that another uses, unless it is a program."""
+        """The words that name the crate of a copy: by itself, or as a library that another uses, unless it is a program or a static
+        library."""
         is_program = os.path.isfile(f"{copy}/src/main.rt")
+        if is_static(self.root, self.name):
+            return ["--crate-name", self.name, "src/lib.rt", "--crate-type", "staticlib"]
         if is_program or not is_library:
             return ["--crate-name", self.name, "src/main.rt" if is_program else "src/lib.rt"]
         user = f"{os.path.dirname(os.path.dirname(copy))}/{USER}/src/lib.rt"

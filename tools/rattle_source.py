@@ -12,7 +12,8 @@ NOT_CODE = re.compile(
     re.S,
 )
 ITEM = re.compile(
-    r"^[ \t]*(?:pub(?:\([^)]*\))?[ \t]+)?(?:(?:const|unsafe|final|default)[ \t]+)*(fn|impl|trait|mod)\b", re.M
+    r"^[ \t]*(?:pub(?:\([^)]*\))?[ \t]+)?(?:(?:const|unsafe|final|default|extern)[ \t]+(?:\"[^\"\n]*\"[ \t]+)?)*(fn|impl|trait|mod)\b",
+    re.M,
 )
 NAME = re.compile(r"\s+(?:r#)?([A-Za-z_]\w*)")
 TYPE = re.compile(r"^(?:pub(?:\([^)]*\))?[ \t]+)?(?:struct|enum|union)\s+(\w+)", re.M)

@@ -122,6 +122,10 @@ class Reading(unittest.TestCase):
                   "path::FaultFromAllocError::from", "path::FaultFromAllocFailed::from", "path::inner::deep"]
         self.assertEqual(found, wanted)
 
+    def test_exports_are_functions(self):
+        text = '#[unsafe(no_mangle)]\npub extern "C" fn begins(op: u64) -> u8 {\n    0\n}\nextern "C" {\n    fn c();\n}\n'
+        self.assertEqual([it.function.label for it in places_in(text, "export", {})], ["export::begins", "export::c"])
+
     def test_what_others_see_of_a_file(self):
         text = ("const N: u8 = two();\npub const fn two() -> u8 {\n    2\n}\npub fn all() -> impl Iter {\n    every()\n}\n"
                 "trait Shown {\n    fn shown(&self) -> u8 {\n        1\n    }\n}\n"
