@@ -102,20 +102,35 @@ class Checks:
         done = subprocess.run([*words, archive, *PROGRAMS[name], "-o", program], capture_output=True, text=True, check=False)
         return (program, "") if done.returncode == 0 else (None, done.stderr[-2000:])
 
+    @staticmethod
+    def can_run(out, flags, words):
+        """Whether a program that does nothing, compiled with these flags, runs by these words here."""
+        program = f"{out}/nothing"
+        with open(f"{program}.c", "w", encoding="utf-8") as file:
+            file.write("int main(void) { return 0; }\n")
+        quiet = {"stdin": subprocess.DEVNULL, "capture_output": True, "check": False}
+        if subprocess.run(["cc", *flags, f"{program}.c", "-o", program], **quiet).returncode:
+            return False
+        return subprocess.run([*words, program], **quiet).returncode == 0
+
     def programs(self, archive, out):
+        valgrind = ["valgrind", "--quiet", "--leak-check=full", "--errors-for-leak-kinds=all", "--error-exitcode=9"]
+        has_valgrind = bool(shutil.which("valgrind")) and self.can_run(out, [], valgrind)
+        has_sanitizers = self.can_run(out, SANITIZERS, [])
         for name in PROGRAMS:
             program, why = self.compiled(name, archive, out, [])
             if program is None:
                 self.note(f"{name}.c compiles", why)
                 continue
             self.run(f"{name}.c", [program])
-            if shutil.which("valgrind"):
-                words = ["valgrind", "--quiet", "--leak-check=full", "--errors-for-leak-kinds=all", "--error-exitcode=9"]
-                if name == "count":
-                    self.run(f"{name}.c under valgrind", [*words, program])
-            program, why = self.compiled(name, archive, out, SANITIZERS)
-            if program is not None:
-                self.run(f"{name}.c with sanitizers", [program])
+            if has_valgrind and name == "count":
+                self.run(f"{name}.c under valgrind", [*valgrind, program])
+            if has_sanitizers:
+                program, why = self.compiled(name, archive, out, SANITIZERS)
+                if program is None:
+                    self.note(f"{name}.c compiles with sanitizers", why)
+                else:
+                    self.run(f"{name}.c with sanitizers", [program])
 
     def python(self, shared):
         tests = f"{ROOT}/bindings/python"

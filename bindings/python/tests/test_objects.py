@@ -101,7 +101,7 @@ class Objects(unittest.TestCase):
         with Object(self.store, "counter", Json()) as counter, Object(self.store, "counter", Json()) as other:
             counter.init(0)
             seen = []
-            for id, value in other.watch(poll=0.001, timeout=0.05):
+            for id, value in other.watch(poll=0.001, timeout=1):
                 seen.append((id, value))
                 if value < 5:
                     counter.update(lambda it: it + 1)

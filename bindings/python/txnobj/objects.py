@@ -165,8 +165,9 @@ class Object(Generic[V]):
             try:
                 self.load()
                 if self.id != seen:
-                    seen, since = self.id, time.monotonic()
+                    seen = self.id
                     yield seen, self.value
+                    since = time.monotonic()
             except NoVersion:
                 pass
             if timeout is not None and time.monotonic() - since >= timeout:
