@@ -34,6 +34,8 @@ EXAMPLES = ("example_leader", "example_counter")
 # folder that is given twice.
 SECONDS_AGAIN = 10
 SECONDS_ON_MOUNTS = 3
+# How many runs of a simulator are audited, and how many with one fact changed.
+RUNS, RUNS_CHANGED = 200, 40
 # The crate of the C library.
 CRATE_OF_BINDINGS = "txnobj_c"
 # How the name of a crate of tests begins.
@@ -270,6 +272,13 @@ def mount_steps(root, programs):
             yield step("processes on two mounts", [f"{root}/tools/try-mounts", folder, folder, *how], root)
 
 
+def audit_steps(root, programs):
+    """Has the program audit random runs of a simulator, where LLVM's build of it was made."""
+    build = builds_of(root, PROGRAM_OF_FOLDERS)[0]
+    if PROGRAM_OF_FOLDERS in programs and os.path.isfile(build):
+        yield step("simulated recordings", [f"{root}/tools/try-audit", build, "--runs", f"{RUNS}", "--changed", f"{RUNS_CHANGED}"], root)
+
+
 def binding_steps(root):
     """Builds the C library, where its crate is, and runs what tests it from other languages."""
     if os.path.isdir(f"{root}/crates/{CRATE_OF_BINDINGS}"):
@@ -336,6 +345,7 @@ def steps_of(root, top, given):
     yield from refusal_steps(top, programs)
     yield from folder_steps(top, programs, given.anew)
     yield from mount_steps(top, programs)
+    yield from audit_steps(top, programs)
     yield from binding_steps(top)
 
 

@@ -14,7 +14,7 @@ sys.path.insert(0, os.path.dirname(os.path.dirname(os.path.realpath(__file__))))
 
 import gate_steps  # noqa: E402
 from gate_steps import Step, case_steps, count_of_ci, count_of_last_line, count_of_refusals  # noqa: E402
-from gate_steps import count_of_unittest, date_builds, folder_steps, mount_steps, part_of, refusal_steps, step, table  # noqa: E402
+from gate_steps import audit_steps, count_of_unittest, date_builds, folder_steps, mount_steps, part_of, refusal_steps, step, table  # noqa: E402
 
 PROGRAM = "txnworld_cli"
 CI = """\
@@ -190,6 +190,15 @@ class Steps(unittest.TestCase):
         with open(f"{self.room}/told", encoding="utf-8") as file:
             self.assertEqual(file.read(), f"--program {build} --seconds 3\n")
         self.assertEqual(silently(lambda: list(mount_steps(self.room, ["other"]))), [])
+
+    def test_simulated_recordings(self):
+        self.file("tools/try-audit", "#!/bin/sh\necho \"$*\" > told\necho '240 passed, 0 failed'\n", 0o755)
+        self.assertEqual(silently(lambda: list(audit_steps(self.room, ["txnobj_cli"]))), [])
+        build = self.file("crates/txnobj_cli/out/txnobj_cli", "one")
+        steps = silently(lambda: list(audit_steps(self.room, ["txnobj_cli"])))
+        self.assertEqual([(it.name, it.passed, it.failed) for it in steps], [("simulated recordings", 240, 0)])
+        with open(f"{self.room}/told", encoding="utf-8") as file:
+            self.assertEqual(file.read(), f"{build} --runs 200 --changed 40\n")
 
     def test_a_part(self):
         uses = {"base": [], "low": ["base"], "high": ["low"], "side": [], "tests_some": ["high", "low", "side"], "app": ["high"]}

@@ -4,9 +4,11 @@
 #![tactic(auto)]
 
 pub mod boundaries;
+mod bounds;
 pub mod calls;
 pub mod clock;
 pub mod effects;
 pub mod landings;
 pub mod lives;
 pub mod removals;
+mod sights;

@@ -1,14 +1,12 @@
 //! The lives of versions: each from the put that makes it to the delete that removes it.
 
 use crate::boundaries::was_refused;
-use crate::calls::{Asked, version_of};
+use crate::calls::Asked;
 use crate::landings::{Fate, has_place, land};
-use bytes::Bytes;
+use crate::sights::{Seen, Sight, sights};
 use std::alloc::{AllocError, Global};
-use std::collections::{HashMap, HashSet};
-use txn_store::page::Page;
-use txn_store::request::{Reply, Request};
-use txn_store::store::{StoreError, Token};
+use std::collections::HashMap;
+use txn_store::store::StoreError;
 
 /// One life of a version.
 #[derive(Clone, Copy)]
@@ -16,14 +14,17 @@ pub struct Life {
     pub id: u64,
     /// The token of its put, where one is known.
     pub token: Option<u64>,
-    /// The call that makes it, when that was asked, and when its reply was there.
+    /// The call that makes it, and between which times it was made: no earlier than that was asked, and no later than its reply was
+    /// there, or that of a call that saw it.
     pub made_by: usize,
     pub from: u64,
     pub until: u64,
-    /// The call that removes it, if one does.
-    pub removed_by: Option<usize>,
     /// When the last call was asked that saw it.
     pub last: u64,
+    /// The call that removes it, if one does, and between which times it was removed: the greatest time where none does.
+    pub removed_by: Option<usize>,
+    pub removed_from: u64,
+    pub removed_until: u64,
 }
 
 impl Life {
@@ -48,78 +49,6 @@ impl Drop for Lives {
             lives: _,
             of_token: _,
         } = self;
-    }
-}
-
-/// What a call saw of a version that stood.
-#[derive(Clone, Copy)]
-enum Seen<'a> {
-    /// Its bytes.
-    Bytes(&'a Bytes),
-    /// How many bytes it has.
-    Size(u64),
-    /// No more than that it stood.
-    Stood,
-}
-
-/// A version that a call saw, with its token.
-#[derive(Clone, Copy)]
-struct Sight<'a> {
-    id: u64,
-    token: u64,
-    seen: Seen<'a>,
-    at: u64,
-    /// When its reply was there.
-    until: u64,
-}
-
-/// Adds that a call saw a version so, where the file was one, with this token.
-fn add_sight<'a>(
-    sights: &mut Vec<Sight<'a>>,
-    call: &Asked<'a>,
-    id: Option<u64>,
-    token: Token,
-    seen: Seen<'a>,
-) -> Result<(), AllocError> {
-    if let Some(id) = id {
-        sights.push(Sight {
-            id,
-            token: token.number(),
-            seen,
-            at: call.from,
-            until: call.until,
-        })?;
-    }
-    Ok(())
-}
-
-/// Adds what one call saw in a page.
-fn add_page<'a>(
-    sights: &mut Vec<Sight<'a>>,
-    call: &Asked<'a>,
-    page: &Page,
-) -> Result<(), AllocError> {
-    for meta in page.metas.as_slice() {
-        let seen = Seen::Size(meta.size);
-        add_sight(sights, call, version_of(&meta.location), meta.token, seen)?;
-    }
-    Ok(())
-}
-
-/// Adds what one call saw.
-fn add_sights<'a>(sights: &mut Vec<Sight<'a>>, call: &Asked<'a>) -> Result<(), AllocError> {
-    match (call.request, call.reply) {
-        (Request::Get { path, .. }, Some(Reply::Get(Ok(got)))) => {
-            add_sight(
-                sights,
-                call,
-                version_of(path),
-                got.token,
-                Seen::Bytes(&got.bytes),
-            )
-        }
-        (_, Some(Reply::List(Ok(page)))) => add_page(sights, call, page),
-        _ => Ok(()),
     }
 }
 
@@ -194,13 +123,14 @@ impl Lives {
         }
     }
 
-    /// Adds a life that a call makes.
+    /// Adds a life that a call makes, by a time at the latest.
     fn add(
         &mut self,
         calls: &[Asked<'_>],
         id: u64,
         token: Option<u64>,
         made_by: usize,
+        until: u64,
     ) -> Result<(), AllocError> {
         let Some(call) = calls.get(made_by) else {
             return Ok(());
@@ -214,9 +144,11 @@ impl Lives {
             token,
             made_by,
             from: call.from,
-            until: call.until,
-            removed_by: None,
+            until: call.until.min(until),
             last: 0,
+            removed_by: None,
+            removed_from: u64::MAX,
+            removed_until: u64::MAX,
         })?;
         Ok(())
     }
@@ -234,7 +166,7 @@ impl Lives {
             return Ok(false);
         };
         land(fates, place, token);
-        self.add(loose.calls, id, token, place)?;
+        self.add(loose.calls, id, token, place, until)?;
         Ok(true)
     }
 
@@ -254,18 +186,19 @@ impl Lives {
         Ok(())
     }
 
-    /// A version that stood in the way of a create, and that no call is known to have made, a loose one made.
+    /// A version that stood in the way of a create, and that no call is known to have made by then, a loose one made. Of the other
+    /// versions this is when their first life began.
     fn land_taken(
         &mut self,
         loose: Loose<'_, '_>,
         fates: &mut Vec<Fate>,
-        ids: &mut HashSet<u64>,
+        begun: &mut HashMap<u64, u64>,
     ) -> Result<(), AllocError> {
         for call in loose.calls {
             if let Some(id) = taken_for(call) {
-                let is_new = !ids.contains(&id);
-                if is_new && self.land_made(loose, fates, (id, None), Seen::Stood, call.until)? {
-                    ids.insert(id)?;
+                let stood = begun.get(&id).is_some_and(|begun| *begun <= call.until);
+                if !stood && self.land_made(loose, fates, (id, None), Seen::Stood, call.until)? {
+                    begun.insert(id, 0)?;
                 }
             }
         }
@@ -291,6 +224,7 @@ impl Lives {
             if let Some(place) = self.of_token.get(&(sight.id, sight.token)).copied() {
                 if let Some(life) = self.lives.get_mut(place) {
                     life.last = life.last.max(sight.at);
+                    life.until = life.until.min(sight.until);
                 }
             }
         }
@@ -300,7 +234,7 @@ impl Lives {
     fn add_made(&mut self, calls: &[Asked<'_>]) -> Result<(), AllocError> {
         for place in 0..calls.len() {
             if let (Some(id), Some(token)) = (calls[place].creates(), calls[place].given()) {
-                self.add(calls, id, Some(token), place)?;
+                self.add(calls, id, Some(token), place, u64::MAX)?;
             }
         }
         Ok(())
@@ -315,8 +249,8 @@ impl Lives {
         sights: &[Sight<'_>],
     ) -> Result<(), AllocError> {
         self.land_seen(loose, fates, sights)?;
-        let mut ids = ids_of(alloc, self.lives.as_slice())?;
-        self.land_taken(loose, fates, &mut ids)
+        let mut begun = begun(alloc, self.lives.as_slice())?;
+        self.land_taken(loose, fates, &mut begun)
     }
 
     /// Adds the lives that loose calls made, by what all calls saw, and notes when each life was seen last.
@@ -350,6 +284,15 @@ impl Lives {
         self.arrange()
     }
 
+    /// Notes that a call removes the life at a place, which had ended by a time, where one is known.
+    pub(crate) fn end(&mut self, place: usize, at: usize, call: &Asked<'_>, ended: Option<u64>) {
+        if let Some(life) = self.lives.get_mut(place) {
+            life.removed_by = Some(at);
+            life.removed_from = call.from.max(life.last).max(life.from);
+            life.removed_until = call.until.min(ended.unwrap_or(u64::MAX));
+        }
+    }
+
     /// Where the lives of a version begin, and where they end.
     pub fn of(&self, id: u64) -> (usize, usize) {
         let lives = self.lives.as_slice();
@@ -365,6 +308,12 @@ impl Lives {
         self.lives.get(place).copied()
     }
 
+    /// The version of the life at a place.
+    pub(crate) fn id_at(&self, place: usize) -> Option<u64> {
+        let life = self.lives.get(place).copied()?;
+        Some(life.id)
+    }
+
     /// The life at a place, where it is of this version.
     pub fn at(&self, place: usize, id: u64) -> Option<Life> {
         let life = self.lives.get(place).copied()?;
@@ -372,29 +321,14 @@ impl Lives {
     }
 }
 
-/// The versions that have a life.
-fn ids_of(alloc: Global, lives: &[Life]) -> Result<HashSet<u64>, AllocError> {
-    let mut ids = HashSet::new(alloc);
+/// When the first life of each version began at the earliest.
+fn begun(alloc: Global, lives: &[Life]) -> Result<HashMap<u64, u64>, AllocError> {
+    let mut begun = HashMap::new(alloc);
     for life in lives {
-        ids.insert(life.id)?;
+        let first = begun.get(&life.id).copied().unwrap_or(life.from);
+        begun.insert(life.id, first.min(life.from))?;
     }
-    Ok(ids)
-}
-
-/// What all calls saw: first what gets saw, which tell bytes, then what listings saw.
-fn sights<'a>(alloc: Global, calls: &[Asked<'a>]) -> Result<Vec<Sight<'a>>, AllocError> {
-    let mut sights = Vec::new(alloc);
-    for call in calls {
-        if let Request::Get { .. } = call.request {
-            add_sights(&mut sights, call)?;
-        }
-    }
-    for call in calls {
-        if let Request::List { .. } = call.request {
-            add_sights(&mut sights, call)?;
-        }
-    }
-    Ok(sights)
+    Ok(begun)
 }
 
 /// The lives of all versions, but for what removes them. What nobody is told to have made, and was seen, a loose call made.

@@ -1,5 +1,6 @@
 //! Which delete removed which life of a version.
 
+use crate::bounds::narrow;
 use crate::calls::{Asked, version_of};
 use crate::landings::{Fate, fate_of, land};
 use crate::lives::{Life, Lives};
@@ -146,14 +147,14 @@ impl Absences {
 /// Whether a delete may have removed a life, which had ended by a time, where one is known.
 fn may_remove(call: &Asked<'_>, life: &Life, next: Option<Life>, ended: Option<u64>) -> bool {
     let in_time = match next {
-        Some(next) => call.from < next.until,
+        Some(next) => call.from <= next.until,
         None => true,
     };
     let early = match ended {
-        Some(at) => call.from < at,
+        Some(at) => call.from <= at,
         None => true,
     };
-    call.until > life.from && call.until > life.last && in_time && early
+    call.until >= life.from && call.until >= life.last && in_time && early
 }
 
 /// What is known of all deletes.
@@ -242,8 +243,8 @@ impl Deletes {
         if fate_of(fates.as_slice(), at) == Fate::Unknown {
             land(fates, at, None);
         }
-        if let Some(life) = lives.lives.get_mut(place) {
-            life.removed_by = Some(at);
+        if let Some(call) = calls.get(at) {
+            lives.end(place, at, call, ended);
         }
     }
 
@@ -288,8 +289,10 @@ fn remove_by(
         all: all_deletes(alloc, calls)?,
         taken: vec![in alloc; false; calls.len()]?,
     };
+    narrow(lives);
     for place in 0..lives.lives.len() {
         deletes.end_life(calls, fates, lives, absences, place);
     }
+    narrow(lives);
     deletes.idle(alloc, fates.as_slice())
 }

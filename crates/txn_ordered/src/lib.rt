@@ -5,7 +5,9 @@
 #![tactic(auto)]
 
 mod graph;
+mod listings;
 pub mod order;
 mod precedence;
+mod spans;
 mod standing;
 mod times;

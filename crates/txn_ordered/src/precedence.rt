@@ -1,14 +1,13 @@
 //! Which call came before which, by what the replies show.
 
 use crate::graph::Graph;
-use crate::standing::{Missing, Standing};
+use crate::spans::Span;
 use std::alloc::{AllocError, Global};
 use txn_effects::boundaries::Boundaries;
-use txn_effects::calls::{Asked, Name, name_of, version_of};
+use txn_effects::calls::{Asked, Name, name_of};
 use txn_effects::landings::{Fate, has_place};
 use txn_effects::lives::{Life, Lives};
 use txn_effects::removals::Concern;
-use txn_store::page::Page;
 use txn_store::path::Path;
 use txn_store::request::{Reply, Request};
 use txn_store::store::{PutMode, StoreError, Token};
@@ -44,7 +43,7 @@ impl<'a> Precedence<'a> {
     }
 
     /// The call that made the first version above one.
-    fn maker_above(&self, id: u64) -> Option<usize> {
+    pub(crate) fn maker_above(&self, id: u64) -> Option<usize> {
         let lives = self.lives.lives.as_slice();
         let place = lives.partition_point(|life| life.id <= id);
         Some(lives.get(place)?.made_by)
@@ -54,14 +53,6 @@ impl<'a> Precedence<'a> {
     fn first_writer(&self) -> Option<usize> {
         let (_, call) = self.boundaries.writers.first_key_value()?;
         Some(*call)
-    }
-
-    /// When a call was asked, and when its reply was there.
-    fn times(&self, call: usize) -> (u64, u64) {
-        match self.calls.get(call) {
-            Some(call) => (call.from, call.until),
-            None => (0, u64::MAX),
-        }
     }
 
     /// The boundaries rise.
@@ -97,80 +88,8 @@ impl<'a> Precedence<'a> {
         Ok(())
     }
 
-    /// Whether a call may stand between the removal of a life and the next making.
-    fn may_stand(&self, call: &Asked<'_>, removed: Option<usize>, made: Option<Life>) -> bool {
-        let late = match removed {
-            Some(removed) => call.until > self.times(removed).0,
-            None => true,
-        };
-        let early = match made {
-            Some(life) => call.from < life.until,
-            None => true,
-        };
-        late && early
-    }
-
-    /// A call did not see a version, which was made before where that is known: it stands before the first making, or between
-    /// a removal and the next making.
-    fn absent(
-        &self,
-        graph: &mut Graph,
-        node: Node<'_, '_>,
-        id: u64,
-        made: bool,
-    ) -> Result<(), AllocError> {
-        let (start, end) = self.lives.of(id);
-        let mut removed = None;
-        let mut fallback = None;
-        for place in start..end {
-            let Some(life) = self.lives.at(place, id) else {
-                return Ok(());
-            };
-            if place == start || removed.is_some() {
-                if self.may_stand(node.call, removed, Some(life)) && !(made && removed.is_none()) {
-                    graph.edge(removed, Some(node.at))?;
-                    return graph.edge(Some(node.at), Some(life.made_by));
-                }
-                if fallback.is_none() {
-                    fallback = Some((removed, life.made_by));
-                }
-            }
-            removed = life.removed_by;
-        }
-        if removed.is_some() && self.may_stand(node.call, removed, None) {
-            return graph.edge(removed, Some(node.at));
-        }
-        if let Some((removed, made)) = fallback {
-            graph.edge(removed, Some(node.at))?;
-            graph.edge(Some(node.at), Some(made))?;
-        }
-        Ok(())
-    }
-
-    /// A call saw that a version was there.
-    fn present(&self, graph: &mut Graph, node: Node<'_, '_>, id: u64) -> Result<(), AllocError> {
-        let (start, end) = self.lives.of(id);
-        let mut fallback = None;
-        for place in start..end {
-            let Some(life) = self.lives.at(place, id) else {
-                return Ok(());
-            };
-            let early = match life.removed_by {
-                Some(removed) => node.call.from < self.times(removed).1,
-                None => true,
-            };
-            if node.call.until > life.from && early {
-                return self.saw(graph, node.at, Some(life));
-            }
-            if fallback.is_none() {
-                fallback = Some(life);
-            }
-        }
-        self.saw(graph, node.at, fallback)
-    }
-
     /// A call saw this life.
-    fn saw(&self, graph: &mut Graph, at: usize, life: Option<Life>) -> Result<(), AllocError> {
+    pub(crate) fn saw(&self, graph: &mut Graph, at: usize, life: Option<Life>) -> Result<(), AllocError> {
         if let Some(life) = life {
             graph.edge(Some(life.made_by), Some(at))?;
             graph.edge(Some(at), life.removed_by)?;
@@ -220,7 +139,9 @@ impl<'a> Precedence<'a> {
                     self.lives.with_token(id, got.token.number()),
                 )
             }
-            Some(Reply::Get(Err(StoreError::NotFound))) => { self.absent(graph, node, id, false) }
+            Some(Reply::Get(Err(StoreError::NotFound))) => {
+                self.absent(graph, node.at, Span::of(node.call), id, false)
+            }
             _ => Ok(()),
         }
     }
@@ -292,7 +213,7 @@ impl<'a> Precedence<'a> {
         };
         match (name_of(path), answer, mode) {
             (Name::Version(id), Err(StoreError::AlreadyExists), _) => {
-                self.present(graph, node, id)
+                self.present(graph, node.at, Span::of(node.call), id)
             }
             (Name::Boundary, Err(StoreError::AlreadyExists), _) => {
                 graph.edge(self.first_writer(), Some(node.at))
@@ -304,107 +225,6 @@ impl<'a> Precedence<'a> {
                 self.update(graph, node.at, token, false)
             }
             _ => Ok(()),
-        }
-    }
-
-    /// What a listing shows.
-    fn list(
-        &self,
-        alloc: Global,
-        graph: &mut Graph,
-        node: Node<'_, '_>,
-        standing: &Standing,
-    ) -> Result<(), AllocError> {
-        let Some((low, page)) = node.call.lists() else {
-            return Ok(());
-        };
-        let mut told = Vec::new(alloc);
-        self.tell(graph, node.at, page, &mut told)?;
-        let missing = standing.left_out(alloc, low, told.as_slice(), page.more)?;
-        self.all_absent(graph, node, missing.as_slice())?;
-        self.goes_on(graph, node.at, page)
-    }
-
-    /// What the files of a page show, whose versions are added.
-    fn tell(
-        &self,
-        graph: &mut Graph,
-        at: usize,
-        page: &Page,
-        told: &mut Vec<u64>,
-    ) -> Result<(), AllocError> {
-        for meta in page.metas.as_slice() {
-            if let Some(id) = version_of(&meta.location) {
-                self.saw(graph, at, self.lives.with_token(id, meta.token.number()))?;
-                told.push(id)?;
-            }
-        }
-        Ok(())
-    }
-
-    /// What the versions show that a listing left out.
-    fn all_absent(
-        &self,
-        graph: &mut Graph,
-        node: Node<'_, '_>,
-        missing: &[Missing],
-    ) -> Result<(), AllocError> {
-        for (id, below) in missing {
-            self.absent(graph, node, *id, *below)?;
-        }
-        Ok(())
-    }
-
-    /// What all listings show.
-    fn listings(&self, alloc: Global, graph: &mut Graph) -> Result<(), AllocError> {
-        let mut asked = Vec::new(alloc);
-        self.add_listings(&mut asked)?;
-        asked.sort_unstable();
-        let mut standing = Standing::new(alloc, self.calls, self.lives)?;
-        self.list_all(alloc, graph, asked.as_slice(), &mut standing)
-    }
-
-    /// Adds the listings, each with when it was asked.
-    fn add_listings(&self, asked: &mut Vec<(u64, usize)>) -> Result<(), AllocError> {
-        for at in 0..self.calls.len() {
-            if self.calls[at].lists().is_some() {
-                asked.push((self.calls[at].from, at))?;
-            }
-        }
-        Ok(())
-    }
-
-    /// What these listings show, in the order in which they were asked.
-    fn list_all(
-        &self,
-        alloc: Global,
-        graph: &mut Graph,
-        asked: &[(u64, usize)],
-        standing: &mut Standing,
-    ) -> Result<(), AllocError> {
-        for (_, at) in asked {
-            if let Some(call) = self.calls.get(*at) {
-                standing.move_to(call)?;
-                self.list(alloc, graph, Node { at: *at, call }, standing)?;
-            }
-        }
-        Ok(())
-    }
-
-    /// A page that more follows was told after a version above its last one was made: versions are made in the order of their
-    /// ids, and the newest stands.
-    fn goes_on(&self, graph: &mut Graph, at: usize, page: &Page) -> Result<(), AllocError> {
-        let last = if page.more {
-            page.metas.as_slice().last()
-        } else {
-            None
-        };
-        match last {
-            Some(meta) => match version_of(&meta.location) {
-                Some(id) => graph.edge(self.maker_above(id), Some(at)),
-                None => Ok(()),
-            },
-            None => Ok(()),
         }
     }
 
@@ -431,7 +251,7 @@ impl<'a> Precedence<'a> {
         self.lives(graph)?;
         for (id, at) in idle {
             if let Some(call) = self.calls.get(*at) {
-                self.absent(graph, Node { at: *at, call }, *id, false)?;
+                self.absent(graph, *at, Span::of(call), *id, false)?;
             }
         }
         for at in 0..self.calls.len() {

@@ -1,0 +1,91 @@
+//! Between which times each life was made and removed, by the lives beside it.
+//!
+//! The lives of a version follow each other, and the first making of a version follows that of the version before it.
+
+use crate::lives::{Life, Lives};
+
+/// The greater of a time and another, where that is known.
+fn at_least(time: u64, other: Option<u64>) -> u64 {
+    match other {
+        Some(other) => time.max(other),
+        None => time,
+    }
+}
+
+/// A life that began no earlier than the one before it allows: of its version the end of that, else of the version before it the
+/// first making.
+fn no_earlier(life: Life, last: Option<Life>, first: Option<Life>) -> Life {
+    let after = match (last, first) {
+        (Some(last), _) if last.id == life.id => {
+            if last.removed_by.is_some() {
+                Some(last.removed_from)
+            } else {
+                None
+            }
+        }
+        (_, Some(first)) => Some(first.from),
+        _ => None,
+    };
+    let from = at_least(life.from, after).min(life.until);
+    Life {
+        from,
+        removed_from: life.removed_from.max(from),
+        ..life
+    }
+}
+
+/// A life that was made and ended no later than the one behind it allows, which is of its version, and, where it is the first
+/// of its version, than the first making of the version after it.
+fn no_later(life: Life, next: Option<Life>, above: Option<u64>) -> Life {
+    let again = match next {
+        Some(next) => next.until,
+        None => u64::MAX,
+    };
+    let removed_until = life.removed_until.min(again).max(life.removed_from);
+    let until = life.until.min(removed_until).min(above.unwrap_or(u64::MAX));
+    Life {
+        until: until.max(life.from),
+        removed_until,
+        ..life
+    }
+}
+
+/// Goes up the lives.
+fn rise(lives: &mut Lives) {
+    let mut first: Option<Life> = None;
+    let mut last: Option<Life> = None;
+    for place in 0..lives.lives.len() {
+        if let Some(life) = lives.lives.get_mut(place) {
+            *life = no_earlier(*life, last, first);
+            if last.is_none_or(|last| last.id != life.id) {
+                first = Some(*life);
+            }
+            last = Some(*life);
+        }
+    }
+}
+
+/// Goes down the lives.
+fn fall(lives: &mut Lives) {
+    let mut above: Option<u64> = None;
+    for behind in 0..lives.lives.len() {
+        let place = lives.lives.len() - 1 - behind;
+        let Some(id) = lives.id_at(place) else {
+            return;
+        };
+        let next = lives.at(place.saturating_add(1), id);
+        let is_first = place == 0 || lives.id_at(place.saturating_sub(1)) != Some(id);
+        if let Some(life) = lives.lives.get_mut(place) {
+            *life = no_later(*life, next, if is_first { above } else { None });
+            if is_first {
+                above = Some(life.until);
+            }
+        }
+    }
+}
+
+/// Narrows the times of all lives.
+pub(crate) fn narrow(lives: &mut Lives) {
+    fall(lives);
+    rise(lives);
+}
