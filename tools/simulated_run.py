@@ -15,7 +15,8 @@ PACES = (0.03, 0.3, 1.0, 3.0)
 
 @dataclass
 class Setting:
-    """What happens in a run: how many clients and events, and how often each misfortune comes, of 1."""
+    """What happens in a run: how many clients and events, and how often each misfortune comes, of 1; on how many machines, whose clocks
+    are so many milliseconds off at most."""
 
     clients: int
     events: int
@@ -26,7 +27,7 @@ class Setting:
     given_up: float
     same_time: float
     clock_error: int
-    machines: int
+    machines: int = 1
 
     @staticmethod
     def at_random(rnd, events=400):
@@ -41,7 +42,6 @@ class Setting:
             given_up=rnd.choice((0, 0.02)),
             same_time=rnd.choice((0, 0, 0.2)),
             clock_error=rnd.choice((1, 20)),
-            machines=1,
         )
 
 
@@ -78,9 +78,10 @@ class Process:
 class Run:
     """A run by its seed. `order` has the store calls that took effect, in their order: the client, the operation and the request."""
 
-    def __init__(self, seed, setting=None):
+    def __init__(self, seed, setting=None, machines=1):
         self.random = random.Random(seed)
         self.setting = setting or Setting.at_random(self.random)
+        self.setting.machines = machines
         self.store, self.now, self.order, self.loose = Store(), 10**6, [], []
         self.is_made = set()
         most = self.setting.clock_error * 10**6

@@ -19,6 +19,7 @@ SECONDS, NOT_ONE_HISTORY = 120, 4
 EVENTS_CHANGED = 120
 # What an audit says of recordings that are one history, and what it says beside where puts without a reply may decide the end.
 SAID = re.compile(r"one history: (\d+) entries, boundary (\d+), ")
+FAILED = "FAILED"
 MAY_DECIDE = "rest on puts without a reply"
 
 
@@ -39,7 +40,11 @@ def audit(program, recordings, clock_error=None, keep=None):
             os.makedirs(keep, exist_ok=True)
         names = files_of(keep or folder, recordings)
         words = [program, "audit", *(["--clock-error", f"{clock_error}"] if clock_error else []), *names]
-        ran = subprocess.run(words, capture_output=True, text=True, check=False, timeout=SECONDS, stdin=subprocess.DEVNULL)
+        how = {"capture_output": True, "text": True, "check": False, "timeout": SECONDS, "stdin": subprocess.DEVNULL}
+        try:
+            ran = subprocess.run(words, **how)
+        except subprocess.TimeoutExpired:
+            return None, f"it had not ended after {SECONDS} seconds"
         return ran.returncode, (ran.stdout + ran.stderr).replace(f"{keep or folder}/", "")
 
 
@@ -49,10 +54,10 @@ def recordings_of(run):
     return dict(random.Random(len(run.order)).sample(numbered, len(numbered)))
 
 
-def fault_of_run(program, seed, keep=None):
+def fault_of_run(program, seed, machines=1, keep=None):
     """Why the audit of a run is wrong, "" where it is right: it agrees, and says how the run ended where no put may decide that."""
-    run = Run(seed)
-    error = run.setting.clock_error if run.setting.machines > 1 else None
+    run = Run(seed, machines=machines)
+    error = run.setting.clock_error if machines > 1 else None
     # (the first recording's clock is the one that is right)
     recordings = recordings_of(run) if error is None else {f"{number:03}": rows for number, rows in enumerate(run.recordings, 1)}
     status, said = audit(program, recordings, error, keep and f"{keep}/{seed}")
@@ -66,9 +71,8 @@ def fault_of_run(program, seed, keep=None):
 def changed_run(seed):
     """The recordings of a small run, with one fact of them changed, and which; none where the run has no such fact."""
     rnd = random.Random(f"changed {seed}")
-    setting = Setting.at_random(rnd, EVENTS_CHANGED)
-    setting.machines = 1
-    recordings, change = recordings_of(Run(seed, setting)), rnd.choice(CHANGES)
+    run = Run(seed, Setting.at_random(rnd, EVENTS_CHANGED))
+    recordings, change = recordings_of(run), rnd.choice(CHANGES)
     places = change.places(recordings)
     if not places:
         return None
@@ -85,10 +89,10 @@ def end_of_changed(program, seed, what, recordings, keep=None):
         finds = None
     if status == NOT_ONE_HISTORY:
         # (a search of all orders finds none either, or had too many to try)
-        return f"FAILED: {what}: refused, and there is an order: {said}" if finds else "refused"
+        return f"{FAILED}: {what}: refused, and there is an order: {said}" if finds else "refused"
     if status or not SAID.match(said):
-        return f"FAILED: {what}: status {status}: {said}"
-    return "a history all the same" if finds else f"FAILED: {what}: not refused, and there is no order: {said}"
+        return f"{FAILED}: {what}: status {status}: {said}"
+    return "a history all the same" if finds else f"{FAILED}: {what}: not refused, and there is no order: {said}"
 
 
 def all_changed(first, count):
@@ -109,21 +113,24 @@ def main(words, usage):
     parser.add_argument("--runs", type=int, default=1000, metavar="N", help="so many runs (1000)")
     parser.add_argument("--changed", type=int, default=100, metavar="N", help="so many runs with one fact changed (100)")
     parser.add_argument("--seed", type=int, default=1, metavar="N", help="the seed of the first run, which the next ones follow (1)")
+    parser.add_argument("--machines", type=int, default=1, metavar="N", help="on so many machines, whose clocks are off (1)")
     parser.add_argument("--keep", metavar="FOLDER", help="leave the recordings there, in a folder each")
     given = parser.parse_args(words)
     program, seeds = os.path.abspath(given.program), range(given.seed, given.seed + given.runs)
+    failed, counts = 0, Counter()
     with ThreadPoolExecutor(os.cpu_count()) as pool:
-        faults = list(pool.map(lambda seed: fault_of_run(program, seed, given.keep), seeds))
+        for seed, fault in zip(seeds, pool.map(lambda seed: fault_of_run(program, seed, given.machines, given.keep), seeds)):
+            if fault:
+                failed += 1
+                print(f"FAILED: the run of the seed {seed}: {fault}", flush=True)
+        print(f"{given.runs - failed} of {given.runs} runs are one history", flush=True)
         changed = all_changed(given.seed, given.changed)
-        ends = list(pool.map(lambda it: end_of_changed(program, *it, given.keep), changed))
-    for seed, fault in zip(seeds, faults):
-        if fault:
-            print(f"FAILED: the run of the seed {seed}: {fault}", flush=True)
-    for (seed, *_), end in zip(changed, ends):
-        if end.startswith("FAILED"):
-            print(f"{end} (the changed run of the seed {seed})", flush=True)
-    failed = sum(map(bool, faults)) + sum(end.startswith("FAILED") for end in ends)
-    counts = Counter(end for end in ends if not end.startswith("FAILED"))
-    print(f"{sum(not it for it in faults)} runs are one history; of the changed ones {', '.join(f'{n} are {end}' for end, n in sorted(counts.items()))}")
+        for (seed, *_), end in zip(changed, pool.map(lambda it: end_of_changed(program, *it, given.keep), changed)):
+            if end.startswith(FAILED):
+                failed += 1
+                print(f"{end} (the changed run of the seed {seed})", flush=True)
+            else:
+                counts[end] += 1
+    print(f"of {given.changed} with one fact changed {' and '.join(f'{n} are {end}' for end, n in sorted(counts.items()))}")
     print(f"{given.runs + given.changed - failed} passed, {failed} failed")
     return 1 if failed else 0

@@ -5,7 +5,8 @@ use crate::views::View;
 use async_trait::async_trait;
 use slatedb_common::object_metadata::IdentifiedObjectMetadata;
 use slatedb_txn_obj::{
-    BoundaryObject, MonotonicId, ObjectCodec, SequencedStorageProtocol, SimpleTransactionalObject, TransactionalObjectError,
+    BoundaryObject, MonotonicId, ObjectCodec, SequencedStorageProtocol, SimpleTransactionalObject, TransactionalObject,
+    TransactionalObjectError,
 };
 use std::future::Future;
 use std::ops::Bound;

@@ -12,21 +12,22 @@ fn at_least(time: u64, other: Option<u64>) -> u64 {
     }
 }
 
-/// A life that began no earlier than the one before it allows: of its version the end of that, else of the version before it the
-/// first making.
+/// When a life began at the earliest, by the one before it: of its version after the end of that, else after the first making of the
+/// version before it.
+fn earliest(id: u64, last: Option<Life>, first: Option<Life>) -> Option<u64> {
+    let last = last?;
+    if last.id != id {
+        return Some(first?.from);
+    }
+    if last.removed_by.is_none() {
+        return None;
+    }
+    Some(last.removed_from)
+}
+
+/// A life that began no earlier than those before it allow.
 fn no_earlier(life: Life, last: Option<Life>, first: Option<Life>) -> Life {
-    let after = match (last, first) {
-        (Some(last), _) if last.id == life.id => {
-            if last.removed_by.is_some() {
-                Some(last.removed_from)
-            } else {
-                None
-            }
-        }
-        (_, Some(first)) => Some(first.from),
-        _ => None,
-    };
-    let from = at_least(life.from, after).min(life.until);
+    let from = at_least(life.from, earliest(life.id, last, first)).min(life.until);
     Life {
         from,
         removed_from: life.removed_from.max(from),
@@ -74,7 +75,7 @@ fn fall(lives: &mut Lives) {
             return;
         };
         let next = lives.at(place.saturating_add(1), id);
-        let is_first = place == 0 || lives.id_at(place.saturating_sub(1)) != Some(id);
+        let is_first = lives.is_first(place);
         if let Some(life) = lives.lives.get_mut(place) {
             *life = no_later(*life, next, if is_first { above } else { None });
             if is_first {

@@ -1,8 +1,11 @@
 //! The effects of recorded calls.
 
+use crate::absences::Absences;
 use crate::boundaries::{Boundaries, written};
+use crate::bounds::narrow;
 use crate::calls::{Asked, calls};
 use crate::clock::{Clock, margin_of};
+use crate::hidden::land_hidden;
 use crate::landings::{Fate, fates};
 use crate::lives::{Lives, lived};
 use crate::removals::{Concern, remove};
@@ -53,6 +56,21 @@ pub fn effects_of<'a, T>(
     })
 }
 
+/// Adds the lives that are hidden, and finds what removed each life; the idle deletes.
+fn gone(
+    alloc: Global,
+    calls: &[Asked<'_>],
+    margin: u64,
+    fates: &mut Vec<Fate>,
+    lives: &mut Lives,
+) -> Result<Vec<Concern>, AllocError> {
+    let absences = Absences::new(alloc, calls, margin)?;
+    narrow(lives);
+    land_hidden(alloc, calls, fates, lives, &absences)?;
+    narrow(lives);
+    remove(alloc, calls, fates, lives, &absences)
+}
+
 /// The boundaries, the lives and the idle deletes that these calls show, and what became of each call.
 fn shown(
     alloc: Global,
@@ -62,6 +80,6 @@ fn shown(
 ) -> Result<(Boundaries, Lives, Vec<Concern>), AllocError> {
     let boundaries = written(alloc, calls, fates)?;
     let mut lives = lived(alloc, calls, fates)?;
-    let idle = remove(alloc, calls, margin, fates, &mut lives)?;
+    let idle = gone(alloc, calls, margin, fates, &mut lives)?;
     Ok((boundaries, lives, idle))
 }

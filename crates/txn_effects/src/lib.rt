@@ -3,12 +3,15 @@
 //! It is a proposal. No clause says that it is right: who replays an order of these calls on an honest store sees whether it is.
 #![tactic(auto)]
 
+mod absences;
 pub mod boundaries;
 mod bounds;
 pub mod calls;
 pub mod clock;
 pub mod effects;
+mod hidden;
 pub mod landings;
 pub mod lives;
+mod makers;
 pub mod removals;
 mod sights;

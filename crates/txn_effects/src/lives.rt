@@ -1,12 +1,11 @@
 //! The lives of versions: each from the put that makes it to the delete that removes it.
 
-use crate::boundaries::was_refused;
 use crate::calls::Asked;
-use crate::landings::{Fate, has_place, land};
-use crate::sights::{Seen, Sight, sights};
+use crate::landings::{Fate, land};
+use crate::makers::{Loose, loose_creates};
+use crate::sights::{Sight, sights};
 use std::alloc::{AllocError, Global};
 use std::collections::HashMap;
-use txn_store::store::StoreError;
 
 /// One life of a version.
 #[derive(Clone, Copy)]
@@ -28,10 +27,10 @@ pub struct Life {
 }
 
 impl Life {
-    /// A time at which it stood: when the last call was asked that saw it, or else when the reply of its making was there. A
+    /// A time at which it stood, as far as is known: when the last call was asked that saw it, or when it was made at the latest. A
     /// create that was asked first may come after another's life, where its client was held up.
     fn stood(&self) -> u64 {
-        if self.last > 0 { self.last } else { self.until }
+        self.last.max(self.until)
     }
 }
 
@@ -52,66 +51,41 @@ impl Drop for Lives {
     }
 }
 
-/// The version that a call was to create, and that stood already.
-fn taken_for(call: &Asked<'_>) -> Option<u64> {
-    if was_refused(call, StoreError::AlreadyExists) {
-        call.creates()
-    } else {
-        None
-    }
-}
-
-/// Whether a call may have made what was seen.
-fn may_make(call: &Asked<'_>, id: u64, seen: Seen<'_>) -> bool {
-    if call.creates() != Some(id) {
-        return false;
-    }
-    match (seen, call.puts()) {
-        (Seen::Bytes(seen), Some(put)) => seen == put,
-        (Seen::Size(size), Some(put)) => put.len() as u64 == size,
-        _ => true,
-    }
-}
-
-/// All calls, and which of them are creates of versions whose reply nobody saw: each with when it was asked, in that order.
+/// A life that is to be added.
 #[derive(Clone, Copy)]
-struct Loose<'x, 'a> {
-    calls: &'x [Asked<'a>],
-    creates: &'x [(u64, usize)],
+pub(crate) struct Made {
+    pub id: u64,
+    /// The token of its put, where one is known.
+    pub token: Option<u64>,
+    /// The call that makes it.
+    pub place: usize,
+    /// When a call was asked that saw it, and when its reply was there, by which it was made: 0 and the greatest time where none did.
+    pub at: u64,
+    pub until: u64,
 }
 
-impl Loose<'_, '_> {
-    /// The create asked first of which nobody knows whether it took effect, and which may have made what was seen by then. One
-    /// that was asked later could not have made it where this could not.
-    fn maker(&self, fates: &[Fate], id: u64, seen: Seen<'_>, until: u64) -> Option<usize> {
-        for (_, place) in self.creates {
-            if let Some(call) = self.calls.get(*place) {
-                let in_time = call.from <= until;
-                if in_time && !has_place(fates, *place) && may_make(call, id, seen) {
-                    return Some(*place);
-                }
-            }
-        }
-        None
-    }
-}
-
-/// Adds the creates of versions whose reply nobody saw, each with when it was asked.
-fn add_loose(calls: &[Asked<'_>], asked: &mut Vec<(u64, usize)>) -> Result<(), AllocError> {
-    for place in 0..calls.len() {
-        if !calls[place].is_answered() && calls[place].creates().is_some() {
-            asked.push((calls[place].from, place))?;
+impl Made {
+    /// What a call was told to have made.
+    fn told(place: usize, id: u64, token: u64) -> Made {
+        Made {
+            id,
+            token: Some(token),
+            place,
+            at: 0,
+            until: u64::MAX,
         }
     }
-    Ok(())
-}
 
-/// The creates of versions whose reply nobody saw, in the order in which they were asked.
-fn loose_creates(alloc: Global, calls: &[Asked<'_>]) -> Result<Vec<(u64, usize)>, AllocError> {
-    let mut asked = Vec::new(alloc);
-    add_loose(calls, &mut asked)?;
-    asked.sort_unstable();
-    Ok(asked)
+    /// What was seen.
+    fn seen(place: usize, sight: &Sight<'_>) -> Made {
+        Made {
+            id: sight.id,
+            token: Some(sight.token),
+            place,
+            at: sight.at,
+            until: sight.until,
+        }
+    }
 }
 
 impl Lives {
@@ -123,51 +97,27 @@ impl Lives {
         }
     }
 
-    /// Adds a life that a call makes, by a time at the latest.
-    fn add(
-        &mut self,
-        calls: &[Asked<'_>],
-        id: u64,
-        token: Option<u64>,
-        made_by: usize,
-        until: u64,
-    ) -> Result<(), AllocError> {
-        let Some(call) = calls.get(made_by) else {
+    /// Adds a life that a call makes.
+    pub(crate) fn add(&mut self, calls: &[Asked<'_>], made: Made) -> Result<(), AllocError> {
+        let Some(call) = calls.get(made.place) else {
             return Ok(());
         };
-        if let Some(token) = token {
+        if let Some(token) = made.token {
             let place = self.lives.len();
-            self.of_token.insert((id, token), place)?;
+            self.of_token.insert((made.id, token), place)?;
         }
         self.lives.push(Life {
-            id,
-            token,
-            made_by,
+            id: made.id,
+            token: made.token,
+            made_by: made.place,
             from: call.from,
-            until: call.until.min(until),
-            last: 0,
+            until: call.until.min(made.until),
+            last: made.at,
             removed_by: None,
             removed_from: u64::MAX,
             removed_until: u64::MAX,
         })?;
         Ok(())
-    }
-
-    /// Has a loose call make what was seen of a version by a time, where one may have. Whether one may.
-    fn land_made(
-        &mut self,
-        loose: Loose<'_, '_>,
-        fates: &mut Vec<Fate>,
-        (id, token): (u64, Option<u64>),
-        seen: Seen<'_>,
-        until: u64,
-    ) -> Result<bool, AllocError> {
-        let Some(place) = loose.maker(fates.as_slice(), id, seen, until) else {
-            return Ok(false);
-        };
-        land(fates, place, token);
-        self.add(loose.calls, id, token, place, until)?;
-        Ok(true)
     }
 
     /// What was seen, and no call was told to have made, a loose one made.
@@ -179,26 +129,10 @@ impl Lives {
     ) -> Result<(), AllocError> {
         for sight in sights {
             if !self.of_token.contains_key(&(sight.id, sight.token)) {
-                let version = (sight.id, Some(sight.token));
-                self.land_made(loose, fates, version, sight.seen, sight.until)?;
-            }
-        }
-        Ok(())
-    }
-
-    /// A version that stood in the way of a create, and that no call is known to have made by then, a loose one made. Of the other
-    /// versions this is when their first life began.
-    fn land_taken(
-        &mut self,
-        loose: Loose<'_, '_>,
-        fates: &mut Vec<Fate>,
-        begun: &mut HashMap<u64, u64>,
-    ) -> Result<(), AllocError> {
-        for call in loose.calls {
-            if let Some(id) = taken_for(call) {
-                let stood = begun.get(&id).is_some_and(|begun| *begun <= call.until);
-                if !stood && self.land_made(loose, fates, (id, None), Seen::Stood, call.until)? {
-                    begun.insert(id, 0)?;
+                let maker = loose.maker(fates.as_slice(), sight.id, sight.seen, sight.until);
+                if let Some(place) = maker {
+                    land(fates, place, Some(sight.token));
+                    self.add(loose.calls, Made::seen(place, sight))?;
                 }
             }
         }
@@ -206,7 +140,7 @@ impl Lives {
     }
 
     /// Puts the lives of one version side by side, and finds them by their tokens again.
-    fn arrange(&mut self) -> Result<(), AllocError> {
+    pub(crate) fn arrange(&mut self) -> Result<(), AllocError> {
         self.lives
             .sort_by_key(|life| (life.id, life.stood(), life.token.unwrap_or(0)))?;
         for place in 0..self.lives.len() {
@@ -234,23 +168,10 @@ impl Lives {
     fn add_made(&mut self, calls: &[Asked<'_>]) -> Result<(), AllocError> {
         for place in 0..calls.len() {
             if let (Some(id), Some(token)) = (calls[place].creates(), calls[place].given()) {
-                self.add(calls, id, Some(token), place, u64::MAX)?;
+                self.add(calls, Made::told(place, id, token))?;
             }
         }
         Ok(())
-    }
-
-    /// Adds the lives that loose calls made: of what was seen, and then of what stood in the way.
-    fn land(
-        &mut self,
-        alloc: Global,
-        loose: Loose<'_, '_>,
-        fates: &mut Vec<Fate>,
-        sights: &[Sight<'_>],
-    ) -> Result<(), AllocError> {
-        self.land_seen(loose, fates, sights)?;
-        let mut begun = begun(alloc, self.lives.as_slice())?;
-        self.land_taken(loose, fates, &mut begun)
     }
 
     /// Adds the lives that loose calls made, by what all calls saw, and notes when each life was seen last.
@@ -266,7 +187,7 @@ impl Lives {
             calls,
             creates: creates.as_slice(),
         };
-        let landed = self.land(alloc, loose, fates, sights);
+        let landed = self.land_seen(loose, fates, sights);
         self.note_sights(sights);
         landed
     }
@@ -310,8 +231,15 @@ impl Lives {
 
     /// The version of the life at a place.
     pub(crate) fn id_at(&self, place: usize) -> Option<u64> {
-        let life = self.lives.get(place).copied()?;
-        Some(life.id)
+        match self.lives.get(place) {
+            Some(life) => Some(life.id),
+            None => None,
+        }
+    }
+
+    /// Whether the life at a place is the first of its version.
+    pub(crate) fn is_first(&self, place: usize) -> bool {
+        place == 0 || self.id_at(place.saturating_sub(1)) != self.id_at(place)
     }
 
     /// The life at a place, where it is of this version.
@@ -319,16 +247,6 @@ impl Lives {
         let life = self.lives.get(place).copied()?;
         if life.id == id { Some(life) } else { None }
     }
-}
-
-/// When the first life of each version began at the earliest.
-fn begun(alloc: Global, lives: &[Life]) -> Result<HashMap<u64, u64>, AllocError> {
-    let mut begun = HashMap::new(alloc);
-    for life in lives {
-        let first = begun.get(&life.id).copied().unwrap_or(life.from);
-        begun.insert(life.id, first.min(life.from))?;
-    }
-    Ok(begun)
 }
 
 /// The lives of all versions, but for what removes them. What nobody is told to have made, and was seen, a loose call made.

@@ -1,91 +1,14 @@
 //! Which delete removed which life of a version.
 
+use crate::absences::Absences;
 use crate::bounds::narrow;
-use crate::calls::{Asked, version_of};
+use crate::calls::Asked;
 use crate::landings::{Fate, fate_of, land};
 use crate::lives::{Life, Lives};
 use std::alloc::{AllocError, Global};
-use txn_store::request::{Reply, Request};
-use txn_store::store::StoreError;
 
 /// A version, and a call that is about it.
 pub type Concern = (u64, usize);
-
-/// A listing: when it was asked, when its reply was there, and two versions between which it told all that stood.
-#[derive(Clone, Copy)]
-struct Extent {
-    from: u64,
-    until: u64,
-    low: u64,
-    top: u64,
-}
-
-/// The listings, by when they were asked.
-fn extents(alloc: Global, calls: &[Asked<'_>]) -> Result<Vec<Extent>, AllocError> {
-    let mut extents = Vec::new(alloc);
-    for call in calls {
-        if let Some((low, page)) = call.lists() {
-            let top = match page.metas.as_slice().last() {
-                Some(meta) => version_of(&meta.location).unwrap_or(low),
-                None => low,
-            };
-            extents.push(Extent {
-                from: call.from,
-                until: call.until,
-                low,
-                top,
-            })?;
-        }
-    }
-    extents.sort_by_key(|extent| extent.from)?;
-    Ok(extents)
-}
-
-/// When the first listing was there that was asked after a life had begun and was seen last, by a margin, and reached over its
-/// version.
-fn passed(extents: &[Extent], life: &Life, margin: u64) -> Option<u64> {
-    let after = life.last.max(life.from).saturating_add(margin);
-    let start = extents.partition_point(|extent| extent.from <= after);
-    let mut first: Option<u64> = None;
-    for place in start..extents.len() {
-        let extent = extents[place];
-        if first.is_some_and(|until| until <= extent.from) {
-            return first;
-        }
-        let reaches = extent.low < life.id && life.id < extent.top;
-        if reaches && extent.until > life.until {
-            first = Some(first.unwrap_or(extent.until).min(extent.until));
-        }
-    }
-    first
-}
-
-/// The gets that found nothing, by their versions.
-fn unseen(alloc: Global, calls: &[Asked<'_>]) -> Result<Vec<Concern>, AllocError> {
-    let mut unseen = Vec::new(alloc);
-    for place in 0..calls.len() {
-        let call = &calls[place];
-        if let (Request::Get { path, .. }, Some(Reply::Get(Err(StoreError::NotFound)))) = (
-            call.request,
-            call.reply,
-        ) {
-            if let Some(id) = version_of(path) {
-                unseen.push((id, place))?;
-            }
-        }
-    }
-    unseen.sort_unstable();
-    Ok(unseen)
-}
-
-/// The earlier of two times, where they are known.
-fn earlier(one: Option<u64>, other: Option<u64>) -> Option<u64> {
-    match (one, other) {
-        (Some(one), Some(other)) => Some(one.min(other)),
-        (None, other) => other,
-        (one, None) => one,
-    }
-}
 
 /// A delete: its version, when its reply was there, when it was asked, and its place among the calls.
 type Delete = (u64, u64, u64, usize);
@@ -101,47 +24,6 @@ fn all_deletes(alloc: Global, calls: &[Asked<'_>]) -> Result<Vec<Delete>, AllocE
     }
     deletes.sort_unstable();
     Ok(deletes)
-}
-
-/// What calls show that did not see a version: the gets that found nothing, by versions, and the listings.
-#[derive(Drop)]
-struct Absences {
-    gets: Vec<Concern>,
-    listings: Vec<Extent>,
-    /// How far apart two moments are, that the one is surely before the other.
-    margin: u64,
-}
-
-impl Absences {
-    /// When the first get was there that was asked after a life was seen last, and found nothing.
-    fn not_found(&self, calls: &[Asked<'_>], life: &Life) -> Option<u64> {
-        let gets = self.gets.as_slice();
-        let mut first = None;
-        let after = life.last.max(life.from).saturating_add(self.margin);
-        let start = gets.partition_point(|concern| concern.0 < life.id);
-        for place in start..gets.len() {
-            let (id, at) = gets[place];
-            if id != life.id {
-                return first;
-            }
-            if let Some(call) = calls.get(at) {
-                if call.from > after && call.until > life.until {
-                    first = earlier(first, Some(call.until));
-                }
-            }
-        }
-        first
-    }
-
-    /// When a life had ended at the latest: where a call after it did not see its version, or the version was made again.
-    fn ended(&self, calls: &[Asked<'_>], life: &Life, next: Option<Life>) -> Option<u64> {
-        let again = match next {
-            Some(next) => Some(next.until),
-            None => None,
-        };
-        let listed = passed(self.listings.as_slice(), life, self.margin);
-        earlier(again, earlier(self.not_found(calls, life), listed))
-    }
 }
 
 /// Whether a delete may have removed a life, which had ended by a time, where one is known.
@@ -233,7 +115,7 @@ impl Deletes {
             return;
         };
         let next = lives.at(place.saturating_add(1), life.id);
-        let ended = absences.ended(calls, &life, next);
+        let ended = absences.ended(calls, lives, place);
         let Some(at) = self.remover(calls, fates.as_slice(), &life, next, ended) else {
             return;
         };
@@ -260,25 +142,8 @@ impl Deletes {
     }
 }
 
-/// Finds what removed each life, and tells the deletes that removed nothing. Moments that are a margin apart are surely one before
-/// the other.
+/// Finds what removed each life, and tells the deletes that removed nothing.
 pub(crate) fn remove(
-    alloc: Global,
-    calls: &[Asked<'_>],
-    margin: u64,
-    fates: &mut Vec<Fate>,
-    lives: &mut Lives,
-) -> Result<Vec<Concern>, AllocError> {
-    let absences = Absences {
-        gets: unseen(alloc, calls)?,
-        listings: extents(alloc, calls)?,
-        margin,
-    };
-    remove_by(alloc, calls, fates, lives, &absences)
-}
-
-/// The same by what calls show that did not see a version.
-fn remove_by(
     alloc: Global,
     calls: &[Asked<'_>],
     fates: &mut Vec<Fate>,
@@ -289,7 +154,6 @@ fn remove_by(
         all: all_deletes(alloc, calls)?,
         taken: vec![in alloc; false; calls.len()]?,
     };
-    narrow(lives);
     for place in 0..lives.lives.len() {
         deletes.end_life(calls, fates, lives, absences, place);
     }

@@ -89,7 +89,12 @@ impl<'a> Precedence<'a> {
     }
 
     /// A call saw this life.
-    pub(crate) fn saw(&self, graph: &mut Graph, at: usize, life: Option<Life>) -> Result<(), AllocError> {
+    pub(crate) fn saw(
+        &self,
+        graph: &mut Graph,
+        at: usize,
+        life: Option<Life>,
+    ) -> Result<(), AllocError> {
         if let Some(life) = life {
             graph.edge(Some(life.made_by), Some(at))?;
             graph.edge(Some(at), life.removed_by)?;

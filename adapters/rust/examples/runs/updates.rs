@@ -38,8 +38,8 @@ impl WithUpdates {
         create_dir_all(path.parent().expect("a folder")).map_err(failed)?;
         let lock = OpenOptions::new().create(true).append(true).open(path).map_err(failed)?;
         lock.lock().map_err(failed)?;
-        let stands = match self.store.head(location).await {
-            Ok(meta) => meta.e_tag,
+        let stands = match self.store.get(location).await {
+            Ok(got) => got.meta.e_tag,
             Err(Error::NotFound { .. }) => None,
             Err(error) => return Err(error),
         };
