@@ -69,8 +69,9 @@ fn rise(lives: &mut Lives) {
 /// Goes down the lives.
 fn fall(lives: &mut Lives) {
     let mut above: Option<u64> = None;
-    for behind in 0..lives.lives.len() {
-        let place = lives.lives.len() - 1 - behind;
+    let count = lives.lives.len();
+    for behind in 0..count {
+        let place = count - 1 - behind;
         let Some(id) = lives.id_at(place) else {
             return;
         };
