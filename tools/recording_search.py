@@ -2,11 +2,10 @@
 part of the program that audits them."""
 from __future__ import annotations
 
-import re
 from dataclasses import dataclass
 
 from simulated_client import Client
-from simulated_store import BOUNDARY, Reply, Request, id_of
+from simulated_store import Reply, Request, id_of
 
 # The most states that a search goes through.
 MOST_STATES = 200_000

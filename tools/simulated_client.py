@@ -220,7 +220,8 @@ class Client:
         ids = yield from self.all_listed()
         least = {"-": 0, "=": int(low[1:] or 0), "!": int(low[1:] or 0) + 1}[low[0]]
         most = {"-": max(ids, default=0), "=": int(high[1:] or 0), "!": int(high[1:] or 0) - 1}[high[0]]
-        return " ".join(["ids", *(f"{id}" for id in ids if least <= id <= most)]) if any(least <= id <= most for id in ids) else "ids none"
+        within = [f"{id}" for id in ids if least <= id <= most]
+        return " ".join(["ids", *(within or ["none"])])
 
     def call_check(self, id):
         yield from self.check(int(id))

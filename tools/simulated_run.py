@@ -93,10 +93,6 @@ class Run:
         for _ in range(self.setting.events):
             self.event()
 
-    def texts(self):
-        """The recordings as files have them, and in another order than that in which the clients began."""
-        return ["\n".join(rows) + "\n" for rows in self.recordings]
-
     def start(self):
         """A client of the next number begins."""
         clock, number = self.random.choice(self.clocks if self.recordings else self.clocks[:1]), len(self.recordings) + 1

@@ -54,7 +54,8 @@ class Simulated(unittest.TestCase):
         self.assertEqual(done(other, store, "list - -")[1], "ids 2 3")
         self.assertEqual(done(other, store, "read")[1], "read 3 1:b")
         self.assertEqual(done(other, store, "write 1 0:c")[1], "refused 5 ObjectVersionExists")
-        self.assertEqual([other.permits(it) for it in ("write 3 1:c", "write 3 0:c", "write 2 1:c", "advance 2", "advance 3")], [True, False, False, True, False])
+        permitted = [it for it in ("write 3 1:c", "write 3 0:c", "write 2 1:c", "advance 2", "advance 3") if other.permits(it)]
+        self.assertEqual(permitted, ["write 3 1:c", "advance 2"])
 
     def test_a_run_is_a_history_and_is_the_same_again(self):
         for seed in range(20):
