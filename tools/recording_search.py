@@ -217,9 +217,9 @@ class Search:
 
 
 def are_history(recordings):
-    """Whether recordings of one clock, as lists of rows, are one history."""
+    """Whether recordings of one clock, as lists of rows, are one history. A file that names an object, and no client, has none."""
     try:
-        followed = [Followed(number, rows) for number, rows in enumerate(recordings)]
+        followed = [Followed(number, rows) for number, rows in enumerate(recordings) if len(rows) > 1]
         calls = [it.all_calls() for it in followed]
         if len({it.name for it in followed}) < len(followed):
             return False
