@@ -131,7 +131,7 @@ class Run:
     def effect(self, number, op, request):
         """A request takes effect."""
         self.order.append((number, op, request))
-        if request.kind == "create":
+        if request.kind == "create" and request.id != BOUNDARY:
             self.is_made.add(request.id)
         return self.store.serve(request)
 

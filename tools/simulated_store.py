@@ -3,12 +3,12 @@ from __future__ import annotations
 
 from dataclasses import dataclass, field
 
-# The id that stands for the boundary's file where a version's would stand.
-BOUNDARY = 0
+# What stands for the boundary's file where a version's id would stand.
+BOUNDARY = -1
 
 
 def path_of(id):
-    return f"root/test/{id:020}.val" if id else "root/gc/test.boundary"
+    return "root/gc/test.boundary" if id == BOUNDARY else f"root/test/{id:020}.val"
 
 
 def id_of(path):

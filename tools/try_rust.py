@@ -9,6 +9,7 @@ import shutil
 import subprocess
 import tempfile
 import time
+from collections import Counter
 from concurrent.futures import ThreadPoolExecutor
 
 from recording_changes import CHANGES
@@ -20,6 +21,7 @@ PROGRAM = f"{ROOT}/crates/txnobj_cli/out/txnobj_cli"
 # The packages that a folder of crates has to have, and one that it may have.
 PACKAGES, MAY_HAVE = ("object_store", "slatedb-common", "slatedb-txn-obj"), ("async-trait",)
 SECONDS = 300
+NO_ORDER = "no history"
 # How often a fact of each kind is changed.
 PLACES = 20
 # The scenes that are one history, and those of which an audit says that they are none.
@@ -197,7 +199,7 @@ class Runs:
 
     def changed(self, folder, change, rnd):
         """Changes a good recording in one way at some places, and has each audited."""
-        recordings, passed, refused = rows_in(folder), 0, 0
+        recordings, ends = rows_in(folder), Counter()
         places = change.places(recordings)
         for place in rnd.sample(places, min(PLACES, len(places))):
             with tempfile.TemporaryDirectory(prefix="try-rust-") as at:
@@ -206,25 +208,21 @@ class Runs:
                     with open(f"{at}/{name}", "w", encoding="ascii") as file:
                         file.write("\n".join(rows) + "\n")
                 status, said = self.audit(at)
-            if status:
-                refused += 1
-            elif is_history(made):
-                passed += 1
-            else:
-                self.note(change.name, f"{place[0]}, row {place[1] + 1}: not refused, and no order was found: {said}")
-                return
-        self.note(change.name, "", f"{refused} are refused, {passed} are a history all the same")
+            ends["refused" if status else is_history(made)] += 1
+        lies = ends.pop(NO_ORDER, 0)
+        said = ", ".join(f"{count} are {end}" for end, count in sorted(ends.items()))
+        self.note(change.name, f"{lies} are neither refused nor a history" if lies else "", said)
 
     def hunt(self, seconds):
         print(f"listings of a local file system: {self.ended(self.run('hunt', self.at('hunted'), seconds)).strip()}", flush=True)
 
 
 def is_history(recordings):
-    """Whether a search of all orders finds one."""
+    """What a search of all orders says of recordings that an audit took."""
     try:
-        return are_history(list(recordings.values()))
+        return "a history all the same" if are_history(list(recordings.values())) else NO_ORDER
     except Undecided:
-        return False
+        return "a history by the audit alone, with too many orders to try"
 
 
 def try_all(runs, count):
