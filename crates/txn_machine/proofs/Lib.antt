@@ -45,6 +45,6 @@ mod Claimed
 pub mod ViewsGoOn
 mod FailedTurns
 mod Refusing
-mod Spending
-mod Windowed
+pub mod Spending
+pub mod Windowed
 pub mod Mirroring

@@ -1,0 +1,16 @@
+-- Lemmas of this crate.
+mod Tries
+mod Reading
+mod Everywhere
+mod Paged
+mod Quiet
+mod Fresh
+mod Attempts
+mod Work
+mod Moves
+mod Bounds
+mod Standing
+mod Unraised
+mod Raising
+mod Advances
+mod Calls
