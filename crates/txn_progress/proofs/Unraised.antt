@@ -1,5 +1,5 @@
 -- Where no boundary stands, none is known: no client keeps one, and no operation has read one.
-use Rattle.std.proofs.Common.{◌≡◌, ℕ, zero, suc, ◌-◌, ◌==◌, nat_lt, List, [], ◌∷◌, set, slice_get, replicate, Bool, true, false, if◌then◌else◌, Option, Some, None, Result, Ok, Err, is_some, inl, inr, refl, sym, ◌∙◌, ap, subst}
+use Rattle.std.proofs.Common.{◌≡◌, ℕ, zero, suc, ◌-◌, ◌==◌, nat_lt, List, [], ◌∷◌, set, slice_get, replicate, Bool, true, false, Option, Some, None, Result, Ok, Err, is_some, inl, inr, refl, sym, ◌∙◌, ap, subst}
 use Rattle.std.specs.FinMap.{get}
 use Rattle.std.proofs.lemmas.Bool.{cases_Bool}
 use Rattle.std.proofs.lemmas.Option.{same_Some}
@@ -98,7 +98,7 @@ use Rattle.txn_machine.specs.declared.doing.Doing.{Doing}
 use Rattle.txn_machine.specs.declared.doing.Doing.TheVariants as does
 use Rattle.txn_machine.specs.declared.doing.Ending.{Ending}
 use Rattle.txn_machine.specs.declared.doing.Operation.{Operation}
-use Rattle.txn_machine.specs.Doing.{Next, ended, asked, started, turned, caches_after, plain_next, view_next, next_of, first_next, with_local}
+use Rattle.txn_machine.specs.Doing.{Next, ended, started, turned, caches_after, plain_next, view_next, next_of, first_next, with_local}
 use Rattle.txn_machine.specs.Machine.{State, opening, new_operation, with_doing, view_now, TakesOrLacks, Fails, IsReached}
 use Rattle.txn_machine.proofs.Runs.{runs_keep, taken_reached_or_lacking, opening_reached}
 use Rattle.txn_progress.proofs.Everywhere.{Each, each_none, each_begun, each_set, each_crash}
