@@ -54,11 +54,12 @@ use Rattle.txn_machine.proofs.Joining.{nothing, reached_joins}
 use Rattle.txn_machine.proofs.Reached.{reached_wide, reached_range}
 use Rattle.txn_machine.proofs.Runs.{taken_reached, takes_same}
 use Rattle.txn_machine.proofs.Serving.{held_of}
-use Rattle.txn_progress.specs.Progress.{Cost, at_most, one_try, reading, claiming as claiming_cost, sum_of, cost_of, most_left, is_own, own_count, caches_by, caches_of, LeavesAlone, FewPages, Disturbed}
+use Rattle.txn_progress.specs.Progress.{Cost, at_most, reading, claiming as claiming_cost, sum_of, cost_of, most_left, is_own, own_count, caches_by, caches_of, LeavesAlone, FewPages, Disturbed}
 use Rattle.txn_progress.proofs.Moves.{listings_of, rows_same, bounds_same, Has, GoesOn, look_goes, serve_goes}
 use Rattle.txn_progress.proofs.Paged.{ClaimPaged, AnyPaged, reached_paged}
 use Rattle.txn_machine.proofs.Spending.{call_starts}
-use Rattle.txn_progress.proofs.Work.{Listings, pages_from, any_left_of, first_left, check_small, ClaimLeft, WorkLeft, as_bounded, again_of, bounded_again, work_same}
+use Rattle.txn_progress.proofs.Tries.{check_small}
+use Rattle.txn_progress.proofs.Work.{Listings, pages_from, any_left_of, first_left, ClaimLeft, WorkLeft, as_bounded, again_of, bounded_again, work_same}
 
 or_false : (b : Bool) → (b || false) ≡ false → b ≡ false
 or_false true e = cc
@@ -190,9 +191,9 @@ write_small_at writes.Writes write = (let a = unchecked_small write.write in let
 write_small_at writes.Checks write = (let b = check_small write.check in omega (arith, b))
 
 -- a claim, wherever it is
-any_claim : {T : Type 0} (rows : List (PlainRow T)) (files : Files) (page g : ℕ) (l : Listings files page g) (n : ℕ) (claim : Claiming T) (caches : Caches) → IsClaimingInRange claim → ClaimPaged page claim → 14 + 5 * (17 + g) ≤ n → ClaimLeft rows files page g claim caches n
+any_claim : {T : Type 0} (rows : List (PlainRow T)) (files : Files) (page g : ℕ) (l : Listings files page g) (n : ℕ) (claim : Claiming T) (caches : Caches) → IsClaimingInRange claim → ClaimPaged page claim → (77 + 3 * g) ≤ n → ClaimLeft rows files page g claim caches n
 any_claim rows files page g l n (claiming.Writes write value epoch) caches range paged enough = (7, write_small_at write.step write, inr (omega (arith, enough)))
-any_claim rows files page g l n (claiming.Reads read) caches range paged enough = (l, 3 * (17 + g), any_left_of files page g l rows read caches.latest (3 * (17 + g)) range paged (omega arith), inr (omega (arith, enough)))
+any_claim rows files page g l n (claiming.Reads read) caches range paged enough = (l, (40 + 2 * g), any_left_of files page g l rows read caches.latest ((40 + 2 * g)) range paged (omega arith), inr (omega (arith, enough)))
 any_claim rows files page g l n claiming.Ended caches range paged enough = tt
 
 module _ {T : Type 0} (rows after : List (PlainRow T)) (files now : Files) (page g again n : ℕ) (l : Listings now page g) where
@@ -283,7 +284,7 @@ module _ {T : Type 0} (encode : T → List ℕ) (decode : List ℕ → Option T)
 
   -- from any state in which it runs
   here_left : (s : State T) (g : ℕ) (doing : Doing T) (rows : List (PlainRow T)) (versions : Caches) → Listings s.store.files s.page g → IsNoRaise doing → InRange doing → AnyPaged s.page doing → WorkLeft rows s.store.files s.page g doing versions (most_left doing g)
-  here_left s g (does.Plain (doings.Read read)) rows versions l fits range paged = (l, any_left_of s.store.files s.page g l rows read versions.latest (3 * one_try g) range paged (omega arith))
+  here_left s g (does.Plain (doings.Read read)) rows versions l fits range paged = (l, any_left_of s.store.files s.page g l rows read versions.latest (40 + 2 * g) range paged (omega arith))
   here_left s g (does.Plain (doings.ListIds list)) rows versions l fits range paged = (l, g, pages_from s.store.files s.page g list.request l paged, omega arith)
   here_left s g (does.Plain (doings.Write op)) rows versions l fits range paged = as_bounded rows s.store.files s.page g (does.Plain (doings.Write op)) versions (most_left {T = T} (does.Plain (doings.Write op)) g) _ refl (omega arith)
   here_left s g (does.Plain (doings.WriteUnchecked op)) rows versions l fits range paged = as_bounded rows s.store.files s.page g (does.Plain (doings.WriteUnchecked op)) versions (most_left {T = T} (does.Plain (doings.WriteUnchecked op)) g) _ refl (omega arith)
@@ -293,9 +294,9 @@ module _ {T : Type 0} (encode : T → List ℕ) (decode : List ℕ → Option T)
   here_left s g (does.Plain (doings.Check op)) rows versions l fits range paged = as_bounded rows s.store.files s.page g (does.Plain (doings.Check op)) versions (most_left {T = T} (does.Plain (doings.Check op)) g) _ refl (omega arith)
   here_left s g (does.Plain (doings.Advance op)) rows versions l fits range paged = absurd fits
   here_left s g (does.Plain doings.Ended) rows versions l fits range paged = tt
-  here_left s g (does.View (ops.Reads op)) rows versions l fits range paged = (l, any_left_of s.store.files s.page g l rows op.read versions.latest (3 * one_try g) range paged (omega arith))
+  here_left s g (does.View (ops.Reads op)) rows versions l fits range paged = (l, any_left_of s.store.files s.page g l rows op.read versions.latest (40 + 2 * g) range paged (omega arith))
   here_left s g (does.View (ops.Enters op)) rows versions l fits range paged = as_bounded rows s.store.files s.page g (does.View (ops.Enters op)) versions (most_left {T = T} (does.View (ops.Enters op)) g) _ refl (omega arith)
-  here_left s g (does.View (ops.Claims op)) rows versions l fits range paged = any_claim rows s.store.files s.page g l (14 + 5 * one_try g) op.claiming versions range paged (omega arith)
+  here_left s g (does.View (ops.Claims op)) rows versions l fits range paged = any_claim rows s.store.files s.page g l (77 + 3 * g) op.claiming versions range paged (omega arith)
 
   pub alone_bound : (s : State T) (op g : ℕ) (o : Operation T) (ask : Ask) (taken : List (Event T × Told T)) (new : State T) → Reached encode decode get_epoch set_epoch s → numbered s.operations op ≡ Some o → asked o.doing ≡ Some ask → IsNoRaise o.doing → FewPages g s →
       Disturbed encode decode get_epoch set_epoch op g 0 s taken new → own_count op taken ≤ most_left o.doing g

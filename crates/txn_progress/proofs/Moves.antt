@@ -67,7 +67,7 @@ use Rattle.txn_progress.proofs.Fresh.{FreshOn, fresh_step}
 use Rattle.txn_progress.proofs.Quiet.{quiet_files, newest_same, boundary_same}
 use Rattle.txn_progress.proofs.Reading.{read_step}
 use Rattle.txn_machine.proofs.Spending.{turn_spends}
-use Rattle.txn_progress.proofs.Tries.{PagesLeft, ReadLeft, ReadOn, some_left}
+use Rattle.txn_progress.proofs.Tries.{PagesLeft, ReadLeft, ReadOn, some_left, first_least}
 use Rattle.txn_machine.proofs.Windowed.{reached_windows}
 use Rattle.txn_progress.proofs.Work.{Listings, fresh_pages, WorkLeft, WorkOn, BoundedLeft, spent_on, plain_follows, view_follows, follows_on, list_next, listing_on, again_of, again_turn, work_same, spends_some, ClaimLeft, ClaimOn, claim_next_on, attempt_on, refresh_on}
 
@@ -148,8 +148,9 @@ module _ {T : Type 0} where
       let some = some_left files unit g read reply l.cost is l.costs in
       elim l.tries [
         | inl enough ↦ omega (arith, some, enough)
-        | inr (inl first) ↦ (let enough = first.1 in omega (arith, some, enough))
-        | inr (inr second) ↦ (let enough = second.1 in omega (arith, some, enough))
+        | inr (inl first) ↦ (let enough = first_least g read l.cost n first.1 in omega (arith, some, enough))
+        | inr (inr (inl second)) ↦ (let enough = second.1 in omega (arith, some, enough))
+        | inr (inr (inr restarts)) ↦ (let enough = restarts.1 in omega (arith, enough))
       ]
 
 -- the pages of a state
@@ -280,7 +281,7 @@ module _ {T : Type 0} (encode : T → List ℕ) (decode : List ℕ → Option T)
         let some = spends_some reply (write_budget write) _ spends in
         let le = w.1 in
         let enough : 1 ≤ n = elim w.2 [ inl last ↦ (let most = last.1 in omega (arith, some, le, most)) | inr more ↦ omega (arith, some, le, more) ] in
-        let how : (FinalOn j'.fine.trace (write_turned write caches reply) × (w.0 ≤ n)) ⊎ (w.0 + (2 * (17 + g) + 7) ≤ n) = elim w.2 [
+        let how : (FinalOn j'.fine.trace (write_turned write caches reply) × (w.0 ≤ n)) ⊎ (w.0 + ((23 + g) + 7) ≤ n) = elim w.2 [
           | inl last ↦ inl (final_step decode get_epoch j.fine.failed j'.fine.failed rows j'.fine.trace old.store new.store (known old j) (known new j') f.number f.call write caches reply f.stands given told last.0, last.1)
           | inr more ↦ inr more
         ] in
@@ -294,7 +295,7 @@ module _ {T : Type 0} (encode : T → List ℕ) (decode : List ℕ → Option T)
         let on = read_on read k f given told w.0 w.2 in
         let some = read_some rows old.store.files old.page g read caches.latest k reply given w.2 in
         let enough : 1 ≤ n = elim w.3 [ inl fresh ↦ (let most = fresh.1 in omega (arith, some, most)) | inr more ↦ omega (arith, some, more) ] in
-        let how : (FreshOn rows (read_caches_after read caches Goes) (read_turned world_names world_boundary old.page decode read caches reply) × (k + 7 ≤ n)) ⊎ (k + (14 + 2 * (17 + g)) ≤ n) = elim w.3 [
+        let how : (FreshOn rows (read_caches_after read caches Goes) (read_turned world_names world_boundary old.page decode read caches reply) × (k + 7 ≤ n)) ⊎ (k + (14 + (23 + g)) ≤ n) = elim w.3 [
           | inl fresh ↦ inl (fresh_step decode get_epoch j.fine.failed rows old.store new.store (known old j) f.number old.page read caches reply f.stands given told (numbered_window old.caches o.client caches acts.kept (reached_windows encode decode get_epoch set_epoch old r)) (caches_fit old j o.client caches acts.kept) fresh.0, fresh.1)
           | inr more ↦ inr more
         ] in

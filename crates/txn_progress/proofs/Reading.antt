@@ -16,13 +16,14 @@ use Rattle.txn_caches.specs.declared.caches.Caches.{Caches}
 use Rattle.txn_caches.specs.declared.check.CheckOp.TheVariants as checks
 use Rattle.txn_caches.specs.declared.turned.Turned.{Turned}
 use Rattle.txn_caches.specs.declared.turned.Turned.TheVariants.{Goes, Done}
+use Rattle.txn_caches.specs.Windows.{greatest_held}
 use Rattle.txn_steps.specs.declared.latest.LatestOp.{LatestOp}
 use Rattle.txn_steps.specs.declared.latest.LatestOp.TheVariants as latest
 use Rattle.txn_steps.specs.declared.read.ReadOp.{ReadOp}
 use Rattle.txn_steps.specs.declared.read.ReadOp.TheVariants as reads
 use Rattle.txn_steps.specs.Requests.{version_got, version_page}
-use Rattle.txn_steps.specs.Latest.{ReadAnswer, latest_listing}
-use Rattle.txn_steps.specs.Reads.{IsReadReply, read_started, read_turned, read_caches_after}
+use Rattle.txn_steps.specs.Latest.{ReadAnswer, latest_listing, begins_with}
+use Rattle.txn_steps.specs.Reads.{IsReadReply, read_started, read_turned, reads_turned, read_caches_after}
 use Rattle.txn_history.specs.Trace.{PlainRow}
 use Rattle.txn_history.specs.Names.{world_names, world_boundary}
 use Rattle.txn_history.specs.History.{newest, versions_of}
@@ -33,7 +34,7 @@ use Rattle.txn_machine_inner.proofs.Faults.{get_missing}
 use Rattle.txn_machine_inner.proofs.Stored.{none_stored}
 use Rattle.txn_machine_inner.proofs.Windows.{kept_fits, above_fits}
 use Rattle.txn_machine_inner.proofs.Resting.{First, Second, FirstOn, SecondOn, GoesOn, above_boundary, first_step, second_step, Given}
-use Rattle.txn_progress.proofs.Tries.{PagesLeft, ReadCost, CostOn, Missed, some_left, cost_step, TriesLeft, ReadLeft, ReadOn}
+use Rattle.txn_progress.proofs.Tries.{PagesLeft, check_small, ReadCost, CostOn, Missed, some_left, cost_step, Restarts, FirstEnough, first_cases, TriesLeft, ReadLeft, ReadOn}
 
 module _ {T : Type 0} (rows : List (PlainRow T)) (files : Files) (unit g n : ℕ) (versions : List Cached) where
   -- what begins a try, and a listing anew
@@ -42,24 +43,47 @@ module _ {T : Type 0} (rows : List (PlainRow T)) (files : Files) (unit g n : ℕ
   started_left m less tries = (m, less, record { cost = 17 + g; costs = (12 + g, omega arith, omega arith); tries = tries })
 
   listing_left : (page : ℕ) (ahead : BoundaryRead) → PagesLeft files unit (version_page world_names None page) g → g + 9 ≤ n → ReadOn {T = T} rows files unit g n versions (reads.Reads (latest_listing world_names page) ahead, Goes)
-  listing_left page ahead fresh enough = (g + 8, omega (arith, enough), record { cost = g + 8; costs = (g + 3, omega arith, (g, fresh, omega arith)); tries = inr (inr (inr tt, omega arith)) })
+  listing_left page ahead fresh enough = (g + 8, omega (arith, enough), record { cost = g + 8; costs = (g + 3, omega arith, (g, fresh, omega arith)); tries = inr (inr (inl (inr tt, omega arith))) })
 
   -- it goes on in this try
 
-  any_on : (cost : ℕ) (told : ReadOp T × Turned (ReadAnswer T)) → cost + 2 * (17 + g) ≤ n → CostOn files unit g cost told → ReadOn rows files unit g n versions told
-  any_on cost (read, Goes) enough on = (on.0 + 2 * (17 + g), (let less = on.1 in omega (arith, less, enough)), record { cost = on.0; costs = on.2; tries = inl (omega arith) })
+  any_on : (cost : ℕ) (told : ReadOp T × Turned (ReadAnswer T)) → cost + (23 + g) ≤ n → CostOn files unit g cost told → ReadOn rows files unit g n versions told
+  any_on cost (read, Goes) enough on = (on.0 + (23 + g), (let less = on.1 in omega (arith, less, enough)), record { cost = on.0; costs = on.2; tries = inl (omega arith) })
   any_on cost (read, Done answer) enough on = tt
 
-  first_on : (cost : ℕ) (told : ReadOp T × Turned (ReadAnswer T)) → cost + (17 + g) ≤ n → FirstOn rows told versions → CostOn files unit g cost told → ReadOn rows files unit g n versions told
-  first_on cost (read, Goes) enough f on =
+  second_goes : (cost : ℕ) (read : ReadOp T) → cost ≤ n → Second rows read versions → CostOn files unit g cost (read, Goes) → ReadOn rows files unit g n versions (read, Goes)
+  second_goes cost read enough second on = (on.0, (let less = on.1 in omega (arith, less, enough)), record { cost = on.0; costs = on.2; tries = inr (inr (inl (second, omega arith))) })
+
+  probing_on : (cost : ℕ) (told : ReadOp T × Turned (ReadAnswer T)) → 9 + g ≤ cost → cost + 6 ≤ n → FirstOn rows told versions → CostOn files unit g cost told → ReadOn rows files unit g n versions told
+  probing_on cost (reads.Reads op ahead, Goes) least enough f on =
       elim f [
-        | inl first ↦ (on.0 + (17 + g), (let less = on.1 in omega (arith, less, enough)), record { cost = on.0; costs = on.2; tries = inr (inl (first.0, omega arith)) })
-        | inr second ↦ (on.0, (let less = on.1 in omega (arith, less, enough)), record { cost = on.0; costs = on.2; tries = inr (inr (second, omega arith)) })
+        | inl first ↦ (on.0 + 6, (let less = on.1 in omega (arith, less, enough)), record { cost = on.0; costs = on.2; tries = inr (inl (first.0, omega arith)) })
+        | inr second ↦ second_goes cost (reads.Reads op ahead) (omega (arith, enough)) second on
       ]
-  first_on cost (read, Done answer) enough f on = tt
+  probing_on cost (reads.Checks id value check, Goes) least enough f on =
+      elim f [
+        | inl first ↦ (14 + g, omega (arith, least, enough), record { cost = 5; costs = check_small check; tries = inr (inl (first.0, omega arith)) })
+        | inr second ↦ second_goes cost (reads.Checks id value check) (omega (arith, enough)) second on
+      ]
+  probing_on cost (reads.Ended, Goes) least enough f on = second_goes cost reads.Ended (omega (arith, enough)) tt on
+  probing_on cost (read, Done answer) least enough f on = tt
+
+  checking_on : (cost : ℕ) (told : ReadOp T × Turned (ReadAnswer T)) → cost + (9 + g) ≤ n → FirstOn rows told versions → CostOn files unit g cost told → ReadOn rows files unit g n versions told
+  checking_on cost (reads.Reads op ahead, Goes) enough f on =
+      elim f [
+        | inl first ↦ (on.0 + 6, (let less = on.1 in omega (arith, less, enough)), record { cost = on.0; costs = on.2; tries = inr (inl (first.0, omega arith)) })
+        | inr second ↦ second_goes cost (reads.Reads op ahead) (omega (arith, enough)) second on
+      ]
+  checking_on cost (reads.Checks id value check, Goes) enough f on =
+      elim f [
+        | inl first ↦ (on.0 + (9 + g), (let less = on.1 in omega (arith, less, enough)), record { cost = on.0; costs = on.2; tries = inr (inl (first.0, omega arith)) })
+        | inr second ↦ second_goes cost (reads.Checks id value check) (omega (arith, enough)) second on
+      ]
+  checking_on cost (reads.Ended, Goes) enough f on = second_goes cost reads.Ended (omega (arith, enough)) tt on
+  checking_on cost (read, Done answer) enough f on = tt
 
   second_on : (cost : ℕ) (told : ReadOp T × Turned (ReadAnswer T)) → cost ≤ n → SecondOn rows told versions → CostOn files unit g cost told → ReadOn rows files unit g n versions told
-  second_on cost (read, Goes) enough s on = (on.0, (let less = on.1 in omega (arith, less, enough)), record { cost = on.0; costs = on.2; tries = inr (inr (s.0, omega arith)) })
+  second_on cost (read, Goes) enough s on = second_goes cost read enough s.0 on
   second_on cost (read, Done answer) enough s on = tt
 
   -- a try that begins is none that goes on
@@ -131,6 +155,20 @@ module _ {T : Type 0} (decode : List ℕ → Option T) (get_epoch : T → ℕ) (
   missed_lists (reads.Checks id value check) caches reply missed = absurd missed
   missed_lists reads.Ended caches reply missed = absurd missed
 
+  -- with nothing held it lists at once
+  restarts_lists : (read : ReadOp T) (caches : Caches) (reply : Option Reply) → Restarts read caches.latest → (ahead : BoundaryRead) × (read_turned world_names world_boundary page decode read caches reply ≡ (reads.Reads (latest_listing world_names page) ahead, Goes))
+  restarts_lists (reads.Reads latest.Looks ahead) caches reply none = (ahead, ap (λ (versions : List Cached). reads_turned ahead (begins_with world_names page decode latest.Looks (greatest_held versions))) none)
+  restarts_lists (reads.Reads (latest.Probes hand found next request) ahead) caches reply none = absurd none
+  restarts_lists (reads.Reads (latest.Finds successor found) ahead) caches reply none = absurd none
+  restarts_lists (reads.Reads (latest.Lists found request) ahead) caches reply none = absurd none
+  restarts_lists (reads.Reads (latest.Chooses greatest) ahead) caches reply none = absurd none
+  restarts_lists (reads.Reads (latest.Gets id request) ahead) caches reply none = absurd none
+  restarts_lists (reads.Reads (latest.Keeps version value) ahead) caches reply none = absurd none
+  restarts_lists (reads.Reads (latest.Drops id) ahead) caches reply none = absurd none
+  restarts_lists (reads.Reads latest.Ended ahead) caches reply none = absurd none
+  restarts_lists (reads.Checks id value check) caches reply none = absurd none
+  restarts_lists reads.Ended caches reply none = absurd none
+
   module _ (read : ReadOp T) (caches : Caches) (reply : Option Reply) (n : ℕ) (h : ReadStands decode rows store caches.boundary op read) (is : IsReadReply read reply) (given : Given read store reply new) (c : CachesStand decode rows store caches) where
     abbrev told : ReadOp T × Turned (ReadAnswer T)
     told = read_turned world_names world_boundary page decode read caches reply
@@ -148,31 +186,17 @@ module _ {T : Type 0} (decode : List ℕ → Option T) (get_epoch : T → ℕ) (
     missed_on : Missed store.files unit g read reply → g + 9 ≤ n → On told
     missed_on missed enough = (let lists = missed_lists read caches reply missed in subst On (sym lists.1) (listing_left rows store.files unit g n kept page lists.0 fresh enough))
 
-    any_step : (cost : ℕ) → ReadCost store.files unit g read cost → cost + 2 * (17 + g) ≤ n → On told
+    any_step : (cost : ℕ) → ReadCost store.files unit g read cost → cost + (23 + g) ≤ n → On told
     any_step cost costs enough =
         let some = some_left store.files unit g read reply cost is costs in
         elim (stepped cost costs) [
-          | inl again ↦ subst On (sym again) (started_left rows store.files unit g n kept (2 * (17 + g)) (omega (arith, some, enough)) (inr (inl (inl tt, omega arith))))
+          | inl again ↦ subst On (sym again) (started_left rows store.files unit g n kept (23 + g) (omega (arith, some, enough)) (inr (inl (inl tt, omega arith))))
           | inr (inl missed) ↦ missed_on missed (omega (arith, enough))
           | inr (inr on) ↦ any_on rows store.files unit g n kept cost told enough on
         ]
 
     first_stays : (w : IsWindow caches.latest) → First rows read caches.latest → FirstOn rows told kept
     first_stays w f = first_step decode get_epoch failed rows store new k op page read caches reply h given w c (left_fits decode rows store op read caches h c.latest) f
-
-    first_try : (cost : ℕ) → ReadCost store.files unit g read cost → cost + (17 + g) ≤ n → IsWindow caches.latest → First rows read caches.latest → On told
-    first_try cost costs enough w f =
-        let some = some_left store.files unit g read reply cost is costs in
-        elim (stepped cost costs) [
-          | inl again ↦ subst On (sym again) (
-              elim (subst (λ (t : ReadOp T × Turned (ReadAnswer T)). FirstOn rows t kept) again (first_stays w f)) [
-                | inl on ↦ begins_again rows store.files unit g n kept on.1
-                | inr second ↦ started_left rows store.files unit g n kept (17 + g) (omega (arith, some, enough)) (inr (inr (second, omega arith)))
-              ]
-              )
-          | inr (inl missed) ↦ missed_on missed (omega (arith, enough))
-          | inr (inr on) ↦ first_on rows store.files unit g n kept cost told enough (first_stays w f) on
-        ]
 
     second_try : (cost : ℕ) → ReadCost store.files unit g read cost → cost ≤ n → Second rows read caches.latest → On told
     second_try cost costs enough s =
@@ -183,10 +207,42 @@ module _ {T : Type 0} (decode : List ℕ → Option T) (get_epoch : T → ℕ) (
           | inr (inr on) ↦ second_on rows store.files unit g n kept cost told enough stays on
         ]
 
+    -- a first try that is refused leaves nothing held
+    refused_on : (cost : ℕ) → told ≡ (read_started world_boundary, Goes) → FirstOn rows told kept → 10 + g ≤ n → On told
+    refused_on cost again stays enough =
+        subst On (sym again) (
+        elim (subst (λ (t : ReadOp T × Turned (ReadAnswer T)). FirstOn rows t kept) again stays) [
+          | inl on ↦ begins_again rows store.files unit g n kept on.1
+          | inr second ↦ started_left rows store.files unit g n kept (9 + g) (omega (arith, enough)) (inr (inr (inr (elim second [ inl none ↦ none | inr seeks ↦ absurd seeks ], omega arith))))
+        ]
+        )
+
+    first_try : (cost : ℕ) → ReadCost store.files unit g read cost → FirstEnough g read cost n → IsWindow caches.latest → First rows read caches.latest → On told
+    first_try cost costs enough w f =
+        let some = some_left store.files unit g read reply cost is costs in
+        let stays = first_stays w f in
+        elim (first_cases rows store.files unit g read caches.latest cost n costs enough f) [
+          | inl probes ↦ (let least = probes.0 in let room' = probes.1 in elim (stepped cost costs) [
+            | inl again ↦ refused_on cost again stays (omega (arith, least, room'))
+            | inr (inl missed) ↦ missed_on missed (omega (arith, least, room'))
+            | inr (inr on) ↦ probing_on rows store.files unit g n kept cost told least room' stays on
+          ])
+          | inr (inl checks) ↦ elim (stepped cost costs) [
+            | inl again ↦ refused_on cost again stays (omega (arith, some, checks))
+            | inr (inl missed) ↦ missed_on missed (omega (arith, some, checks))
+            | inr (inr on) ↦ checking_on rows store.files unit g n kept cost told checks stays on
+          ]
+          | inr (inr second) ↦ second_try cost costs second.1 second.0
+        ]
+
+    restart_try : Restarts read caches.latest → 9 + g ≤ n → On told
+    restart_try none enough = (let lists = restarts_lists read caches reply none in subst On (sym lists.1) (listing_left rows store.files unit g n kept page lists.0 fresh (omega (arith, enough))))
+
     pub read_step : IsWindow caches.latest → ReadLeft rows store.files unit g read caches.latest n → On told
     read_step w l =
         elim l.tries [
           | inl enough ↦ any_step l.cost l.costs enough
           | inr (inl first) ↦ first_try l.cost l.costs first.1 w first.0
-          | inr (inr second) ↦ second_try l.cost l.costs second.1 second.0
+          | inr (inr (inl second)) ↦ second_try l.cost l.costs second.1 second.0
+          | inr (inr (inr restarts)) ↦ restart_try restarts.0 restarts.1
         ]

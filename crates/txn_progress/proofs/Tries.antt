@@ -18,11 +18,13 @@ use Rattle.txn_caches.specs.declared.boundary_read.BoundaryRead.{BoundaryRead}
 use Rattle.txn_caches.specs.declared.boundary_read.BoundaryRead.TheVariants as reading
 use Rattle.txn_caches.specs.declared.caches.Cached.{Cached}
 use Rattle.txn_caches.specs.declared.caches.Caches.{Caches}
+use Rattle.txn_caches.specs.declared.check.BoundaryStep.{BoundaryStep}
+use Rattle.txn_caches.specs.declared.check.BoundaryStep.TheVariants as boundary_step
 use Rattle.txn_caches.specs.declared.check.CheckOp.{CheckOp}
 use Rattle.txn_caches.specs.declared.check.CheckOp.TheVariants as checks
 use Rattle.txn_caches.specs.declared.turned.Turned.{Turned}
 use Rattle.txn_caches.specs.declared.turned.Turned.TheVariants.{Goes, Done}
-use Rattle.txn_caches.specs.Counts.{Budget, SpendsOne, check_budget}
+use Rattle.txn_caches.specs.Counts.{Budget, SpendsOne, boundary_check_budget_at, check_budget}
 use Rattle.txn_caches.specs.Checks.{check_of_read, check_turned}
 use Rattle.txn_caches.specs.Windows.{held, greatest_held}
 use Rattle.txn_caches.proofs.CountLemmas.{check_spends, after}
@@ -37,7 +39,7 @@ use Rattle.txn_drivers.proofs.NextPages.{next_page}
 use Rattle.txn_history.specs.Trace.{PlainRow}
 use Rattle.txn_history.specs.Names.{world_names, world_boundary}
 use Rattle.txn_history.specs.History.{newest}
-use Rattle.txn_machine_inner.proofs.Resting.{FoundNewest, Seeking, First, Second, Given}
+use Rattle.txn_machine_inner.proofs.Resting.{FoundNewest, Probing, Seeking, Emptied, First, Second, Given}
 
 -- listings
 
@@ -86,6 +88,19 @@ page_taken files unit request k p path e =
 
 abbrev pub check_cost : CheckOp → ℕ
 check_cost check = (check_budget check).looks + (check_budget check).calls
+
+-- a check has at most five looks and calls left
+step_small : (step : BoundaryStep) (read : BoundaryRead) → (boundary_check_budget_at step read).looks + (boundary_check_budget_at step read).calls ≤ 4
+step_small boundary_step.Looks (reading.Looks path) = omega arith
+step_small boundary_step.Looks (reading.Gets request) = omega arith
+step_small boundary_step.Looks (reading.Holds known) = omega arith
+step_small boundary_step.Reads (reading.Looks path) = omega arith
+step_small boundary_step.Reads (reading.Gets request) = omega arith
+step_small boundary_step.Reads (reading.Holds known) = omega arith
+
+pub check_small : (check : CheckOp) → check_cost check ≤ 5
+check_small (checks.Checks check) = (let small = step_small check.step check.read in omega (arith, small))
+check_small (checks.Drops id) = omega arith
 
 module _ {T : Type 0} (files : Files) (unit g : ℕ) where
   -- An unchecked read has at most so many steps left, where a listing has at most g pages.
@@ -298,14 +313,49 @@ module _ {T : Type 0} where
   second_same rows others (reads.Checks id value check) versions e h = h ∙ e
   second_same rows others reads.Ended versions e h = tt
 
-module _ {T : Type 0} (rows : List (PlainRow T)) (files : Files) (unit g : ℕ) where
-  -- a try, as it begins
-  abbrev pub a_try : ℕ
-  a_try = 17 + g
+module _ {T : Type 0} where
+  -- it begins anew, and nothing is held
+  abbrev pub Restarts : ReadOp T → List Cached → Type 0
+  Restarts (reads.Reads op ahead) versions = Emptied op versions
+  Restarts (reads.Checks id value check) versions = ⊥
+  Restarts reads.Ended versions = ⊥
 
-  -- What may follow this try: two more, one, or none.
+  -- The first try that nothing disturbs: where it is refused it has listed nothing, and the one after it, with nothing held, takes nine and its pages.
+  abbrev pub FirstEnough : ℕ → ReadOp T → ℕ → ℕ → Type 0
+  FirstEnough g (reads.Reads op ahead) m n = m + 6 ≤ n
+  FirstEnough g (reads.Checks id value check) m n = m + (9 + g) ≤ n
+  FirstEnough g reads.Ended m n = m ≤ n
+
+  pub first_least : (g : ℕ) (read : ReadOp T) (m n : ℕ) → FirstEnough g read m n → m ≤ n
+  first_least g (reads.Reads op ahead) m n enough = omega (arith, enough)
+  first_least g (reads.Checks id value check) m n enough = omega (arith, enough)
+  first_least g reads.Ended m n enough = enough
+
+module _ {T : Type 0} (rows : List (PlainRow T)) (files : Files) (unit g : ℕ) where
+  probing_least : (op : LatestOp T) (versions : List Cached) (m : ℕ) → Probing op versions → LatestCost files unit g op m → 4 + g ≤ m
+  probing_least latest.Looks versions m p cost = omega (arith, cost)
+  probing_least (latest.Probes hand found next request) versions m p cost = (let few = cost.0 in let enough = cost.1 in omega (arith, few, enough))
+  probing_least (latest.Finds successor found) versions m p cost = (let enough = cost.1 in omega (arith, enough))
+  probing_least (latest.Lists found request) versions m p cost = absurd p
+  probing_least (latest.Chooses greatest) versions m p cost = absurd p
+  probing_least (latest.Gets id request) versions m p cost = absurd p
+  probing_least (latest.Keeps version value) versions m p cost = absurd p
+  probing_least (latest.Drops id) versions m p cost = absurd p
+  probing_least latest.Ended versions m p cost = absurd p
+
+  -- it probes, or checks what it found so, or has the newest version
+  pub first_cases : (read : ReadOp T) (versions : List Cached) (cost n : ℕ) → ReadCost files unit g read cost → FirstEnough g read cost n → First rows read versions → ((9 + g ≤ cost) × (cost + 6 ≤ n)) ⊎ (cost + (9 + g) ≤ n) ⊎ (Second rows read versions × (cost ≤ n))
+  first_cases (reads.Reads op ahead) versions cost n costs enough f =
+      elim f [
+        | inl probes ↦ inl ((let least = probing_least op versions costs.0 probes costs.2 in let le = costs.1 in omega (arith, least, le)), enough)
+        | inr seeks ↦ inr (inr (inr seeks, omega (arith, enough)))
+      ]
+  first_cases (reads.Checks id value check) versions cost n costs enough f = inr (inl enough)
+  first_cases reads.Ended versions cost n costs enough f = inr (inr (tt, enough))
+
+  -- What may follow this try: a first one that nothing disturbs, the one after that, or none; or this one begins with nothing held.
   abbrev pub TriesLeft : ReadOp T → List Cached → ℕ → ℕ → Type 0
-  TriesLeft read versions m n = (m + 2 * a_try ≤ n) ⊎ (First rows read versions × (m + a_try ≤ n)) ⊎ (Second rows read versions × (m ≤ n))
+  TriesLeft read versions m n = (m + (23 + g) ≤ n) ⊎ (First rows read versions × FirstEnough g read m n) ⊎ (Second rows read versions × (m ≤ n)) ⊎ (Restarts read versions × (9 + g ≤ n))
 
   -- A read that nothing disturbs has at most so many steps left.
   pub record ReadLeft (read : ReadOp T) (versions : List Cached) (n : ℕ) : Type 0 where
@@ -327,6 +377,7 @@ left_same rows others files unit g read versions n e l =
       tries = elim l.tries [
         | inl any ↦ inl any
         | inr (inl first) ↦ inr (inl (first_same rows others read versions e first.0, first.1))
-        | inr (inr second) ↦ inr (inr (second_same rows others read versions e second.0, second.1))
+        | inr (inr (inl second)) ↦ inr (inr (inl (second_same rows others read versions e second.0, second.1)))
+        | inr (inr (inr restarts)) ↦ inr (inr (inr restarts))
       ];
     }

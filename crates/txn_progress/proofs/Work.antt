@@ -62,7 +62,7 @@ use Rattle.txn_progress.proofs.Paged.{IsPaged, LatestPaged, ReadPaged}
 use Rattle.txn_progress.proofs.Attempts.{Final, FinalOn, final_same}
 use Rattle.txn_progress.proofs.Fresh.{FreshBoundary, FreshCheck, Fresh, FreshOn}
 use Rattle.txn_machine.proofs.Spending.{Spent, turn_spends}
-use Rattle.txn_progress.proofs.Tries.{metas_after, PagesLeft, page_taken, check_cost, LatestCost, ReadCost, ReadLeft, ReadOn, left_same, seeking_same}
+use Rattle.txn_progress.proofs.Tries.{metas_after, PagesLeft, page_taken, check_small, LatestCost, ReadCost, ReadLeft, ReadOn, left_same, seeking_same}
 
 -- the pages of a listing, from wherever it is
 
@@ -91,19 +91,6 @@ pages_from files page g request l p =
 pub fresh_pages : (files : Files) (page g : ℕ) → Listings files page g → PagesLeft files page (version_page world_names None page) g
 fresh_pages files page g l = pages_from files page g (version_page world_names None page) l (None, refl)
 
--- a check has at most five looks and calls left
-step_small : (step : BoundaryStep) (read : BoundaryRead) → (boundary_check_budget_at step read).looks + (boundary_check_budget_at step read).calls ≤ 4
-step_small boundary_step.Looks (reading.Looks path) = omega arith
-step_small boundary_step.Looks (reading.Gets request) = omega arith
-step_small boundary_step.Looks (reading.Holds known) = omega arith
-step_small boundary_step.Reads (reading.Looks path) = omega arith
-step_small boundary_step.Reads (reading.Gets request) = omega arith
-step_small boundary_step.Reads (reading.Holds known) = omega arith
-
-pub check_small : (check : CheckOp) → check_cost check ≤ 5
-check_small (checks.Checks check) = (let small = step_small check.step check.read in omega (arith, small))
-check_small (checks.Drops id) = omega arith
-
 module _ {T : Type 0} (files : Files) (page g : ℕ) (l : Listings files page g) where
   latest_small : (op : LatestOp T) → plain.InRange (doings.Read (reads.Reads op (reading.Looks world_boundary))) → LatestPaged page op → LatestCost files page g op (12 + g)
   latest_small latest.Looks r p = omega arith
@@ -122,12 +109,12 @@ module _ {T : Type 0} (files : Files) (page g : ℕ) (l : Listings files page g)
   cost_small (reads.Checks id value check) r p = (let small = check_small check in omega (arith, small))
   cost_small reads.Ended r p = tt
 
-  -- and two more may follow
-  pub any_left_of : (rows : List (PlainRow T)) (read : ReadOp T) (versions : List Cached) (n : ℕ) → IsInRange read → ReadPaged page read → 3 * (17 + g) ≤ n → ReadLeft rows files page g read versions n
+  -- and a first one may follow
+  pub any_left_of : (rows : List (PlainRow T)) (read : ReadOp T) (versions : List Cached) (n : ℕ) → IsInRange read → ReadPaged page read → 40 + 2 * g ≤ n → ReadLeft rows files page g read versions n
   any_left_of rows read versions n r p enough = record { cost = 17 + g; costs = cost_small read r p; tries = inl (omega (arith, enough)) }
 
   -- one more where it begins
-  pub first_left : (rows : List (PlainRow T)) (versions : List Cached) → ReadLeft {T = T} rows files page g (read_started world_boundary) versions (2 * (17 + g))
+  pub first_left : (rows : List (PlainRow T)) (versions : List Cached) → ReadLeft {T = T} rows files page g (read_started world_boundary) versions (23 + g)
   first_left rows versions = record { cost = 17 + g; costs = cost_small (read_started world_boundary) tt tt; tries = inr (inl (inl tt, omega arith)) }
 
 -- what is left of an operation
@@ -151,10 +138,10 @@ module _ {T : Type 0} (rows : List (PlainRow T)) (files : Files) (page g : ℕ) 
 
   -- A claim. An attempt that is not on the newest version may be followed by a read that begins, and by the last attempt.
   abbrev pub AttemptLeft : WriteOp → ℕ → Type 0
-  AttemptLeft write n = (w : ℕ) × ((write_budget write).looks + (write_budget write).calls ≤ w) × ((Final rows write × (w ≤ n)) ⊎ (w + (2 * (17 + g) + 7) ≤ n))
+  AttemptLeft write n = (w : ℕ) × ((write_budget write).looks + (write_budget write).calls ≤ w) × ((Final rows write × (w ≤ n)) ⊎ (w + ((23 + g) + 7) ≤ n))
 
   abbrev pub RefreshLeft : ReadOp T → Caches → ℕ → Type 0
-  RefreshLeft read caches n = Listings files page g × (k : ℕ) × ReadLeft rows files page g read caches.latest k × ((Fresh rows read caches × (k + 7 ≤ n)) ⊎ (k + (14 + 2 * (17 + g)) ≤ n))
+  RefreshLeft read caches n = Listings files page g × (k : ℕ) × ReadLeft rows files page g read caches.latest k × ((Fresh rows read caches × (k + 7 ≤ n)) ⊎ (k + (14 + (23 + g)) ≤ n))
 
   abbrev pub ClaimLeft : Claiming T → Caches → ℕ → Type 0
   ClaimLeft (claiming.Writes write value epoch) caches n = AttemptLeft write n
@@ -263,7 +250,7 @@ spends_some (Some told) before after s = (let b = s.1 in omega (arith, b))
 
 module _ {T : Type 0} (g : ℕ) where
   abbrev pub plain_again : PlainDoing T → ℕ
-  plain_again (doings.Read read) = 3 * (17 + g)
+  plain_again (doings.Read read) = (40 + 2 * g)
   plain_again (doings.ListIds list) = g
   plain_again (doings.Write op) = 0
   plain_again (doings.WriteUnchecked op) = 0
@@ -276,9 +263,9 @@ module _ {T : Type 0} (g : ℕ) where
 
   abbrev pub again_of : Doing T → ℕ
   again_of (does.Plain doing) = plain_again doing
-  again_of (does.View (ops.Reads op)) = 3 * (17 + g)
+  again_of (does.View (ops.Reads op)) = (40 + 2 * g)
   again_of (does.View (ops.Enters op)) = 0
-  again_of (does.View (ops.Claims op)) = 14 + 5 * (17 + g)
+  again_of (does.View (ops.Claims op)) = (77 + 3 * g)
 
   pub bounded_again : (doing : Doing T) (left : Budget) → any_budget doing ≡ Some left → again_of doing ≡ 0
   bounded_again (does.Plain (doings.Read read)) left e = cc
@@ -295,7 +282,7 @@ module _ {T : Type 0} (g : ℕ) where
   bounded_again (does.View (ops.Enters op)) left e = refl
   bounded_again (does.View (ops.Claims op)) left e = cc
 
-  pub follows_again : (whole : ReadOp T → Doing T) (told : ReadOp T × Turned (ReadAnswer T)) (next : Next T) → (next.0 ≡ ended) ⊎ ((told ≡ (told.0, Goes)) × (next ≡ (whole told.0, None))) → again_of (whole told.0) ≤ 3 * (17 + g) → again_of next.0 ≤ 3 * (17 + g)
+  pub follows_again : (whole : ReadOp T → Doing T) (told : ReadOp T × Turned (ReadAnswer T)) (next : Next T) → (next.0 ≡ ended) ⊎ ((told ≡ (told.0, Goes)) × (next ≡ (whole told.0, None))) → again_of (whole told.0) ≤ (40 + 2 * g) → again_of next.0 ≤ (40 + 2 * g)
   follows_again whole told next f le =
       elim f [
         | inl e ↦ (let none : again_of next.0 ≡ 0 = ap again_of e in omega (arith, none))
@@ -309,7 +296,7 @@ module _ (T : Type 0) (g : ℕ) where
   list_again false (list, Done (Ok found)) = omega arith
   list_again false (list, Done (Err number)) = omega arith
 
-  claim_again : (lacking : Bool) (op : ClaimOp T) (x : Claiming T × Turned (Result (Outcome T) ℕ)) → again_of g (view_next (held ops.Claims (unless_lacking lacking (claim_ended op) (claim_next op.asked x)))).0 ≤ 14 + 5 * (17 + g)
+  claim_again : (lacking : Bool) (op : ClaimOp T) (x : Claiming T × Turned (Result (Outcome T) ℕ)) → again_of g (view_next (held ops.Claims (unless_lacking lacking (claim_ended op) (claim_next op.asked x)))).0 ≤ (77 + 3 * g)
   claim_again true op x = omega arith
   claim_again false op (next, Goes) = omega arith
   claim_again false op (next, Done (Ok outcome)) = omega arith
@@ -388,23 +375,23 @@ module _ {T : Type 0} (rows : List (PlainRow T)) (files : Files) (page g : ℕ) 
   claim_next_on false op caches n (next, Done (Err number)) some h = (0, some, tt)
 
   -- after a conflict it reads anew
-  pub conflict_on : (l : Listings files page g) (n : ℕ) (left : Turned (Result (Outcome T) ℕ) → Caches) → 2 * (17 + g) + 8 ≤ n → ClaimOn n left (claiming.Reads (read_started world_boundary), Goes)
-  conflict_on l n left enough = (2 * (17 + g) + 7, omega (arith, enough), (l, 2 * (17 + g), first_left files page g l rows (left Goes).latest, inl (inl tt, omega arith)))
+  pub conflict_on : (l : Listings files page g) (n : ℕ) (left : Turned (Result (Outcome T) ℕ) → Caches) → (23 + g) + 8 ≤ n → ClaimOn n left (claiming.Reads (read_started world_boundary), Goes)
+  conflict_on l n left enough = ((23 + g) + 7, omega (arith, enough), (l, (23 + g), first_left files page g l rows (left Goes).latest, inl (inl tt, omega arith)))
 
   -- its attempt
   pub attempt_on : (l : Listings files page g) (value : T) (epoch n w : ℕ) (left : Turned (Result (Outcome T) ℕ) → Caches) (reply : Option Reply) (before : Budget) (x : WriteOp × Turned (Result ℕ ℕ)) → before.looks + before.calls ≤ w → SpendsOne reply before (budget_after x.1 (write_budget x.0)) →
-      (FinalOn rows x × (w ≤ n)) ⊎ (w + (2 * (17 + g) + 7) ≤ n) → ClaimOn n left (attempt_turned world_boundary value epoch x)
+      (FinalOn rows x × (w ≤ n)) ⊎ (w + ((23 + g) + 7) ≤ n) → ClaimOn n left (attempt_turned world_boundary value epoch x)
   attempt_on l value epoch n w left None before (write, Goes) le s f =
       let less : (write_budget write).looks + (write_budget write).calls + 1 ≤ w = (let a = s.0 in let b = s.1 in omega (arith, a, b, le)) in
       elim f [
         | inl last ↦ (let most = last.1 in ((write_budget write).looks + (write_budget write).calls, omega (arith, less, most), ((write_budget write).looks + (write_budget write).calls, omega arith, inl (last.0, omega arith))))
-        | inr more ↦ ((write_budget write).looks + (write_budget write).calls + (2 * (17 + g) + 7), omega (arith, less, more), ((write_budget write).looks + (write_budget write).calls, omega arith, inr (omega arith)))
+        | inr more ↦ ((write_budget write).looks + (write_budget write).calls + ((23 + g) + 7), omega (arith, less, more), ((write_budget write).looks + (write_budget write).calls, omega arith, inr (omega arith)))
       ]
   attempt_on l value epoch n w left (Some told) before (write, Goes) le s f =
       let less : (write_budget write).looks + (write_budget write).calls + 1 ≤ w = (let a = s.0 in let b = s.1 in omega (arith, a, b, le)) in
       elim f [
         | inl last ↦ (let most = last.1 in ((write_budget write).looks + (write_budget write).calls, omega (arith, less, most), ((write_budget write).looks + (write_budget write).calls, omega arith, inl (last.0, omega arith))))
-        | inr more ↦ ((write_budget write).looks + (write_budget write).calls + (2 * (17 + g) + 7), omega (arith, less, more), ((write_budget write).looks + (write_budget write).calls, omega arith, inr (omega arith)))
+        | inr more ↦ ((write_budget write).looks + (write_budget write).calls + ((23 + g) + 7), omega (arith, less, more), ((write_budget write).looks + (write_budget write).calls, omega arith, inr (omega arith)))
       ]
   attempt_on l value epoch n w left reply before (write, Done (Ok id)) le s f = tt
   attempt_on l value epoch n w left reply before (write, Done (Err number)) le s f =
@@ -417,7 +404,7 @@ module _ {T : Type 0} (rows : List (PlainRow T)) (files : Files) (page g : ℕ) 
       ]
 
   -- its read
-  pub found_on : (encode : T → List ℕ) (get_epoch : T → ℕ) (set_epoch : T → ℕ → T) (asked : Option ℕ) (n k : ℕ) (left : Turned (Result (Outcome T) ℕ) → Caches) (id : ℕ) (value : T) (epoch : Result ℕ TransactionalObjectError) → 1 ≤ k → ((id ≡ newest rows) × (k + 7 ≤ n)) ⊎ (k + (14 + 2 * (17 + g)) ≤ n) →
+  pub found_on : (encode : T → List ℕ) (get_epoch : T → ℕ) (set_epoch : T → ℕ → T) (asked : Option ℕ) (n k : ℕ) (left : Turned (Result (Outcome T) ℕ) → Caches) (id : ℕ) (value : T) (epoch : Result ℕ TransactionalObjectError) → 1 ≤ k → ((id ≡ newest rows) × (k + 7 ≤ n)) ⊎ (k + (14 + (23 + g)) ≤ n) →
       ClaimOn n left (followed (entered_with world_names world_boundary encode set_epoch epoch id value))
   found_on encode get_epoch set_epoch asked n k left id value (Err error) some f = tt
   found_on encode get_epoch set_epoch asked n k left id value (Ok epoch) some f =
@@ -425,17 +412,17 @@ module _ {T : Type 0} (rows : List (PlainRow T)) (files : Files) (page g : ℕ) 
         | inl last ↦ rw last tt
         | inr next ↦ rw next (elim f [
           | inl newest_is ↦ (7, (let most = newest_is.1 in omega (arith, some, most)), (7, omega arith, inl ((let is = newest_is.0 in omega (arith, is)), omega arith)))
-          | inr more ↦ (7 + (2 * (17 + g) + 7), omega (arith, some, more), (7, omega arith, inr (omega arith)))
+          | inr more ↦ (7 + ((23 + g) + 7), omega (arith, some, more), (7, omega arith, inr (omega arith)))
         ])
       ]
 
-  pub refresh_on : (l : Listings files page g) (encode : T → List ℕ) (get_epoch : T → ℕ) (set_epoch : T → ℕ → T) (asked : Option ℕ) (n k : ℕ) (left : Turned (Result (Outcome T) ℕ) → Caches) (kept : Caches) (told : ReadOp T × Turned (ReadAnswer T)) → left Goes ≡ kept → 1 ≤ k → ReadOn rows files page g k kept.latest told → (FreshOn rows kept told × (k + 7 ≤ n)) ⊎ (k + (14 + 2 * (17 + g)) ≤ n) →
+  pub refresh_on : (l : Listings files page g) (encode : T → List ℕ) (get_epoch : T → ℕ) (set_epoch : T → ℕ → T) (asked : Option ℕ) (n k : ℕ) (left : Turned (Result (Outcome T) ℕ) → Caches) (kept : Caches) (told : ReadOp T × Turned (ReadAnswer T)) → left Goes ≡ kept → 1 ≤ k → ReadOn rows files page g k kept.latest told → (FreshOn rows kept told × (k + 7 ≤ n)) ⊎ (k + (14 + (23 + g)) ≤ n) →
       ClaimOn n left (refreshed_turned world_names world_boundary encode get_epoch set_epoch asked told)
   refresh_on l encode get_epoch set_epoch asked n k left kept (read, Goes) is some on f =
       let less = on.1 in
       elim f [
         | inl fresh ↦ (let most = fresh.1 in (on.0 + 7, omega (arith, less, most), subst (λ (c : Caches). RefreshLeft rows files page g read c (on.0 + 7)) (sym is) (l, on.0, on.2, inl (fresh.0, omega arith))))
-        | inr more ↦ (on.0 + (14 + 2 * (17 + g)), omega (arith, less, more), subst (λ (c : Caches). RefreshLeft rows files page g read c (on.0 + (14 + 2 * (17 + g)))) (sym is) (l, on.0, on.2, inr (omega arith)))
+        | inr more ↦ (on.0 + (14 + (23 + g)), omega (arith, less, more), subst (λ (c : Caches). RefreshLeft rows files page g read c (on.0 + (14 + (23 + g)))) (sym is) (l, on.0, on.2, inr (omega arith)))
       ]
   refresh_on l encode get_epoch set_epoch asked n k left kept (read, Done (Ok None)) is some on f = tt
   refresh_on l encode get_epoch set_epoch asked n k left kept (read, Done (Ok (Some found))) is some on f = found_on encode get_epoch set_epoch asked n k left found.0 found.1 (claimed_epoch asked (get_epoch found.1)) some f

@@ -29,17 +29,13 @@ pub record Cost : Type 0 where
 abbrev pub at_most : ℕ → Cost
 at_most count = record { alone = count; again = 0 }
 
--- one try of a read, where a listing has so many pages: a look, four probes with a look each, the listing, three to choose, get and keep a version, and five to check its id
-abbrev pub one_try : ℕ → ℕ
-one_try pages = 17 + pages
-
--- A read of the newest version. Alone it makes two tries, and one that was disturbed may make three more.
+-- A read of the newest version. A try takes at most 17 and the pages of a listing: a look, four probes with a look each, the listing, three to choose, get and keep a version, and five to check its id. Alone a try that is refused has listed nothing and leaves nothing held, and the next one, of nine and the pages, finds the newest version. One that was disturbed may have a whole try before them.
 abbrev pub reading : ℕ → Cost
-reading pages = record { alone = 2 * one_try pages; again = 3 * one_try pages }
+reading pages = record { alone = 23 + pages; again = 40 + 2 * pages }
 
--- A claim. An attempt takes at most seven. Alone the first one may be overtaken already: then a read finds the newest version, and the attempt on that is the last. One that was disturbed may be amid a read, of three tries, which leads to a first attempt.
+-- A claim. An attempt takes at most seven. Alone the first one may be overtaken already: then a read finds the newest version, and the attempt on that is the last. One that was disturbed may be amid a read, which leads to a first attempt.
 abbrev pub claiming : ℕ → Cost
-claiming pages = record { alone = 14 + 2 * one_try pages; again = 14 + 5 * one_try pages }
+claiming pages = record { alone = 37 + pages; again = 77 + 3 * pages }
 
 -- An advance. Alone its first put may come too late, for the boundary that it knew: then a read finds the boundary, and the next put is in time. So does the put that one disturbance makes late.
 abbrev pub advancing : Cost
