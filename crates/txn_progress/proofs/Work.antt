@@ -15,14 +15,11 @@ use Rattle.txn_caches.specs.declared.boundary_read.BoundaryRead.TheVariants as r
 use Rattle.txn_caches.specs.declared.caches.Cached.{Cached}
 use Rattle.txn_caches.specs.declared.caches.CachedBoundary.{CachedBoundary}
 use Rattle.txn_caches.specs.declared.caches.Caches.{Caches}
-use Rattle.txn_caches.specs.declared.check.BoundaryStep.{BoundaryStep}
-use Rattle.txn_caches.specs.declared.check.BoundaryStep.TheVariants as boundary_step
 use Rattle.txn_caches.specs.declared.check.CheckOp.{CheckOp}
-use Rattle.txn_caches.specs.declared.check.CheckOp.TheVariants as checks
 use Rattle.txn_caches.specs.declared.turned.Turned.{Turned}
 use Rattle.txn_caches.specs.declared.turned.Turned.TheVariants.{Goes, Done}
 use Rattle.txn_caches.specs.Asking.{unless_lacking}
-use Rattle.txn_caches.specs.Counts.{Budget, SpendsOne, no_budget, budget_after, boundary_check_budget_at}
+use Rattle.txn_caches.specs.Counts.{Budget, SpendsOne, no_budget, budget_after}
 use Rattle.txn_steps.specs.declared.latest.LatestOp.{LatestOp}
 use Rattle.txn_steps.specs.declared.latest.LatestOp.TheVariants as latest
 use Rattle.txn_steps.specs.declared.listing.ListOp.{ListOp}
