@@ -48,6 +48,10 @@ CASES = {
         test_init_write_and_read_latest test_maybe_apply_update_retries_write_behind_boundary
         test_update_invariant_failure_aborts_write_and_short_circuits
     """,
+    "progress": """
+        a_claim_takes_31_and_its_pages a_disturbed_advance_takes_five_more a_listing_takes_its_pages
+        a_read_takes_21_and_its_pages a_write_takes_seven an_advance_takes_nine the_first_advance_takes_six
+    """,
     "script": """
         a_run_stops_after_100_events an_unknown_base two_writes_race
     """,
@@ -142,6 +146,9 @@ WRONG_BODIES = {
     """,
     "txn_manifest": """
         checkpoint_pins_an_older_id collects_the_newest store_checkpoint_pins_an_older_id sweep_tests_no_pins
+    """,
+    "txn_progress": """
+        advance_takes_eight
     """,
     "txn_steps": """
         delete_above_boundary delete_removes_nothing latest_caches_before_it_decodes latest_ends_after_one_page
