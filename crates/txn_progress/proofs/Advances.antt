@@ -54,7 +54,8 @@ use Rattle.txn_progress.specs.Progress.{is_own, own_count, caches_by, caches_of,
 use Rattle.txn_progress.proofs.Bounds.{others_stay, client_keeps, known_client, or_true}
 use Rattle.txn_progress.proofs.Moves.{Offer, plain_fine, known, caches_fit}
 use Rattle.txn_progress.proofs.Quiet.{quiet_files}
-use Rattle.txn_progress.proofs.Unraised.{UnheldAdvance, Unheld, reached_keeps_none, reached_unheld}
+use Rattle.txn_progress.proofs.Unheld.{UnheldAdvance, Unheld}
+use Rattle.txn_progress.proofs.Unraised.{reached_keeps_none, reached_unheld}
 use Rattle.txn_progress.proofs.Raising.{RaiseLeft, RaiseOn, raise_step, raise_begins, raise_some, raise_small, raise_disturbed}
 
 -- what it has left

@@ -10,6 +10,7 @@ mod Work
 mod Moves
 mod Bounds
 mod Standing
+mod Unheld
 mod Unraised
 mod Raising
 mod Advances

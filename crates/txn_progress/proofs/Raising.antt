@@ -32,7 +32,7 @@ use Rattle.txn_history.specs.Names.{world_boundary}
 use Rattle.txn_history.specs.History.{boundary}
 use Rattle.txn_machine_inner.proofs.Faults.{get_missing, get_same}
 use Rattle.txn_machine_inner.proofs.Stands.{get_boundary, raise, KnownFits, ReadingStands, PutStands, RaiseStands, KnowStands}
-use Rattle.txn_progress.proofs.Unraised.{UnheldRaise, create_fair}
+use Rattle.txn_progress.proofs.Unheld.{UnheldRaise, create_fair}
 
 abbrev pub boundary_sum : BoundaryRead → ℕ
 boundary_sum read = (boundary_budget read).looks + (boundary_budget read).calls
