@@ -23,10 +23,10 @@ from replay_cases import PORT
 
 # How the names of the two builds of a program end that `rt ci` leaves in its out/: LLVM's, and Rattle's own compiler's.
 BUILDS = ("", ".by-rattle")
-# The program whose scripts the cases are, and the programs that cases are replayed on, each with the step's name and the words
-# of its folders. What any other prints, `rt ci` holds against its own stdout.
+# The program whose scripts the cases are, and the programs that cases are replayed on, each with the name of the step and the
+# other words. What any other prints, `rt ci` holds against its own stdout.
 PROGRAM_OF_CASES = "txnworld_cli"
-CASES = {PROGRAM_OF_CASES: ("cases", []), "txnport_cli": ("cases of the port", ["--folder", PORT])}
+CASES = {PROGRAM_OF_CASES: ("cases", ["--drawn"]), "txnport_cli": ("cases of the port", ["--folder", PORT])}
 # The program of which processes are let work on one folder, and the examples of the library, which work there too.
 PROGRAM_OF_FOLDERS = "txnobj_cli"
 EXAMPLES = ("example_leader", "example_counter")

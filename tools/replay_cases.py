@@ -4,12 +4,17 @@ from __future__ import annotations
 import argparse
 import difflib
 import os
+import re
 import subprocess
 import sys
 
 SECONDS = 60
 LINES_SHOWN = 20
-ENDINGS = (".stdout", ".stderr", ".status", ".args")
+ENDINGS = (".stdout", ".stderr", ".status", ".args", ".trace")
+# The words of the commands that play a script, and those that draw the same one.
+DRAWS = {("script",): ["trace"], ("manifest",): ["trace", "manifest"]}
+# The line with which the end lines of a script begin.
+FIRST_END_LINE = re.compile(rb"^(?:entry 1 |boundary )", re.M)
 # The folder of the cases that are of another program than the others.
 PORT = "cases/port"
 
@@ -46,20 +51,34 @@ class Case:
             "exit status": b"%d\n" % int(status),
         }
 
-    def run(self, program):
+    def run(self, program, words=()):
         """What a program answers, in the form of `wanted`."""
-        ran = subprocess.run([program, *self.arguments], input=self.given, capture_output=True, timeout=SECONDS)
+        ran = subprocess.run([program, *(words or self.arguments)], input=self.given, capture_output=True, timeout=SECONDS)
         return {"standard output": ran.stdout, "standard error": ran.stderr, "exit status": b"%d\n" % ran.returncode}
 
-    def faults(self, program):
-        """How a program's answer differs from what is wanted, as lines."""
+    def drawing_faults(self, program):
+        """How a program's drawing of a script differs from what is wanted, as lines: it has the script's end lines at its foot,
+        and is the one that stands beside the script, where one does. None for a case that is no script or does not play."""
+        words = DRAWS.get(tuple(self.arguments))
+        ends = FIRST_END_LINE.search(self.wanted["standard output"])
+        if not words or not ends or self.wanted["exit status"] != b"0\n":
+            return []
+        drawn = self.run(program, words)
+        wanted = {**self.wanted, "foot": self.wanted["standard output"][ends.start() :]}
+        drawn["foot"] = drawn["standard output"].rpartition(b"\n\n")[2]
+        wanted["standard output"] = bytes_of(f"{self.stem}.trace", drawn["standard output"])
+        return [line for what in wanted for line in difference(f"{what} of its drawing", wanted[what], drawn[what])]
+
+    def faults(self, program, draws=False):
+        """How a program's answer differs from what is wanted, as lines, and its drawing, where it makes one."""
         try:
             written = self.run(program)
+            drawn = self.drawing_faults(program) if draws else []
         except subprocess.TimeoutExpired:
             return [f"it had not ended after {SECONDS} seconds"]
         except OSError as error:
             return [f"it cannot be run: {error.strerror}"]
-        return [line for what, wanted in self.wanted.items() for line in difference(what, wanted, written[what])]
+        return [line for what, wanted in self.wanted.items() for line in difference(what, wanted, written[what])] + drawn
 
 
 def difference(what, wanted, written):
@@ -93,8 +112,8 @@ def stems_in(folder, without=()):
     return [it for it in stems if f"{it}.stdout" in paths], wrong
 
 
-def replay(programs, folders, without=()):
-    """Runs each case on each program. Returns how many passed and how many failed."""
+def replay(programs, folders, without=(), draws=False):
+    """Runs each case on each program, and has it drawn too where asked. Returns how many passed and how many failed."""
     passed = failed = 0
     for folder in folders:
         stems, wrong = stems_in(folder, without)
@@ -104,7 +123,7 @@ def replay(programs, folders, without=()):
         for stem in stems:
             for program in programs:
                 try:
-                    faults = Case(stem).faults(program)
+                    faults = Case(stem).faults(program, draws)
                 except BadCase as error:
                     faults = [str(error)]
                 passed, failed = passed + (not faults), failed + bool(faults)
@@ -119,10 +138,11 @@ def main(words, usage=""):
     parser = argparse.ArgumentParser(prog="tools/replay-cases", description=usage, formatter_class=form)
     parser.add_argument("programs", nargs="+", metavar="PROGRAM")
     parser.add_argument("--folder", nargs="+", metavar="FOLDER", help="replay these folders")
+    parser.add_argument("--drawn", action="store_true", help="have each script drawn too")
     given = parser.parse_args(words)
     top = os.path.dirname(os.path.dirname(os.path.realpath(__file__)))
     folders = given.folder or [f"{top}/cases", f"{top}/examples"]
-    passed, failed = replay([os.path.abspath(it) for it in given.programs], folders, [f"{top}/{PORT}"])
+    passed, failed = replay([os.path.abspath(it) for it in given.programs], folders, [f"{top}/{PORT}"], given.drawn)
     say(f"{passed} passed, {failed} failed")
     return 1 if failed or not passed else 0
 

@@ -94,7 +94,7 @@ class Steps(unittest.TestCase):
     def test_cases_on_both_builds(self):
         self.file("crates/low/src/lib.rt")
         self.file("crates/txnworld_cli/src/main.rt")
-        self.file("tools/replay-cases", "#!/bin/sh\necho \"$# passed, 0 failed\"\n", 0o755)
+        self.file("tools/replay-cases", "#!/bin/sh\necho \"$(($# - 1)) passed, 0 failed\"\n", 0o755)
         steps = silently(lambda: list(case_steps(self.room, [PROGRAM])))
         self.assertEqual([(it.passed, it.failed) for it in steps], [(0, 2)])
         self.file("crates/txnworld_cli/out/txnworld_cli")
@@ -109,7 +109,7 @@ class Steps(unittest.TestCase):
         self.assertEqual(os.listdir(f"{self.room}/crates/txnworld_cli/out"), [])
 
     def test_no_cases_on_another_program(self):
-        self.file("tools/replay-cases", "#!/bin/sh\necho \"$# passed, 0 failed\"\n", 0o755)
+        self.file("tools/replay-cases", "#!/bin/sh\necho \"$(($# - 1)) passed, 0 failed\"\n", 0o755)
         for build in ("txnworld_cli", "txnworld_cli.by-rattle"):
             self.file(f"crates/txnworld_cli/out/{build}")
         self.file("crates/app/src/main.rt")

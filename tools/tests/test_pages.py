@@ -47,6 +47,18 @@ def files_of_all_calls(file, name):
     return sorted(found)
 
 
+def drawings_on(page):
+    """The drawings on a page, each as its lines: the blocks of text with an event and a lane."""
+    blocks = re.findall(r"^```\w*\n(.*?)^```$", text_of(page), re.M | re.S)
+    return [it.splitlines() for it in blocks if re.search(r"^ +\d+  [│┃┳┻┆●╺╳]", it, re.M)]
+
+
+def is_drawn_in(lines, drawing):
+    """Whether these lines stand in a drawing, in their order."""
+    left = iter(drawing)
+    return all(line in left for line in lines)
+
+
 class Pages(unittest.TestCase):
     def test_an_auditor_finds_each_name(self):
         found = list(names_by_file(text_of("docs/audit.md")))
@@ -70,6 +82,16 @@ class Pages(unittest.TestCase):
             for path in re.findall(r"`((?:src|specs|proofs)/[^`]*)`", files):
                 found = any(glob.glob(f"{TOP}/crates/{crate}/{path}{end}") for end in ("", ".antt"))
                 self.assertTrue(found, f"{path} in crates/{crate}/README.md")
+
+    def test_drawings_are_those_of_cases(self):
+        traces = glob.glob(f"{TOP}/cases/**/*.trace", recursive=True) + glob.glob(f"{TOP}/examples/*.trace")
+        drawings = [text_of(os.path.relpath(it, TOP)).splitlines() for it in traces]
+        pages = ("README.md", "docs/rules.md", "crates/txn_pictures/README.md")
+        found = [(page, lines) for page in pages for lines in drawings_on(page)]
+        self.assertEqual(len(found), 7)
+        for page, lines in found:
+            self.assertTrue(any(is_drawn_in(lines, it) for it in drawings), (page, lines))
+        self.assertFalse(is_drawn_in(found[0][1][::-1], drawings[0]))
 
     def test_links_of_the_pages(self):
         pages = ["README.md", *(f"docs/{it}" for it in sorted(os.listdir(f"{TOP}/docs")))]

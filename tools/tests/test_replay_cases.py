@@ -70,6 +70,19 @@ class Replays(unittest.TestCase):
         self.case("two", txt=b"", stdout=b"", status=b"three")
         self.assertIn("no number", self.replay(program)[2])
 
+    def test_drawings(self):
+        program = self.script("draws", 'echo "$1"; echo; echo "boundary 0"')
+        self.case("one", txt=b"", stdout=b"script\n\nboundary 0\n")
+        drawn = lambda: self.replay(program, "--drawn")  # noqa: E731
+        self.assertEqual(drawn()[:2], (0, "1 passed, 0 failed"))
+        self.case("one", trace=b"other\n\nboundary 0\n")
+        self.assertIn("standard output of its drawing:", drawn()[2])
+        self.case("one", trace=b"trace\n\nboundary 0\n")
+        self.assertEqual(drawn()[:2], (0, "1 passed, 0 failed"))
+        program = self.script("draws", 'echo "$1"; echo; [ "$1" = trace ] && echo "boundary 1" || echo "boundary 0"')
+        self.assertIn("foot of its drawing:", drawn()[2])
+        self.assertEqual(self.replay(program)[:2], (0, "1 passed, 0 failed"))
+
     def test_files_without_the_other(self):
         self.case("one", txt=b"a\n", stdout=b"script\na\n")
         self.case("two", txt=b"a\n")

@@ -13,9 +13,13 @@ count_text n = (48 + n) ∷ []
 abbrev pub IsCommand : Command → Type 0
 IsCommand commands.Script = Unit {0}
 IsCommand commands.Manifest = Unit {0}
+IsCommand commands.Trace = Unit {0}
+IsCommand commands.ManifestTrace = Unit {0}
 IsCommand (commands.Threads workers) = IsCount workers
 
 abbrev pub command_words : Command → List (List ℕ)
 command_words commands.Script = codes "script" ∷ []
 command_words commands.Manifest = codes "manifest" ∷ []
+command_words commands.Trace = codes "trace" ∷ []
+command_words commands.ManifestTrace = codes "trace" ∷ codes "manifest" ∷ []
 command_words (commands.Threads workers) = codes "threads" ∷ count_text workers ∷ []

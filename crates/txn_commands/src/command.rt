@@ -9,6 +9,10 @@ pub enum Command {
     Script,
     /// `manifest`: to run the script of manifests on the standard input.
     Manifest,
+    /// `trace`: to draw the run of that script as text.
+    Trace,
+    /// `trace manifest`: to draw the run of that script of manifests as text.
+    ManifestTrace,
     /// `threads N`: to run so many workers, 1 to 8.
     Threads(u64),
 }
@@ -33,6 +37,10 @@ pub fn command_of(words: &[String]) -> Option<Command>
     match words {
         [_program, mode] if mode.as_str() == "script" => Some(Command::Script),
         [_program, mode] if mode.as_str() == "manifest" => Some(Command::Manifest),
+        [_program, mode] if mode.as_str() == "trace" => Some(Command::Trace),
+        [_program, mode, kind] if mode.as_str() == "trace" && kind.as_str() == "manifest" => {
+            Some(Command::ManifestTrace)
+        }
         [_program, mode, count] if mode.as_str() == "threads" => {
             Some(Command::Threads(count_of(count.as_str())?))
         }

@@ -11,9 +11,10 @@ use txn_history::event::{EventFault, EventOf};
 use txn_history::view::View;
 use txn_lines::printed::{FaultLine, fault_name as world_fault_name};
 use txn_manifest::event::ManifestFault;
-use txn_manifest::manifest::Manifest;
+use txn_manifest::manifest::{Manifest, ManifestCodec, ManifestEpoch};
 use txn_manifest::world::ManifestWorld;
 use txn_script::kind::{Came, ScriptWorld};
+use txn_world::world::World;
 
 /// The name of a fault.
 fn fault_name(fault: ManifestFault) -> &'static str
@@ -38,6 +39,15 @@ fn fault_line(fault: ManifestFault) -> FaultLine
 #[derive(Drop)]
 pub struct Scripted {
     world: ManifestWorld,
+}
+
+impl Scripted {
+    /// Its world.
+    pub fn world(&self) -> &World<Manifest, ManifestCodec, ManifestEpoch>
+        ensures { result.now ≡ self.now.world }
+    {
+        self.world.world()
+    }
 }
 
 impl ScriptWorld<Manifest, ManifestCall> for Scripted {

@@ -10,7 +10,7 @@ use Rattle.txn_lines.specs.declared.stop.Stop.TheVariants as stops
 use Rattle.txn_lines.specs.Lines.{lines_of, is_skipped, kept}
 use Rattle.txn_lines.specs.Reading.{OnBadLine, SkipsTo}
 use Rattle.txn_script.specs.Rules.{Rules}
-use Rattle.txn_script.specs.Script.{Stage, SaysLine, IsPage, PageSteps, EventSteps, MayStand, LineSteps, Plays, EndsWith, IsBadNext, IsBadLine, IsFront, IsEndFront, IsPrinted, IsPrintedBefore, IsFrontPrinted, StopsAfter}
+use Rattle.txn_script.specs.Script.{Stage, SaysLine, IsPage, PageSteps, EventSteps, MayStand, LineSteps, Plays, EndsWith, IsBadNext, IsBadLine, IsFront, IsEndFront, LeadsTo, IsPrinted, IsPrintedBefore, IsFrontPrinted, StopsAfter}
 use Rattle.txn_script.specs.Reading.{NextLine, ReadsNextLine, MeetsBadLine, OpensWorld, OpensBad}
 use Rattle.txn_script.specs.Printing.{Misplaced, StopsLine, StopsInEnd}
 use Rattle.txn_script.proofs.Ending.{appends_nothing, appends_both}
@@ -117,18 +117,28 @@ module _ {T C : Type 0} (rules : Rules T C) where
         appends_both out now later on.1 text on.4 grown,
       )
 
+  -- all kept lines were taken
+  all_kept : (input left : List ℕ) (n m : ℕ) (new : Option (List ℕ)) (world : Stage T) (text : List ℕ) → (taken : Taking input n left (Some world) text) → ReadsNextLine rules (Some left) n new m None → kept taken.before ≡ kept (lines_of input)
+  all_kept input left n m new world text taken here =
+      let skipped = here.2.skipped in
+      let all : lines_of input ≡ taken.before ++ skipped = taken.lines ∙ ap (λ ls. taken.before ++ ls) (here.2.lines ∙ append-nil skipped) in
+      sym (ap kept all ∙ kept_same taken.before skipped here.2.none_kept)
+
   pub play_end : (old mid new out now later : Option (List ℕ)) (n m : ℕ) (world : Stage T) → Playing old mid n out now world → ReadsNextLine rules mid n new m None → ((text : List ℕ) × EndsWith rules world.state text × Appends now later text) → IsPrinted rules old out later
   play_end None mid new out now later n m world on read ends = tt
   play_end (Some input) mid new out now later n m world on read ends =
       let here : ReadsNextLine rules (Some on.0) n new m None = subst (λ o. ReadsNextLine rules o n new m None) on.2 read in
-      let taken = on.3 in
-      let skipped = here.2.skipped in
-      let all : lines_of input ≡ taken.before ++ skipped = taken.lines ∙ ap (λ ls. taken.before ++ ls) (here.2.lines ∙ append-nil skipped) in
-      let same : kept taken.before ≡ kept (lines_of input) = sym (ap kept all ∙ kept_same taken.before skipped here.2.none_kept) in (
+      let same = all_kept input on.0 n m new world on.1 on.3 here in (
         on.1 ++ ends.0,
-        record { printed = on.1; stage = world; ending = ends.0; plays = subst (λ ls. Plays rules None ls on.1 (Some world)) same taken.plays; ends = ends.1; whole = refl },
+        record { printed = on.1; stage = world; ending = ends.0; plays = subst (λ ls. Plays rules None ls on.1 (Some world)) same on.3.plays; ends = ends.1; whole = refl },
         appends_both out now later on.1 ends.0 on.4 ends.2,
       )
+
+  pub play_leads : (old mid new out now : Option (List ℕ)) (n m : ℕ) (world : Stage T) → Playing old mid n out now world → ReadsNextLine rules mid n new m None → LeadsTo rules old world.state
+  play_leads None mid new out now n m world on read = tt
+  play_leads (Some input) mid new out now n m world on read =
+      let here : ReadsNextLine rules (Some on.0) n new m None = subst (λ o. ReadsNextLine rules o n new m None) on.2 read in
+      (on.1, world.opened, subst (λ ls. Plays rules None ls on.1 (Some world)) (all_kept input on.0 n m new world on.1 on.3 here) on.3.plays)
 
   -- So much was printed where the run stops after these lines.
   front_of : (input left : List ℕ) (n : ℕ) (stage : Option (Stage T)) (text : List ℕ) → Taking input n left stage text → IsFront rules input text

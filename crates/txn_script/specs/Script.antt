@@ -160,6 +160,10 @@ module _ {T C : Type 0} (rules : Rules T C) where
     pub ends : IsEndFront stage left ending
     pub whole : text ≡ printed ++ ending
 
+  -- The kept lines of a script lead to this state, where the bytes that were read are known.
+  abbrev pub LeadsTo : Option (List ℕ) → State T → Type 0
+  LeadsTo input state = IfSome input (λ bytes. (printed : List ℕ) × (opened : Option ℕ) × Plays None (kept (lines_of bytes)) printed (Some (record { state = state; opened = opened })))
+
   -- What a whole script wrote, where the bytes that were read are known: a writer's bytes before it and after it.
   abbrev pub IsPrinted : Option (List ℕ) → Option (List ℕ) → Option (List ℕ) → Type 0
   IsPrinted input old new = IfSome input (λ bytes. (text : List ℕ) × Prints bytes text × Appends old new text)

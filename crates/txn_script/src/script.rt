@@ -7,7 +7,7 @@ ghost use Rattle.txn_lines.specs.declared.line.Line.{Line};
 ghost use Rattle.txn_script.specs.Printed.{with_feed, pinned_line, entries_text, view_line, views_text};
 ghost use Rattle.txn_script.specs.Rules.{rules_of};
 ghost use Rattle.txn_script.specs.Records.{record_rules};
-ghost use Rattle.txn_script.specs.Script.{IsClients, Steps, RunsOperation, PageSteps, EventSteps, MayStand, EndsWith, IsPrinted, StopsAfter, RunEnds, ended_status};
+ghost use Rattle.txn_script.specs.Script.{IsClients, Steps, RunsOperation, PageSteps, EventSteps, MayStand, EndsWith, LeadsTo, IsPrinted, StopsAfter, RunEnds, ended_status};
 ghost use Rattle.txn_lines.specs.Reading.{reader_of, number_of, OnBadLine};
 ghost use Rattle.txn_script.specs.Reading.{OpensWorld, OpensBad};
 ghost use Rattle.txn_script.specs.Printing.{held, Gathers, IsUnchanged, StopsLine, StopsWithin, StopsInEnd};
@@ -218,8 +218,9 @@ fn print_pinned(pinned: Option<Vec<u64>>, printer: &mut Printer) -> Result<(), S
     printer.print_line(IdsLine::Pinned(ids))
 }
 
-/// Prints what is left at the end.
-fn print_end<T: LineValue, C: TextForm, K: ScriptWorld<T, C>, W: Write>(
+/// Prints what is left at the end: the entries, the boundary, the erased ids, what is pinned where values pin some, and the views
+/// as they stand. The stops are a failed write and want of memory.
+pub fn print_end<T: LineValue, C: TextForm, K: ScriptWorld<T, C>, W: Write>(
     alloc: Global,
     world: &K,
     printer: &mut Printer,
@@ -278,16 +279,17 @@ fn open<T: LineValue, C: TextForm, K: ScriptWorld<T, C>, R: BufRead>(
     }
 }
 
-/// Takes each line of a script, and prints what it is told and what is left.
+/// Takes each line of a script, and prints what it is told and what is left: the world that the lines lead to.
 fn play<T: LineValue, C: TextForm, K: ScriptWorld<T, C>, R: BufRead, W: Write>(
     alloc: Global,
     lines: &mut Lines<R>,
     printer: &mut Printer,
     out: &mut W,
-) -> Result<(), Stop>
+) -> Result<K, Stop>
     requires { number_of lines.old ≡ 0 }
     ensures ok { OnOk result (IsPrinted (rules_of C.text C.fits T.text K.rules) (R.remaining (reader_of lines.old))
         (held (W.contents out.old) printer.old) (held (W.contents out.new) printer.new)) }
+    ensures leads { IfOk result (λ world. LeadsTo (rules_of C.text C.fits T.text K.rules) (R.remaining (reader_of lines.old)) (K.state world)) }
     ensures stop { IfErr result (λ stop. StopsAfter (rules_of C.text C.fits T.text K.rules) stop (R.remaining (reader_of lines.old))
         (held (W.contents out.old) printer.old) (held (W.contents out.new) printer.new)) }
 {
@@ -295,7 +297,8 @@ fn play<T: LineValue, C: TextForm, K: ScriptWorld<T, C>, R: BufRead, W: Write>(
     let mut opened = Some(clients);
     for _line in 0..u64::MAX {
         let Some(line) = lines.next_line()? else {
-            return print_end::<T, C, K, W>(alloc, &world, printer, out);
+            print_end::<T, C, K, W>(alloc, &world, printer, out)?;
+            return Ok(world);
         };
         let bad = lines.bad();
         take_line::<T, C, K>(alloc, &mut world, opened, line, bad, printer)?;
@@ -305,17 +308,18 @@ fn play<T: LineValue, C: TextForm, K: ScriptWorld<T, C>, R: BufRead, W: Write>(
     Err(Stop::ReadFailed)
 }
 
-/// Reads a script of worlds of the kind `K` and prints what it does, both through buffers. `BadLine` comes only where that
-/// line may not stand there, and leaves what the lines before it print. The other stops are a failed read, a failed write and
-/// want of memory.
-pub fn print_world<T: LineValue, C: TextForm, K: ScriptWorld<T, C>, R: Read + Drop, W: Write>(
+/// Reads a script of worlds of the kind `K` and prints what it does, both through buffers: the world that its lines lead to.
+/// `BadLine` comes only where that line may not stand there, and leaves what the lines before it print. The other stops are a
+/// failed read, a failed write and want of memory.
+pub fn play_world<T: LineValue, C: TextForm, K: ScriptWorld<T, C>, R: Read + Drop, W: Write>(
     alloc: Global,
     reader: R,
     out: &mut W,
-) -> Result<(), Stop>
+) -> Result<K, Stop>
     // What is written is what the script prints, and nothing else.
     ensures ok { OnOk result
         (IsPrinted (rules_of C.text C.fits T.text K.rules) (R.remaining reader) (W.contents out.old) (W.contents out.new)) }
+    ensures leads { IfOk result (λ world. LeadsTo (rules_of C.text C.fits T.text K.rules) (R.remaining reader) (K.state world)) }
     ensures stop { IfErr result
         (λ stop. StopsAfter (rules_of C.text C.fits T.text K.rules) stop (R.remaining reader) (W.contents out.old) (W.contents out.new)) }
 {
@@ -331,6 +335,21 @@ pub fn print_world<T: LineValue, C: TextForm, K: ScriptWorld<T, C>, R: Read + Dr
         return Err(Stop::WriteFailed);
     };
     ended
+}
+
+/// The same, where the world is not asked for.
+pub fn print_world<T: LineValue, C: TextForm, K: ScriptWorld<T, C>, R: Read + Drop, W: Write>(
+    alloc: Global,
+    reader: R,
+    out: &mut W,
+) -> Result<(), Stop>
+    ensures ok { OnOk result
+        (IsPrinted (rules_of C.text C.fits T.text K.rules) (R.remaining reader) (W.contents out.old) (W.contents out.new)) }
+    ensures stop { IfErr result
+        (λ stop. StopsAfter (rules_of C.text C.fits T.text K.rules) stop (R.remaining reader) (W.contents out.old) (W.contents out.new)) }
+{
+    drop(play_world::<T, C, K, R, W>(alloc, reader, out)?);
+    Ok(())
 }
 
 /// The exit status of a script that ended so: 0, 2 for a bad line, 1 for another fault. A fault is named on `err`.

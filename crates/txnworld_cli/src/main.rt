@@ -7,10 +7,12 @@ use txn_commands::command::{Command, command_of};
 use txn_commands::threads::run_threads;
 use txn_lines::words::{tell_usage, words_of_command};
 use txn_manifest_script::script::run_manifest;
+use txn_pictures::trace::{run_manifest_trace, run_trace};
 use txn_script::script::run_script;
 
 /// Which words ask for something.
-const USAGE: &str = "usage: txnworld script | txnworld threads N | txnworld manifest";
+const USAGE: &str =
+    "usage: txnworld script | txnworld trace [manifest] | txnworld threads N | txnworld manifest";
 
 fn main(rt: HostRuntime) -> ExitCode {
     let alloc = rt.alloc();
@@ -21,6 +23,10 @@ fn main(rt: HostRuntime) -> ExitCode {
         Ok(Some(Command::Manifest)) => run_manifest(alloc, rt.reader(), &mut out, &mut err),
         Ok(Some(Command::Threads(workers))) => {
             run_threads(&rt, alloc, workers, &mut out, &mut err)
+        }
+        Ok(Some(Command::Trace)) => run_trace(alloc, rt.reader(), &mut out, &mut err),
+        Ok(Some(Command::ManifestTrace)) => {
+            run_manifest_trace(alloc, rt.reader(), &mut out, &mut err)
         }
         Ok(None) => tell_usage(USAGE, &mut err),
         Err(stop) => stop.tell(&mut err),

@@ -1,13 +1,13 @@
 use Rattle.std.proofs.Common.{ℕ, [], List, sym, subst}
 use Rattle.std.proofs.lemmas.List.{append-nil}
-use Rattle.std.proofs.lemmas.Result.{on_ok_weaker, MatchResult-weaker, err_from_is_err_and}
+use Rattle.std.proofs.lemmas.Result.{err_from_is_err_and}
 use Rattle.std.specs.Io.KnownBytes.{Appends, append_known}
 use Rattle.txn_lines.specs.declared.stop.Stop.{Stop}
 use Rattle.txn_lines.specs.declared.stop.Stop.TheVariants as stops
 use Rattle.txn_script.specs.Script.{StopsAfter}
 use Rattle.txn_script.specs.Rules.{Rules, rules_of}
 use Rattle.txn_script.proofs.Ending.{appends_both, gathers}
-use Rattle.txn_script.proofs.Playing.{play_first, play_more, play_end, stops_first, stops_next, stops_line, stops_end}
+use Rattle.txn_script.proofs.Playing.{play_first, play_more, play_end, play_leads, stops_first, stops_next, stops_line, stops_end}
 use Rattle.txn_script.proofs.script.play.Given.{Over}
 use Rattle.txn_script.proofs.script.play.Goals as goal
 
@@ -38,12 +38,18 @@ returns-in_err-line-clause-stop g c =
 pub returns-in_default-clause-ok : goal.returns-in_default-clause-ok
 returns-in_default-clause-ok g c =
     let read = rw c.in_default.is at c.in_ok-line.ensures.ok in
-    on_ok_weaker c.print_end.result (play_end (rules g) _ _ _ _ _ _ _ _ _ c.loop-line.invariant.playing read) c.print_end.ensures.ok
+    play_end (rules g) _ _ _ _ _ _ _ _ _ c.loop-line.invariant.playing read c.in_ok-print_end.ensures.ok
 
-pub returns-in_default-clause-stop : goal.returns-in_default-clause-stop
-returns-in_default-clause-stop g c =
+pub returns-in_default-clause-leads : goal.returns-in_default-clause-leads
+returns-in_default-clause-leads g c =
     let read = rw c.in_default.is at c.in_ok-line.ensures.ok in
-    MatchResult-weaker c.print_end.result c.print_end.ensures.err (λ x h. h) (λ stop is. stops_end (rules g) stop _ _ _ _ _ _ _ _ _ c.loop-line.invariant.playing read is)
+    play_leads (rules g) _ _ _ _ _ _ _ _ c.loop-line.invariant.playing read
+
+pub returns-in_err-print_end-clause-stop : goal.returns-in_err-print_end-clause-stop
+returns-in_err-print_end-clause-stop g c =
+    let read = rw c.in_default.is at c.in_ok-line.ensures.ok in
+    let p = err_from_is_err_and c.from_residual-in_err-print_end.result c.from_residual-in_err-print_end.ensures.1 in
+    rw (p.1, p.2) (stops_end (rules g) c.in_err-print_end.field-0.0 _ _ _ _ _ _ _ _ _ c.loop-line.invariant.playing read c.in_err-print_end.ensures.err)
 
 pub returns-in_err-take_line-clause-stop : goal.returns-in_err-take_line-clause-stop
 returns-in_err-take_line-clause-stop g c =

@@ -1,0 +1,541 @@
+//! A run as text: the lanes of its clients, what was called and answered, and the versions as a staircase.
+//!
+//! Time runs down. A client's lane has `┳` where a call begins, `┃` while it runs, `┻` where it is answered (`╺` both), `●` where
+//! the store serves a call, `╳` where the client crashes, and `┆` once a greater epoch than it holds has come in. On the right a
+//! version is `■` where it is created, `□` where its name is created again, `●` where it is seen, `○` where it is missing, `×`
+//! where it is removed, `⊓` where it is listed, and `✗` where a write was refused; the boundary is `◇` where it is read and `◆`
+//! where it is raised. `─` is a write and `·` a read.
+
+use crate::cells::Cells;
+use crate::moment::{Kind, Moment, Touch};
+use crate::run::Run;
+use std::alloc::{AllocError, Global};
+use std::collections::BTreeSet;
+
+/// How wide a line is, where there are not too many clients for it.
+const WIDTH: usize = 100;
+
+/// From so many clients on a lane has one place, and not two.
+const MANY: usize = 17;
+
+/// Where the first lane stands.
+const FIRST_LANE: usize = 9;
+
+/// The places for words.
+const WORDS: usize = 36;
+
+/// The places of a version.
+const VERSION: usize = 3;
+
+/// What is kept free behind the versions.
+const BEHIND: usize = 6;
+
+/// What a client holds.
+#[derive(Clone, Copy)]
+enum Hold {
+    /// No epoch.
+    None,
+    /// This one.
+    Epoch(u64),
+    /// One below an epoch that has come in.
+    ShutOut,
+}
+
+/// Where things stand in a line.
+#[derive(Clone, Copy)]
+struct Places {
+    /// From one lane to the next.
+    step: usize,
+    words: usize,
+    versions: usize,
+    /// How many versions have a place, but for the last.
+    most: usize,
+    width: usize,
+}
+
+impl Places {
+    fn of(clients: usize) -> Places {
+        let step = if clients < MANY { 2 } else { 1 };
+        let words = FIRST_LANE
+            .saturating_add(clients.saturating_mul(step))
+            .saturating_add(1);
+        let versions = words.saturating_add(WORDS);
+        let most = (WIDTH.saturating_sub(versions.saturating_add(BEHIND)) / VERSION).max(3);
+        let end = versions
+            .saturating_add(most.saturating_mul(VERSION))
+            .saturating_add(BEHIND);
+        Places {
+            step,
+            words,
+            versions,
+            most,
+            width: WIDTH.max(end),
+        }
+    }
+
+    fn lane(&self, client: u64) -> usize {
+        let before = client.saturating_sub(1) as usize;
+        FIRST_LANE.saturating_add(before.saturating_mul(self.step))
+    }
+}
+
+/// A run that is drawn, line by line.
+#[derive(Drop)]
+struct Lanes {
+    alloc: Global,
+    places: Places,
+    cells: Cells,
+    text: String,
+    /// The version that stands first.
+    low: u64,
+    boundary: u64,
+    /// The greatest epoch that has come in.
+    epoch: u64,
+    /// Of each client, how many operations run, and what it holds.
+    running: Vec<u64>,
+    holds: Vec<Hold>,
+    /// Of each operation, whether it is a claim.
+    claims: Vec<bool>,
+    standing: BTreeSet<u64>,
+}
+
+/// Joins words, two blanks between.
+fn join(said: &mut String, words: &str) -> Result<(), AllocError> {
+    if !said.as_str().is_empty() {
+        said.push_str("  ")?;
+    }
+    said.push_str(words)
+}
+
+/// So much of a text as there is room for.
+fn cut(alloc: Global, text: &str, room: usize) -> Result<String, AllocError> {
+    let mut cut = String::new(alloc);
+    let count = text.chars().count();
+    for (place, sign) in text.chars().enumerate() {
+        if place.saturating_add(1) < room || count <= room {
+            cut.push(sign)?;
+        }
+    }
+    if room < count {
+        cut.push('…')?;
+    }
+    Ok(cut)
+}
+
+/// Adds the answer of a moment to what is said.
+fn add_answer(alloc: Global, moment: &Moment, said: &mut String) -> Result<(), AllocError> {
+    let Some(answer) = &moment.answer else {
+        return Ok(());
+    };
+    let words = answer.words.as_str();
+    let words = if answer.is_refusal {
+        let why = words.strip_prefix("refused ").unwrap_or(words);
+        format!(in alloc; "✗ {why}")?
+    } else {
+        format!(in alloc; "→ {words}")?
+    };
+    join(said, words.as_str())
+}
+
+/// What is said of a moment.
+fn said_of(alloc: Global, moment: &Moment) -> Result<String, AllocError> {
+    let words = moment.words.as_str();
+    let op = moment.op;
+    let mut said = match moment.kind {
+        Kind::Begins => format!(in alloc; "{op} {words}")?,
+        Kind::Refused => format!(in alloc; "⊘ {words}")?,
+        Kind::Crashes => format!(in alloc; "crash")?,
+        Kind::GivesUp => format!(in alloc; "given up")?,
+        Kind::Lands(k) => format!(in alloc; "⇢ {k} lands")?,
+        _ => String::new(alloc),
+    };
+    add_answer(alloc, moment, &mut said)?;
+    for k in &moment.left {
+        let words = format!(in alloc; "⇢ in flight {k}")?;
+        join(&mut said, words.as_str())?;
+    }
+    Ok(said)
+}
+
+impl Lanes {
+    fn new(alloc: Global, clients: usize) -> Result<Lanes, AllocError> {
+        let places = Places::of(clients);
+        let mut running = Vec::new(alloc);
+        running.resize(clients, 0)?;
+        let mut holds = Vec::new(alloc);
+        holds.resize(clients, Hold::None)?;
+        Ok(Lanes {
+            alloc,
+            places,
+            cells: Cells::new(alloc, places.width)?,
+            text: String::new(alloc),
+            low: 1,
+            boundary: 0,
+            epoch: 0,
+            running,
+            holds,
+            claims: Vec::new(alloc),
+            standing: BTreeSet::new(alloc),
+        })
+    }
+
+    /// The column of a version.
+    fn column(&self, id: u64) -> usize {
+        let place = (id.saturating_sub(self.low) as usize).min(self.places.most);
+        self.places
+            .versions
+            .saturating_add(place.saturating_mul(VERSION))
+    }
+
+    /// Ends a line.
+    fn print(&mut self) -> Result<(), AllocError> {
+        let line = self.cells.text(self.alloc)?;
+        self.text.push_str(line.as_str())?;
+        self.text.push('\n')?;
+        self.cells.clear();
+        Ok(())
+    }
+
+    fn head(&mut self) -> Result<(), AllocError> {
+        self.cells.put_text(2, "event");
+        for index in 0..self.running.len() {
+            let client = index as u64 + 1;
+            let digit = b'0' + (client % 10) as u8;
+            self.cells.put(self.places.lane(client), char::from(digit));
+        }
+        self.cells.put_text(self.places.words, "what");
+        self.cells.put_text(self.places.versions, "versions");
+        self.print()
+    }
+
+    /// A line across, from the first lane on.
+    fn rule(&mut self, words: &str, sign: char, width: usize) -> Result<(), AllocError> {
+        let words = format!(in self.alloc; " {words} ")?;
+        self.cells.fill(8, 10, sign, 0);
+        self.cells.put_text(10, words.as_str());
+        let end = words.as_str().chars().count().saturating_add(10);
+        self.cells.fill(end, width, sign, 0);
+        self.print()
+    }
+
+    /// Makes room for a version that is created, to the right of which there is none: the versions begin anew with the one before.
+    fn scroll(&mut self, moment: &Moment) -> Result<(), AllocError> {
+        let Touch::Creates {
+            id,
+            is_made: true,
+            ..
+        } = &moment.touch
+        else {
+            return Ok(());
+        };
+        if id.saturating_sub(self.low) < self.places.most as u64 {
+            return Ok(());
+        }
+        self.low = id.saturating_sub(1);
+        let low = self.low;
+        let words = format!(in self.alloc; "versions from {low} on")?;
+        let width = self.places.versions;
+        self.rule(words.as_str(), '┄', width)
+    }
+
+    /// Whether operations of a client run, and what its lane shows beside.
+    fn lane_sign(&self, index: usize) -> char {
+        match self.running.get(index) {
+            Some(count) if *count > 0 => '┃',
+            _ => match self.holds.get(index) {
+                Some(Hold::ShutOut) => '┆',
+                _ => '│',
+            },
+        }
+    }
+
+    /// Draws what stands before the moment.
+    fn ground(&mut self) {
+        for index in 0..self.running.len() {
+            let at = self.places.lane(index as u64 + 1);
+            let sign = self.lane_sign(index);
+            self.cells.put(at, sign);
+        }
+        for id in &self.standing {
+            let last = self.low.saturating_add(self.places.most as u64);
+            if self.low <= *id && *id <= last {
+                let place = (*id - self.low) as usize;
+                let at = self
+                    .places
+                    .versions
+                    .saturating_add(place.saturating_mul(VERSION));
+                self.cells.put(at, '│');
+            }
+        }
+    }
+
+    /// Counts an operation more of a client that runs, or one less.
+    fn count(&mut self, client: u64, begins: bool) {
+        let index = client.saturating_sub(1) as usize;
+        if client != 0 && index < self.running.len() {
+            let count = self.running[index];
+            self.running[index] = if begins {
+                count.saturating_add(1)
+            } else {
+                count.saturating_sub(1)
+            };
+        }
+    }
+
+    /// What a client holds from here on.
+    fn hold(&mut self, client: u64, hold: Hold) {
+        let index = client.saturating_sub(1) as usize;
+        if client != 0 && index < self.holds.len() {
+            self.holds[index] = hold;
+        }
+    }
+
+    /// The sign of a moment in its client's lane, where it has one.
+    fn mark(&mut self, moment: &Moment) -> Option<char> {
+        let ends = moment.answer.is_some();
+        match moment.kind {
+            Kind::Begins if ends => Some('╺'),
+            Kind::Begins => {
+                self.count(moment.client, true);
+                Some('┳')
+            }
+            Kind::Crashes => {
+                let index = moment.client.saturating_sub(1) as usize;
+                if index < self.running.len() {
+                    self.running[index] = 0;
+                }
+                self.hold(moment.client, Hold::None);
+                Some('╳')
+            }
+            Kind::GivesUp => {
+                self.count(moment.client, false);
+                Some('┻')
+            }
+            Kind::Lands(_) | Kind::Refused => None,
+            _ if ends => {
+                self.count(moment.client, false);
+                Some('┻')
+            }
+            Kind::Serves => Some('●'),
+            _ => None,
+        }
+    }
+
+    /// Draws a write to a place, from a place on.
+    fn write(&mut self, from: usize, at: usize, sign: char, words: &str) {
+        let words_at = self.places.words;
+        self.cells.fill(from, at, '─', words_at);
+        self.cells.put(at, sign);
+        self.cells.put_text(at.saturating_add(1), words);
+    }
+
+    /// Draws a read of a place.
+    fn read(&mut self, from: usize, at: usize, sign: char, words: &str) {
+        self.cells.fill(from, at, '·', 0);
+        self.cells.put(at, sign);
+        self.cells.put_text(at.saturating_add(1), words);
+    }
+
+    /// Draws what a create came to.
+    fn create(
+        &mut self,
+        from: usize,
+        id: u64,
+        value: &str,
+        is_made: bool,
+        is_again: bool,
+    ) -> Result<(), AllocError> {
+        let at = self.column(id);
+        if !is_made {
+            let words = format!(in self.alloc; "{id}")?;
+            self.write(from, at, '✗', words.as_str());
+            return Ok(());
+        }
+        let words = format!(in self.alloc; "{id} {value}")?;
+        self.write(from, at, if is_again { '□' } else { '■' }, words.as_str());
+        self.standing.insert(id)?;
+        Ok(())
+    }
+
+    /// Draws what a removal came to.
+    fn remove(&mut self, from: usize, id: u64, is_removed: bool) -> Result<(), AllocError> {
+        let at = self.column(id);
+        let words = format!(in self.alloc; "{id}")?;
+        self.write(from, at, if is_removed { '×' } else { '✗' }, words.as_str());
+        if is_removed {
+            self.standing.remove(&id);
+        }
+        Ok(())
+    }
+
+    /// Draws what a raise of the boundary came to.
+    fn raise(&mut self, from: usize, to: u64, is_raised: bool) -> Result<(), AllocError> {
+        let at = self.column(to).saturating_add(1);
+        if is_raised {
+            self.boundary = to;
+            let words = format!(in self.alloc; " boundary {to}")?;
+            self.write(from, at, '◆', words.as_str());
+        } else {
+            self.write(from, at, '✗', "");
+        }
+        Ok(())
+    }
+
+    /// Draws a read of the boundary.
+    fn read_boundary(&mut self, from: usize) {
+        let at = if self.boundary == 0 {
+            self.places.versions.saturating_sub(2)
+        } else {
+            self.column(self.boundary).saturating_add(1)
+        };
+        self.read(from, at, '◇', "");
+    }
+
+    /// Draws a listing.
+    fn list(&mut self, from: usize, ids: &[u64]) {
+        let versions = self.places.versions;
+        self.cells.fill(from, versions, '·', 0);
+        for id in ids {
+            let at = self.column(*id);
+            self.cells.put(at, '⊓');
+        }
+    }
+
+    /// Draws what a moment did to the store, from a place on.
+    fn touch(&mut self, touch: &Touch, from: usize) -> Result<(), AllocError> {
+        match touch {
+            Touch::None => Ok(()),
+            Touch::Creates {
+                id,
+                value,
+                is_made,
+                is_again,
+                ..
+            } => self.create(from, *id, value.as_str(), *is_made, *is_again),
+            Touch::Gets { id, is_there } => {
+                let words = format!(in self.alloc; "{id}")?;
+                let sign = if *is_there { '●' } else { '○' };
+                let at = self.column(*id);
+                self.read(from, at, sign, words.as_str());
+                Ok(())
+            }
+            Touch::Lists(ids) => {
+                self.list(from, ids.as_slice());
+                Ok(())
+            }
+            Touch::ReadsBoundary => {
+                self.read_boundary(from);
+                Ok(())
+            }
+            Touch::Raises { to, is_raised } => self.raise(from, *to, *is_raised),
+            Touch::Removes { id, is_removed } => self.remove(from, *id, *is_removed),
+        }
+    }
+
+    /// Whether a moment is of a claim.
+    fn is_claim(&self, moment: &Moment) -> bool {
+        let place = moment.op.saturating_sub(1) as usize;
+        moment.op != 0 && self.claims.get(place) == Some(&true)
+    }
+
+    /// Those who hold a smaller epoch are shut out: who they are, in words.
+    fn shut_out(&mut self, epoch: u64, words: &mut String) -> Result<bool, AllocError> {
+        let mut any = false;
+        for index in 0..self.holds.len() {
+            if let Hold::Epoch(held) = self.holds[index] {
+                if held < epoch {
+                    let client = index as u64 + 1;
+                    let who = format!(in self.alloc;
+                        ", client {client} (epoch {held}) is shut out"
+                    )?;
+                    words.push_str(who.as_str())?;
+                    self.holds[index] = Hold::ShutOut;
+                    any = true;
+                }
+            }
+        }
+        Ok(any)
+    }
+
+    /// Draws a line across where a greater epoch comes in.
+    fn fence(&mut self, moment: &Moment) -> Result<(), AllocError> {
+        let Touch::Creates {
+            epoch,
+            is_made: true,
+            ..
+        } = &moment.touch
+        else {
+            return Ok(());
+        };
+        if *epoch <= self.epoch {
+            return Ok(());
+        }
+        self.epoch = *epoch;
+        let client = moment.client;
+        let does = if self.is_claim(moment) {
+            "claims"
+        } else {
+            "writes"
+        };
+        let mut words = format!(in self.alloc; "client {client} {does} epoch {epoch}")?;
+        let sign = if self.shut_out(*epoch, &mut words)? {
+            '╪'
+        } else {
+            '─'
+        };
+        let width = self.places.width;
+        self.rule(words.as_str(), sign, width)
+    }
+
+    /// Draws a moment.
+    fn moment(&mut self, moment: &Moment) -> Result<(), AllocError> {
+        if moment.kind == Kind::Begins {
+            let is_claim = moment.words.as_str().starts_with("claim");
+            self.claims.push(is_claim)?;
+        }
+        if moment.kind == Kind::Looks && moment.answer.is_none() {
+            return Ok(());
+        }
+        self.scroll(moment)?;
+        let number = moment.number;
+        let label = format!(in self.alloc; "{number}")?;
+        self.cells.put_text(7_usize.saturating_sub(label.as_str().len()), label.as_str());
+        self.ground();
+        let lane = self.places.lane(moment.client);
+        if let Some(sign) = self.mark(moment) {
+            self.cells.put(lane, sign);
+        }
+        let said = said_of(self.alloc, moment)?;
+        let room = WORDS.saturating_sub(1);
+        let said = cut(self.alloc, said.as_str(), room)?;
+        let count = said.as_str().chars().count();
+        let from = match moment.kind {
+            Kind::Lands(_) => self.places.words.saturating_add(count),
+            _ => lane,
+        };
+        self.touch(&moment.touch, from.saturating_add(1))?;
+        if count > 0 {
+            let words = self.places.words;
+            self.cells.put_text(words, said.as_str());
+            self.cells.put(words.saturating_add(count), ' ');
+        }
+        self.print()?;
+        if let Some(answer) = &moment.answer {
+            if let Some(epoch) = answer.held {
+                self.hold(moment.client, Hold::Epoch(epoch));
+            }
+        }
+        self.fence(moment)
+    }
+}
+
+/// A run as text, line by line. The only error is want of memory.
+pub fn drawn(alloc: Global, run: &Run) -> Result<String, AllocError> {
+    let mut lanes = Lanes::new(alloc, run.clients() as usize)?;
+    lanes.head()?;
+    for moment in run.moments() {
+        lanes.moment(moment)?;
+    }
+    let Lanes { text, .. } = lanes;
+    Ok(text)
+}
