@@ -16,9 +16,8 @@ use Rattle.txn_journals.specs.Parts.{Part}
 use Rattle.txn_diary.specs.Keepers.{KeeperState, Does, DoesAndForgets, DoesAll}
 use Rattle.txn_client.specs.Noted.{Noted}
 use Rattle.txn_client.specs.Calling.{ClientState, IsLookOrCall, IsGiveUp, IsActOf, EndsAfter, begun_in, MakesCall}
-use Rattle.txn_call_bounds.specs.Bounds.{act_looks, act_calls, step_looks, step_calls, looks_in, calls_in, RepliesInKind, StaysWithin}
+use Rattle.txn_call_bounds.specs.Bounds.{act_looks, act_calls, step_looks, step_calls, looks_in, calls_in, StaysWithin}
 use Rattle.txn_call_bounds.proofs.Spent.{Has, Took, forget_took, look_took, reply_took, fail_took, given_up_had, begin_took}
-use Rattle.txn_call_bounds.proofs.Replying.{ActInKind, StepInKind, InKind, kinds_front, rows_kind}
 
 module _ {T : Type 0} where
   -- each turn is a look or a store call
@@ -51,29 +50,29 @@ module _ {T C E : Type 0} (encoded : C → T → List ℕ) (decoded : C → List
   keeps_page old step answer new d room = subst (λ (page : ℕ). 1 ≤ page) (sym (d.forgets.page ∙ d.does.page)) room
 
   -- one act of an operation takes what it is
-  act_does : (old between : KeeperState T C E) (op : ℕ) (act : Act) (answer : Option (Answer T)) (left : Budget) → 1 ≤ old.page → IsLookOrCall act → ActInKind act → Does encoded decoded epoch_of with_epoch old (steps.Act op act) answer between → Has old.part op left → Took (act_looks act) (act_calls act) left between.part op
-  act_does old between op acts.Look answer left room is kind d h = look_took old.page room (encoded old.codec) (decoded old.codec) (epoch_of old.epochs) (with_epoch old.epochs) old.part op answer between.part left d.follows h
-  act_does old between op (acts.Receive receipt) answer left room is kind d h = reply_took old.page room (encoded old.codec) (decoded old.codec) (epoch_of old.epochs) (with_epoch old.epochs) old.part op receipt.request receipt.reply answer between.part left kind d.follows h
-  act_does old between op (acts.Fails request) answer left room is kind d h = fail_took old.page room (encoded old.codec) (decoded old.codec) (epoch_of old.epochs) (with_epoch old.epochs) old.part op request answer between.part left d.follows h
-  act_does old between op (acts.GiveUp leaves) answer left room is kind d h = absurd is
-  act_does old between op acts.Lacks answer left room is kind d h = absurd is
+  act_does : (old between : KeeperState T C E) (op : ℕ) (act : Act) (answer : Option (Answer T)) (left : Budget) → 1 ≤ old.page → IsLookOrCall act → Does encoded decoded epoch_of with_epoch old (steps.Act op act) answer between → Has old.part op left → Took (act_looks act) (act_calls act) left between.part op
+  act_does old between op acts.Look answer left room is d h = look_took old.page room (encoded old.codec) (decoded old.codec) (epoch_of old.epochs) (with_epoch old.epochs) old.part op answer between.part left d.follows h
+  act_does old between op (acts.Receive receipt) answer left room is d h = reply_took old.page room (encoded old.codec) (decoded old.codec) (epoch_of old.epochs) (with_epoch old.epochs) old.part op receipt.request receipt.reply answer between.part left is d.follows h
+  act_does old between op (acts.Fails request) answer left room is d h = fail_took old.page room (encoded old.codec) (decoded old.codec) (epoch_of old.epochs) (with_epoch old.epochs) old.part op request answer between.part left d.follows h
+  act_does old between op (acts.GiveUp leaves) answer left room is d h = absurd is
+  act_does old between op acts.Lacks answer left room is d h = absurd is
 
-  step_took : (old new : KeeperState T C E) (op : ℕ) (step : Step T) (answer : Option (Answer T)) (left : Budget) → 1 ≤ old.page → IsActOf op IsLookOrCall step → StepInKind step → Did old step answer new → Has old.part op left → Took (step_looks step) (step_calls step) left new.part op
-  step_took old new op (steps.Begin call) answer left room is kind d h = absurd is
-  step_took old new op (steps.Killed lefts) answer left room is kind d h = absurd is
-  step_took old new op (steps.Act o act) answer left room is kind d h =
+  step_took : (old new : KeeperState T C E) (op : ℕ) (step : Step T) (answer : Option (Answer T)) (left : Budget) → 1 ≤ old.page → IsActOf op IsLookOrCall step → Did old step answer new → Has old.part op left → Took (step_looks step) (step_calls step) left new.part op
+  step_took old new op (steps.Begin call) answer left room is d h = absurd is
+  step_took old new op (steps.Killed lefts) answer left room is d h = absurd is
+  step_took old new op (steps.Act o act) answer left room is d h =
       let own : Has old.part o left = subst (λ (n : ℕ). Has old.part n left) (sym is.0) h in
-      let took = act_does old d.between o act answer left room is.1 kind d.does own in
+      let took = act_does old d.between o act answer left room is.1 d.does own in
       subst (λ (n : ℕ). Took (act_looks act) (act_calls act) left new.part n) is.0 (forget_took (act_looks act) (act_calls act) left d.between.part new.part o d.forgets.remembers took)
 
   -- so do all the turns of a call
-  turns_took : (turns : List (JournalRow T)) (old new : KeeperState T C E) (op : ℕ) (left : Budget) → 1 ≤ old.page → All (λ row. IsActOf op IsLookOrCall row.step) turns → InKind turns → DoesAll Did old turns new → Has old.part op left → (1 ≤ new.page) × Took (looks_in turns) (calls_in turns) left new.part op
-  turns_took [] old new op left room all kinds did h =
+  turns_took : (turns : List (JournalRow T)) (old new : KeeperState T C E) (op : ℕ) (left : Budget) → 1 ≤ old.page → All (λ row. IsActOf op IsLookOrCall row.step) turns → DoesAll Did old turns new → Has old.part op left → (1 ≤ new.page) × Took (looks_in turns) (calls_in turns) left new.part op
+  turns_took [] old new op left room all did h =
       let same : old ≡ new = sym did in
       (subst (λ (k : KeeperState T C E). 1 ≤ k.page) same room, record { after = left; holds = subst (λ (k : KeeperState T C E). Has k.part op left) same h; looks_left = omega arith; calls_left = omega arith })
-  turns_took (row ∷ turns) old new op left room all kinds did h =
-      let one = step_took old did.0 op row.step row.answer left room (All-head (λ row. IsActOf op IsLookOrCall row.step) row turns all) kinds.0 did.1 h in
-      let rest = turns_took turns did.0 new op one.after (keeps_page old row.step row.answer did.0 did.1 room) (All-tail (λ row. IsActOf op IsLookOrCall row.step) row turns all) kinds.1 did.2 one.holds in (
+  turns_took (row ∷ turns) old new op left room all did h =
+      let one = step_took old did.0 op row.step row.answer left room (All-head (λ row. IsActOf op IsLookOrCall row.step) row turns all) did.1 h in
+      let rest = turns_took turns did.0 new op one.after (keeps_page old row.step row.answer did.0 did.1 room) (All-tail (λ row. IsActOf op IsLookOrCall row.step) row turns all) did.2 one.holds in (
         rest.0,
         record {
           after = rest.1.after;
@@ -130,21 +129,20 @@ module _ {T C E : Type 0} (encoded : C → T → List ℕ) (decoded : C → List
     calls_left = (let a = t.calls_left in omega (arith, a, few_calls));
   }
 
-  rows_stay : (first : JournalRow T) (turns end : List (JournalRow T)) (old new : KeeperState T C E) (call : Call T) (limit : ℕ) (answer : Option (Answer T)) (most : Budget) → 1 ≤ old.page → most_of call ≡ Some most → first.step ≡ steps.Begin call → All (λ row. IsActOf (begun_in old + 1) IsLookOrCall row.step) turns → InKind turns → EndsAfter (begun_in old + 1) limit (length turns) answer end → DoesAll Did old (first ∷ turns ++ end) new → StaysWithin most limit answer turns
-  rows_stay first turns end old new call limit answer most room bound begins all kinds ends did =
+  rows_stay : (first : JournalRow T) (turns end : List (JournalRow T)) (old new : KeeperState T C E) (call : Call T) (limit : ℕ) (answer : Option (Answer T)) (most : Budget) → 1 ≤ old.page → most_of call ≡ Some most → first.step ≡ steps.Begin call → All (λ row. IsActOf (begun_in old + 1) IsLookOrCall row.step) turns → EndsAfter (begun_in old + 1) limit (length turns) answer end → DoesAll Did old (first ∷ turns ++ end) new → StaysWithin most limit answer turns
+  rows_stay first turns end old new call limit answer most room bound begins all ends did =
       let begun = first_took old did.0 first.step call first.answer most room bound begins did.1 in
       let parts = did_split turns end did.0 new did.2 in
       let few_looks : begun.after.looks ≤ most.looks = (let a = begun.looks_left in omega (arith, a)) in
       let few_calls : begun.after.calls ≤ most.calls = (let a = begun.calls_left in omega (arith, a)) in
-      let taken = turns_took turns did.0 parts.0 (begun_in old + 1) begun.after (keeps_page old first.step first.answer did.0 did.1 room) all kinds parts.1 begun.holds in
+      let taken = turns_took turns did.0 parts.0 (begun_in old + 1) begun.after (keeps_page old first.step first.answer did.0 did.1 room) all parts.1 begun.holds in
       ends_within turns end parts.0 new (begun_in old + 1) limit most answer taken.0 all (took_more (looks_in turns) (calls_in turns) begun.after parts.0.part (begun_in old + 1) most few_looks few_calls taken.1) ends parts.2
 
-  module _ {R S : Type 0} (hands : R → Noted T → R → Type 0) (serves : S → Request → Reply → S → Type 0) (kind : RepliesInKind serves) where
+  module _ {R S : Type 0} (hands : R → Noted T → R → Type 0) (serves : S → Request → Reply → S → Type 0) where
     pub call_stays : (limit : ℕ) (call : Call T) (answer : Option (Answer T)) (old new : ClientState T C E R S) (most : Budget) → 1 ≤ old.keeper.page → most_of call ≡ Some most → (made : MakesCall hands serves Did limit call answer old new) → StaysWithin most limit answer made.is_call.turns
     call_stays limit call answer old new most room bound made =
         let c = made.is_call in
         let did = subst (λ rows. DoesAll Did old.keeper rows new.keeper) c.rows_are made.did in
-        let kinds = subst InKind c.rows_are (rows_kind hands serves kind made.rows (begun_in old.keeper) old.recorder new.recorder old.store new.store made.happened) in
         let acts_are = subst (λ (o : ℕ). All (λ row. IsActOf o IsLookOrCall row.step) c.turns) c.own c.acts in
         let ends = subst (λ (o : ℕ). EndsAfter o limit (length c.turns) answer c.end) c.own c.ends in
-        rows_stay c.first c.turns c.end old.keeper new.keeper call limit answer most room bound c.begins acts_are (kinds_front c.turns c.end kinds.1) ends did
+        rows_stay c.first c.turns c.end old.keeper new.keeper call limit answer most room bound c.begins acts_are ends did

@@ -1,3 +1,2 @@
 mod Spent
-mod Replying
 mod Calls

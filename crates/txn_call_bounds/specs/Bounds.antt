@@ -1,7 +1,5 @@
 -- How many looks and store calls a call of a client took.
 use Rattle.std.specs.Prelude.{ℕ, ◌+◌, ◌≤◌, List, [], ◌∷◌, Option, IsSome}
-use Rattle.txn_store.specs.declared.request.Request.{Request}
-use Rattle.txn_store.specs.declared.request.Reply.{Reply}
 use Rattle.txn_caches.specs.Counts.{Budget}
 use Rattle.txn_history.specs.declared.event.Answer.{Answer}
 use Rattle.txn_journals.specs.declared.rows.Act.{Act}
@@ -9,7 +7,6 @@ use Rattle.txn_journals.specs.declared.rows.Act.TheVariants as acts
 use Rattle.txn_journals.specs.declared.rows.Step.{Step}
 use Rattle.txn_journals.specs.declared.rows.Step.TheVariants as steps
 use Rattle.txn_journals.specs.declared.rows.JournalRow.{JournalRow}
-use Rattle.txn_logged.specs.Logged.{IsOfKind}
 
 -- one where the act is a look, else none
 abbrev pub act_looks : Act → ℕ
@@ -48,11 +45,6 @@ module _ {T : Type 0} where
   calls_in [] = 0
   calls_in (row ∷ rows) = step_calls row.step + calls_in rows
 
--- a store's replies are of their requests' kinds
-abbrev pub RepliesInKind : {S : Type 0} → (S → Request → Reply → S → Type 0) → Type 0
-RepliesInKind {S} serves = (store : S) (request : Request) (reply : Reply) (store' : S) → serves store request reply store' → IsOfKind request reply
-
-module _ {T : Type 0} where
   -- A call that was given so many steps, and took these, took no more looks and store calls than it has at most; and it was answered, if it was given as many as that.
   pub record StaysWithin (most : Budget) (limit : ℕ) (answer : Option (Answer T)) (turns : List (JournalRow T)) : Type 0 where
     pub looks : looks_in turns ≤ most.looks

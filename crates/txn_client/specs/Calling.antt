@@ -13,6 +13,7 @@ use Rattle.txn_journals.specs.declared.rows.Step.{Step}
 use Rattle.txn_journals.specs.declared.rows.Step.TheVariants as steps
 use Rattle.txn_journals.specs.declared.rows.JournalRow.{JournalRow}
 use Rattle.txn_machine.specs.Machine.{used_by}
+use Rattle.txn_logged.specs.Logged.{IsOfKind}
 use Rattle.txn_diary.specs.Keepers.{KeeperState, keeper_asked, DoesAll, Forgets}
 use Rattle.txn_diary.specs.Reading.{with_answer, answers_from}
 use Rattle.txn_client.specs.declared.stop.Stop.{Stop}
@@ -27,10 +28,10 @@ pub record ClientState (T C E R S : Type 0) : Type 0 where
   pub store : S
   pub goes_on : Bool
 
--- a look, or a store call, which was answered or failed
+-- a look, or a store call, which was answered by a reply of its request's kind, or failed
 abbrev pub IsLookOrCall : Act → Type 0
 IsLookOrCall acts.Look = Unit {0}
-IsLookOrCall (acts.Receive receipt) = Unit {0}
+IsLookOrCall (acts.Receive receipt) = IsOfKind receipt.request receipt.reply
 IsLookOrCall (acts.Fails request) = Unit {0}
 IsLookOrCall (acts.GiveUp left) = ⊥
 IsLookOrCall acts.Lacks = ⊥

@@ -8,6 +8,7 @@ use Rattle.txn_store.specs.declared.request.Request.{Request}
 use Rattle.txn_store.specs.declared.request.Reply.{Reply}
 use Rattle.txn_history.specs.Seen.{Ask, Store}
 use Rattle.txn_journals.specs.declared.rows.JournalRow.{JournalRow}
+use Rattle.txn_logged.specs.Logged.{IsOfKind}
 use Rattle.txn_journals.specs.declared.rows.Act.{Act}
 use Rattle.txn_journals.specs.declared.rows.Step.{Step}
 use Rattle.txn_journals.specs.declared.rows.Step.TheVariants as steps
@@ -71,6 +72,7 @@ module _ {T R S : Type 0} (hands : R → Noted T → R → Type 0) (serves : S �
     pub asks : ask ≡ Some (Store request)
     pub handed : hands recorder (Asked op request) recorder'
     pub served : serves store request reply store'
+    pub kind : IsOfKind request reply
 
   -- The store was called for what an operation asks, where it replied, and else nothing happened.
   abbrev pub IsCalled : ℕ → Option Ask → Option Reply → R → S → R → S → Type 0

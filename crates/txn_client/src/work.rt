@@ -100,6 +100,7 @@ impl<T: Clone, C: ObjectCodec<T> + Drop, E: EpochField<T>, S: Serve, R: Recorder
     ghost use Rattle.txn_store.specs.declared.request.Request.{Request};
     ghost use Rattle.txn_history.specs.Seen.{Store};
     ghost use Rattle.txn_machine_inner.specs.Doing.{first_of};
+    ghost use Rattle.txn_logged.specs.Logged.{IsOfKind};
     ghost use Rattle.txn_diary.specs.Keepers.{keeper_asked, keeper_refusal, Does};
     ghost use Rattle.txn_client.specs.Happenings.{answer_happens, HappensAll, HappensUntil, Served, CallFailed};
     ghost use Rattle.txn_client.specs.Calling.{begun_in, IsLookOrCall, IsGiveUp, CutsOff};
@@ -148,7 +149,8 @@ impl<T: Clone, C: ObjectCodec<T> + Drop, E: EpochField<T>, S: Serve, R: Recorder
 
     /// The operation takes the store's reply to what the recorder was told of.
     fn take(&mut self, op: u64, reply: Reply) -> Result<Heard<T>, Stop>
-        requires { IsExactClone T.is_clone }
+        requires exact { IsExactClone T.is_clone }
+        requires kind { (request : Request) → keeper_asked self.old.keeper op ≡ Some (Store request) → IsOfKind request reply }
         ensures ok { (request : Request) → keeper_asked self.old.keeper op ≡ Some (Store request) → IfOk result (λ heard. TakesAsked R.hands S.serves (Does C.encoded C.decoded E.epoch_of E.with_epoch) op request (Served request reply) self.old.keeper self.old.recorder self.old.store (begun_in self.old.keeper) heard self.new.keeper self.new.recorder self.new.store (begun_in self.new.keeper)) }
         ensures err { (request : Request) → keeper_asked self.old.keeper op ≡ Some (Store request) → IfErr result (λ stop. CutsAsked R.hands S.serves (Does C.encoded C.decoded E.epoch_of E.with_epoch) op request (Served request reply) stop self.old.keeper self.old.recorder self.old.store self.new.keeper self.new.recorder self.new.store) }
     {
