@@ -20,7 +20,7 @@ use Rattle.txn_progress.proofs.Advances.{advance_bound, advance_alone}
 use Rattle.txn_progress.proofs.Bounds.{IsNoAdvance, IsNoRaise, call_bound, alone_bound}
 
 module _ {T : Type 0} where
-  advance_or_not : (call : Call T) → ((to : ℕ) × (call ≡ any.Plain (calls.Advance to))) ⊎ IsNoAdvance call
+  pub advance_or_not : (call : Call T) → ((to : ℕ) × (call ≡ any.Plain (calls.Advance to))) ⊎ IsNoAdvance call
   advance_or_not (any.Plain (calls.Write base value)) = inr tt
   advance_or_not (any.Plain (calls.WriteUnchecked base value)) = inr tt
   advance_or_not (any.Plain calls.Read) = inr tt

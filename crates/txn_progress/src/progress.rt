@@ -11,6 +11,7 @@ ghost use Rattle.txn_machine.specs.Doing.{asked};
 ghost use Rattle.txn_machine_inner.specs.Machine.{next_op};
 ghost use Rattle.txn_machine.specs.Machine.{State, opening, refusal_of, next_event, Takes, Runs};
 ghost use Rattle.txn_progress.specs.Progress.{cost_of, most_left, own_count, FewPages, Disturbed, Undisturbed};
+ghost use Rattle.txn_progress.specs.Whole.{work_count, Costs};
 
 use txn_types::codec::ObjectCodec;
 use txn_types::epoch::EpochField;
@@ -25,4 +26,12 @@ pub fn work_is_bounded<T: Drop, C: ObjectCodec<T>, E: EpochField<T>>(_codec: &C,
     ensures alone { (clients page pages : ℕ) (before : List (Event T × Told T)) (state : State T) (op : ℕ) (operation : Operation T) (ask : Ask) (taken : List (Event T × Told T)) (new : State T) → 1 ≤ page → Runs (C.encoded _codec.now) (C.decoded _codec.now) (E.epoch_of _epochs.now) (E.with_epoch _epochs.now) (opening clients page) before state → numbered state.operations op ≡ Some operation → asked operation.doing ≡ Some ask → FewPages pages state →
         Undisturbed (C.encoded _codec.now) (C.decoded _codec.now) (E.epoch_of _epochs.now) (E.with_epoch _epochs.now) op pages state taken new → own_count op taken ≤ most_left operation.doing pages }
     ensures allowed { (state : State T) (op : ℕ) (operation : Operation T) (ask : Ask) → numbered state.operations op ≡ Some operation → asked operation.doing ≡ Some ask → refusal_of (C.encoded _codec.now) (C.decoded _codec.now) (E.epoch_of _epochs.now) (E.with_epoch _epochs.now) state (next_event state op) ≡ None }
+{}
+
+/// All looks and serves of a run, of all its operations together, are no more than what each call takes alone as it begins, and what each
+/// event adds to each operation that it disturbs. So a run in which no call begins, and in which nothing changes but by its
+/// looks and serves, comes to an end, whoever takes turns with whom: the calls of all clients are answered, but for what they
+/// enter against one another.
+pub fn whole_run_is_bounded<T: Drop, C: ObjectCodec<T>, E: EpochField<T>>(_codec: &C, _epochs: &E)
+    ensures { (clients page pages cost : ℕ) (taken : List (Event T × Told T)) (new : State T) → 1 ≤ page → Costs (C.encoded _codec.now) (C.decoded _codec.now) (E.epoch_of _epochs.now) (E.with_epoch _epochs.now) pages cost (opening clients page) taken new → work_count taken ≤ cost }
 {}
