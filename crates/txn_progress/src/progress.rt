@@ -28,10 +28,10 @@ pub fn work_is_bounded<T: Drop, C: ObjectCodec<T>, E: EpochField<T>>(_codec: &C,
     ensures allowed { (state : State T) (op : ℕ) (operation : Operation T) (ask : Ask) → numbered state.operations op ≡ Some operation → asked operation.doing ≡ Some ask → refusal_of (C.encoded _codec.now) (C.decoded _codec.now) (E.epoch_of _epochs.now) (E.with_epoch _epochs.now) state (next_event state op) ≡ None }
 {}
 
-/// All looks and serves of a run, of all its operations together, are no more than what each call takes alone as it begins, and what each
-/// event adds to each operation that it disturbs. So a run in which no call begins, and in which nothing changes but by its
-/// looks and serves, comes to an end, whoever takes turns with whom: the calls of all clients are answered, but for what they
-/// enter against one another.
+/// All looks and serves of a run, of whichever operations, are no more than the run costs: for each begin what its call takes alone,
+/// and for each event what it adds to each operation that it disturbs, where a listing of the versions has at most so many
+/// pages after each event. So where no event changes the store's files, or what a client keeps, the operations come to their
+/// answers, in whatever order they take their turns.
 pub fn whole_run_is_bounded<T: Drop, C: ObjectCodec<T>, E: EpochField<T>>(_codec: &C, _epochs: &E)
     ensures { (clients page pages cost : ℕ) (taken : List (Event T × Told T)) (new : State T) → 1 ≤ page → Costs (C.encoded _codec.now) (C.decoded _codec.now) (E.epoch_of _epochs.now) (E.with_epoch _epochs.now) pages cost (opening clients page) taken new → work_count taken ≤ cost }
 {}
