@@ -1,0 +1,3 @@
+mod Spent
+mod Replying
+mod Calls

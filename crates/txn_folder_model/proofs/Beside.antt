@@ -1,0 +1,139 @@
+-- A listing beside a create: its scans are as the file system may tell them, and they are settled.
+use Rattle.std.proofs.Common.{◌≡◌, ℕ, zero, suc, ◌+◌, ◌<◌, ◌≤◌, ◌==◌, if◌then◌else◌, Bool, true, false, [], ◌∷◌, Some, None, refl, sym, subst, arith, ◌⊎◌, inl, inr, is_some}
+use Rattle.std.specs.Prelude.{Contains, nat_lt, slice_index}
+use Rattle.std.specs.List.Sorted.{IsStrictlyIncreasing}
+use Rattle.std.proofs.lemmas.Bool.{eqb-true, ltb-true, ltb-false}
+use Rattle.txn_folder.specs.Scans.{AreSettled}
+use Rattle.txn_folder_model.specs.Folders.{OfVersions}
+use Rattle.txn_folder_model.specs.Worlds.{World, world}
+use Rattle.txn_folder_model.specs.Listings.{stands, shows, IsListing}
+use Rattle.txn_folder_model.specs.Examples.{beside_run}
+
+abbrev w : ℕ → World
+w = world 10 beside_run
+
+-- what holds of so many moments from one on holds of each
+abbrev AllFrom : (ℕ → Type 0) → ℕ → ℕ → Type 0
+AllFrom P from zero = Unit {0}
+AllFrom P from (suc k) = P from × AllFrom P (suc from) k
+
+first_or : (from s : ℕ) → from ≤ s → (b : Bool) → nat_lt from s ≡ b → (from ≡ s) ⊎ (suc from ≤ s)
+first_or from s low true is = inr (ltb-true from s is)
+first_or from s low false is = let most = ltb-false from s is in inl (omega (arith, low, most))
+
+each : (P : ℕ → Type 0) (k from s : ℕ) → AllFrom P from k → from ≤ s → s < from + k → P s
+each P zero from s all low high = absurd (omega (arith, low, high))
+each P (suc k) from s all low high = elim (first_or from s low (nat_lt from s) refl) [
+  | inl same ↦ subst P same all.0
+  | inr more ↦ each P k (suc from) s all.1 more (omega (arith, high))
+]
+
+is_one : (id : ℕ) (b : Bool) → (id == 1) ≡ b → is_some {T = ℕ} (if b then Some 0 else None) ≡ true → id ≡ 1
+is_one id true is h = eqb-true id 1 is
+is_one id false is h = absurd (cc)
+
+is_two : (id : ℕ) (b : Bool) → (id == 2) ≡ b → is_some {T = ℕ} (if b then Some 1 else if id == 1 then Some 0 else None) ≡ true → (id ≡ 2) ⊎ (id ≡ 1)
+is_two id true is h = inl (eqb-true id 2 is)
+is_two id false is h = inr (is_one id (id == 1) refl h)
+
+has_one : (id : ℕ) → id ≡ 1 → Contains (1 ∷ []) id
+has_one id is = (0, omega arith, sym is)
+
+has_both : (id : ℕ) → (id ≡ 2) ⊎ (id ≡ 1) → Contains (1 ∷ 2 ∷ []) id
+has_both id (inl is) = (1, omega arith, sym is)
+has_both id (inr is) = (0, omega arith, sym is)
+
+one_of : (id : ℕ) → Contains (1 ∷ []) id → id ≡ 1
+one_of id (zero, low, is) = sym is
+one_of id (suc k, low, is) = absurd (omega (arith, low))
+
+of_both : (id : ℕ) → Contains (1 ∷ 2 ∷ []) id → (id ≡ 2) ⊎ (id ≡ 1)
+of_both id (zero, low, is) = inr (sym is)
+of_both id (suc zero, low, is) = inl (sym is)
+of_both id (suc (suc k), low, is) = absurd (omega (arith, low))
+
+came_two : (id : ℕ) (b : Bool) → (id + 1 == 2) ≡ b → is_some {T = ℕ} (if id + 1 == 1 then Some 0 else None) ≡ false → is_some {T = ℕ} (if b then Some 1 else if id + 1 == 1 then Some 0 else None) ≡ true → (id ≡ 0) ⊎ ((later : ℕ) × (id ≤ later) × (stands (w 11) later ≡ true))
+came_two id true is was now = let e = eqb-true (id + 1) 2 is in inr (1, omega (arith, e), refl)
+came_two id false is was now = absurd (cc)
+
+abbrev InOrderAt : ℕ → Type 0
+InOrderAt s = (id : ℕ) → stands (w s) (id + 1) ≡ false → stands (w (suc s)) (id + 1) ≡ true → (id ≡ 0) ⊎ ((later : ℕ) × (id ≤ later) × (stands (w s) later ≡ true))
+
+same_both : (s id : ℕ) (x : Bool) → x ≡ false → x ≡ true → (id ≡ 0) ⊎ ((later : ℕ) × (id ≤ later) × (stands (w s) later ≡ true))
+same_both s id x was now = absurd (cc)
+
+in_order : AllFrom InOrderAt 6 8
+in_order = (
+  λ id was now. same_both 6 id (stands (w 6) (id + 1)) was now,
+  (
+    λ id was now. same_both 7 id (stands (w 7) (id + 1)) was now,
+    (
+      λ id was now. same_both 8 id (stands (w 8) (id + 1)) was now,
+      (
+        λ id was now. same_both 9 id (stands (w 9) (id + 1)) was now,
+        (
+          λ id was now. same_both 10 id (stands (w 10) (id + 1)) was now,
+          (λ id was now. came_two id (id + 1 == 2) refl was now, (λ id was now. same_both 12 id (stands (w 12) (id + 1)) was now, (λ id was now. same_both 13 id (stands (w 13) (id + 1)) was now, tt))),
+        ),
+      ),
+    ),
+  ),
+)
+
+abbrev SharedAt : ℕ → Type 0
+SharedAt s = (w s).folder.locks OfVersions ≡ None
+
+pub is_listing : IsListing w None 1 6 8 9 13 13 14 (1 ∷ []) (1 ∷ 2 ∷ []) (1 ∷ 2 ∷ [])
+is_listing = record {
+  shared = λ s low high. each SharedAt 8 6 s (refl, (refl, (refl, (refl, (refl, (refl, (refl, (refl, tt)))))))) low (omega (arith, high));
+  in_order = λ s id low high. each InOrderAt 8 6 s in_order low (omega (arith, high)) id;
+  first_is = record {
+    ascend = λ k low. absurd (omega (arith, low));
+    all = λ id h. has_one id (is_one id (id == 1) refl (h 6 (omega arith) (omega arith)));
+    only = λ id has. (6, omega arith, omega arith, subst (λ (x : ℕ). shows w None 6 x ≡ true) (sym (one_of id has)) refl);
+  };
+  second_is = record {
+    ascend = both_ascend;
+    all = λ id h. has_both id (is_two id (id == 2) refl (h 13 (omega arith) (omega arith)));
+    only = λ id has. second id (of_both id has);
+  };
+  third_is = record {
+    ascend = both_ascend;
+    all = λ id h. has_both id (is_two id (id == 2) refl (h 13 (omega arith) (omega arith)));
+    only = λ id has. third id (of_both id has);
+  };
+  up_to = λ id has. let e = one_of id has in omega (arith, e);
+  over = λ id low. refl;
+  first_takes = omega arith;
+  second_after = omega arith;
+  second_takes = omega arith;
+  third_after = omega arith;
+  third_takes = omega arith;
+}
+  where
+    both_ascend : IsStrictlyIncreasing (1 ∷ 2 ∷ [])
+    both_ascend zero low = omega arith
+    both_ascend (suc k) low = absurd (omega (arith, low))
+
+    second : (id : ℕ) → (id ≡ 2) ⊎ (id ≡ 1) → (s : ℕ) × (9 ≤ s) × (s ≤ 13) × (shows w None s id ≡ true)
+    second id (inl is) = (13, omega arith, omega arith, subst (λ (x : ℕ). shows w None 13 x ≡ true) (sym is) refl)
+    second id (inr is) = (9, omega arith, omega arith, subst (λ (x : ℕ). shows w None 9 x ≡ true) (sym is) refl)
+
+    third : (id : ℕ) → (id ≡ 2) ⊎ (id ≡ 1) → (s : ℕ) × (13 ≤ s) × (s ≤ 14) × (shows w None s id ≡ true)
+    third id (inl is) = (13, omega arith, omega arith, subst (λ (x : ℕ). shows w None 13 x ≡ true) (sym is) refl)
+    third id (inr is) = (13, omega arith, omega arith, subst (λ (x : ℕ). shows w None 13 x ≡ true) (sym is) refl)
+
+pub is_settled : AreSettled 1 (1 ∷ []) (1 ∷ 2 ∷ []) (1 ∷ 2 ∷ []) (2 ∷ [])
+is_settled = record {
+  rest = 2 ∷ [];
+  second_is = refl;
+  second_above = omega arith;
+  third_same = (2 ∷ [], refl, omega arith);
+  third_has = among;
+  run_is = refl;
+}
+  where
+    among : (k : ℕ) → k < 2 → Contains (1 ∷ 2 ∷ []) (slice_index (1 ∷ 2 ∷ []) k)
+    among zero low = (0, omega arith, refl)
+    among (suc zero) low = (1, omega arith, refl)
+    among (suc (suc k)) low = absurd (omega (arith, low))

@@ -1,0 +1,17 @@
+pub mod Ghosts
+pub mod Honest
+pub mod Facts
+pub mod Points
+pub mod Quiet
+pub mod Frames
+pub mod Replies
+pub mod Getting
+pub mod Creating
+pub mod Changes
+pub mod Updating
+pub mod Deleting
+pub mod Puts
+pub mod Stepping
+pub mod Theorem
+pub mod Listing
+pub mod Beside

@@ -1,0 +1,6 @@
+pub mod Folders
+pub mod Steps
+pub mod Worlds
+pub mod Linear
+pub mod Examples
+pub mod Listings

@@ -1,0 +1,70 @@
+-- One order of the calls, in which they are those of one honest store.
+use Rattle.std.specs.Prelude.{◌≡◌, ℕ, zero, suc, ◌<◌, ◌≤◌, ◌^◌, ◌==◌, ◌&&◌, Bool, true, false, List, [], ◌∷◌, ◌++◌, Option, Some, None, if◌then◌else◌}
+use Rattle.txn_store.specs.Paths.{Segments}
+use Rattle.txn_store.specs.VersionName.{Names, version_path}
+use Rattle.txn_store.specs.Store.{State as StoreState}
+use Rattle.txn_store.specs.declared.store.PutMode.TheVariants as modes
+use Rattle.txn_store.specs.declared.request.Request.{Request}
+use Rattle.txn_store.specs.declared.request.Request.TheVariants as requests
+use Rattle.txn_store.specs.declared.request.Reply.{Reply}
+use Rattle.txn_journals.specs.declared.rows.LogRow.{LogRow}
+use Rattle.txn_journals.specs.Logs.{IsLog}
+use Rattle.txn_folder_model.specs.Folders.{Place, Version, Boundary}
+use Rattle.txn_folder_model.specs.Steps.{Work, Creates, Gets, Updates, Deletes}
+use Rattle.txn_folder_model.specs.Worlds.{Call, World}
+
+-- Where a call takes place: at a moment, before the step that is made then, or, where it writes, in it. It is given this reply there.
+pub record Point : Type 0 where
+  pub at : ℕ
+  pub writes : Bool
+  pub reply : Reply
+
+-- the boundary's path is no version's
+abbrev pub IsApart : Names → Segments → Type 0
+IsApart names boundary = (id : ℕ) → id < 2 ^ 64 → ¬ (boundary ≡ version_path names id)
+
+module _ (names : Names) (boundary : Segments) where
+  abbrev pub path_of : Place → Segments
+  path_of (Version id) = version_path names id
+  path_of Boundary = boundary
+
+  -- the request that a call stands for
+  abbrev pub request_of : Work → Request
+  request_of (Creates place bytes phase) = requests.Put (path_of place) bytes modes.Create
+  request_of (Gets place known phase) = requests.Get (path_of place) known
+  request_of (Updates bytes token phase) = requests.Put boundary bytes (modes.Update token)
+  request_of (Deletes id phase) = requests.Delete (version_path names id)
+
+  -- what a log says of a call that nobody was answered: which of its client's operations it was. Here that is the call's number.
+  abbrev pub landed_as : ℕ → Option Reply → Option ℕ
+  landed_as call None = Some call
+  landed_as call (Some reply) = None
+
+  -- a call's row of the log
+  abbrev pub row_of : ℕ → Call → Reply → LogRow
+  row_of number call reply = record { client = call.client; request = request_of call.work; reply = reply; landed = landed_as number call.answer }
+
+  -- this row, if the call takes place there
+  abbrev pub row_at : ℕ → Bool → ℕ → Call → Option Point → List LogRow
+  row_at t writes number call None = []
+  row_at t writes number call (Some point) = if (point.at == t) && (if writes then point.writes else if point.writes then false else true) then row_of number call point.reply ∷ [] else []
+
+  -- the rows of the calls below a number that take place there, the latest call first
+  abbrev pub rows_at : (ℕ → Call) → (ℕ → Option Point) → ℕ → Bool → ℕ → List LogRow
+  rows_at calls points t writes zero = []
+  rows_at calls points t writes (suc number) = row_at t writes number (calls number) (points number) ++ rows_at calls points t writes number
+
+  -- the log of so many calls before a moment, by their points, the newest row first
+  abbrev pub log_until : (ℕ → Call) → (ℕ → Option Point) → ℕ → ℕ → List LogRow
+  log_until calls points count zero = []
+  log_until calls points count (suc t) = rows_at calls points t true count ++ (rows_at calls points t false count ++ log_until calls points count t)
+
+  -- The calls of a world at a moment have an order in which they are those of one honest store: each takes place at a point between its begin and its end; each that answered has one, with the answer as its reply; one that did not has one only where it writes; and in the order of the points they are the log of an honest store.
+  pub record IsLinearizable (t : ℕ) (w : World) : Type 0 where
+    pub points : ℕ → Option Point
+    pub begun : (call : ℕ) (point : Point) → call < w.count → points call ≡ Some point → (w.calls call).began ≤ point.at
+    pub ended : (call : ℕ) (point : Point) (end : ℕ) → call < w.count → points call ≡ Some point → (w.calls call).ended ≡ Some end → point.at ≤ end
+    pub answered : (call : ℕ) (reply : Reply) → call < w.count → (w.calls call).answer ≡ Some reply → (point : Point) × (points call ≡ Some point) × (point.reply ≡ reply)
+    pub unanswered : (call : ℕ) (point : Point) → call < w.count → (w.calls call).answer ≡ None → points call ≡ Some point → point.writes ≡ true
+    pub store : StoreState
+    pub honest : IsLog (log_until w.calls points w.count t) store

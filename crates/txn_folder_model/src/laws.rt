@@ -1,0 +1,46 @@
+//! What holds of calls over one folder, whatever happens.
+ghost use Rattle.std.specs.Prelude.{ℕ, ◌<◌, ◌^◌, List, [], ◌∷◌, ◌++◌, Option, None};
+ghost use Rattle.txn_store.specs.Paths.{Segments};
+ghost use Rattle.txn_store.specs.VersionName.{Names};
+ghost use Rattle.txn_folder_model.specs.Worlds.{Event, MayHappen, world};
+ghost use Rattle.txn_folder_model.specs.Linear.{IsApart, IsLinearizable};
+ghost use Rattle.txn_folder_model.specs.Listings.{IsListing, StoodAt};
+ghost use Rattle.txn_folder.specs.Scans.{AreSettled};
+ghost use Rattle.txn_folder_model.specs.Examples.{race, RaceEnds, killed_run, KillEnds, late_run, LateEnds, beside_run};
+
+/// Whatever the steps of any number of calls over one folder, in whatever order they are taken, whichever of them fail, before
+/// their effect or after it, and whichever calls are killed: there is an order of the calls, each at a point between its begin
+/// and its end, in which they are those of one honest store. A call that answered has its answer there; one that failed or was
+/// killed stands there only if it took its whole effect.
+pub fn calls_in_a_folder_are_those_of_one_store()
+    ensures { (names : Names) (boundary : Segments) (floor n : ℕ) (events : ℕ → Event) → IsApart names boundary → ((t : ℕ) → MayHappen floor (events t)) → n < 2 ^ 64 → IsLinearizable names boundary n (world floor events n) }
+{}
+
+/// Beside any calls, a listing that has the lock of removals with others, and whose three scans tell one moment, tells what stood
+/// at one: between the end of its first scan and that of its second, exactly the versions that it tells stood, of those above
+/// the one that it goes on after. Clients have to make versions in the order of their ids.
+pub fn a_settled_listing_tells_a_moment()
+    ensures { (names : Names) (boundary : Segments) (floor : ℕ) (events : ℕ → Event) (after : Option ℕ) (last a b c d e f : ℕ) (first second third run : List ℕ) → IsApart names boundary → ((t : ℕ) → MayHappen floor (events t)) → f < 2 ^ 64 → IsListing (world floor events) after last a b c d e f first second third → AreSettled last first second third run → StoodAt (world floor events) after b d (first ++ run) }
+{}
+
+/// Of two calls that make one version the one whose link is first has made it, and the other is told that it exists.
+pub fn one_of_two_creators_makes_it()
+    ensures { RaceEnds (world 10 race 21) }
+{}
+
+/// A call that is killed between its link and the removal of its temporary name has made its version, which a get reads.
+pub fn what_a_killed_call_linked_is_read()
+    ensures { KillEnds (world 10 killed_run 13) }
+{}
+
+/// A link that is answered with an error and was made is found, and the call is told so.
+pub fn a_link_answered_with_an_error_is_found()
+    ensures { LateEnds (world 10 late_run 11) }
+{}
+
+/// While one call makes version 2, a listing's first scan tells version 1, and its second and third both: these are scans as the
+/// file system may tell them, and they are settled.
+pub fn a_listing_beside_a_create_settles()
+    ensures listing { IsListing (world 10 beside_run) None 1 6 8 9 13 13 14 (1 ∷ []) (1 ∷ 2 ∷ []) (1 ∷ 2 ∷ []) }
+    ensures settled { AreSettled 1 (1 ∷ []) (1 ∷ 2 ∷ []) (1 ∷ 2 ∷ []) (2 ∷ []) }
+{}
