@@ -1,5 +1,6 @@
 //! The tests by what they are of, and what they share.
 
+mod finishing;
 mod growths;
 mod meetings;
 mod played;

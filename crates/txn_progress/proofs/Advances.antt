@@ -119,7 +119,7 @@ module _ {T : Type 0} (decode : List ℕ → Option T) (get_epoch : T → ℕ) (
 
 module _ {T : Type 0} (encode : T → List ℕ) (decode : List ℕ → Option T) (get_epoch : T → ℕ) (set_epoch : T → ℕ → T) where
   -- An advance, or its end.
-  record Advancing (s : State T) (op n : ℕ) : Type 0 where
+  pub record Advancing (s : State T) (op n : ℕ) : Type 0 where
     pub operation : Operation T
     pub there : numbered s.operations op ≡ Some operation
     pub caches : Caches
@@ -204,7 +204,7 @@ module _ {T : Type 0} (encode : T → List ℕ) (decode : List ℕ → Option T)
       (v.call.request, v.call.acts.asks, subst (λ (st : StoreState). Serves v.call.request old.store v.call.reply st) (sym store) v.call.reaches.serves, ap (λ (st : StoreState). st.failures) store ∙ v.call.reaches.honest)
       v.next v.turns.refused v.turns.turns (ap (λ (s : State T). s.operations) v.state) (ap (λ (s : State T). s.caches) v.state)
 
-  own_on : (old : State T) (event : Event T) (said : Told T) (new : State T) (op n : ℕ) → IsReached encode decode get_epoch set_epoch old → Takes encode decode get_epoch set_epoch old event said new → is_own op event ≡ true → Advancing old op n → (m : ℕ) × (m + 1 ≤ n) × Advancing new op m
+  pub own_on : (old : State T) (event : Event T) (said : Told T) (new : State T) (op n : ℕ) → IsReached encode decode get_epoch set_epoch old → Takes encode decode get_epoch set_epoch old event said new → is_own op event ≡ true → Advancing old op n → (m : ℕ) × (m + 1 ≤ n) × Advancing new op m
   own_on old (events.Look k) said new op n r t own' h = (let same : k ≡ op = eqb-true k op (or_true (k == op) own') in look_on old op n said new r (subst (λ (i : ℕ). Takes encode decode get_epoch set_epoch old (events.Look i) said new) same t) h)
   own_on old (events.Serve k) said new op n r t own' h = (let same : k ≡ op = eqb-true k op own' in serve_on old op n said new r (subst (λ (i : ℕ). Takes encode decode get_epoch set_epoch old (events.Serve i) said new) same t) h)
   own_on old (events.Begin client call) said new op n r t own' h = absurd (let clash : false ≡ true = own' in cc)
@@ -215,7 +215,7 @@ module _ {T : Type 0} (encode : T → List ℕ) (decode : List ℕ → Option T)
 
   -- others
 
-  calm_on : (old : State T) (event : Event T) (said : Told T) (new : State T) (op n : ℕ) → Takes encode decode get_epoch set_epoch old event said new → is_own op event ≡ false → LeavesAlone op old new → Advancing old op n → Advancing new op n
+  pub calm_on : (old : State T) (event : Event T) (said : Told T) (new : State T) (op n : ℕ) → Takes encode decode get_epoch set_epoch old event said new → is_own op event ≡ false → LeavesAlone op old new → Advancing old op n → Advancing new op n
   calm_on old event said new op n t other calm h =
       let before : caches_of old op ≡ Some h.caches = ap (caches_by old) h.there ∙ h.kept in
       elim (others_stay encode decode get_epoch set_epoch old event said new op h.operation t other h.there) [
@@ -223,7 +223,7 @@ module _ {T : Type 0} (encode : T → List ℕ) (decode : List ℕ → Option T)
         | inr there ↦ record { operation = doing_next h.operation ended; there = there; caches = h.caches; kept = sym (ap (caches_by new) there) ∙ (calm.kept ∙ before); left = inl refl }
       ]
 
-  disturbed_on : (old : State T) (event : Event T) (said : Told T) (new : State T) (op n : ℕ) → IsReached encode decode get_epoch set_epoch old → Takes encode decode get_epoch set_epoch old event said new → is_own op event ≡ false → Advancing old op n → Advancing new op (n + 5)
+  pub disturbed_on : (old : State T) (event : Event T) (said : Told T) (new : State T) (op n : ℕ) → IsReached encode decode get_epoch set_epoch old → Takes encode decode get_epoch set_epoch old event said new → is_own op event ≡ false → Advancing old op n → Advancing new op (n + 5)
   disturbed_on old event said new op n r t other h =
       let r' = taken_reached encode decode get_epoch set_epoch old event said new r t in
       let clients = (takes_same encode decode get_epoch set_epoch old event said new t).0 in
@@ -260,23 +260,27 @@ module _ {T : Type 0} (encode : T → List ℕ) (decode : List ℕ → Option T)
             )
       ]
 
-  pub advance_bound : (old : State T) (client to : ℕ) (said : Told T) (first : State T) (pages times : ℕ) (taken : List (Event T × Told T)) (new : State T) → IsReached encode decode get_epoch set_epoch old → Takes encode decode get_epoch set_epoch old (events.Begin client (any.Plain (calls.Advance to))) said first →
-      Disturbed encode decode get_epoch set_epoch (next_op old) pages times first taken new → own_count (next_op old) taken ≤ 9 + times * 5
-  advance_bound old client to said first pages times taken new r t d =
+  -- what it has left as its call begins
+  pub advance_has : (old : State T) (client to : ℕ) (said : Told T) (first : State T) → IsReached encode decode get_epoch set_epoch old → Takes encode decode get_epoch set_epoch old (events.Begin client (any.Plain (calls.Advance to))) said first → Advancing first (next_op old) 9
+  advance_has old client to said first r t =
       let v = t.step in
       let r' = taken_reached encode decode get_epoch set_epoch old (events.Begin client (any.Plain (calls.Advance to))) said first r t in
       let clients = (takes_same encode decode get_epoch set_epoch old (events.Begin client (any.Plain (calls.Advance to))) said first t).0 in
       let is = client_within old.clients client (known_client encode decode get_epoch set_epoch old client (any.Plain (calls.Advance to)) t.allowed) in
       let now = client_keeps encode decode get_epoch set_epoch first client r' is.0 (let le = is.1 in omega (arith, le, clients)) in
       let one : Operation T = new_operation client (any.Plain (calls.Advance to)) v.next.0 in
-      let h : Advancing first (next_op old) 9 = record {
+      record {
         operation = one;
         there = ap (λ (s : State T). numbered s.operations (next_op old)) v.state ∙ numbered_new old.operations one;
         caches = now.0;
         kept = now.1;
         left = inr (advances.Raises to (raising.Looks to), ap (λ (x : Next T). x.0) v.starts, raise_begins (get first.store.files world_boundary) now.0.boundary to);
-      } in
-      advance_run taken times 9 first new (next_op old) pages r' d h
+      }
+
+  pub advance_bound : (old : State T) (client to : ℕ) (said : Told T) (first : State T) (pages times : ℕ) (taken : List (Event T × Told T)) (new : State T) → IsReached encode decode get_epoch set_epoch old → Takes encode decode get_epoch set_epoch old (events.Begin client (any.Plain (calls.Advance to))) said first →
+      Disturbed encode decode get_epoch set_epoch (next_op old) pages times first taken new → own_count (next_op old) taken ≤ 9 + times * 5
+  advance_bound old client to said first pages times taken new r t d =
+      advance_run taken times 9 first new (next_op old) pages (taken_reached encode decode get_epoch set_epoch old (events.Begin client (any.Plain (calls.Advance to))) said first r t) d (advance_has old client to said first r t)
 
   -- from any state in which it runs
   pub advance_alone : (s : State T) (op : ℕ) (o : Operation T) (ask : Ask) (advance : AdvanceOp) (pages : ℕ) (taken : List (Event T × Told T)) (new : State T) → IsReached encode decode get_epoch set_epoch s → numbered s.operations op ≡ Some o → asked o.doing ≡ Some ask → o.doing ≡ does.Plain (doings.Advance advance) →

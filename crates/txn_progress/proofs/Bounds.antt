@@ -150,7 +150,7 @@ module _ {T : Type 0} (encode : T → List ℕ) (decode : List ℕ → Option T)
   others_stay old (events.Crash client) said new op o t other found = subst (λ (s : State T). StaysIn s.operations op o) (sym t.step.state) (crash_stays client old.operations op o found)
 
   -- its own
-  own_goes : (old : State T) (event : Event T) (said : Told T) (new : State T) (op g again n : ℕ) → Reached old → Takes' old event said new → is_own op event ≡ true → Listings new.store.files old.page g → Has' old op g again n → GoesOn encode decode get_epoch set_epoch new op g again n
+  pub own_goes : (old : State T) (event : Event T) (said : Told T) (new : State T) (op g again n : ℕ) → Reached old → Takes' old event said new → is_own op event ≡ true → Listings new.store.files old.page g → Has' old op g again n → GoesOn encode decode get_epoch set_epoch new op g again n
   own_goes old (events.Look m) said new op g again n r t own now h = (let same : m ≡ op = eqb-true m op (or_true (m == op) own) in look_goes encode decode get_epoch set_epoch old op g again n said new r (subst (λ (k : ℕ). Takes' old (events.Look k) said new) same t) now h)
   own_goes old (events.Serve m) said new op g again n r t own now h = (let same : m ≡ op = eqb-true m op own in serve_goes encode decode get_epoch set_epoch old op g again n said new r (subst (λ (k : ℕ). Takes' old (events.Serve k) said new) same t) now h)
   own_goes old (events.Begin client call) said new op g again n r t own now h = absurd (let clash : false ≡ true = own in cc)
@@ -160,7 +160,7 @@ module _ {T : Type 0} (encode : T → List ℕ) (decode : List ℕ → Option T)
   own_goes old (events.Crash client) said new op g again n r t own now h = absurd (let clash : false ≡ true = own in cc)
 
   -- what leaves it alone
-  calm_keeps : (old : State T) (event : Event T) (said : Told T) (new : State T) (op g again n : ℕ) → Reached old → Takes' old event said new → is_own op event ≡ false → LeavesAlone op old new → Has' old op g again n → Has' new op g again n
+  pub calm_keeps : (old : State T) (event : Event T) (said : Told T) (new : State T) (op g again n : ℕ) → Reached old → Takes' old event said new → is_own op event ≡ false → LeavesAlone op old new → Has' old op g again n → Has' new op g again n
   calm_keeps old event said new op g again n r t other calm h =
       let r' = taken_reached encode decode get_epoch set_epoch old event said new r t in
       let j' = reached_joins encode decode get_epoch set_epoch new r' in
@@ -181,12 +181,12 @@ module _ {T : Type 0} (encode : T → List ℕ) (decode : List ℕ → Option T)
         | inr there ↦ record { operation = doing_next h.operation ended; there = there; caches = h.caches; kept = sym (ap (caches_by new) there) ∙ (calm.kept ∙ before); joined = j'; left = tt; adds = omega arith }
       ]
 
-unchecked_small : (write : WriteUncheckedOp) → (unchecked_budget write).looks + (unchecked_budget write).calls ≤ 2
+pub unchecked_small : (write : WriteUncheckedOp) → (unchecked_budget write).looks + (unchecked_budget write).calls ≤ 2
 unchecked_small (unchecked.Puts version request) = omega arith
 unchecked_small (unchecked.Keeps version) = omega arith
 unchecked_small unchecked.Ended = omega arith
 
-write_small_at : (step : WriteStep) (write : WriteOp) → (write_budget_at step write).looks + (write_budget_at step write).calls ≤ 7
+pub write_small_at : (step : WriteStep) (write : WriteOp) → (write_budget_at step write).looks + (write_budget_at step write).calls ≤ 7
 write_small_at writes.Writes write = (let a = unchecked_small write.write in let b = check_small write.check in omega (arith, a, b))
 write_small_at writes.Checks write = (let b = check_small write.check in omega (arith, b))
 
@@ -219,7 +219,7 @@ module _ {T : Type 0} (encode : T → List ℕ) (decode : List ℕ → Option T)
   client_keeps s client r some most = (let wide = reached_wide encode decode get_epoch set_epoch s r in numbered_there s.caches client some (omega (arith, most, wide)))
 
   -- what disturbs it
-  disturbed_keeps : (old : State T) (event : Event T) (said : Told T) (new : State T) (op g again n : ℕ) → Reached encode decode get_epoch set_epoch old → Takes encode decode get_epoch set_epoch old event said new → is_own op event ≡ false → FewPages g new → Has encode decode get_epoch set_epoch old op g again n → Has encode decode get_epoch set_epoch new op g again (n + again)
+  pub disturbed_keeps : (old : State T) (event : Event T) (said : Told T) (new : State T) (op g again n : ℕ) → Reached encode decode get_epoch set_epoch old → Takes encode decode get_epoch set_epoch old event said new → is_own op event ≡ false → FewPages g new → Has encode decode get_epoch set_epoch old op g again n → Has encode decode get_epoch set_epoch new op g again (n + again)
   disturbed_keeps old event said new op g again n r t other few h =
       let r' = taken_reached encode decode get_epoch set_epoch old event said new r t in
       let j' = reached_joins encode decode get_epoch set_epoch new r' in
@@ -388,9 +388,10 @@ module _ {T : Type 0} (encode : T → List ℕ) (decode : List ℕ → Option T)
       let later = (not (is_busy (seen_of s) s.trace (view_used call)), faults.ViewBusy) ∷ (is_known_base s.trace (base_seen (seen_of s) call), faults.UnknownBase) ∷ (has_low_boundary s.trace call, faults.BoundaryTooHigh) ∷ (keeps_epoch decode get_epoch s.trace (base_seen (seen_of s) call) call, faults.EpochLowered) ∷ [] in
       (and_parts is may (first_true (is && may) faults.UnknownNumber later allowed)).0
 
-  pub call_bound : (old : State T) (client : ℕ) (call : Call T) (said : Told T) (first : State T) (g times : ℕ) (taken : List (Event T × Told T)) (new : State T) → IsReached encode decode get_epoch set_epoch old → Takes encode decode get_epoch set_epoch old (events.Begin client call) said first →
-      IsNoAdvance call → FewPages g first → Disturbed encode decode get_epoch set_epoch (next_op old) g times first taken new → own_count (next_op old) taken ≤ (cost_of call g).alone + times * (cost_of call g).again
-  call_bound old client call said first g times taken new r t fits few d =
+  -- what an operation has left as its call begins
+  pub call_has : (old : State T) (client : ℕ) (call : Call T) (said : Told T) (first : State T) (g : ℕ) → IsReached encode decode get_epoch set_epoch old → Takes encode decode get_epoch set_epoch old (events.Begin client call) said first →
+      IsNoAdvance call → FewPages g first → Has encode decode get_epoch set_epoch first (next_op old) g (cost_of call g).again (cost_of call g).alone
+  call_has old client call said first g r t fits few =
       let v = t.step in
       let r' = taken_reached encode decode get_epoch set_epoch old (events.Begin client call) said first r t in
       let j' = reached_joins encode decode get_epoch set_epoch first r' in
@@ -405,5 +406,9 @@ module _ {T : Type 0} (encode : T → List ℕ) (decode : List ℕ → Option T)
       let begun = call_begins j'.fine.trace first.store.files first.page g l now.0 encode get_epoch set_epoch call (view_now old call) fits in
       let begun' : Begun j'.fine.trace first.store.files first.page g l now.0 encode get_epoch set_epoch v.next (cost_of call g) =
       subst (λ (x : Next T). Begun j'.fine.trace first.store.files first.page g l now.0 encode get_epoch set_epoch x (cost_of call g)) (ap (λ (p : ℕ). started p encode get_epoch set_epoch call (view_now old call)) page ∙ sym v.starts) begun in
-      let h : Has encode decode get_epoch set_epoch first (next_op old) g (cost_of call g).again (cost_of call g).alone = record { operation = one; there = there; caches = now.0; kept = now.1; joined = j'; left = begun'.0; adds = begun'.1 } in
-      run_bound encode decode get_epoch set_epoch taken times (cost_of call g).alone first new (next_op old) g (cost_of call g).again r' d h
+      record { operation = one; there = there; caches = now.0; kept = now.1; joined = j'; left = begun'.0; adds = begun'.1 }
+
+  pub call_bound : (old : State T) (client : ℕ) (call : Call T) (said : Told T) (first : State T) (g times : ℕ) (taken : List (Event T × Told T)) (new : State T) → IsReached encode decode get_epoch set_epoch old → Takes encode decode get_epoch set_epoch old (events.Begin client call) said first →
+      IsNoAdvance call → FewPages g first → Disturbed encode decode get_epoch set_epoch (next_op old) g times first taken new → own_count (next_op old) taken ≤ (cost_of call g).alone + times * (cost_of call g).again
+  call_bound old client call said first g times taken new r t fits few d =
+      run_bound encode decode get_epoch set_epoch taken times (cost_of call g).alone first new (next_op old) g (cost_of call g).again (taken_reached encode decode get_epoch set_epoch old (events.Begin client call) said first r t) d (call_has old client call said first g r t fits few)

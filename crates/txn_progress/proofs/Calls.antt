@@ -1,5 +1,5 @@
 -- Any call, and any operation: an advance goes one way, the others go another.
-use Rattle.std.proofs.Common.{◌≡◌, ℕ, ◌+◌, ◌*◌, ◌≤◌, List, Option, Some, ◌⊎◌, inl, inr, refl, sym, subst}
+use Rattle.std.proofs.Common.{◌≡◌, ℕ, ◌+◌, ◌*◌, ◌≤◌, List, Option, Some, None, ◌⊎◌, inl, inr, refl, sym, subst}
 use Rattle.txn_caches.specs.declared.advance.AdvanceOp.{AdvanceOp}
 use Rattle.txn_history.specs.declared.event.PlainCall.TheVariants as calls
 use Rattle.txn_history.specs.declared.event.Call.{Call}
@@ -14,13 +14,13 @@ use Rattle.txn_machine.specs.declared.doing.Doing.{Doing}
 use Rattle.txn_machine.specs.declared.doing.Doing.TheVariants as does
 use Rattle.txn_machine.specs.declared.doing.Operation.{Operation}
 use Rattle.txn_machine.specs.Doing.{asked}
-use Rattle.txn_machine.specs.Machine.{State, Takes, IsReached}
+use Rattle.txn_machine.specs.Machine.{State, refusal_of, next_event, Takes, IsReached}
 use Rattle.txn_progress.specs.Progress.{cost_of, most_left, own_count, FewPages, Disturbed}
 use Rattle.txn_progress.proofs.Advances.{advance_bound, advance_alone}
-use Rattle.txn_progress.proofs.Bounds.{IsNoAdvance, IsNoRaise, call_bound, alone_bound}
+use Rattle.txn_progress.proofs.Bounds.{IsNoAdvance, IsNoRaise, call_bound, alone_bound, next_allowed}
 
 module _ {T : Type 0} where
-  advance_or_not : (call : Call T) → ((to : ℕ) × (call ≡ any.Plain (calls.Advance to))) ⊎ IsNoAdvance call
+  pub advance_or_not : (call : Call T) → ((to : ℕ) × (call ≡ any.Plain (calls.Advance to))) ⊎ IsNoAdvance call
   advance_or_not (any.Plain (calls.Write base value)) = inr tt
   advance_or_not (any.Plain (calls.WriteUnchecked base value)) = inr tt
   advance_or_not (any.Plain calls.Read) = inr tt
@@ -64,3 +64,7 @@ module _ {T : Type 0} (encode : T → List ℕ) (decode : List ℕ → Option T)
         | inl is ↦ subst (λ (doing : Doing T). own_count op taken ≤ most_left doing pages) (sym is.1) (advance_alone encode decode get_epoch set_epoch s op o ask is.0 pages taken new r found asks is.1 d)
         | inr fits ↦ alone_bound encode decode get_epoch set_epoch s op pages o ask taken new r found asks fits few d
       ]
+
+  -- what it asks for is never refused
+  pub any_allowed : (s : State T) (op : ℕ) (o : Operation T) (ask : Ask) → numbered s.operations op ≡ Some o → asked o.doing ≡ Some ask → refusal_of encode decode get_epoch set_epoch s (next_event s op) ≡ None
+  any_allowed s op o ask found asks = next_allowed encode decode get_epoch set_epoch s op o ask found asks

@@ -14,4 +14,6 @@ mod Unheld
 mod Unraised
 mod Raising
 mod Advances
-mod Calls
+pub mod Calls
+pub mod Counted
+mod Whole

@@ -11,6 +11,7 @@ ghost use Rattle.txn_machine.specs.Doing.{asked};
 ghost use Rattle.txn_machine_inner.specs.Machine.{next_op};
 ghost use Rattle.txn_machine.specs.Machine.{State, opening, refusal_of, next_event, Takes, Runs};
 ghost use Rattle.txn_progress.specs.Progress.{cost_of, most_left, own_count, FewPages, Disturbed, Undisturbed};
+ghost use Rattle.txn_progress.specs.Whole.{work_count, Costs};
 
 use txn_types::codec::ObjectCodec;
 use txn_types::epoch::EpochField;
@@ -25,4 +26,12 @@ pub fn work_is_bounded<T: Drop, C: ObjectCodec<T>, E: EpochField<T>>(_codec: &C,
     ensures alone { (clients page pages : ℕ) (before : List (Event T × Told T)) (state : State T) (op : ℕ) (operation : Operation T) (ask : Ask) (taken : List (Event T × Told T)) (new : State T) → 1 ≤ page → Runs (C.encoded _codec.now) (C.decoded _codec.now) (E.epoch_of _epochs.now) (E.with_epoch _epochs.now) (opening clients page) before state → numbered state.operations op ≡ Some operation → asked operation.doing ≡ Some ask → FewPages pages state →
         Undisturbed (C.encoded _codec.now) (C.decoded _codec.now) (E.epoch_of _epochs.now) (E.with_epoch _epochs.now) op pages state taken new → own_count op taken ≤ most_left operation.doing pages }
     ensures allowed { (state : State T) (op : ℕ) (operation : Operation T) (ask : Ask) → numbered state.operations op ≡ Some operation → asked operation.doing ≡ Some ask → refusal_of (C.encoded _codec.now) (C.decoded _codec.now) (E.epoch_of _epochs.now) (E.with_epoch _epochs.now) state (next_event state op) ≡ None }
+{}
+
+/// All looks and serves of a run, of whichever operations, are no more than the run costs: for each begin what its call takes alone,
+/// and for each event what it adds to each operation that it disturbs, where a listing of the versions has at most so many
+/// pages after each event. So where no event changes the store's files, or what a client keeps, the operations come to their
+/// answers, in whatever order they take their turns.
+pub fn whole_run_is_bounded<T: Drop, C: ObjectCodec<T>, E: EpochField<T>>(_codec: &C, _epochs: &E)
+    ensures { (clients page pages cost : ℕ) (taken : List (Event T × Told T)) (new : State T) → 1 ≤ page → Costs (C.encoded _codec.now) (C.decoded _codec.now) (E.epoch_of _epochs.now) (E.with_epoch _epochs.now) pages cost (opening clients page) taken new → work_count taken ≤ cost }
 {}

@@ -1,6 +1,5 @@
 use Rattle.txn_machine.proofs.Reached.{run_reaches}
-use Rattle.txn_progress.proofs.Bounds.{next_allowed}
-use Rattle.txn_progress.proofs.Calls.{any_bound, any_alone}
+use Rattle.txn_progress.proofs.Calls.{any_bound, any_alone, any_allowed}
 use Rattle.txn_progress.proofs.progress.work_is_bounded.Goals as goal
 
 pub returns-clause-calls : goal.returns-clause-calls
@@ -13,4 +12,4 @@ returns-clause-alone g c clients page pages before state op operation ask taken 
 
 pub returns-clause-allowed : goal.returns-clause-allowed
 returns-clause-allowed g c state op operation ask found asks =
-    next_allowed (g.C.ObjectCodec.encoded c.args._codec.now) (g.C.ObjectCodec.decoded c.args._codec.now) (g.E.EpochField.epoch_of c.args._epochs.now) (g.E.EpochField.with_epoch c.args._epochs.now) state op operation ask found asks
+    any_allowed (g.C.ObjectCodec.encoded c.args._codec.now) (g.C.ObjectCodec.decoded c.args._codec.now) (g.E.EpochField.epoch_of c.args._epochs.now) (g.E.EpochField.with_epoch c.args._epochs.now) state op operation ask found asks

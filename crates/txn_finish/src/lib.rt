@@ -1,0 +1,4 @@
+//! Operations of a world that are given what they ask for until they are answered.
+#![tactic(auto)]
+
+pub mod finish;
