@@ -1,5 +1,6 @@
 //! The lives of versions: each from the put that makes it to the delete that removes it.
 
+use crate::absences::End;
 use crate::calls::Asked;
 use crate::landings::{Fate, land};
 use crate::makers::{Loose, loose_creates};
@@ -20,10 +21,13 @@ pub struct Life {
     pub until: u64,
     /// When the last call was asked that saw it.
     pub last: u64,
-    /// The call that removes it, if one does, and between which times it was removed: the greatest time where none does.
+    /// The call that removes it, if one does, and between which times it was removed, where it was: no earlier than a call saw it,
+    /// and no later than one shows that it had ended, which is the greatest time where none does.
     pub removed_by: Option<usize>,
     pub removed_from: u64,
     pub removed_until: u64,
+    /// The call that shows by when it had ended, if one does.
+    pub missed_by: Option<usize>,
 }
 
 impl Life {
@@ -31,6 +35,17 @@ impl Life {
     /// create that was asked first may come after another's life, where its client was held up.
     fn stood(&self) -> u64 {
         self.last.max(self.until)
+    }
+
+    /// Whether it may have stood between two times.
+    pub fn may_stand(&self, from: u64, until: u64) -> bool {
+        self.from <= until && from <= self.removed_until
+    }
+
+    /// Notes that a call saw it, by when that was asked and when its reply was there.
+    fn seen(&mut self, at: u64, until: u64) {
+        self.last = self.last.max(at);
+        self.until = self.until.min(until);
     }
 }
 
@@ -114,8 +129,9 @@ impl Lives {
             until: call.until.min(made.until),
             last: made.at,
             removed_by: None,
-            removed_from: u64::MAX,
+            removed_from: made.at,
             removed_until: u64::MAX,
+            missed_by: None,
         })?;
         Ok(())
     }
@@ -152,14 +168,18 @@ impl Lives {
         Ok(())
     }
 
+    /// Notes that a call saw the life at a place, by when that was asked and when its reply was there.
+    pub(crate) fn seen(&mut self, place: usize, at: u64, until: u64) {
+        if let Some(life) = self.lives.get_mut(place) {
+            life.seen(at, until);
+        }
+    }
+
     /// Notes when each life was seen last.
     fn note_sights(&mut self, sights: &[Sight<'_>]) {
         for sight in sights {
             if let Some(place) = self.of_token.get(&(sight.id, sight.token)).copied() {
-                if let Some(life) = self.lives.get_mut(place) {
-                    life.last = life.last.max(sight.at);
-                    life.until = life.until.min(sight.until);
-                }
+                self.seen(place, sight.at, sight.until);
             }
         }
     }
@@ -205,12 +225,22 @@ impl Lives {
         self.arrange()
     }
 
-    /// Notes that a call removes the life at a place, which had ended by a time, where one is known.
-    pub(crate) fn end(&mut self, place: usize, at: usize, call: &Asked<'_>, ended: Option<u64>) {
+    /// Notes by when the life at a place had ended, where nothing shows that it had so before.
+    pub(crate) fn ended(&mut self, place: usize, end: End) {
+        if let Some(life) = self.lives.get_mut(place) {
+            if end.by <= life.removed_until {
+                life.removed_until = end.by;
+                life.missed_by = Some(end.call);
+            }
+        }
+    }
+
+    /// Notes that a call removes the life at a place.
+    pub(crate) fn end(&mut self, place: usize, at: usize, call: &Asked<'_>) {
         if let Some(life) = self.lives.get_mut(place) {
             life.removed_by = Some(at);
             life.removed_from = call.from.max(life.last).max(life.from);
-            life.removed_until = call.until.min(ended.unwrap_or(u64::MAX));
+            life.removed_until = call.until.min(life.removed_until);
         }
     }
 
@@ -227,6 +257,14 @@ impl Lives {
     pub fn with_token(&self, id: u64, token: u64) -> Option<Life> {
         let place = self.of_token.get(&(id, token)).copied()?;
         self.lives.get(place).copied()
+    }
+
+    /// The first life of the first version above one.
+    pub fn above(&self, id: u64) -> Option<Life> {
+        let lives = self.lives.as_slice();
+        lives
+            .get(lives.partition_point(|life| life.id <= id))
+            .copied()
     }
 
     /// The version of the life at a place.
