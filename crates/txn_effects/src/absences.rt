@@ -61,7 +61,8 @@ struct Absences<'a> {
 }
 
 impl Absences<'_> {
-    /// The first call that was there of those that were asked after a life had begun, and found or left nothing.
+    /// The first call that was there of those that were asked after a life had begun, and found or left nothing, where the life was not
+    /// seen after it.
     fn gone(&self, calls: &[Asked<'_>], life: &Life, after: u64) -> Option<End> {
         let gone = self.gone.as_slice();
         let mut first = None;
@@ -72,7 +73,7 @@ impl Absences<'_> {
                 return first;
             }
             if let Some(call) = calls.get(at) {
-                if call.from > after {
+                if call.from > after && call.until >= life.last {
                     let end = End {
                         by: call.until,
                         call: at,

@@ -20,40 +20,21 @@ struct Extent<'a> {
 
 impl<'a> Extent<'a> {
     /// That of a call, where it lists.
-    fn of(call: &Asked<'a>, place: usize) -> Option<Extent<'a>> {
+    fn of(call: &Asked<'a>, place: usize, lives: &Lives) -> Option<Extent<'a>> {
         let (low, page) = call.lists()?;
         let top = match page.metas.as_slice().last() {
             Some(meta) => version_of(&meta.location).unwrap_or(low),
             None => low,
         };
+        let (from, until) = lives.told(page, top, call.from, call.until);
         Some(Extent {
-            from: call.from,
-            until: call.until,
+            from,
+            until,
             low,
             top,
             page,
             call: place,
         })
-    }
-
-    /// By the lives that it told, which stood then, and by the first version above them, which was not yet made where it says that
-    /// no more follow: the newest version stands.
-    fn narrowed(self, lives: &Lives) -> Extent<'a> {
-        let mut narrow = self;
-        for meta in self.page.metas.as_slice() {
-            if let Some(id) = version_of(&meta.location) {
-                if let Some(life) = lives.with_token(id, meta.token.number()) {
-                    narrow.from = narrow.from.max(life.from);
-                    narrow.until = narrow.until.min(life.removed_until);
-                }
-            }
-        }
-        if !self.page.more {
-            if let Some(above) = lives.above(self.top) {
-                narrow.until = narrow.until.min(above.until);
-            }
-        }
-        narrow
     }
 
     /// Whether it told a version.
@@ -67,13 +48,15 @@ impl<'a> Extent<'a> {
         }
     }
 
-    /// Whether it missed a version that it reached over, and was asked after a time.
-    fn missed(&self, id: u64, after: Option<u64>) -> bool {
+    /// Whether it missed the version of a life, which it reached over, and was asked after a time. Where the life was seen after that,
+    /// one of both was told wrongly.
+    fn missed(&self, life: &Life, after: Option<u64>) -> bool {
         let late = match after {
             Some(after) => self.from > after,
             None => true,
         };
-        late && self.low < id && id < self.top && !self.tells(id)
+        let reaches = self.low < life.id && life.id < self.top;
+        late && reaches && self.until >= life.last && !self.tells(life.id)
     }
 }
 
@@ -84,8 +67,8 @@ fn add_extents<'a>(
     extents: &mut Vec<Extent<'a>>,
 ) -> Result<(), AllocError> {
     for place in 0..calls.len() {
-        if let Some(extent) = Extent::of(&calls[place], place) {
-            extents.push(extent.narrowed(lives))?;
+        if let Some(extent) = Extent::of(&calls[place], place, lives) {
+            extents.push(extent)?;
         }
     }
     Ok(())
@@ -138,7 +121,7 @@ impl<'a> Extents<'a> {
             if first.is_some_and(|end| end.by <= extent.from) {
                 return first;
             }
-            if extent.missed(life.id, after) {
+            if extent.missed(life, after) {
                 let end = End {
                     by: extent.until,
                     call: extent.call,

@@ -1,12 +1,13 @@
 //! The lives of versions: each from the put that makes it to the delete that removes it.
 
 use crate::absences::End;
-use crate::calls::Asked;
+use crate::calls::{Asked, version_of};
 use crate::landings::{Fate, land};
 use crate::makers::{Loose, loose_creates};
 use crate::sights::{Sight, sights};
 use std::alloc::{AllocError, Global};
 use std::collections::HashMap;
+use txn_store::page::Page;
 
 /// One life of a version.
 #[derive(Clone, Copy)]
@@ -259,12 +260,28 @@ impl Lives {
         self.lives.get(place).copied()
     }
 
+    /// Between which times a page was told, of those between two: when all that it tells stood, and, where it says that no more follow
+    /// behind the last version that it reached, before the next one was made for the first time: the newest version stands.
+    pub fn told(&self, page: &Page, top: u64, from: u64, until: u64) -> (u64, u64) {
+        let mut narrow = (from, until);
+        for meta in page.metas.as_slice() {
+            if let Some(id) = version_of(&meta.location) {
+                if let Some(life) = self.with_token(id, meta.token.number()) {
+                    narrow = (narrow.0.max(life.from), narrow.1.min(life.removed_until));
+                }
+            }
+        }
+        match self.above(top) {
+            Some(above) if !page.more => (narrow.0, narrow.1.min(above.until)),
+            _ => narrow,
+        }
+    }
+
     /// The first life of the first version above one.
     pub fn above(&self, id: u64) -> Option<Life> {
         let lives = self.lives.as_slice();
-        lives
-            .get(lives.partition_point(|life| life.id <= id))
-            .copied()
+        let place = lives.partition_point(|life| life.id <= id);
+        lives.get(place).copied()
     }
 
     /// The version of the life at a place.

@@ -52,14 +52,17 @@ impl<'x, 'a> Ended<'x, 'a> {
         Some(Ended { life, end, shown })
     }
 
-    /// Whether a delete may have removed it: none that its client asked for after the call that shows the end.
+    /// Whether a delete may have removed it: none that its client asked for after it had the reply that shows the end.
     fn may_end_by(&self, delete: &Asked<'_>) -> bool {
         let early = match self.end {
             Some(end) => delete.from <= end.by,
             None => true,
         };
         let behind = match self.shown {
-            Some(call) => call.recording == delete.recording && call.row < delete.row,
+            Some(call) => {
+                let is_own = call.recording == delete.recording;
+                is_own && call.is_answered() && call.row < delete.row
+            }
             None => false,
         };
         delete.until >= self.life.from && delete.until >= self.life.last && early && !behind
