@@ -260,8 +260,9 @@ impl Lives {
         self.lives.get(place).copied()
     }
 
-    /// Between which times a page was told, of those between two: when all that it tells stood, and, where it says that no more follow
-    /// behind the last version that it reached, before the next one was made for the first time: the newest version stands.
+    /// Between which times a page was told, of those between two: when all that it tells stood, and after the next version was made for
+    /// the first time behind the last one that it reached, or before that, as it says that more follow or none: the newest version
+    /// stands.
     pub fn told(&self, page: &Page, top: u64, from: u64, until: u64) -> (u64, u64) {
         let mut narrow = (from, until);
         for meta in page.metas.as_slice() {
@@ -272,8 +273,9 @@ impl Lives {
             }
         }
         match self.above(top) {
-            Some(above) if !page.more => (narrow.0, narrow.1.min(above.until)),
-            _ => narrow,
+            Some(above) if page.more => (narrow.0.max(above.from), narrow.1),
+            Some(above) => (narrow.0, narrow.1.min(above.until)),
+            None => narrow,
         }
     }
 
