@@ -10,6 +10,7 @@ use crate::landings::{Fate, fates};
 use crate::lives::{Lives, lived};
 use crate::meetings::note_met;
 use crate::removals::{Concern, remove};
+use crate::turns::turn_lives;
 use std::alloc::{AllocError, Global};
 use txn_recorded::row::RecordedRow;
 
@@ -66,10 +67,12 @@ fn gone(
     fates: &mut Vec<Fate>,
     lives: &mut Lives,
 ) -> Result<Vec<Concern>, AllocError> {
+    turn_lives(alloc, calls, lives)?;
     narrow(lives);
     note_ends(alloc, calls, margin, lives)?;
     narrow(lives);
     land_hidden(alloc, calls, fates, lives)?;
+    turn_lives(alloc, calls, lives)?;
     narrow(lives);
     note_ends(alloc, calls, margin, lives)?;
     narrow(lives);

@@ -17,3 +17,4 @@ mod makers;
 mod meetings;
 pub mod removals;
 mod sights;
+mod turns;

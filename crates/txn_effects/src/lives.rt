@@ -160,6 +160,28 @@ impl Lives {
     pub(crate) fn arrange(&mut self) -> Result<(), AllocError> {
         self.lives
             .sort_by_key(|life| (life.id, life.stood(), life.token.unwrap_or(0)))?;
+        self.index()
+    }
+
+    /// Turns the lives at a place and behind it.
+    pub(crate) fn swap(&mut self, place: usize) {
+        let behind = place.saturating_add(1);
+        let (Some(life), Some(next)) = (
+            self.lives.get(place).copied(),
+            self.lives.get(behind).copied(),
+        ) else {
+            return;
+        };
+        if let Some(it) = self.lives.get_mut(place) {
+            *it = next;
+        }
+        if let Some(it) = self.lives.get_mut(behind) {
+            *it = life;
+        }
+    }
+
+    /// Finds the lives by their tokens where they stand.
+    pub(crate) fn index(&mut self) -> Result<(), AllocError> {
         for place in 0..self.lives.len() {
             let life = self.lives[place];
             if let Some(token) = life.token {

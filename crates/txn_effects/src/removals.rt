@@ -11,10 +11,10 @@ use std::alloc::{AllocError, Global};
 pub type Concern = (u64, usize);
 
 /// A delete: its version, when its reply was there, when it was asked, and its place among the calls.
-type Delete = (u64, u64, u64, usize);
+pub(crate) type Delete = (u64, u64, u64, usize);
 
 /// The deletes, by versions, then by when their replies were there, then by when they were asked.
-fn all_deletes(alloc: Global, calls: &[Asked<'_>]) -> Result<Vec<Delete>, AllocError> {
+pub(crate) fn all_deletes(alloc: Global, calls: &[Asked<'_>]) -> Result<Vec<Delete>, AllocError> {
     let mut deletes = Vec::new(alloc);
     for place in 0..calls.len() {
         let call = &calls[place];
