@@ -63,6 +63,7 @@ class Simulated(unittest.TestCase):
             self.assertTrue(are_history(run.recordings), seed)
             again = Run(seed, Setting.at_random(random.Random(seed), 150))
             self.assertEqual(run.recordings, again.recordings)
+            self.assertGreaterEqual(len(Run(seed, Setting.harder(random.Random(seed))).recordings), 3)
 
     def test_the_search_decides_as_the_cases_say(self):
         taken = ("create_lost_and_met_alone", "create_told_after_the_next_making", "delete_lost_beside_a_long_listing")
