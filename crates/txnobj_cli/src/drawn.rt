@@ -151,7 +151,7 @@ fn clients_of(
 }
 
 /// Reads recordings, audits them, and says what happened in them: nothing where a line is not taken, which is told.
-fn drawn(rt: &HostRuntime, files: &[&str], clock_error: u64) -> Result<Option<Drawn>, Halt> {
+fn drawing_of(rt: &HostRuntime, files: &[&str], clock_error: u64) -> Result<Option<Drawn>, Halt> {
     let alloc = rt.alloc();
     let mut recordings = Recordings::<Entry>::new(alloc);
     if !are_added(rt, files, &mut recordings)? {
@@ -181,7 +181,7 @@ fn drawn(rt: &HostRuntime, files: &[&str], clock_error: u64) -> Result<Option<Dr
 
 /// Draws recordings as text, in the order of an audit: the status. What the audit says stands at the foot.
 pub fn trace(rt: &HostRuntime, files: &[&str], clock_error: u64) -> Result<u8, Halt> {
-    let Some(drawn) = drawn(rt, files, clock_error)? else {
+    let Some(drawn) = drawing_of(rt, files, clock_error)? else {
         return Ok(NOT_ONE_HISTORY);
     };
     let text = lanes::drawn(rt.alloc(), drawn.clients, drawn.moments.as_slice())?;
@@ -206,7 +206,7 @@ fn add_lines(lines: &[String], text: &mut Vec<u8>) -> Result<(), AllocError> {
 
 /// Draws recordings as one picture in SVG, in the order of an audit: the status. What the audit says stands below the title.
 pub fn picture(rt: &HostRuntime, files: &[&str], clock_error: u64) -> Result<u8, Halt> {
-    let Some(drawn) = drawn(rt, files, clock_error)? else {
+    let Some(drawn) = drawing_of(rt, files, clock_error)? else {
         return Ok(NOT_ONE_HISTORY);
     };
     let alloc = rt.alloc();
