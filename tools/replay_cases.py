@@ -3,16 +3,21 @@ from __future__ import annotations
 
 import argparse
 import difflib
+import html
 import os
 import re
+import shutil
 import subprocess
 import sys
 
 SECONDS = 60
 LINES_SHOWN = 20
-ENDINGS = (".stdout", ".stderr", ".status", ".args", ".trace")
-# The words of the commands that play a script, and those that draw the same one.
-DRAWS = {("script",): ["trace"], ("manifest",): ["trace", "manifest"]}
+ENDINGS = (".stdout", ".stderr", ".status", ".args", ".trace", ".svg")
+# The words of the commands that play a script, and those that draw the same one behind the name of a drawing's command.
+DRAWS = {("script",): [], ("manifest",): ["manifest"]}
+# The lines at the foot of a picture, each in a part of one text.
+PICTURE_FOOT = re.compile(rb"<text class='mu' x='14' y='\d+'>((?:<tspan[^>]*>[^<]*</tspan>)*)</text>\n<g transform")
+PICTURE_LINE = re.compile(rb"<tspan[^>]*>([^<]*)</tspan>")
 # The line with which the end lines of a script begin.
 FIRST_END_LINE = re.compile(rb"^(?:entry 1 |boundary )", re.M)
 # The folder of the cases that are of another program than the others.
@@ -57,17 +62,27 @@ class Case:
         return {"standard output": ran.stdout, "standard error": ran.stderr, "exit status": b"%d\n" % ran.returncode}
 
     def drawing_faults(self, program):
-        """How a program's drawing of a script differs from what is wanted, as lines: it has the script's end lines at its foot,
-        and is the one that stands beside the script, where one does. None for a case that is no script or does not play."""
+        """How a program's drawings of a script, as text and as a picture, differ from what is wanted, as lines: each has the
+        script's end lines at its foot, and is the one that stands beside the script, where one does. None for a case that is no
+        script or does not play."""
         words = DRAWS.get(tuple(self.arguments))
         ends = FIRST_END_LINE.search(self.wanted["standard output"])
-        if not words or not ends or self.wanted["exit status"] != b"0\n":
+        if words is None or not ends or self.wanted["exit status"] != b"0\n":
             return []
-        drawn = self.run(program, words)
-        wanted = {**self.wanted, "foot": self.wanted["standard output"][ends.start() :]}
-        drawn["foot"] = drawn["standard output"].rpartition(b"\n\n")[2]
-        wanted["standard output"] = bytes_of(f"{self.stem}.trace", drawn["standard output"])
-        return [line for what in wanted for line in difference(f"{what} of its drawing", wanted[what], drawn[what])]
+        foot = self.wanted["standard output"][ends.start() :]
+        return [
+            *self.faults_of("drawing", self.run(program, ["trace", *words]), ".trace", foot, foot_of_text),
+            *self.faults_of("picture", self.run(program, ["picture", *words]), ".svg", foot, foot_of_picture),
+        ]
+
+    def faults_of(self, name, drawn, ending, foot, foot_of):
+        """How a drawing differs from what is wanted, as lines."""
+        wanted = {**self.wanted, "foot": foot}
+        text = drawn["standard output"]
+        drawn["foot"] = foot_of(text)
+        wanted["standard output"] = bytes_of(f"{self.stem}{ending}", text)
+        found = [line for what in wanted for line in difference(f"{what} of its {name}", wanted[what], drawn[what])]
+        return found + (xml_faults(text) if ending == ".svg" else [])
 
     def faults(self, program, draws=False):
         """How a program's answer differs from what is wanted, as lines, and its drawing, where it makes one."""
@@ -79,6 +94,26 @@ class Case:
         except OSError as error:
             return [f"it cannot be run: {error.strerror}"]
         return [line for what, wanted in self.wanted.items() for line in difference(what, wanted, written[what])] + drawn
+
+
+def foot_of_text(drawn):
+    """The lines at the foot of a drawing in text."""
+    return drawn.rpartition(b"\n\n")[2]
+
+
+def foot_of_picture(drawn):
+    """The lines at the foot of a picture, which end with a line feed each."""
+    found = PICTURE_FOOT.search(drawn)
+    lines = PICTURE_LINE.findall(found.group(1)) if found else []
+    return html.unescape(b"\n".join(lines).decode()).encode()
+
+
+def xml_faults(text):
+    """What `xmllint` says of a picture, as lines, where it is installed."""
+    if not shutil.which("xmllint"):
+        return []
+    ran = subprocess.run(["xmllint", "--noout", "-"], input=text, capture_output=True, timeout=SECONDS)
+    return ran.stderr.decode(errors="replace").splitlines()[:LINES_SHOWN] or ["xmllint takes no picture"] if ran.returncode else []
 
 
 def difference(what, wanted, written):
@@ -143,6 +178,8 @@ def main(words, usage=""):
     top = os.path.dirname(os.path.dirname(os.path.realpath(__file__)))
     folders = given.folder or [f"{top}/cases", f"{top}/examples"]
     passed, failed = replay([os.path.abspath(it) for it in given.programs], folders, [f"{top}/{PORT}"], given.drawn)
+    if given.drawn and not shutil.which("xmllint"):
+        say("xmllint is not installed: no picture was held against the rules of XML")
     say(f"{passed} passed, {failed} failed")
     return 1 if failed or not passed else 0
 

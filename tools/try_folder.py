@@ -2,11 +2,13 @@
 from __future__ import annotations
 
 import argparse
+import html
 import os
 import re
 import subprocess
 
 from refuse_growths import NoLibrary, make_library
+from replay_cases import xml_faults
 from try_folder_clients import Object, Shell, Wrong, agrees, expect, on_one_folder, room_of_one_folder, together, tried
 from try_folder_pairs import CHECKS as PAIRS
 from try_folder_pairs import COUNTS
@@ -149,14 +151,22 @@ def tampering(program, root, _seconds):
 
 
 def recordings(program, _root, _seconds):
-    """An audit says of each folder of recordings what its file `said` says."""
+    """An audit says of each folder of recordings what its file `said` says, and so do its drawings, of which the picture is XML."""
     cases, told = f"{os.path.dirname(os.path.dirname(os.path.realpath(__file__)))}/cases/recordings", []
     for name in sorted(os.listdir(cases)):
         diaries = sorted(it for it in os.listdir(f"{cases}/{name}") if it.endswith(".diary"))
         how = {"cwd": f"{cases}/{name}", "capture_output": True, "text": True, "check": False, "timeout": 60}
         ran = subprocess.run([program, "audit", *diaries], **how)
         with open(f"{cases}/{name}/said", encoding="utf-8") as file:
-            expect(ran.stdout == file.read(), f"{name}: the audit says: {ran.stdout.strip()}")
+            said = file.read()
+        expect(ran.stdout == said, f"{name}: the audit says: {ran.stdout.strip()}")
+        drawn = {it: subprocess.run([program, it, *diaries], **how) for it in ("trace", "picture")}
+        for it, ran in drawn.items():
+            text = html.unescape(ran.stdout) if it == "picture" else ran.stdout
+            expect(ran.returncode in (0, 4) and said.splitlines()[0] in text, f"{name}: its {it} ends with {ran.returncode} and says otherwise")
+        if drawn["picture"].returncode == 0:
+            wrong = xml_faults(drawn["picture"].stdout.encode())
+            expect(not wrong, f"{name}: its picture is no XML: {wrong}")
         told.append(f"recordings are audited as is written beside them: {name}")
     expect(told, "there are no recordings")
     return told

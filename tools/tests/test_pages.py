@@ -86,12 +86,25 @@ class Pages(unittest.TestCase):
     def test_drawings_are_those_of_cases(self):
         traces = glob.glob(f"{TOP}/cases/**/*.trace", recursive=True) + glob.glob(f"{TOP}/examples/*.trace")
         drawings = [text_of(os.path.relpath(it, TOP)).splitlines() for it in traces]
-        pages = ("README.md", "docs/rules.md", "crates/txn_pictures/README.md")
+        pages = ("README.md", "docs/rules.md", "crates/txn_moments/README.md")
         found = [(page, lines) for page in pages for lines in drawings_on(page)]
         self.assertEqual(len(found), 7)
         for page, lines in found:
             self.assertTrue(any(is_drawn_in(lines, it) for it in drawings), (page, lines))
         self.assertFalse(is_drawn_in(found[0][1][::-1], drawings[0]))
+
+    def test_pictures_are_those_of_cases(self):
+        found = []
+        for page in ("README.md", "docs/rules.md"):
+            for words, link in re.findall(r"!\[([^\]]*)\]\(([^)]*)\)", text_of(page)):
+                path = os.path.normpath(os.path.join(os.path.dirname(page), link))
+                found.append(path)
+                self.assertGreater(len(words), 40, path)  # it says what one sees
+                self.assertTrue(path.endswith(".svg") and os.path.isfile(f"{TOP}/{path}"), path)
+                self.assertTrue(os.path.isfile(f"{TOP}/{path[:-4]}.txt"), f"{path} is no picture of a case")
+        self.assertEqual(len(found), 7)
+        pictures = glob.glob(f"{TOP}/cases/**/*.svg", recursive=True) + glob.glob(f"{TOP}/examples/*.svg")
+        self.assertGreaterEqual(len(pictures), 12)
 
     def test_links_of_the_pages(self):
         pages = ["README.md", *(f"docs/{it}" for it in sorted(os.listdir(f"{TOP}/docs")))]

@@ -2,6 +2,7 @@
 import contextlib
 import io
 import os
+import shutil
 import sys
 import tempfile
 import unittest
@@ -71,7 +72,9 @@ class Replays(unittest.TestCase):
         self.assertIn("no number", self.replay(program)[2])
 
     def test_drawings(self):
-        program = self.script("draws", 'echo "$1"; echo; echo "boundary 0"')
+        picture = "<svg><text class='mu' x='14' y='9'><tspan>%s</tspan><tspan x='14' dy='14'></tspan></text>\\n<g transform='none'/></svg>"
+        as_text = """if [ "$1" = picture ]; then printf "%s"; exit; fi; echo "$1"; echo; """
+        program = self.script("draws", as_text % (picture % "boundary 0") + 'echo "boundary 0"')
         self.case("one", txt=b"", stdout=b"script\n\nboundary 0\n")
         drawn = lambda: self.replay(program, "--drawn")  # noqa: E731
         self.assertEqual(drawn()[:2], (0, "1 passed, 0 failed"))
@@ -79,9 +82,19 @@ class Replays(unittest.TestCase):
         self.assertIn("standard output of its drawing:", drawn()[2])
         self.case("one", trace=b"trace\n\nboundary 0\n")
         self.assertEqual(drawn()[:2], (0, "1 passed, 0 failed"))
-        program = self.script("draws", 'echo "$1"; echo; [ "$1" = trace ] && echo "boundary 1" || echo "boundary 0"')
+        self.case("one", svg=b"<svg/>")
+        self.assertIn("standard output of its picture:", drawn()[2])
+        os.remove(f"{self.room}/cases/topic/one.svg")
+        program = self.script("draws", as_text % (picture % "boundary 0") + '[ "$1" = trace ] && echo "boundary 1" || echo "boundary 0"')
         self.assertIn("foot of its drawing:", drawn()[2])
+        program = self.script("draws", as_text % (picture % "boundary 1") + 'echo "boundary 0"')
+        self.assertIn("foot of its picture:", drawn()[2])
         self.assertEqual(self.replay(program)[:2], (0, "1 passed, 0 failed"))
+
+    @unittest.skipUnless(shutil.which("xmllint"), "xmllint is not installed")
+    def test_pictures_are_xml(self):
+        self.assertEqual(replay_cases.xml_faults(b"<svg/>"), [])
+        self.assertIn("Premature end", replay_cases.xml_faults(b"<svg>")[0])
 
     def test_files_without_the_other(self):
         self.case("one", txt=b"a\n", stdout=b"script\na\n")

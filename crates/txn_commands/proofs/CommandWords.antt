@@ -33,7 +33,9 @@ pub asks_for_script : (words : List (List ℕ)) (mode : List ℕ) → words ≡ 
 asks_for_script words mode is script commands.Script fits = (λ _. is ∙ ap (λ m. m ∷ []) script, λ _. refl)
 asks_for_script words mode is script commands.Manifest fits = (λ e. cc, λ e. absurd (other_word mode (codes "script") (codes "manifest") script (λ same. cc) (sym is ∙ e)))
 asks_for_script words mode is script commands.Trace fits = (λ e. cc, λ e. absurd (other_word mode (codes "script") (codes "trace") script (λ same. cc) (sym is ∙ e)))
+asks_for_script words mode is script commands.Picture fits = (λ e. cc, λ e. absurd (other_word mode (codes "script") (codes "picture") script (λ same. cc) (sym is ∙ e)))
 asks_for_script words mode is script commands.ManifestTrace fits = (λ e. cc, λ e. absurd (one_not_two mode (codes "trace") (codes "manifest") (sym is ∙ e)))
+asks_for_script words mode is script commands.ManifestPicture fits = (λ e. cc, λ e. absurd (one_not_two mode (codes "picture") (codes "manifest") (sym is ∙ e)))
 asks_for_script words mode is script (commands.Threads n) fits = (λ e. cc, λ e. absurd (one_not_two mode (codes "threads") (count_text n) (sym is ∙ e)))
 
 pub asks_for_manifest : (words : List (List ℕ)) (mode : List ℕ) → words ≡ mode ∷ [] → mode ≡ codes "manifest" → (command : Command) → IsCommand command
@@ -41,7 +43,9 @@ pub asks_for_manifest : (words : List (List ℕ)) (mode : List ℕ) → words �
 asks_for_manifest words mode is manifest commands.Script fits = (λ e. cc, λ e. absurd (other_word mode (codes "manifest") (codes "script") manifest (λ same. cc) (sym is ∙ e)))
 asks_for_manifest words mode is manifest commands.Manifest fits = (λ _. is ∙ ap (λ m. m ∷ []) manifest, λ _. refl)
 asks_for_manifest words mode is manifest commands.Trace fits = (λ e. cc, λ e. absurd (other_word mode (codes "manifest") (codes "trace") manifest (λ same. cc) (sym is ∙ e)))
+asks_for_manifest words mode is manifest commands.Picture fits = (λ e. cc, λ e. absurd (other_word mode (codes "manifest") (codes "picture") manifest (λ same. cc) (sym is ∙ e)))
 asks_for_manifest words mode is manifest commands.ManifestTrace fits = (λ e. cc, λ e. absurd (one_not_two mode (codes "trace") (codes "manifest") (sym is ∙ e)))
+asks_for_manifest words mode is manifest commands.ManifestPicture fits = (λ e. cc, λ e. absurd (one_not_two mode (codes "picture") (codes "manifest") (sym is ∙ e)))
 asks_for_manifest words mode is manifest (commands.Threads n) fits = (λ e. cc, λ e. absurd (one_not_two mode (codes "threads") (count_text n) (sym is ∙ e)))
 
 pub asks_for_trace : (words : List (List ℕ)) (mode : List ℕ) → words ≡ mode ∷ [] → mode ≡ codes "trace" → (command : Command) → IsCommand command
@@ -49,8 +53,20 @@ pub asks_for_trace : (words : List (List ℕ)) (mode : List ℕ) → words ≡ m
 asks_for_trace words mode is trace commands.Script fits = (λ e. cc, λ e. absurd (other_word mode (codes "trace") (codes "script") trace (λ same. cc) (sym is ∙ e)))
 asks_for_trace words mode is trace commands.Manifest fits = (λ e. cc, λ e. absurd (other_word mode (codes "trace") (codes "manifest") trace (λ same. cc) (sym is ∙ e)))
 asks_for_trace words mode is trace commands.Trace fits = (λ _. is ∙ ap (λ m. m ∷ []) trace, λ _. refl)
+asks_for_trace words mode is trace commands.Picture fits = (λ e. cc, λ e. absurd (other_word mode (codes "trace") (codes "picture") trace (λ same. cc) (sym is ∙ e)))
 asks_for_trace words mode is trace commands.ManifestTrace fits = (λ e. cc, λ e. absurd (one_not_two mode (codes "trace") (codes "manifest") (sym is ∙ e)))
+asks_for_trace words mode is trace commands.ManifestPicture fits = (λ e. cc, λ e. absurd (one_not_two mode (codes "picture") (codes "manifest") (sym is ∙ e)))
 asks_for_trace words mode is trace (commands.Threads n) fits = (λ e. cc, λ e. absurd (one_not_two mode (codes "threads") (count_text n) (sym is ∙ e)))
+
+pub asks_for_picture : (words : List (List ℕ)) (mode : List ℕ) → words ≡ mode ∷ [] → mode ≡ codes "picture" → (command : Command) → IsCommand command
+    → (Some commands.Picture ≡ Some command) ↔ (words ≡ command_words command)
+asks_for_picture words mode is picture commands.Script fits = (λ e. cc, λ e. absurd (other_word mode (codes "picture") (codes "script") picture (λ same. cc) (sym is ∙ e)))
+asks_for_picture words mode is picture commands.Manifest fits = (λ e. cc, λ e. absurd (other_word mode (codes "picture") (codes "manifest") picture (λ same. cc) (sym is ∙ e)))
+asks_for_picture words mode is picture commands.Trace fits = (λ e. cc, λ e. absurd (other_word mode (codes "picture") (codes "trace") picture (λ same. cc) (sym is ∙ e)))
+asks_for_picture words mode is picture commands.Picture fits = (λ _. is ∙ ap (λ m. m ∷ []) picture, λ _. refl)
+asks_for_picture words mode is picture commands.ManifestTrace fits = (λ e. cc, λ e. absurd (one_not_two mode (codes "trace") (codes "manifest") (sym is ∙ e)))
+asks_for_picture words mode is picture commands.ManifestPicture fits = (λ e. cc, λ e. absurd (one_not_two mode (codes "picture") (codes "manifest") (sym is ∙ e)))
+asks_for_picture words mode is picture (commands.Threads n) fits = (λ e. cc, λ e. absurd (one_not_two mode (codes "threads") (count_text n) (sym is ∙ e)))
 
 -- a first word that is another
 other_first : (mode want other count more : List ℕ) → mode ≡ want → want ≢ other → (mode ∷ count ∷ []) ≡ (other ∷ more ∷ []) → ⊥
@@ -64,8 +80,20 @@ pub asks_for_manifest_trace : (words : List (List ℕ)) (mode kind : List ℕ) �
 asks_for_manifest_trace words mode kind is trace manifest commands.Script fits = (λ e. cc, λ e. absurd (one_not_two (codes "script") mode kind (sym e ∙ is)))
 asks_for_manifest_trace words mode kind is trace manifest commands.Manifest fits = (λ e. cc, λ e. absurd (one_not_two (codes "manifest") mode kind (sym e ∙ is)))
 asks_for_manifest_trace words mode kind is trace manifest commands.Trace fits = (λ e. cc, λ e. absurd (one_not_two (codes "trace") mode kind (sym e ∙ is)))
+asks_for_manifest_trace words mode kind is trace manifest commands.Picture fits = (λ e. cc, λ e. absurd (one_not_two (codes "picture") mode kind (sym e ∙ is)))
 asks_for_manifest_trace words mode kind is trace manifest commands.ManifestTrace fits = (λ _. is ∙ (ap (λ m. m ∷ kind ∷ []) trace ∙ ap (λ k. codes "trace" ∷ k ∷ []) manifest), λ _. refl)
+asks_for_manifest_trace words mode kind is trace manifest commands.ManifestPicture fits = (λ e. cc, λ e. absurd (other_first mode (codes "trace") (codes "picture") kind (codes "manifest") trace (λ same. cc) (sym is ∙ e)))
 asks_for_manifest_trace words mode kind is trace manifest (commands.Threads n) fits = (λ e. cc, λ e. absurd (other_first mode (codes "trace") (codes "threads") kind (count_text n) trace (λ same. cc) (sym is ∙ e)))
+
+pub asks_for_manifest_picture : (words : List (List ℕ)) (mode kind : List ℕ) → words ≡ mode ∷ kind ∷ [] → mode ≡ codes "picture" → kind ≡ codes "manifest" → (command : Command) → IsCommand command
+    → (Some commands.ManifestPicture ≡ Some command) ↔ (words ≡ command_words command)
+asks_for_manifest_picture words mode kind is picture manifest commands.Script fits = (λ e. cc, λ e. absurd (one_not_two (codes "script") mode kind (sym e ∙ is)))
+asks_for_manifest_picture words mode kind is picture manifest commands.Manifest fits = (λ e. cc, λ e. absurd (one_not_two (codes "manifest") mode kind (sym e ∙ is)))
+asks_for_manifest_picture words mode kind is picture manifest commands.Trace fits = (λ e. cc, λ e. absurd (one_not_two (codes "trace") mode kind (sym e ∙ is)))
+asks_for_manifest_picture words mode kind is picture manifest commands.Picture fits = (λ e. cc, λ e. absurd (one_not_two (codes "picture") mode kind (sym e ∙ is)))
+asks_for_manifest_picture words mode kind is picture manifest commands.ManifestTrace fits = (λ e. cc, λ e. absurd (other_first mode (codes "picture") (codes "trace") kind (codes "manifest") picture (λ same. cc) (sym is ∙ e)))
+asks_for_manifest_picture words mode kind is picture manifest commands.ManifestPicture fits = (λ _. is ∙ (ap (λ m. m ∷ kind ∷ []) picture ∙ ap (λ k. codes "picture" ∷ k ∷ []) manifest), λ _. refl)
+asks_for_manifest_picture words mode kind is picture manifest (commands.Threads n) fits = (λ e. cc, λ e. absurd (other_first mode (codes "picture") (codes "threads") kind (count_text n) picture (λ same. cc) (sym is ∙ e)))
 
 pub asks_for_threads : (words : List (List ℕ)) (mode count : List ℕ) (m : ℕ) → words ≡ mode ∷ count ∷ [] → mode ≡ codes "threads" → ((n : ℕ) → IsCount n → (Some m ≡ Some n) ↔ (count ≡ count_text n)) → (command : Command) → IsCommand command
     → (Some (commands.Threads m) ≡ Some command) ↔ (words ≡ command_words command)
@@ -73,6 +101,8 @@ asks_for_threads words mode count m is threads exact commands.Script fits = (λ 
 asks_for_threads words mode count m is threads exact commands.Manifest fits = (λ e. cc, λ e. absurd (one_not_two (codes "manifest") mode count (sym e ∙ is)))
 asks_for_threads words mode count m is threads exact commands.Trace fits = (λ e. cc, λ e. absurd (one_not_two (codes "trace") mode count (sym e ∙ is)))
 asks_for_threads words mode count m is threads exact commands.ManifestTrace fits = (λ e. cc, λ e. absurd (other_first mode (codes "threads") (codes "trace") count (codes "manifest") threads (λ same. cc) (sym is ∙ e)))
+asks_for_threads words mode count m is threads exact commands.Picture fits = (λ e. cc, λ e. absurd (one_not_two (codes "picture") mode count (sym e ∙ is)))
+asks_for_threads words mode count m is threads exact commands.ManifestPicture fits = (λ e. cc, λ e. absurd (other_first mode (codes "threads") (codes "picture") count (codes "manifest") threads (λ same. cc) (sym is ∙ e)))
 asks_for_threads words mode count m is threads exact (commands.Threads n) fits = (
   λ e. let same : Some m ≡ Some n = cc in is ∙ (ap (λ t. t ∷ count ∷ []) threads ∙ ap (λ t. codes "threads" ∷ t ∷ []) ((exact n fits).0 same)),
   λ e. let same : count ≡ count_text n = last_of_two (codes "threads") count (count_text n) (sym (is ∙ ap (λ t. t ∷ count ∷ []) threads) ∙ e) in

@@ -15,6 +15,8 @@ IsCommand commands.Script = Unit {0}
 IsCommand commands.Manifest = Unit {0}
 IsCommand commands.Trace = Unit {0}
 IsCommand commands.ManifestTrace = Unit {0}
+IsCommand commands.Picture = Unit {0}
+IsCommand commands.ManifestPicture = Unit {0}
 IsCommand (commands.Threads workers) = IsCount workers
 
 abbrev pub command_words : Command → List (List ℕ)
@@ -22,4 +24,6 @@ command_words commands.Script = codes "script" ∷ []
 command_words commands.Manifest = codes "manifest" ∷ []
 command_words commands.Trace = codes "trace" ∷ []
 command_words commands.ManifestTrace = codes "trace" ∷ codes "manifest" ∷ []
+command_words commands.Picture = codes "picture" ∷ []
+command_words commands.ManifestPicture = codes "picture" ∷ codes "manifest" ∷ []
 command_words (commands.Threads workers) = codes "threads" ∷ count_text workers ∷ []

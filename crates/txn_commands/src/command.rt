@@ -13,6 +13,10 @@ pub enum Command {
     Trace,
     /// `trace manifest`: to draw the run of that script of manifests as text.
     ManifestTrace,
+    /// `picture`: to draw the run of that script as one picture.
+    Picture,
+    /// `picture manifest`: to draw the run of that script of manifests as one picture.
+    ManifestPicture,
     /// `threads N`: to run so many workers, 1 to 8.
     Threads(u64),
 }
@@ -38,8 +42,12 @@ pub fn command_of(words: &[String]) -> Option<Command>
         [_program, mode] if mode.as_str() == "script" => Some(Command::Script),
         [_program, mode] if mode.as_str() == "manifest" => Some(Command::Manifest),
         [_program, mode] if mode.as_str() == "trace" => Some(Command::Trace),
+        [_program, mode] if mode.as_str() == "picture" => Some(Command::Picture),
         [_program, mode, kind] if mode.as_str() == "trace" && kind.as_str() == "manifest" => {
             Some(Command::ManifestTrace)
+        }
+        [_program, mode, kind] if mode.as_str() == "picture" && kind.as_str() == "manifest" => {
+            Some(Command::ManifestPicture)
         }
         [_program, mode, count] if mode.as_str() == "threads" => {
             Some(Command::Threads(count_of(count.as_str())?))

@@ -1,9 +1,7 @@
 //! Draws what happened in a world while a script ran, as text.
 #![tactic(auto)]
 
-mod cells;
-mod lanes;
-mod moment;
+pub mod picture;
 mod run;
 mod seen;
 pub mod trace;

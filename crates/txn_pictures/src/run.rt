@@ -1,43 +1,17 @@
 //! What happened in a world, event by event, as a drawing needs it.
 
-use crate::moment::{Kind, Moment, Said, Touch};
 use crate::seen::SeenWorld;
 use crate::worded::{EventWords, Worded};
-use bytes::Bytes;
 use std::alloc::{AllocError, Global};
-use std::collections::BTreeSet;
-use std::str;
 use txn_caches::ask::Ask;
-use txn_clients::layout::world_layout;
 use txn_history::event::{Answer, EventOf, Failure, PlainAnswer, Told};
 use txn_history::trace::{Row, RowOf};
 use txn_lines::printed::Answered;
-use txn_lines::record::RecordCodec;
 use txn_lines::text_form::LineValue;
+use txn_moments::moment::{Kind, Moment, Said, Touch};
 use txn_script::kind::Came;
-use txn_store::path::Path;
-use txn_store::request::Request;
-use txn_types::boundary::read_boundary;
-use txn_types::layout::{Layout, PAGE};
-
-/// A store call, by what it does to the object.
-#[derive(Drop)]
-enum Asked {
-    /// Nothing, or a look.
-    Nothing,
-    /// A version is created, which says this.
-    Create { id: u64, value: Bytes },
-    /// A version is read.
-    Get(u64),
-    /// The boundary is read.
-    ReadBoundary,
-    /// The boundary is raised to this.
-    Raise(u64),
-    /// The versions above an id are listed, so many at most.
-    List { above: u64, most: u64 },
-    /// A version is removed.
-    Remove(u64),
-}
+use txn_touched::asked::{Asked, asked_by};
+use txn_touched::files::Files;
 
 /// A request in flight.
 #[derive(Drop)]
@@ -70,58 +44,11 @@ pub(crate) struct Before {
 #[derive(Drop)]
 pub struct Run {
     alloc: Global,
-    layout: Layout<RecordCodec>,
     clients: u64,
     moments: Vec<Moment>,
     operations: Vec<Runs>,
     loose: Vec<Loose>,
-    /// The versions that stand, and those that were ever created.
-    standing: BTreeSet<u64>,
-    created: BTreeSet<u64>,
-}
-
-/// The number that a text begins with, 0 where it begins with none.
-fn epoch_said(text: &str) -> u64 {
-    match text.split_once(':') {
-        Some((epoch, _)) => read_boundary(epoch.as_bytes()).unwrap_or(0),
-        None => 0,
-    }
-}
-
-/// Bytes as text.
-fn text_of(alloc: Global, bytes: &Bytes) -> Result<String, AllocError> {
-    match str::from_utf8(bytes.as_slice()) {
-        Ok(text) => String::from_str(alloc, text),
-        Err(_) => format!(in alloc; "?"),
-    }
-}
-
-impl Asked {
-    /// Whether it may still reach the store where its client did not wait for it.
-    fn is_loose(&self) -> bool {
-        matches!(
-            self,
-            Asked::Create { .. } | Asked::Raise(_) | Asked::Remove(_)
-        )
-    }
-
-    fn try_clone(&self) -> Result<Asked, AllocError> {
-        Ok(match self {
-            Asked::Nothing => Asked::Nothing,
-            Asked::Create { id, value } => Asked::Create {
-                id: *id,
-                value: value.clone()?,
-            },
-            Asked::Get(id) => Asked::Get(*id),
-            Asked::ReadBoundary => Asked::ReadBoundary,
-            Asked::Raise(to) => Asked::Raise(*to),
-            Asked::List { above, most } => Asked::List {
-                above: *above,
-                most: *most,
-            },
-            Asked::Remove(id) => Asked::Remove(*id),
-        })
-    }
+    files: Files,
 }
 
 /// The answer as it is drawn.
@@ -143,13 +70,11 @@ impl Run {
     pub fn new(alloc: Global, clients: u64) -> Result<Run, AllocError> {
         Ok(Run {
             alloc,
-            layout: world_layout(alloc, RecordCodec, PAGE)?,
             clients,
             moments: Vec::new(alloc),
             operations: Vec::new(alloc),
             loose: Vec::new(alloc),
-            standing: BTreeSet::new(alloc),
-            created: BTreeSet::new(alloc),
+            files: Files::new(alloc),
         })
     }
 
@@ -171,50 +96,10 @@ impl Run {
         }
     }
 
-    /// The version of a path, 0 where it is none.
-    fn version_of(&self, path: &Path) -> u64 {
-        self.layout.names.parse_id(path).unwrap_or(0)
-    }
-
-    fn is_boundary(&self, path: &Path) -> bool {
-        *path == self.layout.boundary
-    }
-
-    /// What a request does to the object.
-    fn asked_by(&self, request: &Request) -> Result<Asked, AllocError> {
-        Ok(match request {
-            Request::Put { path, bytes, .. } => {
-                if self.is_boundary(path) {
-                    Asked::Raise(read_boundary(bytes).unwrap_or(0))
-                } else {
-                    Asked::Create {
-                        id: self.version_of(path),
-                        value: bytes.clone()?,
-                    }
-                }
-            }
-            Request::Get { path, .. } => {
-                if self.is_boundary(path) {
-                    Asked::ReadBoundary
-                } else {
-                    Asked::Get(self.version_of(path))
-                }
-            }
-            Request::List { after, limit, .. } => Asked::List {
-                above: match after {
-                    Some(path) => self.version_of(path),
-                    None => 0,
-                },
-                most: *limit,
-            },
-            Request::Delete { path } => Asked::Remove(self.version_of(path)),
-        })
-    }
-
     /// What an operation asks for.
-    fn asked<T, C, K: SeenWorld<T, C>>(&self, world: &K, op: u64) -> Result<Asked, AllocError> {
+    fn asked<T, C, K: SeenWorld<T, C>>(world: &K, op: u64) -> Result<Asked, AllocError> {
         match world.asks(op) {
-            Some(Ask::Store(request)) => self.asked_by(request),
+            Some(Ask::Store(request)) => asked_by(request),
             Some(Ask::Look) => Ok(Asked::Nothing),
             None => Ok(Asked::Nothing),
         }
@@ -227,7 +112,7 @@ impl Run {
         op: u64,
         left: &mut Vec<Loose>,
     ) -> Result<(), AllocError> {
-        let asked = self.asked::<T, C, K>(world, op)?;
+        let asked = Run::asked::<T, C, K>(world, op)?;
         if asked.is_loose() {
             let client = self.client_of(op);
             left.push(Loose { op, client, asked })?;
@@ -282,7 +167,7 @@ impl Run {
         event: &EventOf<C>,
     ) -> Result<Asked, AllocError> {
         match event {
-            EventOf::Serve(op) | EventOf::Fail(op, _) => self.asked::<T, C, K>(world, *op),
+            EventOf::Serve(op) | EventOf::Fail(op, _) => Run::asked::<T, C, K>(world, *op),
             EventOf::Land(k) => match self.loose.get(k.saturating_sub(1) as usize) {
                 Some(loose) => loose.asked.try_clone(),
                 None => Ok(Asked::Nothing),
@@ -311,70 +196,6 @@ impl Run {
             },
             left: self.left_by::<T, C, K>(world, event)?,
         })
-    }
-
-    /// The versions that a listing tells.
-    fn listed(&self, above: u64, most: u64) -> Result<Vec<u64>, AllocError> {
-        let mut ids = Vec::new(self.alloc);
-        for id in &self.standing {
-            if above < *id && (ids.len() as u64) < most {
-                ids.push(*id)?;
-            }
-        }
-        Ok(ids)
-    }
-
-    /// What a store call did to the object, or saw of it.
-    fn touched(&self, asked: Asked, is_changed: bool) -> Result<Touch, AllocError> {
-        Ok(match asked {
-            Asked::Nothing => Touch::None,
-            Asked::Create { id, value } => {
-                let value = text_of(self.alloc, &value)?;
-                Touch::Creates {
-                    id,
-                    epoch: epoch_said(value.as_str()),
-                    value,
-                    is_made: is_changed,
-                    is_again: self.created.contains(&id),
-                }
-            }
-            Asked::Get(id) => Touch::Gets {
-                id,
-                is_there: self.standing.contains(&id),
-            },
-            Asked::ReadBoundary => Touch::ReadsBoundary,
-            Asked::Raise(to) => Touch::Raises {
-                to,
-                is_raised: is_changed,
-            },
-            Asked::List { above, most } => Touch::Lists(self.listed(above, most)?),
-            Asked::Remove(id) => Touch::Removes {
-                id,
-                is_removed: is_changed,
-            },
-        })
-    }
-
-    /// Notes which versions stand after this.
-    fn settle(&mut self, touch: &Touch) -> Result<(), AllocError> {
-        match touch {
-            Touch::Creates {
-                id,
-                is_made: true,
-                ..
-            } => {
-                self.created.insert(*id)?;
-                self.standing.insert(*id)?;
-            }
-            Touch::Removes {
-                id,
-                is_removed: true,
-            } => {
-                self.standing.remove(id);
-            }
-            _ => {}
-        }
-        Ok(())
     }
 
     /// Notes that an operation begins, or that one has ended.
@@ -453,9 +274,8 @@ impl Run {
             drop(asked);
             Touch::None
         } else {
-            self.touched(asked, is_changed)?
+            self.files.take(asked, is_changed)?
         };
-        self.settle(&touch)?;
         let number = self.moments.len() as u64 + 1;
         self.moments.push(Moment {
             number,
@@ -466,6 +286,7 @@ impl Run {
             answer,
             left,
             touch,
+            ring: 0,
         })?;
         Ok(())
     }
@@ -484,6 +305,7 @@ impl Run {
             answer: None,
             left: Vec::new(self.alloc),
             touch: Touch::None,
+            ring: 0,
         })?;
         drop(before);
         Ok(())

@@ -6,7 +6,6 @@ ghost use Rattle.txn_script.specs.Records.{record_rules};
 ghost use Rattle.txn_script.specs.Rules.{rules_of};
 ghost use Rattle.txn_pictures.specs.Drawing.{IsDrawn};
 
-use crate::lanes::drawn;
 use crate::seen::SeenWorld;
 use crate::traced::Traced;
 use crate::worded::Worded;
@@ -19,6 +18,7 @@ use txn_lines::text_form::{LineValue, TextForm};
 use txn_manifest::manifest::Manifest;
 use txn_manifest_script::call::ManifestCall;
 use txn_manifest_script::scripted::Scripted;
+use txn_moments::lanes::drawn;
 use txn_script::printer::Printer;
 use txn_script::script::{exit_status, play_world, print_end};
 use txn_world::world::World;
@@ -42,7 +42,7 @@ fn print_trace<T: LineValue, C: TextForm + Worded, K: SeenWorld<T, C>, R: Read +
     let mut printed: Vec<u8> = Vec::new(alloc);
     let traced = play_world::<T, C, Traced<K>, R, Vec<u8>>(alloc, reader, &mut printed)?;
     drop(printed);
-    let Ok(drawing) = drawn(alloc, traced.run()) else {
+    let Ok(drawing) = drawn(alloc, traced.run().clients(), traced.run().moments()) else {
         return Err(Stop::NoMemory);
     };
     let mut printer = Printer::new(alloc);

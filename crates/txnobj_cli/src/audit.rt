@@ -55,7 +55,7 @@ fn clock_at(clocks: &[Source], place: usize, error: u64) -> Clock {
 }
 
 /// The clock of each recording, where each clock but the first may be off by so many milliseconds.
-fn clocks_of(
+pub(crate) fn clocks_of(
     alloc: Global,
     recordings: &Recordings<Entry>,
     error: u64,
@@ -79,7 +79,7 @@ fn not_all<D: fmt::Display + Drop>(
 }
 
 /// Adds the recordings of these files. Whether all lines are taken: the first that is not is told.
-fn are_added(
+pub(crate) fn are_added(
     rt: &HostRuntime,
     files: &[&str],
     recordings: &mut Recordings<Entry>,
@@ -159,7 +159,11 @@ fn not_one_history(
 /// Renames the tokens of recordings, whose times are of these clocks, so that those of two files differ, and holds the recordings
 /// against each other under these. A token says which put of its file was the last one, and no call compares it with one of
 /// another file, so the recordings say the same under both. The errors are those of `audit_recordings`.
-fn audited<T: Clone + LineValue, C: ObjectCodec<T> + Copy + Drop, E: EpochField<T> + Copy>(
+pub(crate) fn audited<
+    T: Clone + LineValue,
+    C: ObjectCodec<T> + Copy + Drop,
+    E: EpochField<T> + Copy,
+>(
     alloc: Global,
     codec: C,
     epochs: E,
@@ -281,7 +285,7 @@ fn say_undecided(rt: &HostRuntime, rows: &[Vec<RecordedRow<Entry>>]) -> Result<(
 }
 
 /// How the history ends that recordings are, and what they have. The only error is want of memory.
-fn ended(
+pub(crate) fn ended(
     alloc: Global,
     found: &OneHistory<Entry, EntryCodec, EntryEpoch>,
 ) -> Result<Ended, AllocError>

@@ -3,6 +3,7 @@
 
 mod audit;
 mod bench;
+mod drawn;
 mod ending;
 mod opened;
 mod printed;

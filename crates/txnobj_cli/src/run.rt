@@ -2,6 +2,7 @@
 
 use crate::audit::audit;
 use crate::bench::bench;
+use crate::drawn::{picture, trace};
 use crate::ending::{Halt, NOTHING, reason};
 use crate::opened::{open, other_root, root_of, store_of};
 use crate::printed::{
@@ -39,6 +40,14 @@ pub fn run(rt: &HostRuntime, options: &Options<'_>) -> Result<u8, Halt> {
             diaries,
             clock_error,
         } => audit(rt, diaries.as_slice(), *clock_error),
+        Command::Trace {
+            diaries,
+            clock_error,
+        } => trace(rt, diaries.as_slice(), *clock_error),
+        Command::Picture {
+            diaries,
+            clock_error,
+        } => picture(rt, diaries.as_slice(), *clock_error),
         Command::Doctor { beside } => doctor(rt, options, *beside),
         Command::Clean(seconds) => clean(rt, options, *seconds),
         Command::Repair => repair(rt, options),

@@ -72,6 +72,16 @@ pub enum Command<'a> {
         /// By how many milliseconds each clock may be off from that of the first recording.
         clock_error: u64,
     },
+    /// Audits recordings, and draws them as text.
+    Trace {
+        diaries: Vec<&'a str>,
+        clock_error: u64,
+    },
+    /// The same, as one picture.
+    Picture {
+        diaries: Vec<&'a str>,
+        clock_error: u64,
+    },
 }
 
 /// Which object, who asks, and how.
@@ -99,6 +109,8 @@ impl Command<'_> {
         !matches!(
             self,
             Command::Audit { .. }
+                | Command::Trace { .. }
+                | Command::Picture { .. }
                 | Command::Doctor { .. }
                 | Command::Clean(_)
                 | Command::Repair
@@ -210,6 +222,15 @@ const VALUE: Argument = (
 );
 
 const ID: Argument = ("ID", Kind::Count, "", "The id");
+
+const CLOCK_ERROR: Argument = (
+    "clock-error",
+    Kind::Number,
+    "1000",
+    "By how many milliseconds each clock of another machine may be off from that of the first recording",
+);
+
+const DIARIES: Argument = ("DIARY", Kind::Places, "", "The files of the recordings");
 
 const COMMANDS: &[Row] = &[
     (
@@ -346,15 +367,19 @@ const COMMANDS: &[Row] = &[
         "audit",
         "Hold recordings of clients against each other: whether they are one history",
         "Example: txnobj audit a.diary b.diary",
-        &[
-            (
-                "clock-error",
-                Kind::Number,
-                "1000",
-                "By how many milliseconds each clock of another machine may be off from that of the first recording",
-            ),
-            ("DIARY", Kind::Places, "", "The files of the recordings"),
-        ],
+        &[CLOCK_ERROR, DIARIES],
+    ),
+    (
+        "trace",
+        "Draw recordings of clients as text, in the order of an audit, with what that says",
+        "Example: txnobj trace a.diary b.diary",
+        &[CLOCK_ERROR, DIARIES],
+    ),
+    (
+        "picture",
+        "Draw recordings of clients as one picture in SVG, in the order of an audit, with what that says",
+        "Example: txnobj picture a.diary b.diary > run.svg",
+        &[CLOCK_ERROR, DIARIES],
     ),
 ];
 
@@ -524,6 +549,14 @@ fn texts_in<'a>(
 fn command_in<'a>(alloc: Global, found: &ArgMatches<'a>) -> Result<Command<'a>, AllocError> {
     match found.subcommand() {
         Some(("audit", of)) => Ok(Command::Audit {
+            diaries: texts_in(alloc, of, "DIARY")?,
+            clock_error: number_in(of, "clock-error"),
+        }),
+        Some(("trace", of)) => Ok(Command::Trace {
+            diaries: texts_in(alloc, of, "DIARY")?,
+            clock_error: number_in(of, "clock-error"),
+        }),
+        Some(("picture", of)) => Ok(Command::Picture {
             diaries: texts_in(alloc, of, "DIARY")?,
             clock_error: number_in(of, "clock-error"),
         }),

@@ -7,12 +7,13 @@ use txn_commands::command::{Command, command_of};
 use txn_commands::threads::run_threads;
 use txn_lines::words::{tell_usage, words_of_command};
 use txn_manifest_script::script::run_manifest;
+use txn_pictures::picture::{run_manifest_picture, run_picture};
 use txn_pictures::trace::{run_manifest_trace, run_trace};
 use txn_script::script::run_script;
 
 /// Which words ask for something.
 const USAGE: &str =
-    "usage: txnworld script | txnworld trace [manifest] | txnworld threads N | txnworld manifest";
+    "usage: txnworld script | txnworld manifest | txnworld trace [manifest] | txnworld picture [manifest] | txnworld threads N";
 
 fn main(rt: HostRuntime) -> ExitCode {
     let alloc = rt.alloc();
@@ -27,6 +28,10 @@ fn main(rt: HostRuntime) -> ExitCode {
         Ok(Some(Command::Trace)) => run_trace(alloc, rt.reader(), &mut out, &mut err),
         Ok(Some(Command::ManifestTrace)) => {
             run_manifest_trace(alloc, rt.reader(), &mut out, &mut err)
+        }
+        Ok(Some(Command::Picture)) => run_picture(alloc, rt.reader(), &mut out, &mut err),
+        Ok(Some(Command::ManifestPicture)) => {
+            run_manifest_picture(alloc, rt.reader(), &mut out, &mut err)
         }
         Ok(None) => tell_usage(USAGE, &mut err),
         Err(stop) => stop.tell(&mut err),

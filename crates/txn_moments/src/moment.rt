@@ -89,4 +89,6 @@ pub struct Moment {
     pub left: Vec<u64>,
     /// What it did to the store.
     pub touch: Touch,
+    /// The number of its ring, where an audit refuses it or finds it in a circle of calls; 0 where it has none.
+    pub ring: u64,
 }

@@ -7,8 +7,9 @@
 //! where it is raised. `─` is a write and `·` a read.
 
 use crate::cells::Cells;
+use crate::holds::{Hold, Holds, fence_words};
 use crate::moment::{Kind, Moment, Touch};
-use crate::run::Run;
+use crate::words::{answer_words, cut, event_words};
 use std::alloc::{AllocError, Global};
 use std::collections::BTreeSet;
 
@@ -29,17 +30,6 @@ const VERSION: usize = 3;
 
 /// What is kept free behind the versions.
 const BEHIND: usize = 6;
-
-/// What a client holds.
-#[derive(Clone, Copy)]
-enum Hold {
-    /// No epoch.
-    None,
-    /// This one.
-    Epoch(u64),
-    /// One below an epoch that has come in.
-    ShutOut,
-}
 
 /// Where things stand in a line.
 #[derive(Clone, Copy)]
@@ -89,13 +79,9 @@ struct Lanes {
     /// The version that stands first.
     low: u64,
     boundary: u64,
-    /// The greatest epoch that has come in.
-    epoch: u64,
-    /// Of each client, how many operations run, and what it holds.
+    /// Of each client, how many operations run.
     running: Vec<u64>,
-    holds: Vec<Hold>,
-    /// Of each operation, whether it is a claim.
-    claims: Vec<bool>,
+    holds: Holds,
     standing: BTreeSet<u64>,
 }
 
@@ -107,49 +93,21 @@ fn join(said: &mut String, words: &str) -> Result<(), AllocError> {
     said.push_str(words)
 }
 
-/// So much of a text as there is room for.
-fn cut(alloc: Global, text: &str, room: usize) -> Result<String, AllocError> {
-    let mut cut = String::new(alloc);
-    let count = text.chars().count();
-    for (place, sign) in text.chars().enumerate() {
-        if place.saturating_add(1) < room || count <= room {
-            cut.push(sign)?;
-        }
-    }
-    if room < count {
-        cut.push('…')?;
-    }
-    Ok(cut)
-}
-
-/// Adds the answer of a moment to what is said.
-fn add_answer(alloc: Global, moment: &Moment, said: &mut String) -> Result<(), AllocError> {
-    let Some(answer) = &moment.answer else {
-        return Ok(());
-    };
-    let words = answer.words.as_str();
-    let words = if answer.is_refusal {
-        let why = words.strip_prefix("refused ").unwrap_or(words);
-        format!(in alloc; "✗ {why}")?
-    } else {
-        format!(in alloc; "→ {words}")?
-    };
-    join(said, words.as_str())
-}
-
 /// What is said of a moment.
 fn said_of(alloc: Global, moment: &Moment) -> Result<String, AllocError> {
-    let words = moment.words.as_str();
-    let op = moment.op;
     let mut said = match moment.kind {
-        Kind::Begins => format!(in alloc; "{op} {words}")?,
-        Kind::Refused => format!(in alloc; "⊘ {words}")?,
-        Kind::Crashes => format!(in alloc; "crash")?,
-        Kind::GivesUp => format!(in alloc; "given up")?,
         Kind::Lands(k) => format!(in alloc; "⇢ {k} lands")?,
-        _ => String::new(alloc),
+        _ => event_words(alloc, moment)?,
     };
-    add_answer(alloc, moment, &mut said)?;
+    if moment.ring > 0 {
+        let ring = moment.ring;
+        let words = format!(in alloc; "({ring})")?;
+        join(&mut said, words.as_str())?;
+    }
+    if let Some(answer) = &moment.answer {
+        let words = answer_words(alloc, answer)?;
+        join(&mut said, words.as_str())?;
+    }
     for k in &moment.left {
         let words = format!(in alloc; "⇢ in flight {k}")?;
         join(&mut said, words.as_str())?;
@@ -162,8 +120,6 @@ impl Lanes {
         let places = Places::of(clients);
         let mut running = Vec::new(alloc);
         running.resize(clients, 0)?;
-        let mut holds = Vec::new(alloc);
-        holds.resize(clients, Hold::None)?;
         Ok(Lanes {
             alloc,
             places,
@@ -171,10 +127,8 @@ impl Lanes {
             text: String::new(alloc),
             low: 1,
             boundary: 0,
-            epoch: 0,
             running,
-            holds,
-            claims: Vec::new(alloc),
+            holds: Holds::new(alloc, clients)?,
             standing: BTreeSet::new(alloc),
         })
     }
@@ -242,8 +196,8 @@ impl Lanes {
     fn lane_sign(&self, index: usize) -> char {
         match self.running.get(index) {
             Some(count) if *count > 0 => '┃',
-            _ => match self.holds.get(index) {
-                Some(Hold::ShutOut) => '┆',
+            _ => match self.holds.of(index) {
+                Hold::ShutOut(_) => '┆',
                 _ => '│',
             },
         }
@@ -282,14 +236,6 @@ impl Lanes {
         }
     }
 
-    /// What a client holds from here on.
-    fn hold(&mut self, client: u64, hold: Hold) {
-        let index = client.saturating_sub(1) as usize;
-        if client != 0 && index < self.holds.len() {
-            self.holds[index] = hold;
-        }
-    }
-
     /// The sign of a moment in its client's lane, where it has one.
     fn mark(&mut self, moment: &Moment) -> Option<char> {
         let ends = moment.answer.is_some();
@@ -304,7 +250,6 @@ impl Lanes {
                 if index < self.running.len() {
                     self.running[index] = 0;
                 }
-                self.hold(moment.client, Hold::None);
                 Some('╳')
             }
             Kind::GivesUp => {
@@ -432,67 +377,21 @@ impl Lanes {
         }
     }
 
-    /// Whether a moment is of a claim.
-    fn is_claim(&self, moment: &Moment) -> bool {
-        let place = moment.op.saturating_sub(1) as usize;
-        moment.op != 0 && self.claims.get(place) == Some(&true)
-    }
-
-    /// Those who hold a smaller epoch are shut out: who they are, in words.
-    fn shut_out(&mut self, epoch: u64, words: &mut String) -> Result<bool, AllocError> {
-        let mut any = false;
-        for index in 0..self.holds.len() {
-            if let Hold::Epoch(held) = self.holds[index] {
-                if held < epoch {
-                    let client = index as u64 + 1;
-                    let who = format!(in self.alloc;
-                        ", client {client} (epoch {held}) is shut out"
-                    )?;
-                    words.push_str(who.as_str())?;
-                    self.holds[index] = Hold::ShutOut;
-                    any = true;
-                }
-            }
-        }
-        Ok(any)
-    }
-
     /// Draws a line across where a greater epoch comes in.
     fn fence(&mut self, moment: &Moment) -> Result<(), AllocError> {
-        let Touch::Creates {
-            epoch,
-            is_made: true,
-            ..
-        } = &moment.touch
-        else {
+        let Some(epoch) = self.holds.comes_in(moment) else {
             return Ok(());
         };
-        if *epoch <= self.epoch {
-            return Ok(());
-        }
-        self.epoch = *epoch;
-        let client = moment.client;
-        let does = if self.is_claim(moment) {
-            "claims"
-        } else {
-            "writes"
-        };
-        let mut words = format!(in self.alloc; "client {client} {does} epoch {epoch}")?;
-        let sign = if self.shut_out(*epoch, &mut words)? {
-            '╪'
-        } else {
-            '─'
-        };
+        let is_claim = self.holds.is_claim(moment);
+        let out = self.holds.shut_out(self.alloc, epoch)?;
+        let words = fence_words(self.alloc, moment.client, is_claim, epoch, out.as_slice())?;
+        let sign = if out.is_empty() { '─' } else { '╪' };
         let width = self.places.width;
         self.rule(words.as_str(), sign, width)
     }
 
     /// Draws a moment.
     fn moment(&mut self, moment: &Moment) -> Result<(), AllocError> {
-        if moment.kind == Kind::Begins {
-            let is_claim = moment.words.as_str().starts_with("claim");
-            self.claims.push(is_claim)?;
-        }
         if moment.kind == Kind::Looks && moment.answer.is_none() {
             return Ok(());
         }
@@ -520,20 +419,16 @@ impl Lanes {
             self.cells.put(words.saturating_add(count), ' ');
         }
         self.print()?;
-        if let Some(answer) = &moment.answer {
-            if let Some(epoch) = answer.held {
-                self.hold(moment.client, Hold::Epoch(epoch));
-            }
-        }
+        self.holds.note(moment)?;
         self.fence(moment)
     }
 }
 
-/// A run as text, line by line. The only error is want of memory.
-pub fn drawn(alloc: Global, run: &Run) -> Result<String, AllocError> {
-    let mut lanes = Lanes::new(alloc, run.clients() as usize)?;
+/// What happened to so many clients as text, line by line. The only error is want of memory.
+pub fn drawn(alloc: Global, clients: u64, moments: &[Moment]) -> Result<String, AllocError> {
+    let mut lanes = Lanes::new(alloc, clients as usize)?;
     lanes.head()?;
-    for moment in run.moments() {
+    for moment in moments {
         lanes.moment(moment)?;
     }
     let Lanes { text, .. } = lanes;

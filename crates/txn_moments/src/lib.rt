@@ -1,0 +1,8 @@
+//! What happened to an object that clients share, moment by moment, and its drawing as text.
+#![tactic(auto)]
+
+pub mod cells;
+pub mod holds;
+pub mod lanes;
+pub mod moment;
+pub mod words;

@@ -1,0 +1,43 @@
+//! What is said of a moment.
+
+use crate::moment::{Kind, Moment, Said};
+use std::alloc::{AllocError, Global};
+
+/// So much of a text as there is room for.
+pub fn cut(alloc: Global, text: &str, room: usize) -> Result<String, AllocError> {
+    let mut cut = String::new(alloc);
+    let count = text.chars().count();
+    for (place, sign) in text.chars().enumerate() {
+        if place.saturating_add(1) < room || count <= room {
+            cut.push(sign)?;
+        }
+    }
+    if room < count {
+        cut.push('…')?;
+    }
+    Ok(cut)
+}
+
+/// What an event was, where that is said.
+pub fn event_words(alloc: Global, moment: &Moment) -> Result<String, AllocError> {
+    let words = moment.words.as_str();
+    let op = moment.op;
+    match moment.kind {
+        Kind::Begins => format!(in alloc; "{op} {words}"),
+        Kind::Refused => format!(in alloc; "⊘ {words}"),
+        Kind::Crashes => format!(in alloc; "crash"),
+        Kind::GivesUp => format!(in alloc; "given up"),
+        _ => Ok(String::new(alloc)),
+    }
+}
+
+/// An answer, a refusal by its number and its name.
+pub fn answer_words(alloc: Global, answer: &Said) -> Result<String, AllocError> {
+    let words = answer.words.as_str();
+    if answer.is_refusal {
+        let why = words.strip_prefix("refused ").unwrap_or(words);
+        format!(in alloc; "✗ {why}")
+    } else {
+        format!(in alloc; "→ {words}")
+    }
+}

@@ -1,0 +1,17 @@
+//! Draws what happened to an object that clients share as one picture, in SVG.
+#![tactic(auto)]
+
+mod columns;
+mod flights;
+mod foot;
+pub mod head;
+mod legend;
+mod marks;
+pub mod picture;
+mod places;
+mod plan;
+mod shapes;
+mod slots;
+mod style;
+mod versions;
+pub mod xml;

@@ -1,0 +1,230 @@
+//! Recordings, drawn in the order of an audit, with what that says.
+
+use crate::audit::{are_added, audited, clocks_of, ended};
+use crate::ending::{Halt, NOT_ONE_HISTORY};
+use std::alloc::{AllocError, Global};
+use std::io::Write;
+use txn_effects::clock::Clock;
+use txn_entries::entry::{Entry, EntryCodec, EntryEpoch};
+use txn_moments::lanes;
+use txn_moments::moment::Moment;
+use txn_ordered::order::{CallPlace, OrderFault, Placed, order};
+use txn_recorded_runs::moments::moments_of;
+use txn_recorded_runs::times::by_time;
+use txn_recordings::recordings::Recordings;
+use txn_replayed::audit::OneHistory;
+use txn_replayed::refusal::Refusal;
+use txn_svg::head::Title;
+use txn_svg::picture;
+
+/// The most store calls and answers of a drawing.
+const MOST: usize = 4000;
+
+/// What is said of files without a recording.
+const NO_RECORDING: &str = "not one history: there is no recording";
+
+/// What an audit says: in lines, and of which calls it speaks.
+#[derive(Drop)]
+struct Verdict {
+    lines: Vec<String>,
+    calls: Vec<CallPlace>,
+}
+
+/// Recordings as they are drawn.
+#[derive(Drop)]
+struct Drawn {
+    clients: u64,
+    moments: Vec<Moment>,
+    /// What the audit says, and which recording each client is of.
+    said: Vec<String>,
+    clients_said: Vec<String>,
+}
+
+/// What is said of recordings that are one history.
+fn agreed(
+    alloc: Global,
+    found: &OneHistory<Entry, EntryCodec, EntryEpoch>,
+) -> Result<Verdict, AllocError> {
+    let ended = ended(alloc, found)?;
+    let mut lines = Vec::new(alloc);
+    lines.push(format!(in alloc; "{ended}")?)?;
+    Ok(Verdict {
+        lines,
+        calls: Vec::new(alloc),
+    })
+}
+
+/// The calls that a refusal speaks of.
+fn calls_of(alloc: Global, refusal: &Refusal) -> Result<Vec<CallPlace>, AllocError> {
+    let mut calls = Vec::new(alloc);
+    match refusal {
+        Refusal::Row(at, _) | Refusal::Dishonest(at, _, _) | Refusal::OutOfTime(at, _) => {
+            calls.push(*at)?;
+        }
+        Refusal::Circle(circle) => calls.extend_from_slice(circle.as_slice())?,
+        _ => {}
+    }
+    Ok(calls)
+}
+
+/// Where the row of a recording stands, in words.
+fn place_words(
+    alloc: Global,
+    files: &[&str],
+    recordings: &Recordings<Entry>,
+    number: u64,
+    at: CallPlace,
+) -> Result<String, AllocError> {
+    let client = at.recording.saturating_add(1);
+    let Some(begin) = recordings.begins.get(at.recording) else {
+        return format!(in alloc; "({number}) client {client}");
+    };
+    let line = begin.at.line.saturating_add(at.row);
+    match files.get(begin.at.file) {
+        Some(file) => format!(in alloc; "({number}) client {client}: {file}, line {line}"),
+        None => format!(in alloc; "({number}) client {client}: line {line}"),
+    }
+}
+
+/// What is said of recordings that are not one history: the refusal, and where the calls stand that it speaks of.
+fn refused(
+    alloc: Global,
+    files: &[&str],
+    recordings: &Recordings<Entry>,
+    refusal: &Refusal,
+) -> Result<Verdict, AllocError> {
+    let calls = calls_of(alloc, refusal)?;
+    let mut lines = Vec::new(alloc);
+    lines.push(format!(in alloc; "not one history: {refusal}")?)?;
+    for (place, at) in calls.iter().enumerate() {
+        let number = (place as u64).saturating_add(1);
+        lines.push(place_words(alloc, files, recordings, number, *at)?)?;
+    }
+    Ok(Verdict { lines, calls })
+}
+
+/// What an audit says of recordings whose times are of these clocks.
+fn verdict_of(
+    alloc: Global,
+    files: &[&str],
+    recordings: &mut Recordings<Entry>,
+    clocks: &[Clock],
+) -> Result<Verdict, Halt> {
+    match audited(alloc, EntryCodec, EntryEpoch, &mut recordings.rows, clocks) {
+        Ok(found) => Ok(agreed(alloc, &found)?),
+        Err(Refusal::NoMemory) => Err(Halt::NoMemory),
+        Err(refusal) => Ok(refused(alloc, files, recordings, &refusal)?),
+    }
+}
+
+/// The order of the audit, or of the times where it finds none.
+fn order_of(
+    alloc: Global,
+    recordings: &Recordings<Entry>,
+    clocks: &[Clock],
+) -> Result<Vec<Placed>, AllocError> {
+    match order(alloc, recordings.rows.as_slice(), clocks) {
+        Ok(order) => Ok(order),
+        Err(OrderFault::NoMemory) => Err(AllocError),
+        Err(OrderFault::Circle(calls)) => {
+            drop(calls);
+            by_time(alloc, recordings.rows.as_slice(), clocks)
+        }
+    }
+}
+
+/// Which recording each client is of, in lines.
+fn clients_of(
+    alloc: Global,
+    files: &[&str],
+    recordings: &Recordings<Entry>,
+) -> Result<Vec<String>, AllocError> {
+    let mut lines = Vec::new(alloc);
+    for (place, begin) in recordings.begins.iter().enumerate() {
+        let client = (place as u64).saturating_add(1);
+        let line = begin.at.line;
+        if let Some(file) = files.get(begin.at.file) {
+            lines.push(format!(in alloc; "client {client}: {file}, from line {line} on")?)?;
+        }
+    }
+    Ok(lines)
+}
+
+/// Reads recordings, audits them, and says what happened in them: nothing where a line is not taken, which is told.
+fn drawing_of(rt: &HostRuntime, files: &[&str], clock_error: u64) -> Result<Option<Drawn>, Halt> {
+    let alloc = rt.alloc();
+    let mut recordings = Recordings::<Entry>::new(alloc);
+    if !are_added(rt, files, &mut recordings)? {
+        return Ok(None);
+    }
+    if recordings.begins.is_empty() {
+        rt.println(NO_RECORDING)?;
+        return Ok(None);
+    }
+    let clocks = clocks_of(alloc, &recordings, clock_error)?;
+    let verdict = verdict_of(alloc, files, &mut recordings, clocks.as_slice())?;
+    let order = order_of(alloc, &recordings, clocks.as_slice())?;
+    let rows = recordings.rows.as_slice();
+    let moments = moments_of(alloc, rows, order.as_slice(), verdict.calls.as_slice())?;
+    if moments.len() > MOST {
+        return Err(Halt::Words("too many events for one drawing"));
+    }
+    let Verdict { lines, calls } = verdict;
+    drop(calls);
+    Ok(Some(Drawn {
+        clients: recordings.rows.len() as u64,
+        moments,
+        said: lines,
+        clients_said: clients_of(alloc, files, &recordings)?,
+    }))
+}
+
+/// Draws recordings as text, in the order of an audit: the status. What the audit says stands at the foot.
+pub fn trace(rt: &HostRuntime, files: &[&str], clock_error: u64) -> Result<u8, Halt> {
+    let Some(drawn) = drawing_of(rt, files, clock_error)? else {
+        return Ok(NOT_ONE_HISTORY);
+    };
+    let text = lanes::drawn(rt.alloc(), drawn.clients, drawn.moments.as_slice())?;
+    rt.println(text.as_str())?;
+    for line in &drawn.said {
+        rt.println(line.as_str())?;
+    }
+    for line in &drawn.clients_said {
+        rt.println(line.as_str())?;
+    }
+    Ok(0)
+}
+
+/// Adds lines, each with its line feed.
+fn add_lines(lines: &[String], text: &mut Vec<u8>) -> Result<(), AllocError> {
+    for line in lines {
+        text.extend_from_slice(line.as_str().as_bytes())?;
+        text.push(b'\n')?;
+    }
+    Ok(())
+}
+
+/// Draws recordings as one picture in SVG, in the order of an audit: the status. What the audit says stands below the title.
+pub fn picture(rt: &HostRuntime, files: &[&str], clock_error: u64) -> Result<u8, Halt> {
+    let Some(drawn) = drawing_of(rt, files, clock_error)? else {
+        return Ok(NOT_ONE_HISTORY);
+    };
+    let alloc = rt.alloc();
+    let title = Title {
+        title: "Recordings of clients that share one object",
+        said: drawn.said.as_slice(),
+    };
+    let mut foot: Vec<u8> = Vec::new(alloc);
+    add_lines(drawn.said.as_slice(), &mut foot)?;
+    add_lines(drawn.clients_said.as_slice(), &mut foot)?;
+    let picture = picture::drawn(
+        alloc,
+        title,
+        drawn.clients,
+        drawn.moments.as_slice(),
+        foot.as_slice(),
+    )?;
+    let out = &mut rt.stdout();
+    out.write_all(picture.as_slice())?;
+    Ok(0)
+}
