@@ -44,6 +44,21 @@ class Setting:
             clock_error=rnd.choice((1, 20)),
         )
 
+    @staticmethod
+    def harder(rnd):
+        """More clients that run for longer, and more of each misfortune."""
+        return Setting(
+            clients=rnd.randint(3, 9),
+            events=rnd.randint(100, 900),
+            page=rnd.choice((1, 2, 3, 1000)),
+            lost=rnd.choice((0.1, 0.25, 0.4, 0.6)),
+            late=rnd.choice((0.3, 0.7, 0.95)),
+            killed=rnd.choice((0, 0.01, 0.05)),
+            given_up=rnd.choice((0, 0.02, 0.05)),
+            same_time=rnd.choice((0, 0.2, 0.5)),
+            clock_error=1,
+        )
+
 
 @dataclass
 class Clock:

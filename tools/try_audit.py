@@ -54,9 +54,9 @@ def recordings_of(run):
     return dict(random.Random(len(run.order)).sample(numbered, len(numbered)))
 
 
-def fault_of_run(program, seed, machines=1, keep=None):
+def fault_of_run(program, seed, machines=1, keep=None, is_harder=False):
     """Why the audit of a run is wrong, "" where it is right: it agrees, and says how the run ended where no put may decide that."""
-    run = Run(seed, machines=machines)
+    run = Run(seed, Setting.harder(random.Random(f"harder {seed}")) if is_harder else None, machines)
     error = run.setting.clock_error if machines > 1 else None
     # (the first recording's clock is the one that is right)
     recordings = recordings_of(run) if error is None else {f"{number:03}": rows for number, rows in enumerate(run.recordings, 1)}
@@ -114,12 +114,13 @@ def main(words, usage):
     parser.add_argument("--changed", type=int, default=100, metavar="N", help="so many runs with one fact changed (100)")
     parser.add_argument("--seed", type=int, default=1, metavar="N", help="the seed of the first run, which the next ones follow (1)")
     parser.add_argument("--machines", type=int, default=1, metavar="N", help="on so many machines, whose clocks are off (1)")
+    parser.add_argument("--harder", action="store_true", help="with more clients, and more of each misfortune")
     parser.add_argument("--keep", metavar="FOLDER", help="leave the recordings there, in a folder each")
     given = parser.parse_args(words)
     program, seeds = os.path.abspath(given.program), range(given.seed, given.seed + given.runs)
     failed, counts = 0, Counter()
     with ThreadPoolExecutor(os.cpu_count()) as pool:
-        for seed, fault in zip(seeds, pool.map(lambda seed: fault_of_run(program, seed, given.machines, given.keep), seeds)):
+        for seed, fault in zip(seeds, pool.map(lambda seed: fault_of_run(program, seed, given.machines, given.keep, given.harder), seeds)):
             if fault:
                 failed += 1
                 print(f"FAILED: the run of the seed {seed}: {fault}", flush=True)

@@ -63,9 +63,11 @@ class Simulated(unittest.TestCase):
             self.assertTrue(are_history(run.recordings), seed)
             again = Run(seed, Setting.at_random(random.Random(seed), 150))
             self.assertEqual(run.recordings, again.recordings)
+            self.assertGreaterEqual(len(Run(seed, Setting.harder(random.Random(seed))).recordings), 3)
 
     def test_the_search_decides_as_the_cases_say(self):
-        for name in ("two_in_conflict", "killed_clients", "made_again_and_calls_lost", "rust_lost_create_then_not_found"):
+        taken = ("create_lost_and_met_alone", "create_told_after_the_next_making", "delete_lost_beside_a_long_listing")
+        for name in ("two_in_conflict", "killed_clients", "made_again_and_calls_lost", "rust_lost_create_then_not_found", *taken):
             self.assertTrue(are_history(recordings_in(name)), name)
         for name in ("create_lost", "boundary_fell", "file_missed", "another_answer", "row_left_out", "stale_read_of_one_clock"):
             self.assertFalse(are_history(recordings_in(name)), name)

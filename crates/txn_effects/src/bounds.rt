@@ -16,21 +16,19 @@ fn at_least(time: u64, other: Option<u64>) -> u64 {
 /// version before it.
 fn earliest(id: u64, last: Option<Life>, first: Option<Life>) -> Option<u64> {
     let last = last?;
-    if last.id != id {
-        return Some(first?.from);
+    if last.id == id {
+        Some(last.removed_from)
+    } else {
+        Some(first?.from)
     }
-    if last.removed_by.is_none() {
-        return None;
-    }
-    Some(last.removed_from)
 }
 
-/// A life that began no earlier than those before it allow.
+/// A life that began no earlier than those before it allow, and ended no earlier than it was seen.
 fn no_earlier(life: Life, last: Option<Life>, first: Option<Life>) -> Life {
     let from = at_least(life.from, earliest(life.id, last, first)).min(life.until);
     Life {
         from,
-        removed_from: life.removed_from.max(from),
+        removed_from: life.removed_from.max(from).max(life.last),
         ..life
     }
 }
@@ -48,6 +46,20 @@ fn no_later(life: Life, next: Option<Life>, above: Option<u64>) -> Life {
         until: until.max(life.from),
         removed_until,
         ..life
+    }
+}
+
+/// Has the life at a place begin no earlier than the one before it of its version allows.
+pub(crate) fn follow(lives: &mut Lives, place: usize) {
+    let Some(id) = lives.id_at(place) else {
+        return;
+    };
+    let Some(before) = place.checked_sub(1) else {
+        return;
+    };
+    let last = lives.at(before, id);
+    if let Some(life) = lives.lives.get_mut(place) {
+        *life = no_earlier(*life, last, None);
     }
 }
 

@@ -1,6 +1,6 @@
 //! The effects of recorded calls.
 
-use crate::absences::Absences;
+use crate::absences::note_ends;
 use crate::boundaries::{Boundaries, written};
 use crate::bounds::narrow;
 use crate::calls::{Asked, calls};
@@ -8,7 +8,9 @@ use crate::clock::{Clock, margin_of};
 use crate::hidden::land_hidden;
 use crate::landings::{Fate, fates};
 use crate::lives::{Lives, lived};
+use crate::meetings::note_met;
 use crate::removals::{Concern, remove};
+use crate::turns::turn_lives;
 use std::alloc::{AllocError, Global};
 use txn_recorded::row::RecordedRow;
 
@@ -56,7 +58,8 @@ pub fn effects_of<'a, T>(
     })
 }
 
-/// Adds the lives that are hidden, and finds what removed each life; the idle deletes.
+/// Adds the lives that are hidden, and finds what removed each life; the idle deletes. By when lives had ended is noted twice: what the
+/// first time shows narrows the listings of the second.
 fn gone(
     alloc: Global,
     calls: &[Asked<'_>],
@@ -64,11 +67,17 @@ fn gone(
     fates: &mut Vec<Fate>,
     lives: &mut Lives,
 ) -> Result<Vec<Concern>, AllocError> {
-    let absences = Absences::new(alloc, calls, margin)?;
+    turn_lives(alloc, calls, lives)?;
     narrow(lives);
-    land_hidden(alloc, calls, fates, lives, &absences)?;
+    note_ends(alloc, calls, margin, lives)?;
     narrow(lives);
-    remove(alloc, calls, fates, lives, &absences)
+    land_hidden(alloc, calls, fates, lives)?;
+    turn_lives(alloc, calls, lives)?;
+    narrow(lives);
+    note_ends(alloc, calls, margin, lives)?;
+    narrow(lives);
+    note_met(calls, lives);
+    remove(alloc, calls, fates, lives)
 }
 
 /// The boundaries, the lives and the idle deletes that these calls show, and what became of each call.

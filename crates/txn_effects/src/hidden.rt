@@ -1,10 +1,9 @@
 //! Creates whose reply nobody saw, and of which nothing tells but that a version stood: a create that was refused, or a page that says
 //! that more follow.
 
-use crate::absences::Absences;
 use crate::calls::Asked;
 use crate::landings::{Fate, land};
-use crate::lives::{Life, Lives, Made};
+use crate::lives::{Lives, Made};
 use crate::makers::{Loose, last_before_more, loose_creates, taken_for};
 use crate::sights::Seen;
 use std::alloc::{AllocError, Global};
@@ -14,7 +13,6 @@ use std::mem;
 /// What is known of the lives, and what was found to have been made beside them.
 struct Hidden<'x> {
     lives: &'x Lives,
-    absences: &'x Absences,
     /// When the first was asked that made a version beside them, by versions.
     begun: BTreeMap<u64, u64>,
     made: Vec<Made>,
@@ -25,33 +23,15 @@ impl Drop for Hidden<'_> {
     fn drop(self) {
         let Hidden {
             lives: _,
-            absences: _,
             begun: _,
             made: _,
         } = self;
     }
 }
 
-/// Whether the life had begun by a time.
-fn had_begun(life: Option<&Life>, until: u64) -> bool {
-    match life {
-        Some(life) => life.from <= until,
-        None => false,
-    }
-}
-
 impl Hidden<'_> {
-    /// Whether the life at a place may have stood when a call met its version.
-    fn may_have_stood(&self, calls: &[Asked<'_>], call: &Asked<'_>, place: usize) -> bool {
-        let over = match self.absences.ended(calls, self.lives, place) {
-            Some(ended) => ended < call.from,
-            None => false,
-        };
-        !over && had_begun(self.lives.lives.get(place), call.until)
-    }
-
     /// Whether a version that is known may have stood when a call met it.
-    fn stood(&self, calls: &[Asked<'_>], call: &Asked<'_>, id: u64) -> bool {
+    fn stood(&self, call: &Asked<'_>, id: u64) -> bool {
         if self
             .begun
             .get(&id)
@@ -61,7 +41,8 @@ impl Hidden<'_> {
         }
         let (start, end) = self.lives.of(id);
         for place in start..end {
-            if self.may_have_stood(calls, call, place) {
+            let life = self.lives.at(place, id);
+            if life.is_some_and(|life| life.may_stand(call.from, call.until)) {
                 return true;
             }
         }
@@ -70,11 +51,7 @@ impl Hidden<'_> {
 
     /// Whether a version above one had begun by a time.
     fn is_above(&self, id: u64, until: u64) -> bool {
-        let lives = self.lives.lives.as_slice();
-        if had_begun(
-            lives.get(lives.partition_point(|life| life.id <= id)),
-            until,
-        ) {
+        if self.lives.above(id).is_some_and(|life| life.from <= until) {
             return true;
         }
         match self.begun.range(id.saturating_add(1)..).next() {
@@ -102,7 +79,7 @@ impl Hidden<'_> {
         let Some(id) = taken_for(call) else {
             return Ok(());
         };
-        if self.stood(loose.calls, call, id) {
+        if self.stood(call, id) {
             return Ok(());
         }
         let Some(place) = loose.maker(fates.as_slice(), id, Seen::Stood, call.until) else {
@@ -162,7 +139,6 @@ fn made_beside<'x>(
     calls: &[Asked<'_>],
     fates: &mut Vec<Fate>,
     lives: &'x Lives,
-    absences: &'x Absences,
 ) -> Result<Vec<Made>, AllocError> {
     let creates = loose_creates(alloc, calls)?;
     let loose = Loose {
@@ -171,7 +147,6 @@ fn made_beside<'x>(
     };
     let mut hidden = Hidden {
         lives,
-        absences,
         begun: BTreeMap::new(alloc),
         made: Vec::new(alloc),
     };
@@ -185,9 +160,8 @@ pub(crate) fn land_hidden(
     calls: &[Asked<'_>],
     fates: &mut Vec<Fate>,
     lives: &mut Lives,
-    absences: &Absences,
 ) -> Result<(), AllocError> {
-    let made = made_beside(alloc, calls, fates, lives, absences)?;
+    let made = made_beside(alloc, calls, fates, lives)?;
     for it in made.as_slice() {
         lives.add(calls, *it)?;
     }

@@ -1,11 +1,13 @@
 //! The lives of versions: each from the put that makes it to the delete that removes it.
 
-use crate::calls::Asked;
+use crate::absences::End;
+use crate::calls::{Asked, version_of};
 use crate::landings::{Fate, land};
 use crate::makers::{Loose, loose_creates};
 use crate::sights::{Sight, sights};
 use std::alloc::{AllocError, Global};
 use std::collections::HashMap;
+use txn_store::page::Page;
 
 /// One life of a version.
 #[derive(Clone, Copy)]
@@ -20,10 +22,13 @@ pub struct Life {
     pub until: u64,
     /// When the last call was asked that saw it.
     pub last: u64,
-    /// The call that removes it, if one does, and between which times it was removed: the greatest time where none does.
+    /// The call that removes it, if one does, and between which times it was removed, where it was: no earlier than a call saw it,
+    /// and no later than one shows that it had ended, which is the greatest time where none does.
     pub removed_by: Option<usize>,
     pub removed_from: u64,
     pub removed_until: u64,
+    /// The call that shows by when it had ended, if one does.
+    pub missed_by: Option<usize>,
 }
 
 impl Life {
@@ -31,6 +36,17 @@ impl Life {
     /// create that was asked first may come after another's life, where its client was held up.
     fn stood(&self) -> u64 {
         self.last.max(self.until)
+    }
+
+    /// Whether it may have stood between two times.
+    pub fn may_stand(&self, from: u64, until: u64) -> bool {
+        self.from <= until && from <= self.removed_until
+    }
+
+    /// Notes that a call saw it, by when that was asked and when its reply was there.
+    fn seen(&mut self, at: u64, until: u64) {
+        self.last = self.last.max(at);
+        self.until = self.until.min(until);
     }
 }
 
@@ -114,8 +130,9 @@ impl Lives {
             until: call.until.min(made.until),
             last: made.at,
             removed_by: None,
-            removed_from: u64::MAX,
+            removed_from: made.at,
             removed_until: u64::MAX,
+            missed_by: None,
         })?;
         Ok(())
     }
@@ -143,6 +160,28 @@ impl Lives {
     pub(crate) fn arrange(&mut self) -> Result<(), AllocError> {
         self.lives
             .sort_by_key(|life| (life.id, life.stood(), life.token.unwrap_or(0)))?;
+        self.index()
+    }
+
+    /// Turns the lives at a place and behind it.
+    pub(crate) fn swap(&mut self, place: usize) {
+        let behind = place.saturating_add(1);
+        let (Some(life), Some(next)) = (
+            self.lives.get(place).copied(),
+            self.lives.get(behind).copied(),
+        ) else {
+            return;
+        };
+        if let Some(it) = self.lives.get_mut(place) {
+            *it = next;
+        }
+        if let Some(it) = self.lives.get_mut(behind) {
+            *it = life;
+        }
+    }
+
+    /// Finds the lives by their tokens where they stand.
+    pub(crate) fn index(&mut self) -> Result<(), AllocError> {
         for place in 0..self.lives.len() {
             let life = self.lives[place];
             if let Some(token) = life.token {
@@ -152,14 +191,18 @@ impl Lives {
         Ok(())
     }
 
+    /// Notes that a call saw the life at a place, by when that was asked and when its reply was there.
+    pub(crate) fn seen(&mut self, place: usize, at: u64, until: u64) {
+        if let Some(life) = self.lives.get_mut(place) {
+            life.seen(at, until);
+        }
+    }
+
     /// Notes when each life was seen last.
     fn note_sights(&mut self, sights: &[Sight<'_>]) {
         for sight in sights {
             if let Some(place) = self.of_token.get(&(sight.id, sight.token)).copied() {
-                if let Some(life) = self.lives.get_mut(place) {
-                    life.last = life.last.max(sight.at);
-                    life.until = life.until.min(sight.until);
-                }
+                self.seen(place, sight.at, sight.until);
             }
         }
     }
@@ -205,12 +248,22 @@ impl Lives {
         self.arrange()
     }
 
-    /// Notes that a call removes the life at a place, which had ended by a time, where one is known.
-    pub(crate) fn end(&mut self, place: usize, at: usize, call: &Asked<'_>, ended: Option<u64>) {
+    /// Notes by when the life at a place had ended, where nothing shows that it had so before.
+    pub(crate) fn ended(&mut self, place: usize, end: End) {
+        if let Some(life) = self.lives.get_mut(place) {
+            if end.by <= life.removed_until {
+                life.removed_until = end.by;
+                life.missed_by = Some(end.call);
+            }
+        }
+    }
+
+    /// Notes that a call removes the life at a place.
+    pub(crate) fn end(&mut self, place: usize, at: usize, call: &Asked<'_>) {
         if let Some(life) = self.lives.get_mut(place) {
             life.removed_by = Some(at);
             life.removed_from = call.from.max(life.last).max(life.from);
-            life.removed_until = call.until.min(ended.unwrap_or(u64::MAX));
+            life.removed_until = call.until.min(life.removed_until);
         }
     }
 
@@ -227,6 +280,32 @@ impl Lives {
     pub fn with_token(&self, id: u64, token: u64) -> Option<Life> {
         let place = self.of_token.get(&(id, token)).copied()?;
         self.lives.get(place).copied()
+    }
+
+    /// Between which times a page was told, of those between two: when all that it tells stood, and after the next version was made for
+    /// the first time behind the last one that it reached, or before that, as it says that more follow or none: the newest version
+    /// stands.
+    pub fn told(&self, page: &Page, top: u64, from: u64, until: u64) -> (u64, u64) {
+        let mut narrow = (from, until);
+        for meta in page.metas.as_slice() {
+            if let Some(id) = version_of(&meta.location) {
+                if let Some(life) = self.with_token(id, meta.token.number()) {
+                    narrow = (narrow.0.max(life.from), narrow.1.min(life.removed_until));
+                }
+            }
+        }
+        match self.above(top) {
+            Some(above) if page.more => (narrow.0.max(above.from), narrow.1),
+            Some(above) => (narrow.0, narrow.1.min(above.until)),
+            None => narrow,
+        }
+    }
+
+    /// The first life of the first version above one.
+    pub fn above(&self, id: u64) -> Option<Life> {
+        let lives = self.lives.as_slice();
+        let place = lives.partition_point(|life| life.id <= id);
+        lives.get(place).copied()
     }
 
     /// The version of the life at a place.

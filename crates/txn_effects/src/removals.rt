@@ -1,7 +1,7 @@
 //! Which delete removed which life of a version.
 
-use crate::absences::Absences;
-use crate::bounds::narrow;
+use crate::absences::{End, sooner};
+use crate::bounds::{follow, narrow};
 use crate::calls::Asked;
 use crate::landings::{Fate, fate_of, land};
 use crate::lives::{Life, Lives};
@@ -11,10 +11,10 @@ use std::alloc::{AllocError, Global};
 pub type Concern = (u64, usize);
 
 /// A delete: its version, when its reply was there, when it was asked, and its place among the calls.
-type Delete = (u64, u64, u64, usize);
+pub(crate) type Delete = (u64, u64, u64, usize);
 
 /// The deletes, by versions, then by when their replies were there, then by when they were asked.
-fn all_deletes(alloc: Global, calls: &[Asked<'_>]) -> Result<Vec<Delete>, AllocError> {
+pub(crate) fn all_deletes(alloc: Global, calls: &[Asked<'_>]) -> Result<Vec<Delete>, AllocError> {
     let mut deletes = Vec::new(alloc);
     for place in 0..calls.len() {
         let call = &calls[place];
@@ -26,17 +26,47 @@ fn all_deletes(alloc: Global, calls: &[Asked<'_>]) -> Result<Vec<Delete>, AllocE
     Ok(deletes)
 }
 
-/// Whether a delete may have removed a life, which had ended by a time, where one is known.
-fn may_remove(call: &Asked<'_>, life: &Life, next: Option<Life>, ended: Option<u64>) -> bool {
-    let in_time = match next {
-        Some(next) => call.from <= next.until,
-        None => true,
-    };
-    let early = match ended {
-        Some(at) => call.from <= at,
-        None => true,
-    };
-    call.until >= life.from && call.until >= life.last && in_time && early
+/// A life, by when it had ended, where that is known, and the call that shows it.
+#[derive(Clone, Copy)]
+struct Ended<'x, 'a> {
+    life: Life,
+    end: Option<End>,
+    shown: Option<&'x Asked<'a>>,
+}
+
+impl<'x, 'a> Ended<'x, 'a> {
+    /// The life at a place: it had ended where a call shows it, or where its version was made again.
+    fn at(calls: &'x [Asked<'a>], lives: &Lives, place: usize) -> Option<Ended<'x, 'a>> {
+        let life = lives.lives.get(place).copied()?;
+        let by = life.removed_until;
+        let missed = life.missed_by.map(|call| End { by, call });
+        let again = lives.at(place.saturating_add(1), life.id).map(|next| End {
+            by: next.until,
+            call: next.made_by,
+        });
+        let end = sooner(again, missed);
+        let shown = match end {
+            Some(end) => calls.get(end.call),
+            None => None,
+        };
+        Some(Ended { life, end, shown })
+    }
+
+    /// Whether a delete may have removed it: none that its client asked for after it had the reply that shows the end.
+    fn may_end_by(&self, delete: &Asked<'_>) -> bool {
+        let early = match self.end {
+            Some(end) => delete.from <= end.by,
+            None => true,
+        };
+        let behind = match self.shown {
+            Some(call) => {
+                let is_own = call.recording == delete.recording;
+                is_own && call.is_answered() && call.row < delete.row
+            }
+            None => false,
+        };
+        delete.until >= self.life.from && delete.until >= self.life.last && early && !behind
+    }
 }
 
 /// What is known of all deletes.
@@ -61,20 +91,18 @@ impl Deletes {
         calls: &[Asked<'_>],
         fates: &[Fate],
         fate: Fate,
-        life: &Life,
-        next: Option<Life>,
-        ended: Option<u64>,
+        ended: &Ended<'_, '_>,
     ) -> Option<usize> {
         let all = self.all.as_slice();
-        let start = all.partition_point(|delete| delete.0 < life.id);
+        let start = all.partition_point(|delete| delete.0 < ended.life.id);
         for place in start..all.len() {
             let (id, _, _, at) = all[place];
-            if id != life.id {
+            if id != ended.life.id {
                 return None;
             }
             if let Some(call) = calls.get(at) {
                 let free = !self.is_taken(at) && fate_of(fates, at) == fate;
-                if free && may_remove(call, life, next, ended) {
+                if free && ended.may_end_by(call) {
                     return Some(at);
                 }
             }
@@ -83,21 +111,14 @@ impl Deletes {
     }
 
     /// The delete that removed a life: one whose reply was seen, or, where the life ended, another.
-    fn remover(
-        &self,
-        calls: &[Asked<'_>],
-        fates: &[Fate],
-        life: &Life,
-        next: Option<Life>,
-        ended: Option<u64>,
-    ) -> Option<usize> {
-        match self.first(calls, fates, Fate::Answered, life, next, ended) {
+    fn remover(&self, calls: &[Asked<'_>], fates: &[Fate], ended: &Ended<'_, '_>) -> Option<usize> {
+        match self.first(calls, fates, Fate::Answered, ended) {
             Some(place) => Some(place),
             None => {
-                if ended.is_none() {
+                if ended.end.is_none() {
                     return None;
                 }
-                self.first(calls, fates, Fate::Unknown, life, next, ended)
+                self.first(calls, fates, Fate::Unknown, ended)
             }
         }
     }
@@ -108,15 +129,13 @@ impl Deletes {
         calls: &[Asked<'_>],
         fates: &mut Vec<Fate>,
         lives: &mut Lives,
-        absences: &Absences,
         place: usize,
     ) {
-        let Some(life) = lives.lives.get(place).copied() else {
+        follow(lives, place);
+        let Some(ended) = Ended::at(calls, lives, place) else {
             return;
         };
-        let next = lives.at(place.saturating_add(1), life.id);
-        let ended = absences.ended(calls, lives, place);
-        let Some(at) = self.remover(calls, fates.as_slice(), &life, next, ended) else {
+        let Some(at) = self.remover(calls, fates.as_slice(), &ended) else {
             return;
         };
         if let Some(taken) = self.taken.get_mut(at) {
@@ -126,7 +145,7 @@ impl Deletes {
             land(fates, at, None);
         }
         if let Some(call) = calls.get(at) {
-            lives.end(place, at, call, ended);
+            lives.end(place, at, call);
         }
     }
 
@@ -148,14 +167,13 @@ pub(crate) fn remove(
     calls: &[Asked<'_>],
     fates: &mut Vec<Fate>,
     lives: &mut Lives,
-    absences: &Absences,
 ) -> Result<Vec<Concern>, AllocError> {
     let mut deletes = Deletes {
         all: all_deletes(alloc, calls)?,
         taken: vec![in alloc; false; calls.len()]?,
     };
     for place in 0..lives.lives.len() {
-        deletes.end_life(calls, fates, lives, absences, place);
+        deletes.end_life(calls, fates, lives, place);
     }
     narrow(lives);
     deletes.idle(alloc, fates.as_slice())

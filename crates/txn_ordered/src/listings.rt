@@ -9,20 +9,6 @@ use txn_effects::calls::{Asked, version_of};
 use txn_store::page::Page;
 
 impl Precedence<'_> {
-    /// A listing, by the times at which all that it tells stood.
-    fn within(&self, span: Span, page: &Page) -> Span {
-        let mut within = span;
-        for meta in page.metas.as_slice() {
-            if let Some(id) = version_of(&meta.location) {
-                if let Some(life) = self.lives.with_token(id, meta.token.number()) {
-                    within.from = within.from.max(life.from);
-                    within.until = within.until.min(life.removed_until);
-                }
-            }
-        }
-        within
-    }
-
     /// The times that the versions leave a listing of which it can have missed the lives in one gap alone.
     fn narrowed(&self, span: Span, missing: &[Missing]) -> Span {
         let mut narrow = span;
@@ -50,10 +36,13 @@ impl Precedence<'_> {
         let mut told = Vec::new(alloc);
         self.tell(graph, at, page, &mut told)?;
         let missing = standing.left_out(alloc, low, told.as_slice(), page.more)?;
+        let top = told.as_slice().last().copied().unwrap_or(low);
+        let (from, until) = self.lives.told(page, top, call.from, call.until);
         // Twice: what the first round narrows can leave one gap alone of a version that was passed already.
-        let once = self.narrowed(self.within(Span::of(call), page), missing.as_slice());
-        let span = self.narrowed(once, missing.as_slice());
-        self.all_absent(graph, at, span, missing.as_slice())?;
+        let once = self.narrowed(Span { from, until }, missing.as_slice());
+        let narrow = self.narrowed(once, missing.as_slice());
+        let whole = Span::of(call);
+        self.all_absent(graph, at, narrow, whole, missing.as_slice())?;
         self.goes_on(graph, at, page)
     }
 
@@ -74,15 +63,21 @@ impl Precedence<'_> {
         Ok(())
     }
 
-    /// What the versions show that a listing left out.
+    /// What the versions show that a listing left out, by the times between which it took effect. Where a version leaves it no gap
+    /// between these, which is so where some reply is not true, that is told by the times of its call.
     fn all_absent(
         &self,
         graph: &mut Graph,
         at: usize,
-        span: Span,
+        narrow: Span,
+        whole: Span,
         missing: &[Missing],
     ) -> Result<(), AllocError> {
         for (id, below) in missing {
+            let span = match self.gaps(narrow, *id, *below).first {
+                Some(_) => narrow,
+                None => whole,
+            };
             self.absent(graph, at, span, *id, *below)?;
         }
         Ok(())

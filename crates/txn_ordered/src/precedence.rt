@@ -44,9 +44,7 @@ impl<'a> Precedence<'a> {
 
     /// The call that made the first version above one.
     pub(crate) fn maker_above(&self, id: u64) -> Option<usize> {
-        let lives = self.lives.lives.as_slice();
-        let place = lives.partition_point(|life| life.id <= id);
-        Some(lives.get(place)?.made_by)
+        Some(self.lives.above(id)?.made_by)
     }
 
     /// The call that wrote the first boundary.

@@ -21,15 +21,6 @@ impl Span {
             until: call.until,
         }
     }
-
-    /// Whether a life may have stood meanwhile, which is none where the next one had begun before.
-    fn may_see(&self, life: Life, next: Option<Life>) -> bool {
-        let over = match next {
-            Some(next) => next.until < self.from,
-            None => false,
-        };
-        life.from <= self.until && self.from <= life.removed_until && !over
-    }
 }
 
 /// A gap among the lives of a version: behind one that a call removed, or before the first, and before the next, where there is one.
@@ -166,7 +157,7 @@ impl Precedence<'_> {
             let Some(life) = self.lives.at(place, id) else {
                 return Ok(());
             };
-            if span.may_see(life, self.lives.at(place.saturating_add(1), id)) {
+            if life.may_stand(span.from, span.until) {
                 return self.saw(graph, at, Some(life));
             }
             if any.is_none() {

@@ -1,0 +1,134 @@
+//! Listings: between which times each took effect, and the versions that it missed.
+
+use crate::absences::{End, sooner};
+use crate::calls::{Asked, version_of};
+use crate::lives::{Life, Lives};
+use std::alloc::{AllocError, Global};
+use txn_store::page::Page;
+
+/// A listing: between which times it took effect, two versions between which it told all that stood, and its page.
+#[derive(Clone, Copy)]
+struct Extent<'a> {
+    from: u64,
+    until: u64,
+    low: u64,
+    top: u64,
+    page: &'a Page,
+    /// Its place among the calls.
+    call: usize,
+}
+
+impl<'a> Extent<'a> {
+    /// That of a call, where it lists.
+    fn of(call: &Asked<'a>, place: usize, lives: &Lives) -> Option<Extent<'a>> {
+        let (low, page) = call.lists()?;
+        let top = match page.metas.as_slice().last() {
+            Some(meta) => version_of(&meta.location).unwrap_or(low),
+            None => low,
+        };
+        let (from, until) = lives.told(page, top, call.from, call.until);
+        Some(Extent {
+            from,
+            until,
+            low,
+            top,
+            page,
+            call: place,
+        })
+    }
+
+    /// Whether it told a version.
+    fn tells(&self, id: u64) -> bool {
+        let metas = self.page.metas.as_slice();
+        let place = metas.partition_point(|meta| version_of(&meta.location).is_some_and(|told| told
+            < id));
+        match metas.get(place) {
+            Some(meta) => version_of(&meta.location) == Some(id),
+            None => false,
+        }
+    }
+
+    /// Whether it missed the version of a life, which it reached over, and was asked after a time. Where the life was seen after that,
+    /// one of both was told wrongly.
+    fn missed(&self, life: &Life, after: Option<u64>) -> bool {
+        let late = match after {
+            Some(after) => self.from > after,
+            None => true,
+        };
+        let reaches = self.low < life.id && life.id < self.top;
+        late && reaches && self.until >= life.last && !self.tells(life.id)
+    }
+}
+
+/// Adds the listings.
+fn add_extents<'a>(
+    calls: &[Asked<'a>],
+    lives: &Lives,
+    extents: &mut Vec<Extent<'a>>,
+) -> Result<(), AllocError> {
+    for place in 0..calls.len() {
+        if let Some(extent) = Extent::of(&calls[place], place, lives) {
+            extents.push(extent)?;
+        }
+    }
+    Ok(())
+}
+
+/// Adds of each of these and those before it the latest time.
+fn add_latest(extents: &[Extent<'_>], latest: &mut Vec<u64>) -> Result<(), AllocError> {
+    let mut last = 0u64;
+    for extent in extents {
+        last = last.max(extent.until);
+        latest.push(last)?;
+    }
+    Ok(())
+}
+
+/// The listings, by the earliest times at which they took effect.
+#[derive(Drop)]
+pub(crate) struct Extents<'a> {
+    extents: Vec<Extent<'a>>,
+    /// Of each and those before it the latest time.
+    latest: Vec<u64>,
+}
+
+impl<'a> Extents<'a> {
+    /// Those of all calls.
+    pub fn new(
+        alloc: Global,
+        calls: &[Asked<'a>],
+        lives: &Lives,
+    ) -> Result<Extents<'a>, AllocError> {
+        let mut extents = Vec::new(alloc);
+        add_extents(calls, lives, &mut extents)?;
+        extents.sort_by_key(|extent| extent.from)?;
+        let mut latest = Vec::with_capacity(alloc, extents.len())?;
+        add_latest(extents.as_slice(), &mut latest)?;
+        Ok(Extents { extents, latest })
+    }
+
+    /// The listing that was there first of those that missed the version of a life, and that were asked after a time, where one is
+    /// named; and by when it was there. What it missed had ended, where it was made by that time.
+    pub fn missed(&self, life: &Life, after: Option<u64>) -> Option<End> {
+        let extents = self.extents.as_slice();
+        let mut first: Option<End> = None;
+        let start = self
+            .latest
+            .as_slice()
+            .partition_point(|until| *until < life.from);
+        for place in start..extents.len() {
+            let extent = extents[place];
+            if first.is_some_and(|end| end.by <= extent.from) {
+                return first;
+            }
+            if extent.missed(life, after) {
+                let end = End {
+                    by: extent.until,
+                    call: extent.call,
+                };
+                first = sooner(first, Some(end));
+            }
+        }
+        first
+    }
+}
