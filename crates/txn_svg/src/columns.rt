@@ -168,10 +168,12 @@ impl Columns {
             return Ok(());
         }
         self.draw_bar(places, place, y, said, is_refused)?;
-        self.bars[place].is_running = false;
-        let index = self.bars[place].client.saturating_sub(1) as usize;
-        if index < self.slots.len() {
-            self.slots[index].free(op);
+        if let Some(bar) = self.bars.get_mut(place) {
+            bar.is_running = false;
+            let index = bar.client.saturating_sub(1) as usize;
+            if index < self.slots.len() {
+                self.slots[index].free(op);
+            }
         }
         Ok(())
     }
@@ -245,10 +247,11 @@ impl Columns {
     pub fn end_hold(&mut self, places: &Places, client: u64, y: u64) -> Result<(), AllocError> {
         let index = client.saturating_sub(1) as usize;
         if index < self.tints.len() {
-            if let Some(tint) = self.tints[index] {
+            let held = self.tints[index];
+            self.tints[index] = None;
+            if let Some(tint) = held {
                 self.draw_tint(places, client, tint, y)?;
             }
-            self.tints[index] = None;
         }
         Ok(())
     }

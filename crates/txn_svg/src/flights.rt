@@ -88,19 +88,29 @@ impl Flights {
             return Ok(places.flight);
         }
         let x = self.draw(places, place, y)?;
-        self.flights[place].from = y;
-        self.flights[place].has_landed = true;
+        if let Some(flight) = self.flights.get_mut(place) {
+            flight.from = y;
+            flight.has_landed = true;
+            flight.is_over = is_last;
+        }
         if is_last {
-            self.flights[place].is_over = true;
             self.slots.free(k);
         }
         Ok(x)
     }
 
+    /// Whether the request at a place may still land.
+    fn is_in_flight(&self, place: usize) -> bool {
+        match self.flights.get(place) {
+            Some(flight) => !flight.is_over,
+            None => false,
+        }
+    }
+
     /// What is still in flight goes on to here, where the picture ends.
     pub fn finish(&mut self, places: &Places, y: u64) -> Result<(), AllocError> {
         for place in 0..self.flights.len() {
-            if !self.flights[place].is_over {
+            if self.is_in_flight(place) {
                 let x = self.draw(places, place, y)?;
                 let at = At {
                     x,

@@ -154,8 +154,10 @@ impl Versions {
     pub fn draw_all(&mut self, places: &Places, y: u64) -> Result<(), AllocError> {
         for place in 0..self.versions.len() {
             self.draw(places, place, y)?;
-            if self.versions[place].from.is_some() {
-                self.versions[place].from = Some(y);
+            if let Some(version) = self.versions.get_mut(place) {
+                if version.from.is_some() {
+                    version.from = Some(y);
+                }
             }
         }
         self.draw_boundary(places, y)
