@@ -88,7 +88,7 @@ class Pages(unittest.TestCase):
         drawings = [text_of(os.path.relpath(it, TOP)).splitlines() for it in traces]
         pages = ("README.md", "docs/rules.md", "crates/txn_moments/README.md")
         found = [(page, lines) for page in pages for lines in drawings_on(page)]
-        self.assertEqual(len(found), 7)
+        self.assertEqual(len(found), 6)
         for page, lines in found:
             self.assertTrue(any(is_drawn_in(lines, it) for it in drawings), (page, lines))
         self.assertFalse(is_drawn_in(found[0][1][::-1], drawings[0]))
