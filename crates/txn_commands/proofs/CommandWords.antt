@@ -95,6 +95,10 @@ asks_for_manifest_picture words mode kind is picture manifest commands.ManifestT
 asks_for_manifest_picture words mode kind is picture manifest commands.ManifestPicture fits = (λ _. is ∙ (ap (λ m. m ∷ kind ∷ []) picture ∙ ap (λ k. codes "picture" ∷ k ∷ []) manifest), λ _. refl)
 asks_for_manifest_picture words mode kind is picture manifest (commands.Threads n) fits = (λ e. cc, λ e. absurd (other_first mode (codes "picture") (codes "threads") kind (count_text n) picture (λ same. cc) (sym is ∙ e)))
 
+-- two words of one length: their first letters differ
+threads_not_picture : codes "threads" ≢ codes "picture"
+threads_not_picture same = let letters : 116 ≡ 112 = ap (λ w. get_or w 0 0) same in absurd (omega (arith, letters))
+
 pub asks_for_threads : (words : List (List ℕ)) (mode count : List ℕ) (m : ℕ) → words ≡ mode ∷ count ∷ [] → mode ≡ codes "threads" → ((n : ℕ) → IsCount n → (Some m ≡ Some n) ↔ (count ≡ count_text n)) → (command : Command) → IsCommand command
     → (Some (commands.Threads m) ≡ Some command) ↔ (words ≡ command_words command)
 asks_for_threads words mode count m is threads exact commands.Script fits = (λ e. cc, λ e. absurd (one_not_two (codes "script") mode count (sym e ∙ is)))
@@ -102,7 +106,7 @@ asks_for_threads words mode count m is threads exact commands.Manifest fits = (�
 asks_for_threads words mode count m is threads exact commands.Trace fits = (λ e. cc, λ e. absurd (one_not_two (codes "trace") mode count (sym e ∙ is)))
 asks_for_threads words mode count m is threads exact commands.ManifestTrace fits = (λ e. cc, λ e. absurd (other_first mode (codes "threads") (codes "trace") count (codes "manifest") threads (λ same. cc) (sym is ∙ e)))
 asks_for_threads words mode count m is threads exact commands.Picture fits = (λ e. cc, λ e. absurd (one_not_two (codes "picture") mode count (sym e ∙ is)))
-asks_for_threads words mode count m is threads exact commands.ManifestPicture fits = (λ e. cc, λ e. absurd (other_first mode (codes "threads") (codes "picture") count (codes "manifest") threads (λ same. cc) (sym is ∙ e)))
+asks_for_threads words mode count m is threads exact commands.ManifestPicture fits = (λ e. cc, λ e. absurd (other_first mode (codes "threads") (codes "picture") count (codes "manifest") threads threads_not_picture (sym is ∙ e)))
 asks_for_threads words mode count m is threads exact (commands.Threads n) fits = (
   λ e. let same : Some m ≡ Some n = cc in is ∙ (ap (λ t. t ∷ count ∷ []) threads ∙ ap (λ t. codes "threads" ∷ t ∷ []) ((exact n fits).0 same)),
   λ e. let same : count ≡ count_text n = last_of_two (codes "threads") count (count_text n) (sym (is ∙ ap (λ t. t ∷ count ∷ []) threads) ∙ e) in
