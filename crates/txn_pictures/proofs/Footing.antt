@@ -1,11 +1,10 @@
 -- What was written behind what was drawn, and at the foot of a picture.
-use Rattle.std.proofs.Common.{◌≡◌, ℕ, List, [], ◌++◌, Option, Some, None, ◌∙◌, arith, refl, sym, ap, subst}
+use Rattle.std.proofs.Common.{◌≡◌, ℕ, List, ◌++◌, Option, Some, None, ◌∙◌, arith, refl, subst}
 use Rattle.std.proofs.lemmas.List.{append_assoc}
 use Rattle.std.specs.Prelude.{Result, Ok, Err, OnOk, IfOk, Bool, true}
 use Rattle.std.specs.Io.KnownBytes.{Appends, Keeps, append_known}
 use Rattle.txn_lines.specs.declared.stop.Stop.{Stop}
 use Rattle.txn_lines.specs.declared.stop.Stop.TheVariants as stops
-use Rattle.txn_lines.specs.Printed.{status_of}
 use Rattle.txn_script.specs.Script.{ended_status}
 
 -- the drawing was printed, then the foot, all was written, and nothing more
@@ -24,28 +23,9 @@ ended_well (Err stops.ReadFailed) P zero on = absurd (omega (arith, zero))
 ended_well (Err stops.WriteFailed) P zero on = absurd (omega (arith, zero))
 ended_well (Err stops.NoMemory) P zero on = absurd (omega (arith, zero))
 
--- known bytes grew by a text, and then stayed
-pub grown_and_kept : (a b c : Option (List ℕ)) (text : List ℕ) → Appends a b text → Keeps b c → Appends a c text
-grown_and_kept None b c text grown kept = tt
-grown_and_kept (Some xs) None c text grown kept = absurd grown
-grown_and_kept (Some xs) (Some ys) None text grown kept = absurd kept
-grown_and_kept (Some xs) (Some ys) (Some zs) text grown kept = kept ∙ grown
-
--- nothing was there, lines were printed, and all was written: the lines alone
-pub lines_alone : (P : List ℕ → Type 0) (empty unwritten middle left final text : List ℕ) → empty ≡ [] → unwritten ≡ [] → Appends (append_known (Some empty) unwritten) (append_known (Some middle) left) text → Appends (Some middle) (Some final) left → P text → P final
-lines_alone P empty unwritten middle left final text none nothing printed written holds =
-    subst P (sym (written ∙ (printed ∙ (ap (λ it. (it ++ unwritten) ++ text) none ∙ ap (λ it. ([] ++ it) ++ text) nothing)))) holds
-
 -- what was written is this text
 pub written_is : (old new : Option (List ℕ)) (picture whole : List ℕ) → Appends old new picture → picture ≡ whole → Appends old new whole
 written_is old new picture whole written is = subst (λ it. Appends old new it) is written
-
--- no stop has the status 0
-pub stop_is_told : (stop : Stop) → status_of stop ≡ 0 → ⊥
-stop_is_told (stops.BadLine n) zero = absurd (omega (arith, zero))
-stop_is_told stops.ReadFailed zero = absurd (omega (arith, zero))
-stop_is_told stops.WriteFailed zero = absurd (omega (arith, zero))
-stop_is_told stops.NoMemory zero = absurd (omega (arith, zero))
 
 -- what holds of a picture that was drawn
 pub drawn_well : {P : Type 0} (ended : Result Bool Stop) → ended ≡ Ok true → IfOk ended (λ is_drawn. is_drawn ≡ true → P) → P

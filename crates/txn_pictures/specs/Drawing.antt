@@ -1,5 +1,5 @@
 -- What stands at the foot of a drawing.
-use Rattle.std.specs.Prelude.{ℕ, List, ◌++◌, Option, IfSome}
+use Rattle.std.specs.Prelude.{ℕ, List, ◌++◌, Option}
 use Rattle.std.specs.Io.KnownBytes.{Appends}
 use Rattle.txn_machine.specs.Machine.{State}
 use Rattle.txn_script.specs.Rules.{Rules}
