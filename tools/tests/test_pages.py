@@ -86,7 +86,7 @@ class Pages(unittest.TestCase):
     def test_drawings_are_those_of_cases(self):
         traces = glob.glob(f"{TOP}/cases/**/*.trace", recursive=True) + glob.glob(f"{TOP}/examples/*.trace")
         drawings = [text_of(os.path.relpath(it, TOP)).splitlines() for it in traces]
-        pages = ("README.md", "docs/rules.md", "crates/txn_moments/README.md")
+        pages = ("README.md", "docs/rules.md", "crates/txn_drawing_moments/README.md")
         found = [(page, lines) for page in pages for lines in drawings_on(page)]
         self.assertEqual(len(found), 6)
         for page, lines in found:

@@ -126,19 +126,19 @@ WRONG_BODIES = {
     "txn_audit": """
         audit_always_fault audit_always_ok
     """,
-    "txn_caches": """
+    "txn_steps_boundary": """
         advance_overwrites check_drops_the_refused_id_alone check_trusts_cache
     """,
-    "txn_commands": """
+    "txnworld_commands": """
         audit_fault_passes differing_counts_pass
     """,
     "txn_diary": """
         diary_invents_answer one_lock_per_operation
     """,
-    "txn_drivers": """
+    "txn_steps_driven": """
         advance_overwrites list_always_empty put_overwrites read_trusts_cache
     """,
-    "txn_machine_inner": """
+    "txn_machine_plain": """
         delete_above_boundary read_always_none reads_never_answer write_always_conflicts
     """,
     "txn_machine_views": """
@@ -147,7 +147,7 @@ WRONG_BODIES = {
     "txn_manifest": """
         checkpoint_pins_an_older_id collects_the_newest store_checkpoint_pins_an_older_id sweep_tests_no_pins
     """,
-    "txn_progress": """
+    "txn_machine_progress": """
         advance_takes_eight
     """,
     "txn_steps": """
@@ -157,13 +157,13 @@ WRONG_BODIES = {
     "txn_store": """
         page_repeats_its_after search_is_linear token_repeats tokens_exhausted_early version_name_lenient
     """,
-    "txn_threads": """
+    "txn_world_threads": """
         journal_grows_after_the_event kept_drops_write kept_invents_answer kept_restarts
     """,
-    "txn_types": """
+    "txn_store_types": """
         boundary_stops_at_no_digit
     """,
-    "txn_view_steps": """
+    "txn_steps_views": """
         claim_at_tests_once claim_keeps_epoch holder_adopts_newest_epoch holder_update_refuses_smaller_epochs_alone
     """,
     "txn_world": """

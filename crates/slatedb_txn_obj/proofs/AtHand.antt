@@ -4,14 +4,14 @@ use Rattle.std.proofs.lemmas.Bool.{cases_Bool, eqb-true}
 use Rattle.std.proofs.lemmas.Option.{same_Some}
 use Rattle.txn_store.specs.VersionName.{Names}
 use Rattle.txn_store.specs.Store.{State}
-use Rattle.txn_types.specs.Numbers.{number_of}
-use Rattle.txn_types.specs.declared.error.TransactionalObjectError.{TransactionalObjectError}
-use Rattle.txn_caches.specs.declared.caches.Cached.{Cached}
-use Rattle.txn_caches.specs.Windows.{Ascends, held, greatest_held}
-use Rattle.txn_drivers.specs.Standing.{WindowFits}
-use Rattle.txn_drivers.specs.WriteRuns.{Written}
-use Rattle.txn_drivers.specs.LatestReads.{UpTo, IsOneOf, Ended}
-use Rattle.txn_drivers.proofs.LatestWindows.{up_one, up_more, up_kept, up_greatest, one_greatest, none_greatest, held_above, held_kept}
+use Rattle.txn_store_types.specs.Numbers.{number_of}
+use Rattle.txn_store_types.specs.declared.error.TransactionalObjectError.{TransactionalObjectError}
+use Rattle.txn_steps_boundary.specs.declared.caches.Cached.{Cached}
+use Rattle.txn_steps_boundary.specs.Windows.{Ascends, held, greatest_held}
+use Rattle.txn_steps_driven.specs.Standing.{WindowFits}
+use Rattle.txn_steps_driven.specs.WriteRuns.{Written}
+use Rattle.txn_steps_driven.specs.LatestReads.{UpTo, IsOneOf, Ended}
+use Rattle.txn_steps_driven.proofs.LatestWindows.{up_one, up_more, up_kept, up_greatest, one_greatest, none_greatest, held_above, held_kept}
 use Rattle.slatedb_txn_obj.specs.Protocol.{base_number}
 use Rattle.slatedb_txn_obj.specs.Whole.{IsGreatestHeld}
 use Rattle.slatedb_txn_obj.proofs.Wholes.{base_is}

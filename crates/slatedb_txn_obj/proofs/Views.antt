@@ -2,9 +2,9 @@
 use Rattle.std.proofs.Common.{suc, zero, ◌≡◌, ℕ, ◌<◌, List, [], ◌∷◌, ◌++◌, length, take, drop, All, Err, refl, sym, ap, subst, arith}
 use Rattle.std.proofs.Math.ListN.{get_or}
 use Rattle.std.proofs.lemmas.List.{get_or-take, length-take}
-use Rattle.txn_types.specs.Callbacks.{OnRefusal}
-use Rattle.txn_types.specs.declared.callback.CallbackFault.{CallbackFault}
-use Rattle.txn_drivers.specs.LatestReads.{IsLatest}
+use Rattle.txn_store_types.specs.Callbacks.{OnRefusal}
+use Rattle.txn_store_types.specs.declared.callback.CallbackFault.{CallbackFault}
+use Rattle.txn_steps_driven.specs.LatestReads.{IsLatest}
 use Rattle.slatedb_txn_obj.specs.Views.{IsVersion, Tested}
 
 pub version-of_latest : {T : Type 0} {h : List T} {id : ℕ} {value : T} → IsLatest h id value → IsVersion h id value

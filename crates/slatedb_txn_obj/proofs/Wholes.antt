@@ -9,26 +9,26 @@ use Rattle.txn_store.specs.Store.{State, Kept}
 use Rattle.txn_store.proofs.FileLemmas.{get-remove_same}
 use Rattle.txn_store.specs.declared.store.Got.{Got}
 use Rattle.txn_store.specs.declared.store.StoreError.TheVariants as errors
-use Rattle.txn_types.specs.Errors.{error_number}
-use Rattle.txn_types.specs.Numbers.{number_of}
-use Rattle.txn_types.specs.declared.error.TransactionalObjectError.{TransactionalObjectError}
-use Rattle.txn_types.specs.declared.error.TransactionalObjectError.TheVariants as kinds
-use Rattle.txn_caches.specs.declared.caches.Cached.{Cached}
-use Rattle.txn_caches.specs.Windows.{greatest_held}
-use Rattle.txn_drivers.specs.Calls.{SameAt, Spends, HasCauseOfRead, HasCauseOfGet}
-use Rattle.txn_drivers.specs.Standing.{Carried, FilesStand, WindowFits}
-use Rattle.txn_drivers.specs.WriteRuns.{VersionsStand, WriteLeaves, WriteStands, Written}
-use Rattle.txn_drivers.specs.RemovalRuns.{Deleted}
-use Rattle.txn_drivers.specs.LatestReads.{UpTo, Ended, IsLatest, Walked, IsStored, IsRefused, HasToList, IsProbed, IsListed}
-use Rattle.txn_drivers.specs.PageCount.{pages_below}
-use Rattle.txn_drivers.specs.ListRuns.{VersionsListed, ids_of}
-use Rattle.txn_drivers.specs.VersionReads.{AreRefused, VersionRead, SeenRead}
+use Rattle.txn_store_types.specs.Errors.{error_number}
+use Rattle.txn_store_types.specs.Numbers.{number_of}
+use Rattle.txn_store_types.specs.declared.error.TransactionalObjectError.{TransactionalObjectError}
+use Rattle.txn_store_types.specs.declared.error.TransactionalObjectError.TheVariants as kinds
+use Rattle.txn_steps_boundary.specs.declared.caches.Cached.{Cached}
+use Rattle.txn_steps_boundary.specs.Windows.{greatest_held}
+use Rattle.txn_steps_driven.specs.Calls.{SameAt, Spends, HasCauseOfRead, HasCauseOfGet}
+use Rattle.txn_steps_driven.specs.Standing.{Carried, FilesStand, WindowFits}
+use Rattle.txn_steps_driven.specs.WriteRuns.{VersionsStand, WriteLeaves, WriteStands, Written}
+use Rattle.txn_steps_driven.specs.RemovalRuns.{Deleted}
+use Rattle.txn_steps_driven.specs.LatestReads.{UpTo, Ended, IsLatest, Walked, IsStored, IsRefused, HasToList, IsProbed, IsListed}
+use Rattle.txn_steps_driven.specs.PageCount.{pages_below}
+use Rattle.txn_steps_driven.specs.ListRuns.{VersionsListed, ids_of}
+use Rattle.txn_steps_driven.specs.VersionReads.{AreRefused, VersionRead, SeenRead}
 use Rattle.txn_steps.specs.Listed.{Listed}
 use Rattle.std.specs.declared.ops.Bound.{Bound}
-use Rattle.txn_drivers.proofs.LatestStands.{stored_carried}
-use Rattle.txn_drivers.proofs.LatestWindows.{every_carried, every_one}
-use Rattle.txn_drivers.proofs.NextPages.{has_pages}
-use Rattle.txn_drivers.proofs.Frames.{same_at-kept, kept-refl, FilesStand-kept}
+use Rattle.txn_steps_driven.proofs.LatestStands.{stored_carried}
+use Rattle.txn_steps_driven.proofs.LatestWindows.{every_carried, every_one}
+use Rattle.txn_steps_driven.proofs.NextPages.{has_pages}
+use Rattle.txn_steps_driven.proofs.Frames.{same_at-kept, kept-refl, FilesStand-kept}
 use Rattle.slatedb_txn_obj.specs.Protocol.{base_number, EntryStands, Overtaken, MayAppend, Stays, LatestOrFenced, IsEntry, AreListed, IsWarmRead, Unheld, HasCauseOfLatestUnchecked, HasCauseOfVersion}
 use Rattle.slatedb_txn_obj.specs.Whole.{Whole, IsGreatestHeld, IsMissing, probe_calls}
 

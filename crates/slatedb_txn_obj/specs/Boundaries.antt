@@ -3,11 +3,11 @@ use Rattle.std.specs.Prelude.{◌≡◌, ℕ, Option, Result, Contains}
 use Rattle.std.proofs.Common.{sym, subst}
 use Rattle.txn_store.specs.Paths.{Segments}
 use Rattle.txn_store.specs.Store.{State}
-use Rattle.txn_types.specs.declared.error.TransactionalObjectError.{TransactionalObjectError}
-use Rattle.txn_caches.specs.declared.caches.CachedBoundary.{CachedBoundary}
-use Rattle.txn_drivers.specs.Standing.{BoundaryStands}
-use Rattle.txn_drivers.specs.Checking.{Checked}
-use Rattle.txn_drivers.specs.Advancing.{Advanced}
+use Rattle.txn_store_types.specs.declared.error.TransactionalObjectError.{TransactionalObjectError}
+use Rattle.txn_steps_boundary.specs.declared.caches.CachedBoundary.{CachedBoundary}
+use Rattle.txn_steps_driven.specs.Standing.{BoundaryStands}
+use Rattle.txn_steps_driven.specs.Checking.{Checked}
+use Rattle.txn_steps_driven.specs.Advancing.{Advanced}
 
 -- what a check of this id that answers so leaves
 pub record BoundaryChecks (path path' : Segments) (cached cached' : Option CachedBoundary) (old : State) (id : ℕ) (r : Result (Unit {0}) TransactionalObjectError) (new : State) : Type 0 where

@@ -4,13 +4,13 @@ use Rattle.std.specs.FinMap as map
 use Rattle.txn_store.specs.Paths.{Segments}
 use Rattle.txn_store.specs.VersionName.{Names, version_path}
 use Rattle.txn_store.specs.Store.{Files}
-use Rattle.txn_types.specs.declared.layout.Layout.{Layout}
-use Rattle.txn_types.specs.declared.error.TransactionalObjectError.{TransactionalObjectError}
-use Rattle.txn_types.specs.declared.error.TransactionalObjectError.TheVariants.{ObjectVersionExists}
-use Rattle.txn_caches.specs.declared.caches.Cached.{Cached}
-use Rattle.txn_caches.specs.Windows.{greatest_held, above}
-use Rattle.txn_drivers.specs.Calls.{one_if}
-use Rattle.txn_drivers.specs.WriteRuns.{VersionsStand}
+use Rattle.txn_store_types.specs.declared.layout.Layout.{Layout}
+use Rattle.txn_store_types.specs.declared.error.TransactionalObjectError.{TransactionalObjectError}
+use Rattle.txn_store_types.specs.declared.error.TransactionalObjectError.TheVariants.{ObjectVersionExists}
+use Rattle.txn_steps_boundary.specs.declared.caches.Cached.{Cached}
+use Rattle.txn_steps_boundary.specs.Windows.{greatest_held, above}
+use Rattle.txn_steps_driven.specs.Calls.{one_if}
+use Rattle.txn_steps_driven.specs.WriteRuns.{VersionsStand}
 
 -- a protocol as a clause sees it: where its versions lie, which it holds, and its boundary
 pub record Protocol (C B : Type 0) : Type 0 where

@@ -4,17 +4,17 @@ use Rattle.std.proofs.Common.{refl, ◌∙◌, inl, inr, arith}
 use Rattle.txn_store.specs.Paths.{Segments}
 use Rattle.txn_store.specs.VersionName.{version_path}
 use Rattle.txn_store.specs.Store.{Files, State}
-use Rattle.txn_types.specs.declared.error.TransactionalObjectError.{TransactionalObjectError}
-use Rattle.txn_types.specs.declared.error.TransactionalObjectError.TheVariants as kinds
-use Rattle.txn_caches.specs.declared.caches.Cached.{Cached}
-use Rattle.txn_drivers.specs.Calls.{one_if, SameAt, SameBut}
-use Rattle.txn_drivers.specs.LatestReads.{UpTo}
-use Rattle.txn_drivers.specs.PageCount.{pages_below}
-use Rattle.txn_drivers.specs.Standing.{WindowFits}
-use Rattle.txn_drivers.proofs.Effects.{raised_window}
-use Rattle.txn_drivers.proofs.Frames.{FilesStand-frame}
-use Rattle.txn_drivers.proofs.Standings.{files_same, files_raised, none_above}
-use Rattle.txn_drivers.proofs.Windows.{above_fits}
+use Rattle.txn_store_types.specs.declared.error.TransactionalObjectError.{TransactionalObjectError}
+use Rattle.txn_store_types.specs.declared.error.TransactionalObjectError.TheVariants as kinds
+use Rattle.txn_steps_boundary.specs.declared.caches.Cached.{Cached}
+use Rattle.txn_steps_driven.specs.Calls.{one_if, SameAt, SameBut}
+use Rattle.txn_steps_driven.specs.LatestReads.{UpTo}
+use Rattle.txn_steps_driven.specs.PageCount.{pages_below}
+use Rattle.txn_steps_driven.specs.Standing.{WindowFits}
+use Rattle.txn_steps_driven.proofs.Effects.{raised_window}
+use Rattle.txn_steps_driven.proofs.Frames.{FilesStand-frame}
+use Rattle.txn_steps_driven.proofs.Standings.{files_same, files_raised, none_above}
+use Rattle.txn_steps_driven.proofs.Windows.{above_fits}
 use Rattle.slatedb_txn_obj.specs.Leaves.{SameOwn}
 use Rattle.slatedb_txn_obj.specs.Whole.{Protocol, Owned, laid, Whole, probe_calls, after_check, after_advance, Checks, Advances}
 

@@ -1,10 +1,10 @@
 //! The boundary below which versions are fenced.
 ghost use Rattle.std.specs.Prelude.{◌≡◌, ◌<◌, ◌≤◌, OnOk, IfErr, IsErrOf, max};
 
-use txn_drivers::turns::Turns;
+use txn_steps_driven::turns::Turns;
 use txn_store::store::ObjectStore;
-use txn_types::error::TransactionalObjectError;
-use txn_types::id::MonotonicId;
+use txn_store_types::error::TransactionalObjectError;
+use txn_store_types::id::MonotonicId;
 
 /// A lasting high mark of a sequence of versions: every id at or below it is fenced. It rises and never falls.
 ///
@@ -14,8 +14,8 @@ use txn_types::id::MonotonicId;
 pub trait BoundaryObject<S: ObjectStore> {
     ghost use Rattle.std.specs.Prelude.{ℕ, ◌≡◌, ◌⊎◌, ◌+◌, ◌<◌, ◌≤◌, OnOk, IfErr, IsErrOf, Contains, Result, max};
     ghost use Rattle.txn_store.specs.Paths.{Segments};
-    ghost use Rattle.txn_types.specs.declared.error.TransactionalObjectError.{TransactionalObjectError};
-    ghost use Rattle.txn_drivers.specs.Calls.{HasCauseOfCheck, HasCauseOfAdvance, Spends, SpendsTurns, SameAt, SameBut};
+    ghost use Rattle.txn_store_types.specs.declared.error.TransactionalObjectError.{TransactionalObjectError};
+    ghost use Rattle.txn_steps_driven.specs.Calls.{HasCauseOfCheck, HasCauseOfAdvance, Spends, SpendsTurns, SameAt, SameBut};
 
     /// This object and a store stand for a boundary.
     ghost bounds: { Self → S → ℕ → Type 0 };

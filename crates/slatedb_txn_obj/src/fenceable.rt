@@ -1,9 +1,9 @@
 //! The fenced holder: an object whose value has the holder's epoch.
 ghost use Rattle.std.specs.Prelude.{ℕ, List, length, true, false, nat_eq, None, Some, Ok, ◌≡◌, ◌⊎◌, ◌+◌, ◌-◌, ◌*◌, ◌^◌, ◌<◌, ◌≤◌, [], ◌∷◌, ◌++◌, All, OnOk, OnErr, IfOk, IfErr, IsErr, IsErrOf};
-ghost use Rattle.txn_types.specs.Clones.{IsExactClone};
-ghost use Rattle.txn_types.specs.Epochs.{IsEpochError, NextEpoch, HasNoEpoch};
-ghost use Rattle.txn_types.specs.declared.error.TransactionalObjectError.{TransactionalObjectError};
-ghost use Rattle.txn_drivers.specs.Calls.{Spends, SpendsTurns};
+ghost use Rattle.txn_store_types.specs.Clones.{IsExactClone};
+ghost use Rattle.txn_store_types.specs.Epochs.{IsEpochError, NextEpoch, HasNoEpoch};
+ghost use Rattle.txn_store_types.specs.declared.error.TransactionalObjectError.{TransactionalObjectError};
+ghost use Rattle.txn_steps_driven.specs.Calls.{Spends, SpendsTurns};
 ghost use Rattle.slatedb_txn_obj.specs.Claims.{IsUnlike, ReadsOne, HasCauseOfAttempt, IsUnwritten, MayClaim, ClaimEnds};
 ghost use Rattle.slatedb_txn_obj.specs.Leaves.{MayCreate};
 ghost use Rattle.slatedb_txn_obj.specs.Protocol.{Overtaken, MayAppend, Stays, UnheldAt};
@@ -13,13 +13,13 @@ use crate::clock::{Deadline, SystemClock};
 use crate::object::TransactionalObject;
 use crate::protocol::TransactionalStorageProtocol;
 use crate::simple::SimpleTransactionalObject;
-use txn_drivers::turns::Turns;
+use txn_steps_driven::turns::Turns;
 use txn_store::store::ObjectStore;
-use txn_types::dirty::DirtyObject;
-use txn_types::epoch::{EpochField, next_epoch, test_epoch};
-use txn_types::error::TransactionalObjectError;
-use txn_types::id::MonotonicId;
-use txn_types::invariant::Invariant;
+use txn_store_types::dirty::DirtyObject;
+use txn_store_types::epoch::{EpochField, next_epoch, test_epoch};
+use txn_store_types::error::TransactionalObjectError;
+use txn_store_types::id::MonotonicId;
+use txn_store_types::invariant::Invariant;
 
 /// An object that its holder has claimed: the epoch of each version that it writes is its own, and a greater one shuts it out.
 #[derive(Debug, Drop)]
@@ -199,7 +199,7 @@ fn claim<
 impl<T: Clone, I: Invariant<T> + Drop, X: EpochField<T>> TransactionalObject<T, MonotonicId>
     for FenceableTransactionalObject<T, I, X> {
     ghost use Rattle.std.specs.Prelude.{refl, ◌≡◌, ◌⊎◌, All};
-    ghost use Rattle.txn_types.specs.Epochs.{IsEpochError};
+    ghost use Rattle.txn_store_types.specs.Epochs.{IsEpochError};
     ghost use Rattle.slatedb_txn_obj.specs.Claims.{IsUnlike};
     ghost use Rattle.slatedb_txn_obj.specs.Views.{IsTestFailure};
 

@@ -2,10 +2,10 @@
 ghost use Rattle.std.specs.Prelude.{◌≡◌, ◌+◌, ◌*◌, ◌^◌, ◌<◌, ◌≤◌, IfOk, IfErr, IfSome, IsErrOf};
 
 use crate::sequenced::SequencedStorageProtocol;
-use txn_drivers::turns::Turns;
+use txn_steps_driven::turns::Turns;
 use txn_store::store::ObjectStore;
-use txn_types::error::TransactionalObjectError;
-use txn_types::id::MonotonicId;
+use txn_store_types::error::TransactionalObjectError;
+use txn_store_types::id::MonotonicId;
 
 /// A protocol that writes a value where the newest version is the base, and reads the newest.
 ///
@@ -14,8 +14,8 @@ use txn_types::id::MonotonicId;
 pub trait TransactionalStorageProtocol<T, Id, S: ObjectStore> {
     ghost use Rattle.std.specs.Prelude.{ℕ, List, length, ◌≡◌, ◌+◌, ◌*◌, ◌^◌, ◌<◌, ◌≤◌, Option, Result, OnOk, IfOk, IfErr, IfSome, IsErrOf};
     ghost use Rattle.txn_store.specs.Paths.{Segments};
-    ghost use Rattle.txn_types.specs.declared.error.TransactionalObjectError.{TransactionalObjectError};
-    ghost use Rattle.txn_drivers.specs.Calls.{Spends, SpendsTurns};
+    ghost use Rattle.txn_store_types.specs.declared.error.TransactionalObjectError.{TransactionalObjectError};
+    ghost use Rattle.txn_steps_driven.specs.Calls.{Spends, SpendsTurns};
     ghost use Rattle.slatedb_txn_obj.specs.Leaves.{SameFiles, MayCreate, SameOwn};
     ghost use Rattle.slatedb_txn_obj.specs.Protocol.{base_number, Appended, Overtaken, MayAppend, Stays, IsWarmRead, LatestBy, Unheld, UnheldAt, HasCauseOfWrite, HasCauseOfLatest};
 
@@ -123,7 +123,7 @@ impl<T: Drop, S: ObjectStore, P: SequencedStorageProtocol<T, S>> TransactionalSt
     S,
 > for P {
     ghost use Rattle.std.specs.Prelude.{ℕ, List, length, ◌≡◌, ◌+◌, ◌*◌, ◌^◌, ◌<◌, ◌≤◌, IfOk, IfErr, IfSome, IsErrOf};
-    ghost use Rattle.txn_drivers.specs.Calls.{Spends, SpendsTurns};
+    ghost use Rattle.txn_steps_driven.specs.Calls.{Spends, SpendsTurns};
     ghost use Rattle.slatedb_txn_obj.specs.Checked.{CheckedWrite};
     ghost use Rattle.slatedb_txn_obj.specs.Leaves.{SameFiles, MayCreate};
     ghost use Rattle.slatedb_txn_obj.specs.Protocol.{base_number, Appended, Overtaken, MayAppend, Stays, IsWarmRead, LatestBy, Unheld, UnheldAt, HasCauseOfWrite, HasCauseOfLatest};

@@ -5,10 +5,10 @@ ghost use Rattle.slatedb_txn_obj_uses.specs.OneClient.{IsAllowed, Moves, Runs};
 use slatedb_txn_obj::protocol::TransactionalStorageProtocol;
 use slatedb_txn_obj::sequenced::SequencedStorageProtocol;
 use std::alloc::{AllocError, Global};
-use txn_drivers::turns::Turns;
+use txn_steps_driven::turns::Turns;
 use txn_store::store::ObjectStore;
-use txn_types::error::TransactionalObjectError;
-use txn_types::id::MonotonicId;
+use txn_store_types::error::TransactionalObjectError;
+use txn_store_types::id::MonotonicId;
 
 /// A checked call of a protocol.
 #[derive(Drop)]

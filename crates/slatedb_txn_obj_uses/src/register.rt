@@ -1,15 +1,15 @@
 //! A protocol that is not sequenced, with ids of its own.
 ghost use Rattle.std.specs.Prelude.{◌≡◌, ℕ, List, [], length, ◌+◌, ◌^◌, ◌≤◌, IfOk, IfErr, IsErrOf};
-ghost use Rattle.txn_drivers.specs.Calls.{Spends};
+ghost use Rattle.txn_steps_driven.specs.Calls.{Spends};
 ghost use Rattle.slatedb_txn_obj.specs.Leaves.{MayCreate};
 ghost use Rattle.slatedb_txn_obj.specs.Protocol.{base_number, Appended, Overtaken, MayAppend, Stays, UnheldAt, HasCauseOfWrite};
 ghost use Rattle.slatedb_txn_obj_uses.specs.Registered.{Registered};
 
 use slatedb_txn_obj::protocol::TransactionalStorageProtocol;
 use std::alloc::Global;
-use txn_drivers::turns::Turns;
+use txn_steps_driven::turns::Turns;
 use txn_store::store::ObjectStore;
-use txn_types::error::TransactionalObjectError;
+use txn_store_types::error::TransactionalObjectError;
 
 /// Which value of a register it is: the first is revision 1.
 #[derive(Clone, Copy, Debug, PartialEq, Eq)]

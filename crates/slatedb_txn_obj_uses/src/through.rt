@@ -2,9 +2,9 @@
 ghost use Rattle.std.specs.Prelude.{◌≡◌, List, ℕ, length, ◌+◌, ◌++◌, ◌∷◌, [], ◌≤◌, IfOk, IsErrOf};
 
 use slatedb_txn_obj::protocol::TransactionalStorageProtocol;
-use txn_drivers::turns::Turns;
+use txn_steps_driven::turns::Turns;
 use txn_store::store::ObjectStore;
-use txn_types::error::TransactionalObjectError;
+use txn_store_types::error::TransactionalObjectError;
 
 /// Writes a value on the newest version. One client is never overtaken, so it is never a conflict.
 pub fn append<T: Drop, Id, S: ObjectStore, P: TransactionalStorageProtocol<T, Id, S>>(

@@ -21,19 +21,19 @@ use Rattle.txn_history.specs.History as history
 use Rattle.txn_history.specs.History.{Contents, Version, is_id, is_boundary, created, has_id, with_version, versions_of, stored, boundary_said}
 use Rattle.txn_history.specs.Trace.{Row}
 use Rattle.txn_history.proofs.Rows.{versions_of-more}
-use Rattle.txn_machine_inner.specs.Machine.{took, may_change, effect_of}
+use Rattle.txn_machine_plain.specs.Machine.{took, may_change, effect_of}
 use Rattle.txn_machine.proofs.Reached.{run_reaches_or_lacking, reached_stored}
-use Rattle.txn_rows.specs.Beside.{is_among}
-use Rattle.txn_rows.proofs.Indexes.{has_with}
-use Rattle.txn_journals.specs.declared.rows.LogRow.{LogRow}
-use Rattle.txn_journals.specs.declared.rows.Act.TheVariants as acts
-use Rattle.txn_journals.specs.declared.rows.Step.{Step}
-use Rattle.txn_journals.specs.declared.rows.Step.TheVariants as steps
-use Rattle.txn_journals.specs.Logs.{files_after, files_of}
-use Rattle.txn_journals.specs.Merged.{Did, Lands, Merged, log_of, with_receipt}
-use Rattle.txn_journals.specs.Traces.{call_in, told_in, next_in, op_in, trace_of, with_rows}
-use Rattle.txn_journals.proofs.Files.{log_files}
-use Rattle.txn_journals.proofs.Shares.{receipts_reverse}
+use Rattle.txn_world_rows.specs.Beside.{is_among}
+use Rattle.txn_world_rows.proofs.Indexes.{has_with}
+use Rattle.txn_client_journals.specs.declared.rows.LogRow.{LogRow}
+use Rattle.txn_client_journals.specs.declared.rows.Act.TheVariants as acts
+use Rattle.txn_client_journals.specs.declared.rows.Step.{Step}
+use Rattle.txn_client_journals.specs.declared.rows.Step.TheVariants as steps
+use Rattle.txn_client_journals.specs.Logs.{files_after, files_of}
+use Rattle.txn_client_journals.specs.Merged.{Did, Lands, Merged, log_of, with_receipt}
+use Rattle.txn_client_journals.specs.Traces.{call_in, told_in, next_in, op_in, trace_of, with_rows}
+use Rattle.txn_client_journals.proofs.Files.{log_files}
+use Rattle.txn_client_journals.proofs.Shares.{receipts_reverse}
 use Rattle.txn_audit.specs.HistoryEnds.{HistoriesEndAt, created_by, versions_in, boundary_by, boundary_in}
 
 -- the versions

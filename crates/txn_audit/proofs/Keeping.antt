@@ -1,7 +1,7 @@
 -- Diaries that keep what their journals lead to, one more at a time.
 use Rattle.std.proofs.Common.{◌≡◌, ℕ, zero, suc, ◌+◌, ◌<◌, List, [], ◌∷◌, length, map, take, get_or, reverse, Option, sym, subst, arith}
-use Rattle.txn_journals.specs.Journals.{Replays}
-use Rattle.txn_journals.specs.Shares.{AreDiaries}
+use Rattle.txn_client_journals.specs.Journals.{Replays}
+use Rattle.txn_client_journals.specs.Shares.{AreDiaries}
 use Rattle.txn_diary.specs.Diaries.{DiaryState, as_diary, IsMadeWith}
 
 module _ {T C E : Type 0} (encoded : C → T → List ℕ) (decoded : C → List ℕ → Option T) (epoch_of : E → T → ℕ) (with_epoch : E → T → ℕ → T) (page : ℕ) (codec : C) (epochs : E) where

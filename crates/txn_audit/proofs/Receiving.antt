@@ -3,10 +3,10 @@ use Rattle.std.proofs.Common.{◌≡◌, ℕ, suc, ◌+◌, ◌<◌, ◌≤◌, 
 use Rattle.std.proofs.Math.Seq.{drop-cons}
 use Rattle.std.proofs.Math.ListN.{drop_of_length-le}
 use Rattle.std.proofs.lemmas.Bool.{eq-eqb}
-use Rattle.txn_journals.specs.declared.rows.LogRow.{LogRow}
-use Rattle.txn_journals.specs.declared.rows.Receipt.{Receipt}
-use Rattle.txn_journals.specs.declared.rows.JournalRow.{JournalRow}
-use Rattle.txn_journals.specs.Verdict.{AuditedDiary, received_by, receipts_in, receipt_at, is_taken, rows_of, HaveRows, journal_of}
+use Rattle.txn_client_journals.specs.declared.rows.LogRow.{LogRow}
+use Rattle.txn_client_journals.specs.declared.rows.Receipt.{Receipt}
+use Rattle.txn_client_journals.specs.declared.rows.JournalRow.{JournalRow}
+use Rattle.txn_client_journals.specs.Verdict.{AuditedDiary, received_by, receipts_in, receipt_at, is_taken, rows_of, HaveRows, journal_of}
 use Rattle.txn_audit.specs.Receipts.{IsNext}
 
 abbrev head_or : Receipt → List Receipt → Receipt

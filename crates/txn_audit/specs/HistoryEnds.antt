@@ -9,14 +9,14 @@ use Rattle.txn_store.specs.declared.request.Reply.TheVariants as replies
 use Rattle.txn_history.specs.History as history
 use Rattle.txn_history.specs.History.{Version, is_id, created, with_version}
 use Rattle.txn_history.specs.Trace.{Row}
-use Rattle.txn_machine_inner.specs.Machine.{took}
-use Rattle.txn_rows.specs.Beside.{boundary_after, is_among}
-use Rattle.txn_journals.specs.declared.rows.LogRow.{LogRow}
-use Rattle.txn_journals.specs.Logs.{IsLog}
-use Rattle.txn_journals.specs.Merged.{Merged}
-use Rattle.txn_journals.specs.Traces.{trace_of}
-use Rattle.txn_journals.specs.Verdict.{AuditedDiary}
-use Rattle.txn_journals.specs.Shares.{Merges, ShareOnlyTheStore}
+use Rattle.txn_machine_plain.specs.Machine.{took}
+use Rattle.txn_world_rows.specs.Beside.{boundary_after, is_among}
+use Rattle.txn_client_journals.specs.declared.rows.LogRow.{LogRow}
+use Rattle.txn_client_journals.specs.Logs.{IsLog}
+use Rattle.txn_client_journals.specs.Merged.{Merged}
+use Rattle.txn_client_journals.specs.Traces.{trace_of}
+use Rattle.txn_client_journals.specs.Verdict.{AuditedDiary}
+use Rattle.txn_client_journals.specs.Shares.{Merges, ShareOnlyTheStore}
 
 module _ {T : Type 0} where
   -- the history of a trace has so many entries, and its boundary stands there

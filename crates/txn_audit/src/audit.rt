@@ -1,12 +1,12 @@
 //! The audit of a log and the diaries of its clients.
 ghost use Rattle.std.specs.Prelude.{◌≡◌, List, Ok, Err, map, Decides};
-ghost use Rattle.txn_journals.specs.Verdict.{AuditedDiary, HasClient, HaveDifferentClients, HasDiaries, HaveRows, WereLeft, IsDue};
+ghost use Rattle.txn_client_journals.specs.Verdict.{AuditedDiary, HasClient, HaveDifferentClients, HasDiaries, HaveRows, WereLeft, IsDue};
 
 use crate::landings::were_left;
 use crate::receipts::receipts_are_rows;
-use txn_journals::audited::{Audited, Logged};
-use txn_journals::fault::AuditFault;
-use txn_journals::rows::LogRow;
+use txn_client_journals::audited::{Audited, Logged};
+use txn_client_journals::fault::AuditFault;
+use txn_client_journals::rows::LogRow;
 
 /// Whether some diary is of this client.
 fn has_client<T, D: Audited<T>>(diaries: &[D], client: u64) -> bool

@@ -1,16 +1,16 @@
 //! The audit of a log and of clients with diaries.
 ghost use Rattle.std.specs.Prelude.{◌≤◌, All, map};
-ghost use Rattle.txn_journals.specs.Shares.{AreDiaries};
+ghost use Rattle.txn_client_journals.specs.Shares.{AreDiaries};
 ghost use Rattle.txn_diary.specs.Diaries.{as_diary, IsMadeWith};
 ghost use Rattle.txn_audit.specs.Audits.{AuditsDiaries};
 
 use crate::audit::audit;
 use txn_diary::diary::Diary;
-use txn_journals::audited::Logged;
-use txn_journals::fault::AuditFault;
-use txn_journals::laws::clients_share_only_the_store;
-use txn_types::codec::ObjectCodec;
-use txn_types::epoch::EpochField;
+use txn_client_journals::audited::Logged;
+use txn_client_journals::fault::AuditFault;
+use txn_client_journals::laws::clients_share_only_the_store;
+use txn_store_types::codec::ObjectCodec;
+use txn_store_types::epoch::EpochField;
 
 /// Each diary keeps what its journal leads to, as its type says of it.
 fn are_diaries<T: Clone, C: ObjectCodec<T> + Drop, E: EpochField<T>>(

@@ -4,12 +4,12 @@ ghost use Rattle.std.specs.Option.{option_copied};
 ghost use Rattle.txn_store.specs.MemoryServes.{lacks_memory};
 ghost use Rattle.txn_history.specs.Seen.{Store};
 ghost use Rattle.txn_history.specs.GoesOn.{may_be_loose};
-ghost use Rattle.txn_journals.specs.Journals.{left_by, left_among, left_in};
-ghost use Rattle.txn_journals.specs.Verdict.{AuditedDiary, journal_of, stops_at, left_at, WasLeft, WereLeft};
+ghost use Rattle.txn_client_journals.specs.Journals.{left_by, left_among, left_in};
+ghost use Rattle.txn_client_journals.specs.Verdict.{AuditedDiary, journal_of, stops_at, left_at, WasLeft, WereLeft};
 
-use txn_journals::audited::Audited;
-use txn_journals::rows::{Act, JournalRow, Left, LogRow, Step};
-use txn_journals::same::same_request;
+use txn_client_journals::audited::Audited;
+use txn_client_journals::rows::{Act, JournalRow, Left, LogRow, Step};
+use txn_client_journals::same::same_request;
 use txn_store::request::{Reply, Request};
 use txn_store::store::StoreError;
 

@@ -1,12 +1,12 @@
 //! Whether a journal's receipts are the log's rows of its client.
 ghost use Rattle.std.specs.Prelude.{◌≡◌, ◌≤◌, ◌++◌, List, length, drop, Decides};
 ghost use Rattle.std.specs.Option.{option_copied, option_to_list};
-ghost use Rattle.txn_journals.specs.declared.rows.Receipt.{Receipt};
-ghost use Rattle.txn_journals.specs.Verdict.{received_by, receipts_in, receipt_at, is_taken, rows_of};
+ghost use Rattle.txn_client_journals.specs.declared.rows.Receipt.{Receipt};
+ghost use Rattle.txn_client_journals.specs.Verdict.{received_by, receipts_in, receipt_at, is_taken, rows_of};
 ghost use Rattle.txn_audit.specs.Receipts.{IsNext};
 
-use txn_journals::rows::{Act, JournalRow, LogRow, Receipt, Step};
-use txn_journals::same::{same_reply, same_request};
+use txn_client_journals::rows::{Act, JournalRow, LogRow, Receipt, Step};
+use txn_client_journals::same::{same_reply, same_request};
 
 /// Whether a receipt is of this row, at this place.
 fn is_row(receipt: &Receipt, place: u64, row: &LogRow) -> bool

@@ -10,17 +10,17 @@ use Rattle.txn_machine.specs.declared.doing.Operation.{Operation}
 use Rattle.txn_machine_views.specs.Layer.{Used}
 use Rattle.txn_machine.specs.Doing.{asked, refused}
 use Rattle.txn_machine.specs.Machine.{let_go, views_changed}
-use Rattle.txn_clients.specs.declared.operations.Usage.{Usage}
-use Rattle.txn_clients.specs.Operations.{asked_of, asked_by, request_of, loose_of, usage_of, TakesReply, Ends, TakesTurn as Turned}
-use Rattle.txn_clients.specs.Views.{IsFromOne}
+use Rattle.txn_client_tables.specs.declared.operations.Usage.{Usage}
+use Rattle.txn_client_tables.specs.Operations.{asked_of, asked_by, request_of, loose_of, usage_of, TakesReply, Ends, TakesTurn as Turned}
+use Rattle.txn_client_tables.specs.Views.{IsFromOne}
 use Rattle.txn_history.specs.declared.event.Answer.{Answer}
-use Rattle.txn_caches.specs.declared.caches.Caches.{Caches}
+use Rattle.txn_steps_boundary.specs.declared.caches.Caches.{Caches}
 use Rattle.txn_machine.specs.declared.doing.Ending.{Ending}
 use Rattle.txn_machine.specs.Machine.{views_after, answered}
-use Rattle.txn_journals.specs.Parts.{Part, note_of, written_in, answer_in, turned, turned_with, given_up}
-use Rattle.txn_journals.specs.Journals.{GivesUp, FailsAt, LacksAt, TakesTurn}
-use Rattle.txn_takes.specs.Taking.{FitsAsk}
-use Rattle.txn_takes.proofs.Replied.{takes_fitting, is_in_range}
+use Rattle.txn_client_journals.specs.Parts.{Part, note_of, written_in, answer_in, turned, turned_with, given_up}
+use Rattle.txn_client_journals.specs.Journals.{GivesUp, FailsAt, LacksAt, TakesTurn}
+use Rattle.txn_client_replies.specs.Taking.{FitsAsk}
+use Rattle.txn_client_replies.proofs.Replied.{takes_fitting, is_in_range}
 use Rattle.txn_diary.specs.Keepers.{AreSound}
 
 module _ {T : Type 0} where

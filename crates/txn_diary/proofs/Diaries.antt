@@ -2,11 +2,11 @@
 use Rattle.std.proofs.Common.{◌≡◌, ℕ, ◌≤◌, List, [], ◌∷◌, ◌++◌, reverse, true, if◌then◌else◌, Option, None, refl, sym, ◌∙◌, ap, subst}
 use Rattle.std.proofs.lemmas.List.{append_assoc, append-nil, reverse-append}
 use Rattle.txn_history.specs.declared.event.Answer.{Answer}
-use Rattle.txn_clients.specs.Operations.{asked_by}
-use Rattle.txn_journals.specs.declared.rows.Step.{Step}
-use Rattle.txn_journals.specs.declared.rows.JournalRow.{JournalRow}
-use Rattle.txn_journals.specs.Parts.{Part, no_part}
-use Rattle.txn_journals.specs.Journals.{goes_on, Lives, Follows, Replays}
+use Rattle.txn_client_tables.specs.Operations.{asked_by}
+use Rattle.txn_client_journals.specs.declared.rows.Step.{Step}
+use Rattle.txn_client_journals.specs.declared.rows.JournalRow.{JournalRow}
+use Rattle.txn_client_journals.specs.Parts.{Part, no_part}
+use Rattle.txn_client_journals.specs.Journals.{goes_on, Lives, Follows, Replays}
 use Rattle.txn_diary.specs.Forgetting.{Remembers}
 use Rattle.txn_diary.specs.Keepers.{KeeperState, lives_after, keeper_asked, Does, DoesAndForgets, DoesAll, Forgets, IsLed}
 use Rattle.txn_diary.specs.Diaries.{DiaryState, diary_of, asked_in, lives, Adds}

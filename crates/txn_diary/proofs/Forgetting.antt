@@ -2,9 +2,9 @@
 use Rattle.std.proofs.Common.{◌≡◌, ℕ, ◌+◌, List, [], ◌∷◌, ◌++◌, length, Bool, true, cond, ◌==◌, ◌&&◌, not, Option, Some, None, option_map, ◌⊎◌, inl, inr, refl, sym, ◌∙◌, ap, subst, slice_get, suc, arith}
 use Rattle.std.proofs.lemmas.Bool.{and_parts}
 use Rattle.std.proofs.lemmas.Option.{same_Some}
-use Rattle.txn_types.specs.Numbers.{number_of}
+use Rattle.txn_store_types.specs.Numbers.{number_of}
 use Rattle.txn_store.specs.declared.request.Reply.{Reply}
-use Rattle.txn_caches.specs.declared.caches.Caches.{Caches}
+use Rattle.txn_steps_boundary.specs.declared.caches.Caches.{Caches}
 use Rattle.txn_history.specs.declared.event.Call.{Call}
 use Rattle.txn_history.specs.declared.event.Call.TheVariants as calls
 use Rattle.txn_history.specs.declared.event.Answer.{Answer}
@@ -21,12 +21,12 @@ use Rattle.txn_machine.specs.declared.doing.Operation.{Operation}
 use Rattle.txn_machine.specs.Doing.{Next, asked, ended, refused, started, caches_after, Turns}
 use Rattle.txn_machine.specs.Machine.{seen_view, seen_operations, used_in, used_by, let_go, views_after, views_taken, new_operation, answered, doing_next}
 use Rattle.txn_machine.proofs.Crashing.{numbered_mapped}
-use Rattle.txn_journals.specs.declared.rows.Act.TheVariants as acts
-use Rattle.txn_journals.specs.declared.rows.Step.{Step}
-use Rattle.txn_journals.specs.declared.rows.Step.TheVariants as steps
-use Rattle.txn_journals.specs.Parts.{Part, seen_in, knows_base, is_low, epoch_told, epoch_written, is_in_use, client_begin_fault, note_of, written_in, answer_in, begun, turned, turned_with, given_up, killed}
-use Rattle.txn_journals.specs.Journals.{BeginsCall, TakesTurn, Follows}
-use Rattle.txn_journals.proofs.Begun.{Passed, passed, all_pass}
+use Rattle.txn_client_journals.specs.declared.rows.Act.TheVariants as acts
+use Rattle.txn_client_journals.specs.declared.rows.Step.{Step}
+use Rattle.txn_client_journals.specs.declared.rows.Step.TheVariants as steps
+use Rattle.txn_client_journals.specs.Parts.{Part, seen_in, knows_base, is_low, epoch_told, epoch_written, is_in_use, client_begin_fault, note_of, written_in, answer_in, begun, turned, turned_with, given_up, killed}
+use Rattle.txn_client_journals.specs.Journals.{BeginsCall, TakesTurn, Follows}
+use Rattle.txn_client_journals.proofs.Begun.{Passed, passed, all_pass}
 use Rattle.txn_diary.specs.Forgetting.{forgotten, HasEnded, AreKeptOperations, AreKeptViews, AreKeptNotes, Remembers}
 use Rattle.txn_diary.proofs.Kept.{operations_same, running_kept, operations_set, operations_more, operations_ended, writes_same, writes_running, writes_set, writes_more, writes_ended, views_same, views_change, views_take, views_ended, views_gone, notes_same, notes_more}
 use Rattle.txn_diary.proofs.Places.{none_left}

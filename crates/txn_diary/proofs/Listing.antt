@@ -2,12 +2,12 @@
 use Rattle.std.proofs.Common.{◌≡◌, ℕ, ◌+◌, ◌<◌, ◌≤◌, List, ◌∷◌, ◌++◌, length, drop, get_or, Option, refl, sym, ◌∙◌, ap, arith}
 use Rattle.std.proofs.lemmas.List.{append_assoc, append-nil, drop_more, drop_all}
 use Rattle.txn_history.specs.declared.event.Answer.{Answer}
-use Rattle.txn_journals.specs.declared.rows.Act.TheVariants as acts
-use Rattle.txn_journals.specs.declared.rows.Receipt.{Receipt}
-use Rattle.txn_journals.specs.declared.rows.Step.{Step}
-use Rattle.txn_journals.specs.declared.rows.Step.TheVariants as steps
-use Rattle.txn_journals.specs.declared.rows.JournalRow.{JournalRow}
-use Rattle.txn_journals.specs.Verdict.{received_by, receipts_in}
+use Rattle.txn_client_journals.specs.declared.rows.Act.TheVariants as acts
+use Rattle.txn_client_journals.specs.declared.rows.Receipt.{Receipt}
+use Rattle.txn_client_journals.specs.declared.rows.Step.{Step}
+use Rattle.txn_client_journals.specs.declared.rows.Step.TheVariants as steps
+use Rattle.txn_client_journals.specs.declared.rows.JournalRow.{JournalRow}
+use Rattle.txn_client_journals.specs.Verdict.{received_by, receipts_in}
 use Rattle.txn_diary.specs.Reading.{op_of, begun_by, with_answer, answers_from, receipt_of, as_receipts}
 
 module _ {T : Type 0} where

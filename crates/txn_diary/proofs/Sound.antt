@@ -6,28 +6,28 @@ use Rattle.txn_store.specs.declared.request.Reply.{Reply}
 use Rattle.txn_history.specs.Lists.{numbered}
 use Rattle.txn_history.specs.Seen.{Ask, Store, Look}
 use Rattle.txn_history.proofs.Lists.{numbered_more}
-use Rattle.txn_machine_inner.proofs.Lists.{within, numbered_map, numbered_here, numbered_other}
+use Rattle.txn_machine_plain.proofs.Lists.{within, numbered_map, numbered_here, numbered_other}
 use Rattle.txn_history.specs.declared.event.Answer.{Answer}
 use Rattle.txn_machine.specs.declared.doing.Doing.{Doing}
 use Rattle.txn_machine.specs.declared.doing.Operation.{Operation}
 use Rattle.txn_machine.specs.Doing.{ended}
 use Rattle.txn_machine.specs.Machine.{used_by, doing_next, with_doing, ended_by, new_operation}
-use Rattle.txn_takes.specs.Taking.{CanTake}
-use Rattle.txn_takes.proofs.Started.{started_can}
-use Rattle.txn_takes.proofs.Turned.{turned_can}
-use Rattle.txn_journals.specs.declared.rows.Act.TheVariants as acts
-use Rattle.txn_journals.specs.declared.rows.Step.{Step}
-use Rattle.txn_journals.specs.declared.rows.Step.TheVariants as steps
-use Rattle.txn_journals.specs.declared.rows.JournalRow.{JournalRow}
-use Rattle.txn_types.specs.Numbers.{number_of}
+use Rattle.txn_client_replies.specs.Taking.{CanTake}
+use Rattle.txn_client_replies.proofs.Started.{started_can}
+use Rattle.txn_client_replies.proofs.Turned.{turned_can}
+use Rattle.txn_client_journals.specs.declared.rows.Act.TheVariants as acts
+use Rattle.txn_client_journals.specs.declared.rows.Step.{Step}
+use Rattle.txn_client_journals.specs.declared.rows.Step.TheVariants as steps
+use Rattle.txn_client_journals.specs.declared.rows.JournalRow.{JournalRow}
+use Rattle.txn_store_types.specs.Numbers.{number_of}
 use Rattle.txn_history.specs.Allowed.{is_client, may_use, base_seen}
 use Rattle.txn_history.specs.Facts.{is_high}
 use Rattle.txn_history.specs.declared.event.Call.{Call}
 use Rattle.txn_history.specs.Calls.{view_used, is_holders, value_written}
-use Rattle.txn_clients.specs.Views.{IsFromOne}
-use Rattle.txn_journals.specs.Parts.{Part, seen_in, knows_base, is_low, epoch_told, is_in_use, client_begin_fault}
-use Rattle.txn_journals.proofs.Begun.{Passed, passed}
-use Rattle.txn_journals.specs.Journals.{TakesTurn, Follows, Replays}
+use Rattle.txn_client_tables.specs.Views.{IsFromOne}
+use Rattle.txn_client_journals.specs.Parts.{Part, seen_in, knows_base, is_low, epoch_told, is_in_use, client_begin_fault}
+use Rattle.txn_client_journals.proofs.Begun.{Passed, passed}
+use Rattle.txn_client_journals.specs.Journals.{TakesTurn, Follows, Replays}
 use Rattle.txn_diary.specs.Forgetting.{forgotten, AreKeptOperations}
 use Rattle.txn_diary.specs.Keepers.{IsSound, AreSound}
 

@@ -13,8 +13,8 @@ use Rattle.txn_machine.specs.declared.doing.Ending.TheVariants as endings
 use Rattle.txn_machine.specs.Doing.{refusal_in, started, ReadsBack, FitsWord, IsMadeSo}
 use Rattle.txn_machine_views.specs.Parts.{is_claim_call}
 use Rattle.txn_machine.specs.Machine.{seen_view, used_by, let_go, views_changed, views_after, views_taken, new_operation, answered}
-use Rattle.txn_journals.specs.Parts.{Part, client_begin_fault, epoch_written}
-use Rattle.txn_journals.specs.Journals.{BeginsCall}
+use Rattle.txn_client_journals.specs.Parts.{Part, client_begin_fault, epoch_written}
+use Rattle.txn_client_journals.specs.Journals.{BeginsCall}
 
 module _ {T : Type 0} where
   -- an answer that is not of the view lets the view go

@@ -7,26 +7,26 @@ use Rattle.txn_history.specs.Seen.{Ask, Store, Look}
 use Rattle.txn_history.specs.Allowed.{ask_fault, first_fault}
 use Rattle.txn_history.specs.declared.event.EventFault.{EventFault}
 use Rattle.txn_history.specs.declared.event.EventFault.TheVariants as faults
-use Rattle.txn_machine_inner.specs.Machine.{fault_met}
-use Rattle.txn_types.specs.declared.codec.ObjectCodec as coding
-use Rattle.txn_types.specs.declared.epoch.EpochField as fields
+use Rattle.txn_machine_plain.specs.Machine.{fault_met}
+use Rattle.txn_store_types.specs.declared.codec.ObjectCodec as coding
+use Rattle.txn_store_types.specs.declared.epoch.EpochField as fields
 use Rattle.txn_history.specs.declared.event.Call.{Call}
 use Rattle.txn_history.specs.declared.event.Answer.{Answer}
-use Rattle.txn_clients.specs.Operations.{asked_by}
-use Rattle.txn_journals.specs.declared.rows.Step.{Step}
-use Rattle.txn_types.specs.Numbers.{number_of}
+use Rattle.txn_client_tables.specs.Operations.{asked_by}
+use Rattle.txn_client_journals.specs.declared.rows.Step.{Step}
+use Rattle.txn_store_types.specs.Numbers.{number_of}
 use Rattle.txn_history.specs.Allowed.{is_client, may_use, base_seen}
 use Rattle.txn_history.specs.Calls.{view_used, is_holders, value_written}
 use Rattle.txn_history.specs.Facts.{is_high}
 use Rattle.txn_machine.specs.Machine.{used_by}
-use Rattle.txn_journals.specs.Parts.{Part, seen_in, knows_base, is_low, epoch_told, is_in_use, client_begin_fault}
-use Rattle.txn_journals.specs.Journals.{goes_on, Follows}
+use Rattle.txn_client_journals.specs.Parts.{Part, seen_in, knows_base, is_low, epoch_told, is_in_use, client_begin_fault}
+use Rattle.txn_client_journals.specs.Journals.{goes_on, Follows}
 use Rattle.txn_diary.specs.Keepers.{KeeperState, keeper_asked, end_fault, fault_if, IsReceiptFault, IsReplyFault, AreSound, Does, Forgets, IsLed}
 use Rattle.txn_diary.specs.Diaries.{DiaryState, lives, asked_in}
 use Rattle.txn_diary.specs.declared.tables.Tables.{Tables}
 use Rattle.txn_diary.specs.Shown.{operations_of, shown, keeper_of}
-use Rattle.txn_logged.specs.Logged.{IsOfKind}
-use Rattle.txn_journals.specs.declared.rows.Receipt.{Receipt}
+use Rattle.txn_client_logs.specs.Logged.{IsOfKind}
+use Rattle.txn_client_journals.specs.declared.rows.Receipt.{Receipt}
 use Rattle.txn_diary.proofs.Sound.{replays_sound, kept_sound}
 use Rattle.txn_diary.proofs.Diaries.{led_on, led_still}
 

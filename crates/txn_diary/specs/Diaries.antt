@@ -7,13 +7,13 @@ use Rattle.txn_history.specs.Seen.{Ask}
 use Rattle.txn_history.specs.declared.event.Call.{Call}
 use Rattle.txn_history.specs.declared.event.Answer.{Answer}
 use Rattle.txn_history.specs.Trace.{Told}
-use Rattle.txn_journals.specs.declared.rows.Act.{Act}
-use Rattle.txn_journals.specs.declared.rows.Step.{Step}
-use Rattle.txn_journals.specs.declared.rows.Step.TheVariants as steps
-use Rattle.txn_journals.specs.declared.rows.JournalRow.{JournalRow}
-use Rattle.txn_journals.specs.Parts.{Part}
-use Rattle.txn_journals.specs.Journals.{goes_on, Follows}
-use Rattle.txn_journals.specs.Verdict.{AuditedDiary}
+use Rattle.txn_client_journals.specs.declared.rows.Act.{Act}
+use Rattle.txn_client_journals.specs.declared.rows.Step.{Step}
+use Rattle.txn_client_journals.specs.declared.rows.Step.TheVariants as steps
+use Rattle.txn_client_journals.specs.declared.rows.JournalRow.{JournalRow}
+use Rattle.txn_client_journals.specs.Parts.{Part}
+use Rattle.txn_client_journals.specs.Journals.{goes_on, Follows}
+use Rattle.txn_client_journals.specs.Verdict.{AuditedDiary}
 use Rattle.txn_diary.specs.Keepers.{KeeperState, lives_after, fault_if, keeper_asked, keeper_refusal}
 
 -- A client with its journal: its number, how many files a page of a listing has at most, its codec, where its values keep their epochs, what it keeps, and what it did.

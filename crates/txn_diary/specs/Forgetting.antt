@@ -5,7 +5,7 @@ use Rattle.txn_machine_views.specs.Layer.{Used}
 use Rattle.txn_machine.specs.declared.doing.Operation.{Operation}
 use Rattle.txn_machine.specs.Doing.{asked, ended}
 use Rattle.txn_machine.specs.Machine.{used_by}
-use Rattle.txn_journals.specs.Parts.{Part, knows_base, is_below_known, epoch_told, written_in}
+use Rattle.txn_client_journals.specs.Parts.{Part, knows_base, is_below_known, epoch_told, written_in}
 
 module _ {T : Type 0} where
   -- what stands in the place of an operation that was forgotten

@@ -8,17 +8,17 @@ use Rattle.txn_history.specs.Lists.{numbered}
 use Rattle.txn_history.specs.declared.event.Call.{Call}
 use Rattle.txn_history.specs.declared.event.Answer.{Answer}
 use Rattle.txn_machine.specs.declared.doing.Operation.{Operation}
-use Rattle.txn_clients.specs.Views.{IsFromOne}
-use Rattle.txn_clients.specs.Operations.{asked_by}
-use Rattle.txn_journals.specs.declared.rows.Act.{Act}
-use Rattle.txn_journals.specs.declared.rows.Act.TheVariants as acts
-use Rattle.txn_journals.specs.declared.rows.Receipt.{Receipt}
-use Rattle.txn_journals.specs.declared.rows.Step.{Step}
-use Rattle.txn_journals.specs.declared.rows.JournalRow.{JournalRow}
-use Rattle.txn_journals.specs.Parts.{Part, client_begin_fault}
-use Rattle.txn_journals.specs.Journals.{goes_on, Follows, Replays}
-use Rattle.txn_logged.specs.Logged.{IsOfKind, IsReceiptOf}
-use Rattle.txn_takes.specs.Taking.{CanTake}
+use Rattle.txn_client_tables.specs.Views.{IsFromOne}
+use Rattle.txn_client_tables.specs.Operations.{asked_by}
+use Rattle.txn_client_journals.specs.declared.rows.Act.{Act}
+use Rattle.txn_client_journals.specs.declared.rows.Act.TheVariants as acts
+use Rattle.txn_client_journals.specs.declared.rows.Receipt.{Receipt}
+use Rattle.txn_client_journals.specs.declared.rows.Step.{Step}
+use Rattle.txn_client_journals.specs.declared.rows.JournalRow.{JournalRow}
+use Rattle.txn_client_journals.specs.Parts.{Part, client_begin_fault}
+use Rattle.txn_client_journals.specs.Journals.{goes_on, Follows, Replays}
+use Rattle.txn_client_logs.specs.Logged.{IsOfKind, IsReceiptOf}
+use Rattle.txn_client_replies.specs.Taking.{CanTake}
 use Rattle.txn_diary.specs.Forgetting.{Remembers}
 
 -- A client without a journal: its number, how many files a page of a listing has at most, its codec, where its values keep their epochs, what it keeps, and whether it was not killed.

@@ -2,12 +2,12 @@
 use Rattle.std.specs.Prelude.{ℕ, ◌++◌, List, Bool, Option, None, map, nat_eq, replicate, reverse}
 use Rattle.std.specs.List.{range_with_len}
 use Rattle.std.specs.HashMap.{get}
-use Rattle.txn_types.specs.declared.codec.ObjectCodec as coding
-use Rattle.txn_types.specs.declared.epoch.EpochField as fields
+use Rattle.txn_store_types.specs.declared.codec.ObjectCodec as coding
+use Rattle.txn_store_types.specs.declared.epoch.EpochField as fields
 use Rattle.txn_machine_views.specs.Layer.{Used}
 use Rattle.txn_machine.specs.declared.doing.Operation.{Operation}
 use Rattle.txn_machine.specs.Machine.{used_in}
-use Rattle.txn_journals.specs.Parts.{Part}
+use Rattle.txn_client_journals.specs.Parts.{Part}
 use Rattle.txn_diary.specs.Forgetting.{forgotten}
 use Rattle.txn_diary.specs.Keepers.{KeeperState}
 use Rattle.txn_diary.specs.declared.calls.Calls.{Calls}

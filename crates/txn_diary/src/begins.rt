@@ -1,19 +1,19 @@
 //! Why a client does not permit a begin, by its views and what it was told.
 use crate::tables::Tables;
-use txn_clients::calls::{is_holders, value_written, view_used};
-use txn_clients::refusals::{base, may_use};
-use txn_clients::views::is_used;
+use txn_client_tables::calls::{is_holders, value_written, view_used};
+use txn_client_tables::refusals::{base, may_use};
+use txn_client_tables::views::is_used;
 use txn_history::event::{Call, EventFault, PlainCall};
-use txn_types::codec::ObjectCodec;
-use txn_types::epoch::EpochField;
+use txn_store_types::codec::ObjectCodec;
+use txn_store_types::epoch::EpochField;
 
 impl<T: Clone, C: ObjectCodec<T> + Drop, E: EpochField<T>> Tables<T, C, E> {
     ghost use Rattle.std.specs.Prelude.{◌≡◌};
-    ghost use Rattle.txn_types.specs.Numbers.{number_of};
+    ghost use Rattle.txn_store_types.specs.Numbers.{number_of};
     ghost use Rattle.txn_history.specs.Facts.{is_high};
     ghost use Rattle.txn_history.specs.Calls.{value_written};
     ghost use Rattle.txn_machine.specs.Machine.{used_by};
-    ghost use Rattle.txn_journals.specs.Parts.{is_low, epoch_told, is_in_use, client_begin_fault};
+    ghost use Rattle.txn_client_journals.specs.Parts.{is_low, epoch_told, is_in_use, client_begin_fault};
     ghost use Rattle.txn_diary.specs.Shown.{shown};
 
     /// Whether an operation runs on the view of a call, if it has one.

@@ -3,10 +3,10 @@ ghost use Rattle.std.specs.Option.{ForSome};
 ghost use Rattle.std.specs.Prelude.{◌≡◌, ◌<◌, IfOk, OnOk, OnErr, vec_len, vec_capacity};
 ghost use Rattle.txn_diary.specs.Diaries.{as_diary};
 ghost use Rattle.txn_diary.specs.Keepers.{keeper_refusal, Does};
-ghost use Rattle.txn_journals.specs.declared.rows.Step.TheVariants as steps;
-ghost use Rattle.txn_machine_inner.specs.Doing.{first_of};
-ghost use Rattle.txn_machine_inner.specs.Machine.{fault_met};
-ghost use Rattle.txn_types.specs.Clones.{IsExactClone};
+ghost use Rattle.txn_client_journals.specs.declared.rows.Step.TheVariants as steps;
+ghost use Rattle.txn_machine_plain.specs.Doing.{first_of};
+ghost use Rattle.txn_machine_plain.specs.Machine.{fault_met};
+ghost use Rattle.txn_store_types.specs.Clones.{IsExactClone};
 
 use crate::keeper::Keeper;
 use crate::reading::{answers_of, receipts_of};
@@ -14,17 +14,17 @@ use crate::step::{lack, note, note_act, receipt_refusal};
 use std::alloc::{AllocError, Global};
 use std::marker::Model;
 use std::sync::{Mutex, Wait};
-use txn_caches::ask::Ask;
-use txn_clients::refusals::{ask_refusal, end_refusal};
-use txn_clients::views::Answers;
+use txn_steps_boundary::ask::Ask;
+use txn_client_tables::refusals::{ask_refusal, end_refusal};
+use txn_client_tables::views::Answers;
 use txn_history::event::{Answer, Call, EventFault, Told};
 use txn_history::view::View;
-use txn_journals::audited::Audited;
-use txn_journals::rows::{Act, JournalRow, Receipt, Step};
-use txn_logged::logged::LoggedStore;
-use txn_types::codec::ObjectCodec;
-use txn_types::epoch::EpochField;
-use txn_types::room::push_within;
+use txn_client_journals::audited::Audited;
+use txn_client_journals::rows::{Act, JournalRow, Receipt, Step};
+use txn_client_logs::logged::LoggedStore;
+use txn_store_types::codec::ObjectCodec;
+use txn_store_types::epoch::EpochField;
+use txn_store_types::room::push_within;
 
 /// One client of a store, which knows of the store nothing but the replies to its calls, and the journal of what it did.
 /// Its type keeps that the journal leads to what it keeps.
@@ -46,7 +46,7 @@ impl<T: Clone, C: ObjectCodec<T> + Drop, E: EpochField<T>> Model for Diary<T, C,
     ghost use Rattle.std.specs.Prelude.{◌≡◌, ◌≤◌, reverse};
     ghost use Rattle.std.specs.Coded.{codes};
     ghost use Rattle.txn_store.specs.Memory.{files_code};
-    ghost use Rattle.txn_journals.specs.Journals.{Replays};
+    ghost use Rattle.txn_client_journals.specs.Journals.{Replays};
     ghost use Rattle.txn_diary.specs.Diaries.{DiaryState, diary_of, lives};
 
     ghost Value = { DiaryState T C E };
@@ -62,19 +62,19 @@ impl<T: Clone, C: ObjectCodec<T> + Drop, E: EpochField<T>> Diary<T, C, E> {
     ghost use Rattle.std.specs.Prelude.{◌≡◌, ◌≤◌, [], None, Some, Option, true, false, IfOk, OnOk, OnErr, map, reverse};
     ghost use Rattle.std.specs.Option.{option_copied};
     ghost use Rattle.txn_machine.specs.Machine.{seen_view, used_by};
-    ghost use Rattle.txn_journals.specs.Verdict.{receipts_in};
+    ghost use Rattle.txn_client_journals.specs.Verdict.{receipts_in};
     ghost use Rattle.txn_diary.specs.Reading.{answers_from};
-    ghost use Rattle.txn_types.specs.Clones.{IsExactClone};
+    ghost use Rattle.txn_store_types.specs.Clones.{IsExactClone};
     ghost use Rattle.txn_store.specs.declared.request.Request.{Request};
     ghost use Rattle.txn_history.specs.Allowed.{ask_fault};
     ghost use Rattle.txn_history.specs.declared.event.ToldOf.TheVariants as tolds;
-    ghost use Rattle.txn_machine_inner.specs.Doing.{asks_as};
-    ghost use Rattle.txn_machine_inner.specs.Machine.{fault_met};
-    ghost use Rattle.txn_journals.specs.declared.rows.Act.{Act};
-    ghost use Rattle.txn_journals.specs.declared.rows.Act.TheVariants as acts;
-    ghost use Rattle.txn_journals.specs.declared.rows.Step.TheVariants as steps;
-    ghost use Rattle.txn_journals.specs.Parts.{no_part};
-    ghost use Rattle.txn_journals.specs.Journals.{Replays};
+    ghost use Rattle.txn_machine_plain.specs.Doing.{asks_as};
+    ghost use Rattle.txn_machine_plain.specs.Machine.{fault_met};
+    ghost use Rattle.txn_client_journals.specs.declared.rows.Act.{Act};
+    ghost use Rattle.txn_client_journals.specs.declared.rows.Act.TheVariants as acts;
+    ghost use Rattle.txn_client_journals.specs.declared.rows.Step.TheVariants as steps;
+    ghost use Rattle.txn_client_journals.specs.Parts.{no_part};
+    ghost use Rattle.txn_client_journals.specs.Journals.{Replays};
     ghost use Rattle.txn_diary.specs.Keepers.{end_fault, IsReceiptFault, IsTurn};
     ghost use Rattle.txn_diary.specs.Diaries.{asked_in, refusal_of, kill_fault, IsKilledNow, Tells, Begun, Acts};
 

@@ -3,22 +3,22 @@ ghost use Rattle.std.specs.Prelude.{◌≡◌, ◌≤◌, ◌<◌, ◌+◌, ◌^
 ghost use Rattle.txn_history.specs.GoesOn.{as_loose, all_left_loose};
 ghost use Rattle.txn_machine_views.specs.Steps.{view_without};
 ghost use Rattle.txn_machine.specs.Machine.{ended_by, seen_operations, used_by, with_used};
-ghost use Rattle.txn_journals.specs.Journals.{as_pair};
+ghost use Rattle.txn_client_journals.specs.Journals.{as_pair};
 ghost use Rattle.txn_diary.specs.Kills.{EndsAt, left_here};
 ghost use Rattle.txn_diary.specs.Shown.{views_of};
 
 use crate::standing::Standing;
 use crate::tables::Tables;
 use std::alloc::{AllocError, Global};
-use txn_caches::caches::Caches;
-use txn_clients::operations::loose_copy;
-use txn_clients::views::ViewTable;
-use txn_journals::rows::Left;
+use txn_steps_boundary::caches::Caches;
+use txn_client_tables::operations::loose_copy;
+use txn_client_tables::views::ViewTable;
+use txn_client_journals::rows::Left;
 use txn_machine::doing::Operation;
 use txn_store::request::Request;
-use txn_types::codec::ObjectCodec;
-use txn_types::epoch::EpochField;
-use txn_types::room::push_within;
+use txn_store_types::codec::ObjectCodec;
+use txn_store_types::epoch::EpochField;
+use txn_store_types::room::push_within;
 
 /// A copy of the put or the delete that this operation asks for, where one is and the operation is the client's. The only
 /// error is want of memory.
@@ -108,7 +108,7 @@ fn end_views_of<T: Drop>(views: &mut Standing<T>, client: u64)
 
 impl<T: Clone, C: ObjectCodec<T> + Drop, E: EpochField<T>> Tables<T, C, E> {
     ghost use Rattle.std.specs.Prelude.{◌≡◌, ◌≤◌, None, IfOk, OnErr};
-    ghost use Rattle.txn_journals.specs.Journals.{IsKilled};
+    ghost use Rattle.txn_client_journals.specs.Journals.{IsKilled};
     ghost use Rattle.txn_diary.specs.Shown.{shown};
 
     /// The client is killed: what its operations leave. The only error is want of memory, and then nothing changes. It takes

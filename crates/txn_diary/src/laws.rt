@@ -1,13 +1,13 @@
 //! What follows of the things that a client did.
 ghost use Rattle.std.specs.Prelude.{◌≡◌, true, List, reverse};
-ghost use Rattle.txn_journals.specs.declared.rows.JournalRow.{JournalRow};
-ghost use Rattle.txn_journals.specs.Journals.{Replays};
-ghost use Rattle.txn_journals.specs.Parts.{Part, no_part};
+ghost use Rattle.txn_client_journals.specs.declared.rows.JournalRow.{JournalRow};
+ghost use Rattle.txn_client_journals.specs.Journals.{Replays};
+ghost use Rattle.txn_client_journals.specs.Parts.{Part, no_part};
 ghost use Rattle.txn_diary.specs.Keepers.{KeeperState, DoesAndForgets, DoesAll};
 ghost use Rattle.txn_diary.specs.Forgetting.{Remembers};
 
-use txn_types::codec::ObjectCodec;
-use txn_types::epoch::EpochField;
+use txn_store_types::codec::ObjectCodec;
+use txn_store_types::epoch::EpochField;
 
 /// The rows of what a client did, one thing after another from its start on, whatever it forgot meanwhile, are a journal, and of
 /// what that leads to the client keeps all but what it forgot.

@@ -1,7 +1,7 @@
 //! What a client was told: the ids that its checked calls answered, each with the epoch of its version.
 ghost use Rattle.std.specs.Prelude.{◌≡◌, ◌++◌, ◌<◌, ◌≤◌, ℕ, [], IfOk, OnOk, Some, is_some, reverse, nat_eq, nat_lt, vec_len, vec_capacity};
 ghost use Rattle.std.specs.HashMap.{get, spare};
-ghost use Rattle.txn_journals.specs.Parts.{knows_base, is_below_known, epoch_told, epoch_written, note_of, note_plain, note_wrote, written_in};
+ghost use Rattle.txn_client_journals.specs.Parts.{knows_base, is_below_known, epoch_told, epoch_written, note_of, note_plain, note_wrote, written_in};
 ghost use Rattle.txn_history.specs.Lists.{numbered};
 ghost use Rattle.txn_diary.specs.Notes.{note_at, as_told};
 
@@ -12,8 +12,8 @@ use std::collections::HashMap;
 use std::mem::swap;
 use txn_history::event::{Answer, Call, PlainAnswer, PlainCall};
 use txn_machine_views::used::Used;
-use txn_types::epoch::EpochField;
-use txn_types::room::push_within;
+use txn_store_types::epoch::EpochField;
+use txn_store_types::room::push_within;
 
 /// The id that an answer tells, with the epoch of its version.
 pub(crate) type Note = (u64, u64);
@@ -90,7 +90,7 @@ pub(crate) struct Notes {
 impl Notes {
     ghost use Rattle.std.specs.Prelude.{◌≡◌, ◌++◌, ◌<◌, ◌≤◌, [], All, OnOk, IfOk, Some, true, reverse, vec_len, vec_capacity};
     ghost use Rattle.std.specs.HashMap.{spare, values};
-    ghost use Rattle.txn_journals.specs.Parts.{knows_base, is_below_known, epoch_told};
+    ghost use Rattle.txn_client_journals.specs.Parts.{knows_base, is_below_known, epoch_told};
     ghost use Rattle.txn_diary.specs.Notes.{as_told};
     ghost use Rattle.txn_diary.specs.Room.{HasRoom};
     ghost use Rattle.txn_diary.specs.Forgetting.{WereKnown, StillKnown, BaseStays, AreKeptNotes};

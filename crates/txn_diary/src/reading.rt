@@ -1,13 +1,13 @@
 //! What stands in a journal: its answers and its receipts.
 ghost use Rattle.std.specs.Prelude.{◌≡◌, ◌<◌, ◌-◌, ◌^◌, ◌++◌, IfOk, map, vec_len, vec_capacity};
 ghost use Rattle.std.specs.Option.{option_copied};
-ghost use Rattle.txn_journals.specs.Verdict.{receipts_in};
+ghost use Rattle.txn_client_journals.specs.Verdict.{receipts_in};
 ghost use Rattle.txn_diary.specs.Reading.{op_of, begun_by, with_answer, answers_from, receipt_of, as_receipts};
 
 use std::alloc::{AllocError, Global};
 use txn_history::event::Answer;
-use txn_journals::rows::{Act, JournalRow, Receipt, Step};
-use txn_types::room::push_within;
+use txn_client_journals::rows::{Act, JournalRow, Receipt, Step};
+use txn_store_types::room::push_within;
 
 /// The operation that a step is of, where so many began before it: 0 for a kill.
 fn op_of<T>(begun: u64, step: &Step<T>) -> u64

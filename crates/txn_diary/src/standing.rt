@@ -2,7 +2,7 @@
 use crate::maps::{insert_within, remove, replace};
 use std::alloc::{AllocError, Global};
 use std::collections::HashMap;
-use txn_clients::views::ViewTable;
+use txn_client_tables::views::ViewTable;
 use txn_machine_views::used::Used;
 
 /// The views of a client that stand, by their numbers.

@@ -4,18 +4,18 @@ ghost use Rattle.std.specs.Option.{ForSome};
 ghost use Rattle.txn_history.specs.declared.event.EventFault.TheVariants as faults;
 ghost use Rattle.txn_history.specs.declared.event.ToldOf.TheVariants as tolds;
 ghost use Rattle.txn_history.specs.Added.{told_of};
-ghost use Rattle.txn_journals.specs.declared.rows.Step.TheVariants as steps;
-ghost use Rattle.txn_machine_inner.specs.Doing.{asks_as, first_of};
+ghost use Rattle.txn_client_journals.specs.declared.rows.Step.TheVariants as steps;
+ghost use Rattle.txn_machine_plain.specs.Doing.{asks_as, first_of};
 ghost use Rattle.txn_diary.specs.Keepers.{IsReceiptFault, IsReplyFault};
-ghost use Rattle.txn_logged.specs.Logged.{IsOfKind};
+ghost use Rattle.txn_client_logs.specs.Logged.{IsOfKind};
 
-use txn_caches::ask::Ask;
-use txn_clients::views::Answers;
+use txn_steps_boundary::ask::Ask;
+use txn_client_tables::views::Answers;
 use txn_history::event::{EventFault, Told};
-use txn_journals::rows::{Act, JournalRow, Receipt, Step};
-use txn_journals::same::same_request;
+use txn_client_journals::rows::{Act, JournalRow, Receipt, Step};
+use txn_client_journals::same::same_request;
 use txn_store::request::{Reply, Request};
-use txn_types::room::push_within;
+use txn_store_types::room::push_within;
 
 /// Whether a reply is of the request's kind.
 fn is_of_kind(request: &Request, reply: &Reply) -> bool

@@ -3,8 +3,8 @@ use Rattle.std.specs.Prelude.{◌≡◌, List, [], ◌∷◌, ◌++◌, Bool, Op
 use Rattle.txn_store.specs.Paths.{Segments}
 use Rattle.txn_store.specs.VersionName.{Names, version_path}
 use Rattle.txn_store.specs.declared.store.ObjectMeta.{ObjectMeta}
-use Rattle.txn_files.specs.Names.{known, seen}
-use Rattle.txn_files.specs.declared.name.Deed.TheVariants.{Stands}
+use Rattle.txn_folder_files.specs.Names.{known, seen}
+use Rattle.txn_folder_files.specs.declared.name.Deed.TheVariants.{Stands}
 use Rattle.txn_folder.specs.Files.{ObjectFiles, version_file}
 use Rattle.txn_folder.specs.Pages.{locations}
 use Rattle.txn_folder.specs.Places.{IsToldAt}

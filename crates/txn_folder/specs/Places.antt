@@ -1,7 +1,7 @@
 -- The files of places, and what is known of their names after a call.
 use Rattle.std.specs.Prelude.{◌≡◌, ◌⊎◌, ◌||◌, ℕ, Bool, true, false, List, ◌++◌, Option, Some, None, codes}
-use Rattle.txn_files.specs.Names.{Known, known}
-use Rattle.txn_files.specs.declared.name.Deed.TheVariants as deeds
+use Rattle.txn_folder_files.specs.Names.{Known, known}
+use Rattle.txn_folder_files.specs.declared.name.Deed.TheVariants as deeds
 use Rattle.txn_folder.specs.Files.{ObjectFiles, versions_folder, gc_folder, boundary_file, version_file}
 use Rattle.txn_folder.specs.Lasting.{is_known}
 use Rattle.txn_folder.specs.declared.lasting.Lasting.{Lasting}

@@ -1,7 +1,7 @@
 -- What a repair finds, and what it removes.
 use Rattle.std.specs.Prelude.{◌≡◌, ℕ, nat_lt, Bool, List, [], ◌∷◌, ◌++◌, reverse, map, Option, Some, None, IsSome, option_map, Result, Ok, Err, if◌then◌else◌}
 use Rattle.std.specs.List.Sorted.{IsStrictlyIncreasing}
-use Rattle.txn_files.specs.Removed.{Gone, removed}
+use Rattle.txn_folder_files.specs.Removed.{Gone, removed}
 use Rattle.txn_folder.specs.Files.{ObjectFiles, version_file}
 use Rattle.txn_folder.specs.Places.{versions_lock}
 use Rattle.txn_folder.specs.declared.judged.Whole.{Whole}

@@ -2,7 +2,7 @@
 use Rattle.std.specs.Prelude.{◌≡◌, ℕ, ◌^◌, ◌<◌, List, Option, unwrap_or}
 use Rattle.txn_store.specs.Paths.{Segments}
 use Rattle.txn_store.specs.VersionName.{Names, version_path}
-use Rattle.txn_types.specs.BoundaryText.{boundary_read}
+use Rattle.txn_store_types.specs.BoundaryText.{boundary_read}
 use Rattle.txn_folder.specs.declared.place.Place.{Place}
 use Rattle.txn_folder.specs.declared.place.Place.TheVariants as places
 

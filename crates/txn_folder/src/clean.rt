@@ -7,7 +7,7 @@ use std::fs::DirEntry;
 use std::io::ErrorKind;
 use std::rt::Files;
 use std::time::SystemTime;
-use txn_files::fault::{Doing, Fault};
+use txn_folder_files::fault::{Doing, Fault};
 
 /// Whether a name is a temporary one of a version or of the boundary.
 fn is_leftover(folder: &Folder, name: &str) -> bool {

@@ -1,14 +1,14 @@
 //! The files of an object on a file system, by their places.
 ghost use Rattle.std.specs.Prelude.{◌≡◌, ◌<◌, ◌≤◌, ◌++◌, Ok, IfOk, IfSome, if◌then◌else◌, codes, string_bytes};
-ghost use Rattle.txn_files.specs.Names.{IsHeld, known, lasting, seen};
-ghost use Rattle.txn_files.specs.declared.lock.Sharing.TheVariants.{Alone};
-ghost use Rattle.txn_files.specs.declared.name.Deed.TheVariants as deeds;
+ghost use Rattle.txn_folder_files.specs.Names.{IsHeld, known, lasting, seen};
+ghost use Rattle.txn_folder_files.specs.declared.lock.Sharing.TheVariants.{Alone};
+ghost use Rattle.txn_folder_files.specs.declared.name.Deed.TheVariants as deeds;
 ghost use Rattle.txn_folder.specs.Places.{IsGoneAt, IsToldAt, created_at, place_file, removal_lock, replaced_at, update_lock, versions_lock};
 ghost use Rattle.txn_store.specs.VersionName.{Names};
 ghost use Rattle.txn_folder.specs.Tokens.{IsTokenAt, IsFoundAt};
 ghost use Rattle.txn_folder.specs.Pages.{IsPageAfter};
-ghost use Rattle.txn_files.specs.Removed.{removed};
-ghost use Rattle.txn_files.specs.Removed as gone;
+ghost use Rattle.txn_folder_files.specs.Removed.{removed};
+ghost use Rattle.txn_folder_files.specs.Removed as gone;
 ghost use Rattle.txn_folder.specs.Repairs.{IsDone, IsRepairedAt};
 ghost use Rattle.txn_folder.specs.Listings.{IsNewest, IsToldLast, WasSeen};
 
@@ -27,16 +27,16 @@ use std::fs;
 use std::io::ErrorKind;
 use std::rt::{Clock, Files};
 use std::time::SystemTime;
-use txn_files::fault::{Doing, Fault, Halt, at_error, lacks_folder};
-use txn_files::lock::{Lock, LockFile, Sharing, take_lock};
-use txn_files::name::{Deed, Name, link, look, remove, replace};
-use txn_files::new_file::Written;
-use txn_files::publish::{make_folder, stands};
-use txn_files::removals::{Removals, remove_each};
+use txn_folder_files::fault::{Doing, Fault, Halt, at_error, lacks_folder};
+use txn_folder_files::lock::{Lock, LockFile, Sharing, take_lock};
+use txn_folder_files::name::{Deed, Name, link, look, remove, replace};
+use txn_folder_files::new_file::Written;
+use txn_folder_files::publish::{make_folder, stands};
+use txn_folder_files::removals::{Removals, remove_each};
 use txn_store::page::{Listing, Page};
 use txn_store::store::Token;
 use txn_store::version_names::VersionNames;
-use txn_types::codec::ObjectCodec;
+use txn_store_types::codec::ObjectCodec;
 
 /// What a put told, and what is known of the name that it gave a file.
 #[derive(Drop)]

@@ -1,7 +1,7 @@
 //! What a file says.
 ghost use Rattle.std.specs.Prelude.{◌≡◌, IfOk, IfSome, string_bytes};
-ghost use Rattle.txn_files.specs.Names.{known, seen};
-ghost use Rattle.txn_files.specs.declared.name.Deed.TheVariants.{Stands};
+ghost use Rattle.txn_folder_files.specs.Names.{known, seen};
+ghost use Rattle.txn_folder_files.specs.declared.name.Deed.TheVariants.{Stands};
 ghost use Rattle.txn_folder.specs.Tokens.{IsFoundAt};
 
 use crate::place::{Place, token_of};
@@ -11,9 +11,9 @@ use std::fs::OpenFile;
 use std::io::{ErrorKind, Read};
 use std::rt::Files;
 use std::{fs, io};
-use txn_files::fault::{Doing, Fault, Halt, at_error};
-use txn_files::name::{Name, find};
-use txn_files::written::number_of;
+use txn_folder_files::fault::{Doing, Fault, Halt, at_error};
+use txn_folder_files::name::{Name, find};
+use txn_folder_files::written::number_of;
 use txn_store::store::Token;
 
 /// What a file says, its token, where it has one, and what is known of its name.

@@ -1,15 +1,15 @@
 //! Versions whose bytes were read, by whether a codec reads them as a value. No other code makes these values: so a version
 //! is said to be torn only where its bytes were read and are no value.
 ghost use Rattle.std.specs.Prelude.{◌≡◌, IfOk};
-ghost use Rattle.txn_files.specs.Names.{known};
+ghost use Rattle.txn_folder_files.specs.Names.{known};
 ghost use Rattle.txn_folder.specs.Repairs.{IsJudged};
 ghost use Rattle.txn_folder.specs.Files.{version_file};
 
 use crate::folder::Folder;
 use crate::found::Found;
 use std::alloc::Global;
-use txn_files::fault::Halt;
-use txn_types::codec::{CodecFault, ObjectCodec};
+use txn_folder_files::fault::Halt;
+use txn_store_types::codec::{CodecFault, ObjectCodec};
 
 /// A version whose bytes were read, and are a value.
 #[derive(Clone, Copy)]

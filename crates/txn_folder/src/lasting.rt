@@ -1,11 +1,11 @@
 //! What a process knows to last when the power fails.
 ghost use Rattle.std.specs.Prelude.{◌≡◌, true, None};
-ghost use Rattle.txn_files.specs.Names.{known};
+ghost use Rattle.txn_folder_files.specs.Names.{known};
 ghost use Rattle.txn_folder.specs.Lasting.{is_known, known_with};
 
 use crate::folder::Folder;
 use crate::place::Place;
-use txn_files::name::Name;
+use txn_folder_files::name::Name;
 
 /// What a process knows to last: names that stood as it synced their folder. A sync makes all names of a folder last, and
 /// versions are made in the order of their ids: so the greatest id tells of all below it.

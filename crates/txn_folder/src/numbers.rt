@@ -5,9 +5,9 @@ use std::alloc::Global;
 use std::io;
 use std::io::ErrorKind;
 use std::rt::{Clock, Files};
-use txn_files::fault::{Doing, Fault, Halt, at_error};
-use txn_files::new_file::Written;
-use txn_files::written::{Writing, number_now, write_new};
+use txn_folder_files::fault::{Doing, Fault, Halt, at_error};
+use txn_folder_files::new_file::Written;
+use txn_folder_files::written::{Writing, number_now, write_new};
 
 /// How many temporary names are tried.
 const TRIES: u64 = 64;

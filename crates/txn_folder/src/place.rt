@@ -6,7 +6,7 @@ ghost use Rattle.txn_folder.specs.Tokens.{IsAt, place_token};
 use txn_store::path::Path;
 use txn_store::store::Token;
 use txn_store::version_names::VersionNames;
-use txn_types::boundary::read_boundary;
+use txn_store_types::boundary::read_boundary;
 
 /// What a path of a request names.
 #[derive(Clone, Copy)]

@@ -5,7 +5,7 @@ ghost use Rattle.txn_folder.specs.Repairs.{goes_on_at, IsRepair, IsRepairedAt, n
 
 use crate::tear::Tear;
 use std::rt::Files;
-use txn_files::removals::Removals;
+use txn_folder_files::removals::Removals;
 
 /// Why a repair removed nothing.
 #[derive(Clone, Copy)]

@@ -14,13 +14,13 @@ use bytes::Bytes;
 use std::alloc::Global;
 use std::rt::{Clock, Files};
 use std::time::SystemTime;
-use txn_files::fault::{Doing, Fault, Halt};
-use txn_files::lock::LockFile;
+use txn_folder_files::fault::{Doing, Fault, Halt};
+use txn_folder_files::lock::LockFile;
 use txn_store::path::Path;
 use txn_store::request::{Reply, Request};
 use txn_store::store::{Got, Paged, PutMode, StoreError, Token};
 use txn_store::version_names::VersionNames;
-use txn_types::codec::ObjectCodec;
+use txn_store_types::codec::ObjectCodec;
 
 /// The files of one object in a folder, under the names that requests have for them.
 pub struct FolderStore<R: Files + Drop> {

@@ -8,8 +8,8 @@ use crate::judged::{Judged, Torn, Whole, judge};
 use crate::place::Place;
 use std::alloc::{AllocError, Global};
 use std::rt::Files;
-use txn_files::fault::{Doing, Fault, Halt};
-use txn_types::codec::ObjectCodec;
+use txn_folder_files::fault::{Doing, Fault, Halt};
+use txn_store_types::codec::ObjectCodec;
 
 /// The newest version that reads as a value, where one does, and the versions above it, the greatest first.
 #[derive(Drop)]

@@ -10,7 +10,7 @@ use Rattle.txn_store.specs.Store.{update_fault}
 use Rattle.txn_store.specs.declared.request.Request.{Request}
 use Rattle.txn_store.specs.declared.request.Reply.{Reply}
 use Rattle.txn_store.specs.declared.request.Reply.TheVariants as replies
-use Rattle.txn_types.specs.BoundaryText.{boundary_read}
+use Rattle.txn_store_types.specs.BoundaryText.{boundary_read}
 use Rattle.txn_folder_model.specs.Folders.{Place, Version, Boundary, At, Temporary, File, Folder, Lock, OfBoundary, OfVersions}
 use Rattle.txn_folder_model.specs.Steps as steps
 use Rattle.txn_folder_model.specs.Steps.{Verdict, Tells, Fails, Phase, Is, Ends, Work, Creates, Gets, Updates, Deletes, token_at, got_at, verdict_of}

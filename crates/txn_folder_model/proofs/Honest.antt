@@ -3,8 +3,8 @@ use Rattle.std.proofs.Common.{◌≡◌, ℕ, zero, suc, ◌+◌, ◌<◌, ◌�
 use Rattle.std.proofs.lemmas.Bool.{eqb-true, eqb-false, eq-eqb}
 use Rattle.txn_store.specs.Paths.{Segments}
 use Rattle.txn_store.specs.VersionName.{Names}
-use Rattle.txn_journals.specs.declared.rows.LogRow.{LogRow}
-use Rattle.txn_journals.specs.Logs.{IsLog}
+use Rattle.txn_client_journals.specs.declared.rows.LogRow.{LogRow}
+use Rattle.txn_client_journals.specs.Logs.{IsLog}
 use Rattle.txn_folder_model.specs.Worlds.{Call}
 use Rattle.txn_folder_model.specs.Linear.{Point, request_of, row_of, row_at, rows_at, log_until}
 use Rattle.txn_folder_model.proofs.Ghosts.{Ghost, store_of, ReadsSo, WritesSo}

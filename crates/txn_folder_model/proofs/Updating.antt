@@ -1,7 +1,7 @@
 -- An update of the boundary takes its steps, but for the rename that makes it.
 use Rattle.std.proofs.Common.{◌≡◌, ℕ, suc, ◌<◌, ◌≤◌, ◌==◌, if◌then◌else◌, Bool, true, false, List, [], Option, Some, None, refl, ap, sym, subst, ◌∙◌, arith, inl, inr}
 use Rattle.std.proofs.lemmas.Bool.{eqb-true, eq-eqb}
-use Rattle.txn_types.specs.BoundaryText.{boundary_read}
+use Rattle.txn_store_types.specs.BoundaryText.{boundary_read}
 use Rattle.txn_store.specs.Paths.{Segments}
 use Rattle.txn_store.specs.VersionName.{Names}
 use Rattle.txn_store.specs.Store.{update_fault}

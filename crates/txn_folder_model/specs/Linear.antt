@@ -7,8 +7,8 @@ use Rattle.txn_store.specs.declared.store.PutMode.TheVariants as modes
 use Rattle.txn_store.specs.declared.request.Request.{Request}
 use Rattle.txn_store.specs.declared.request.Request.TheVariants as requests
 use Rattle.txn_store.specs.declared.request.Reply.{Reply}
-use Rattle.txn_journals.specs.declared.rows.LogRow.{LogRow}
-use Rattle.txn_journals.specs.Logs.{IsLog}
+use Rattle.txn_client_journals.specs.declared.rows.LogRow.{LogRow}
+use Rattle.txn_client_journals.specs.Logs.{IsLog}
 use Rattle.txn_folder_model.specs.Folders.{Place, Version, Boundary}
 use Rattle.txn_folder_model.specs.Steps.{Work, Creates, Gets, Updates, Deletes}
 use Rattle.txn_folder_model.specs.Worlds.{Call, World}

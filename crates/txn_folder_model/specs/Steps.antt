@@ -1,6 +1,6 @@
 -- The calls of a store in a folder as small machines: each state asks one step of the file system, and is turned by what it is told.
 use Rattle.std.specs.Prelude.{ℕ, ◌==◌, Bool, true, false, List, Option, Some, None, unwrap_or, Ok, Err, if◌then◌else◌}
-use Rattle.txn_types.specs.BoundaryText.{boundary_read}
+use Rattle.txn_store_types.specs.BoundaryText.{boundary_read}
 use Rattle.txn_store.specs.Store.{known_fault, update_fault}
 use Rattle.txn_store.specs.declared.store.Got.{Got}
 use Rattle.txn_store.specs.declared.store.StoreError.{StoreError}

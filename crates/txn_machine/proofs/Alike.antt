@@ -1,15 +1,15 @@
 -- An operation of the world and the fine operation that stands for it ask for the same, and take the same.
 use Rattle.std.proofs.Common.{◌≡◌, ℕ, Option, Some, refl, sym, ◌∙◌, ap, subst}
 use Rattle.txn_store.specs.declared.request.Reply.{Reply}
-use Rattle.txn_machine_inner.specs.declared.doing.PlainDoing.{PlainDoing}
-use Rattle.txn_machine_inner.specs.Doing as plain
-use Rattle.txn_machine_inner.specs.Doing.{ask_of}
-use Rattle.txn_view_steps.specs.declared.entry.EntryOp.{EntryOp}
-use Rattle.txn_view_steps.specs.declared.claiming.Claiming.{Claiming}
-use Rattle.txn_view_steps.specs.Entries.{entry_asked, IsEntryReply}
-use Rattle.txn_view_steps.specs.Attempts.{claiming_asked, IsClaimingReply, IsClaimingInRange}
-use Rattle.txn_view_steps.specs.declared.op.ViewOp.{ViewOp}
-use Rattle.txn_view_steps.specs.declared.op.ViewOp.TheVariants as ops
+use Rattle.txn_machine_plain.specs.declared.doing.PlainDoing.{PlainDoing}
+use Rattle.txn_machine_plain.specs.Doing as plain
+use Rattle.txn_machine_plain.specs.Doing.{ask_of}
+use Rattle.txn_steps_views.specs.declared.entry.EntryOp.{EntryOp}
+use Rattle.txn_steps_views.specs.declared.claiming.Claiming.{Claiming}
+use Rattle.txn_steps_views.specs.Entries.{entry_asked, IsEntryReply}
+use Rattle.txn_steps_views.specs.Attempts.{claiming_asked, IsClaimingReply, IsClaimingInRange}
+use Rattle.txn_steps_views.specs.declared.op.ViewOp.{ViewOp}
+use Rattle.txn_steps_views.specs.declared.op.ViewOp.TheVariants as ops
 use Rattle.txn_history.specs.declared.event.ViewCall.{ViewCall}
 use Rattle.txn_history.specs.declared.event.Call.{Call}
 use Rattle.txn_history.specs.declared.event.Call.TheVariants as any

@@ -10,7 +10,7 @@ use Rattle.txn_history.specs.Calls.{view_used}
 use Rattle.txn_machine_views.specs.Layer.{Used}
 use Rattle.txn_machine_views.specs.Steps.{view_without}
 use Rattle.txn_history.proofs.Lists.{get_kept, get_last, get_more, numbered_kept, numbered_more}
-use Rattle.txn_machine_inner.proofs.Lists.{numbered_here, numbered_other, numbered_map, within, get_append, numbered_new, numbered_of_map}
+use Rattle.txn_machine_plain.proofs.Lists.{numbered_here, numbered_other, numbered_map, within, get_append, numbered_new, numbered_of_map}
 use Rattle.txn_machine.specs.declared.doing.Doing.{Doing}
 use Rattle.txn_machine.specs.declared.doing.Operation.{Operation}
 use Rattle.txn_machine.specs.Doing.{asked, ended}

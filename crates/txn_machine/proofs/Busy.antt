@@ -7,7 +7,7 @@ use Rattle.std.proofs.lemmas.Option.{same_Some}
 use Rattle.txn_store.specs.Store.{State as StoreState}
 use Rattle.txn_store.specs.declared.request.Request.{Request}
 use Rattle.txn_store.specs.declared.request.Reply.{Reply}
-use Rattle.txn_caches.specs.declared.caches.Caches.{Caches}
+use Rattle.txn_steps_boundary.specs.declared.caches.Caches.{Caches}
 use Rattle.txn_steps.specs.Reads.{read_started}
 use Rattle.txn_history.specs.declared.event.EventFault.{EventFault}
 use Rattle.txn_history.specs.declared.event.EventFault.TheVariants as faults
@@ -23,10 +23,10 @@ use Rattle.txn_history.specs.Seen.{Store, Look, asks_in, asks_of, view_of, view_
 use Rattle.txn_history.specs.Added.{answer_rows, effect_rows}
 use Rattle.txn_history.proofs.Rows.{is_id_some}
 use Rattle.txn_history.proofs.Lists.{numbered_kept}
-use Rattle.txn_machine_inner.proofs.Lists.{numbered_here, numbered_other, numbered_map, numbered_append, within, numbered_of_map, numbered_new}
-use Rattle.txn_machine_inner.specs.declared.doing.PlainDoing.TheVariants as doings
-use Rattle.txn_machine_inner.specs.Machine.{effect_of, effected, loosened, failing, next_op}
-use Rattle.txn_view_steps.specs.declared.outcome.Outcome.TheVariants as outcomes
+use Rattle.txn_machine_plain.proofs.Lists.{numbered_here, numbered_other, numbered_map, numbered_append, within, numbered_of_map, numbered_new}
+use Rattle.txn_machine_plain.specs.declared.doing.PlainDoing.TheVariants as doings
+use Rattle.txn_machine_plain.specs.Machine.{effect_of, effected, loosened, failing, next_op}
+use Rattle.txn_steps_views.specs.declared.outcome.Outcome.TheVariants as outcomes
 use Rattle.txn_history.specs.declared.event.Call.{Call}
 use Rattle.txn_history.specs.declared.event.Answer.{Answer}
 use Rattle.txn_history.specs.Trace.{Row, Event, Told}

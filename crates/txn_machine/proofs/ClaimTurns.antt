@@ -2,13 +2,13 @@
 use Rattle.std.proofs.Common.{◌≡◌, ℕ, ◌==◌, List, Bool, true, false, if◌then◌else◌, Option, Some, None, Result, Ok, Err, refl, sym, ◌∙◌, ap, subst, inl, inr}
 use Rattle.std.proofs.lemmas.Option.{same_Some}
 use Rattle.txn_store.specs.declared.request.Reply.{Reply}
-use Rattle.txn_types.specs.Errors.{error_number}
-use Rattle.txn_types.specs.Epochs.{claimed_epoch}
-use Rattle.txn_types.specs.declared.error.TransactionalObjectError.{TransactionalObjectError}
-use Rattle.txn_caches.specs.declared.caches.Caches.{Caches}
-use Rattle.txn_caches.specs.declared.turned.Turned.{Turned}
-use Rattle.txn_caches.specs.declared.turned.Turned.TheVariants as turns
-use Rattle.txn_caches.specs.Asking.{unless_lacking}
+use Rattle.txn_store_types.specs.Errors.{error_number}
+use Rattle.txn_store_types.specs.Epochs.{claimed_epoch}
+use Rattle.txn_store_types.specs.declared.error.TransactionalObjectError.{TransactionalObjectError}
+use Rattle.txn_steps_boundary.specs.declared.caches.Caches.{Caches}
+use Rattle.txn_steps_boundary.specs.declared.turned.Turned.{Turned}
+use Rattle.txn_steps_boundary.specs.declared.turned.Turned.TheVariants as turns
+use Rattle.txn_steps_boundary.specs.Asking.{unless_lacking}
 use Rattle.txn_steps.specs.declared.read.ReadOp.{ReadOp}
 use Rattle.txn_steps.specs.declared.write.WriteOp.{WriteOp}
 use Rattle.txn_steps.specs.Latest.{ReadAnswer}
@@ -16,20 +16,20 @@ use Rattle.txn_steps.specs.Reads.{read_started, read_turned, read_caches_after}
 use Rattle.txn_steps.specs.Writes.{write_started, write_turned}
 use Rattle.txn_history.specs.declared.event.PlainAnswer.TheVariants as plain_answers
 use Rattle.txn_history.specs.Names.{world_names, world_boundary}
-use Rattle.txn_machine_inner.specs.declared.doing.PlainDoing.{PlainDoing}
-use Rattle.txn_machine_inner.specs.declared.doing.PlainDoing.TheVariants as doings
-use Rattle.txn_machine_inner.specs.Doing as plain
-use Rattle.txn_view_steps.specs.declared.claiming.Claiming.{Claiming}
-use Rattle.txn_view_steps.specs.declared.claiming.Claiming.TheVariants as claiming
-use Rattle.txn_view_steps.specs.declared.op.ViewOp.{ViewOp}
-use Rattle.txn_view_steps.specs.declared.op.ViewOp.TheVariants as ops
-use Rattle.txn_view_steps.specs.declared.outcome.Outcome.{Outcome}
-use Rattle.txn_view_steps.specs.declared.outcome.Outcome.TheVariants as outcomes
-use Rattle.txn_view_steps.specs.Attempts.{attempt_turned, refreshed_turned, followed, entered_with, attempted_again}
-use Rattle.txn_view_steps.specs.Claims.{as_claim}
-use Rattle.txn_view_steps.specs.Readings.{said}
-use Rattle.txn_view_steps.specs.Shortages.{IsShort, LacksAsWrite}
-use Rattle.txn_view_steps.specs.ViewOps.{held}
+use Rattle.txn_machine_plain.specs.declared.doing.PlainDoing.{PlainDoing}
+use Rattle.txn_machine_plain.specs.declared.doing.PlainDoing.TheVariants as doings
+use Rattle.txn_machine_plain.specs.Doing as plain
+use Rattle.txn_steps_views.specs.declared.claiming.Claiming.{Claiming}
+use Rattle.txn_steps_views.specs.declared.claiming.Claiming.TheVariants as claiming
+use Rattle.txn_steps_views.specs.declared.op.ViewOp.{ViewOp}
+use Rattle.txn_steps_views.specs.declared.op.ViewOp.TheVariants as ops
+use Rattle.txn_steps_views.specs.declared.outcome.Outcome.{Outcome}
+use Rattle.txn_steps_views.specs.declared.outcome.Outcome.TheVariants as outcomes
+use Rattle.txn_steps_views.specs.Attempts.{attempt_turned, refreshed_turned, followed, entered_with, attempted_again}
+use Rattle.txn_steps_views.specs.Claims.{as_claim}
+use Rattle.txn_steps_views.specs.Readings.{said}
+use Rattle.txn_steps_views.specs.Shortages.{IsShort, LacksAsWrite}
+use Rattle.txn_steps_views.specs.ViewOps.{held}
 use Rattle.txn_history.specs.declared.event.ViewCall.{ViewCall}
 use Rattle.txn_history.specs.declared.event.ViewCall.TheVariants as view_calls
 use Rattle.txn_history.specs.declared.event.Call.{Call}

@@ -12,7 +12,7 @@ use Rattle.txn_history.specs.Lists.{numbered}
 use Rattle.txn_history.specs.Seen.{Store, Look}
 use Rattle.txn_history.proofs.Rows.{is_id_some}
 use Rattle.txn_history.proofs.Lists.{numbered_more}
-use Rattle.txn_machine_inner.proofs.Lists.{numbered_here, numbered_other, numbered_map, within}
+use Rattle.txn_machine_plain.proofs.Lists.{numbered_here, numbered_other, numbered_map, within}
 use Rattle.txn_history.specs.declared.event.ViewCall.TheVariants as view_calls
 use Rattle.txn_history.specs.declared.event.Call.{Call}
 use Rattle.txn_history.specs.declared.event.Call.TheVariants as any

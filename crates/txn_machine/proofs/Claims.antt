@@ -2,12 +2,12 @@
 use Rattle.std.proofs.Common.{◌≡◌, ℕ, ◌==◌, List, Bool, true, false, if◌then◌else◌, Option, Some, None, Result, Ok, Err, refl, sym, ◌∙◌, ap, subst}
 use Rattle.txn_store.specs.Paths.{Segments}
 use Rattle.txn_store.specs.declared.request.Reply.{Reply}
-use Rattle.txn_types.specs.declared.error.TransactionalObjectError.{TransactionalObjectError}
-use Rattle.txn_types.specs.Epochs.{epoch_tested}
-use Rattle.txn_caches.specs.declared.caches.Caches.{Caches}
-use Rattle.txn_caches.specs.declared.turned.Turned.{Turned}
-use Rattle.txn_caches.specs.declared.turned.Turned.TheVariants as turns
-use Rattle.txn_caches.specs.Asking.{unless_lacking}
+use Rattle.txn_store_types.specs.declared.error.TransactionalObjectError.{TransactionalObjectError}
+use Rattle.txn_store_types.specs.Epochs.{epoch_tested}
+use Rattle.txn_steps_boundary.specs.declared.caches.Caches.{Caches}
+use Rattle.txn_steps_boundary.specs.declared.turned.Turned.{Turned}
+use Rattle.txn_steps_boundary.specs.declared.turned.Turned.TheVariants as turns
+use Rattle.txn_steps_boundary.specs.Asking.{unless_lacking}
 use Rattle.txn_steps.specs.declared.read.ReadOp.{ReadOp}
 use Rattle.txn_steps.specs.declared.write.WriteOp.{WriteOp}
 use Rattle.txn_steps.specs.Latest.{ReadAnswer}
@@ -15,25 +15,25 @@ use Rattle.txn_steps.specs.Reads.{read_started, read_turned}
 use Rattle.txn_steps.specs.Writes.{write_turned}
 use Rattle.txn_history.specs.Names.{world_names, world_boundary}
 use Rattle.txn_history.specs.Seen.{Ask}
-use Rattle.txn_machine_inner.specs.declared.doing.PlainDoing.{PlainDoing}
-use Rattle.txn_machine_inner.specs.declared.doing.PlainDoing.TheVariants as doings
-use Rattle.txn_machine_inner.specs.Doing as plain
-use Rattle.txn_view_steps.specs.declared.claiming.Claiming.{Claiming}
-use Rattle.txn_view_steps.specs.declared.claiming.Claiming.TheVariants as claiming
-use Rattle.txn_view_steps.specs.declared.entry.EntryOp.{EntryOp}
-use Rattle.txn_view_steps.specs.declared.entry.EntryOp.TheVariants as entries
-use Rattle.txn_view_steps.specs.declared.op.ViewOp.{ViewOp}
-use Rattle.txn_view_steps.specs.declared.op.ViewOp.TheVariants.{Enters, Reads, Claims}
-use Rattle.txn_view_steps.specs.declared.outcome.Outcome.{Outcome}
-use Rattle.txn_view_steps.specs.declared.outcome.Outcome.TheVariants as outcomes
-use Rattle.txn_view_steps.specs.Attempts.{attempt_turned, attempted_again, claiming_turned, followed, refreshed_turned}
-use Rattle.txn_view_steps.specs.declared.view_read.Purpose.{Purpose}
-use Rattle.txn_view_steps.specs.declared.view_read.Purpose.TheVariants as purposes
-use Rattle.txn_view_steps.specs.Claims.{claim_started}
-use Rattle.txn_view_steps.specs.Entries.{entry_started, holder_entry_started, entry_turned, written_turned}
-use Rattle.txn_view_steps.specs.Readings.{seen}
-use Rattle.txn_view_steps.specs.ViewReads.{as_view_read, holder_viewed, shown}
-use Rattle.txn_view_steps.specs.ViewOps.{view_turned}
+use Rattle.txn_machine_plain.specs.declared.doing.PlainDoing.{PlainDoing}
+use Rattle.txn_machine_plain.specs.declared.doing.PlainDoing.TheVariants as doings
+use Rattle.txn_machine_plain.specs.Doing as plain
+use Rattle.txn_steps_views.specs.declared.claiming.Claiming.{Claiming}
+use Rattle.txn_steps_views.specs.declared.claiming.Claiming.TheVariants as claiming
+use Rattle.txn_steps_views.specs.declared.entry.EntryOp.{EntryOp}
+use Rattle.txn_steps_views.specs.declared.entry.EntryOp.TheVariants as entries
+use Rattle.txn_steps_views.specs.declared.op.ViewOp.{ViewOp}
+use Rattle.txn_steps_views.specs.declared.op.ViewOp.TheVariants.{Enters, Reads, Claims}
+use Rattle.txn_steps_views.specs.declared.outcome.Outcome.{Outcome}
+use Rattle.txn_steps_views.specs.declared.outcome.Outcome.TheVariants as outcomes
+use Rattle.txn_steps_views.specs.Attempts.{attempt_turned, attempted_again, claiming_turned, followed, refreshed_turned}
+use Rattle.txn_steps_views.specs.declared.view_read.Purpose.{Purpose}
+use Rattle.txn_steps_views.specs.declared.view_read.Purpose.TheVariants as purposes
+use Rattle.txn_steps_views.specs.Claims.{claim_started}
+use Rattle.txn_steps_views.specs.Entries.{entry_started, holder_entry_started, entry_turned, written_turned}
+use Rattle.txn_steps_views.specs.Readings.{seen}
+use Rattle.txn_steps_views.specs.ViewReads.{as_view_read, holder_viewed, shown}
+use Rattle.txn_steps_views.specs.ViewOps.{view_turned}
 use Rattle.txn_history.specs.declared.event.ViewCall.TheVariants as view_calls
 use Rattle.txn_history.specs.declared.event.Call.{Call}
 use Rattle.txn_history.specs.declared.event.Call.TheVariants as any

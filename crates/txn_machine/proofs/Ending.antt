@@ -4,11 +4,11 @@ use Rattle.std.specs.List.{list_any}
 use Rattle.std.proofs.lemmas.List.{append-nil, length-set}
 use Rattle.std.proofs.lemmas.Bool.{cases_Bool, cases_eq, eq-eqb, ne_eqb}
 use Rattle.txn_store.specs.declared.request.Request.{Request}
-use Rattle.txn_caches.specs.declared.caches.Caches.{Caches}
+use Rattle.txn_steps_boundary.specs.declared.caches.Caches.{Caches}
 use Rattle.txn_history.specs.declared.trace.RowOf.TheVariants.{Answered}
 use Rattle.txn_history.specs.Lists.{numbered}
-use Rattle.txn_machine_inner.specs.PlainHistory.{tells as plain_tells}
-use Rattle.txn_machine_inner.proofs.Lists.{within, numbered_here, numbered_other}
+use Rattle.txn_machine_plain.specs.PlainHistory.{tells as plain_tells}
+use Rattle.txn_machine_plain.proofs.Lists.{within, numbered_here, numbered_other}
 use Rattle.txn_history.specs.declared.event.Call.{Call}
 use Rattle.txn_history.specs.declared.event.Answer.{Answer}
 use Rattle.txn_history.specs.Trace.{Row}

@@ -6,19 +6,19 @@ use Rattle.std.proofs.lemmas.Option.{same_Some}
 use Rattle.txn_store.specs.Store.{State as StoreState}
 use Rattle.txn_store.specs.Requests.{Serves}
 use Rattle.txn_store.specs.declared.request.Request.{Request}
-use Rattle.txn_caches.specs.declared.caches.Caches.{Caches}
+use Rattle.txn_steps_boundary.specs.declared.caches.Caches.{Caches}
 use Rattle.txn_history.specs.declared.event.ToldOf.TheVariants as told
 use Rattle.txn_history.specs.Lists.{numbered}
 use Rattle.txn_history.specs.GoesOn.{left_loose}
-use Rattle.txn_machine_inner.specs.PlainHistory as plain_history
+use Rattle.txn_machine_plain.specs.PlainHistory as plain_history
 use Rattle.txn_history.specs.Added.{effect_rows}
 use Rattle.txn_history.proofs.Lists.{numbered_kept}
-use Rattle.txn_machine_inner.specs.declared.doing.PlainDoing.TheVariants as doings
-use Rattle.txn_machine_inner.specs.Machine as machine
-use Rattle.txn_machine_inner.proofs.Lists.{within, numbered_here, numbered_other, numbered_append}
-use Rattle.txn_machine_inner.proofs.Stands as machine_stands
-use Rattle.txn_machine_inner.proofs.States.{at_place}
-use Rattle.txn_machine_inner.proofs.Events.{give_up_keeps, land_keeps}
+use Rattle.txn_machine_plain.specs.declared.doing.PlainDoing.TheVariants as doings
+use Rattle.txn_machine_plain.specs.Machine as machine
+use Rattle.txn_machine_plain.proofs.Lists.{within, numbered_here, numbered_other, numbered_append}
+use Rattle.txn_machine_plain.proofs.Stands as machine_stands
+use Rattle.txn_machine_plain.proofs.States.{at_place}
+use Rattle.txn_machine_plain.proofs.Events.{give_up_keeps, land_keeps}
 use Rattle.txn_history.specs.declared.event.Call.{Call}
 use Rattle.txn_history.specs.Trace.{Row, Told, PlainRow}
 use Rattle.txn_history.specs.Calls.{view_used}

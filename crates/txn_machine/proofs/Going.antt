@@ -7,10 +7,10 @@ use Rattle.txn_history.specs.declared.event.PlainCall.{PlainCall}
 use Rattle.txn_history.specs.declared.event.PlainAnswer.{PlainAnswer}
 use Rattle.txn_history.specs.declared.event.PlainAnswer.TheVariants as answers
 use Rattle.txn_history.specs.declared.trace.RowOf.TheVariants.{Answered}
-use Rattle.txn_machine_inner.specs.PlainHistory.{tells as plain_tells}
+use Rattle.txn_machine_plain.specs.PlainHistory.{tells as plain_tells}
 use Rattle.txn_history.specs.Calls.{IsCall}
-use Rattle.txn_machine_inner.specs.PlainHistory as plain_history
-use Rattle.txn_machine_inner.specs.PlainHistory.{Answers}
+use Rattle.txn_machine_plain.specs.PlainHistory as plain_history
+use Rattle.txn_machine_plain.specs.PlainHistory.{Answers}
 use Rattle.txn_history.specs.Added.{answer_rows}
 use Rattle.txn_history.proofs.Lists.{get_last, get_kept, any_last}
 use Rattle.txn_history.specs.declared.event.Call.{Call}

@@ -4,7 +4,7 @@ use Rattle.std.proofs.lemmas.List.Folds.{list_any_at}
 use Rattle.std.proofs.lemmas.Bool.{both_ways, eq-eqb, eqb-true}
 use Rattle.std.proofs.lemmas.Option.{slice_get_within, get_or_from_slice_get}
 use Rattle.txn_store.specs.declared.request.Request.{Request}
-use Rattle.txn_caches.specs.declared.caches.Caches.{Caches}
+use Rattle.txn_steps_boundary.specs.declared.caches.Caches.{Caches}
 use Rattle.txn_history.specs.declared.event.PlainCall.{PlainCall}
 use Rattle.txn_history.specs.declared.event.ToldOf.TheVariants as told
 use Rattle.txn_history.specs.declared.trace.RowOf.{RowOf}
@@ -12,14 +12,14 @@ use Rattle.txn_history.specs.declared.trace.RowOf.TheVariants.{Effect, Begun}
 use Rattle.txn_history.specs.Trace.{PlainRow}
 use Rattle.txn_history.specs.Lists.{numbered}
 use Rattle.txn_history.specs.Calls.{begins, was_begun, IsCall}
-use Rattle.txn_machine_inner.specs.PlainHistory as plain_history
+use Rattle.txn_machine_plain.specs.PlainHistory as plain_history
 use Rattle.txn_history.specs.Facts.{Entered}
 use Rattle.txn_history.specs.Added.{told_of, answer_rows}
 use Rattle.txn_history.proofs.Lists.{get_last, numbered_kept, numbered_last}
-use Rattle.txn_machine_inner.specs.Doing as plain
-use Rattle.txn_machine_inner.specs.Machine as machine
-use Rattle.txn_machine_inner.proofs.Stands as machine_stands
-use Rattle.txn_machine_inner.proofs.World.{opened_keeps}
+use Rattle.txn_machine_plain.specs.Doing as plain
+use Rattle.txn_machine_plain.specs.Machine as machine
+use Rattle.txn_machine_plain.proofs.Stands as machine_stands
+use Rattle.txn_machine_plain.proofs.World.{opened_keeps}
 use Rattle.txn_history.specs.declared.event.Call.{Call}
 use Rattle.txn_machine_views.specs.Layer.{Inner, Layer, Goes, noted, set_at, turned}
 use Rattle.txn_machine_views.proofs.Inner.{entered_by_owner}

@@ -4,20 +4,20 @@
 use Rattle.std.proofs.Common.{◌≡◌, ◌≢◌, ℕ, ◌+◌, ◌<◌, ◌≤◌, ◌⊎◌, List, length, Bool, true, nat_eq, Option, Some, None}
 use Rattle.std.specs.List.{list_any}
 use Rattle.txn_store.specs.declared.request.Request.{Request}
-use Rattle.txn_caches.specs.declared.caches.Caches.{Caches}
+use Rattle.txn_steps_boundary.specs.declared.caches.Caches.{Caches}
 use Rattle.txn_history.specs.declared.event.PlainAnswer.{PlainAnswer}
 use Rattle.txn_history.specs.Lists.{numbered}
 use Rattle.txn_history.specs.History.{boundary}
-use Rattle.txn_machine_inner.specs.PlainHistory.{tells as plain_tells}
+use Rattle.txn_machine_plain.specs.PlainHistory.{tells as plain_tells}
 use Rattle.txn_history.specs.Calls as calls
 use Rattle.txn_history.specs.Calls.{was_begun, IsCall, tells, view_used}
 use Rattle.txn_history.specs.Facts.{Entered}
 use Rattle.txn_history.specs.OneHistory as history
-use Rattle.txn_machine_inner.specs.declared.doing.PlainDoing.{PlainDoing}
-use Rattle.txn_machine_inner.specs.declared.doing.PlainOperation as machine_operation
-use Rattle.txn_machine_inner.specs.Doing as plain
-use Rattle.txn_machine_inner.specs.Machine as machine
-use Rattle.txn_machine_inner.proofs.Stands as machine_stands
+use Rattle.txn_machine_plain.specs.declared.doing.PlainDoing.{PlainDoing}
+use Rattle.txn_machine_plain.specs.declared.doing.PlainOperation as machine_operation
+use Rattle.txn_machine_plain.specs.Doing as plain
+use Rattle.txn_machine_plain.specs.Machine as machine
+use Rattle.txn_machine_plain.proofs.Stands as machine_stands
 use Rattle.txn_history.specs.declared.event.Call.{Call}
 use Rattle.txn_history.specs.declared.event.Call.TheVariants as any
 use Rattle.txn_history.specs.declared.event.Answer.TheVariants as any_answers

@@ -4,9 +4,9 @@ use Rattle.txn_history.specs.declared.event.EventFault.TheVariants as faults
 use Rattle.txn_history.specs.declared.event.EventOf.TheVariants as events
 use Rattle.txn_history.specs.Lists.{numbered}
 use Rattle.txn_history.specs.Allowed.{is_client}
-use Rattle.txn_machine_inner.specs.Machine as machine
-use Rattle.txn_machine_inner.proofs.World as machine_world
-use Rattle.txn_machine_inner.proofs.World.{client_within, tested}
+use Rattle.txn_machine_plain.specs.Machine as machine
+use Rattle.txn_machine_plain.proofs.World as machine_world
+use Rattle.txn_machine_plain.proofs.World.{client_within, tested}
 use Rattle.txn_history.specs.Trace.{Event, Told}
 use Rattle.txn_machine_views.specs.Layer as layer
 use Rattle.txn_machine_views.specs.Layer.{Used, Layer}

@@ -1,16 +1,16 @@
 -- Store calls that are refused for memory before anything has reached the store keep a world joined.
 use Rattle.std.proofs.Common.{ℕ, List, Option, Some, inr, refl, sym, subst}
-use Rattle.txn_caches.specs.declared.caches.Caches.{Caches}
+use Rattle.txn_steps_boundary.specs.declared.caches.Caches.{Caches}
 use Rattle.txn_history.specs.declared.event.PlainAnswer.TheVariants as plain_answers
 use Rattle.txn_history.specs.Seen.{Ask, Store}
-use Rattle.txn_machine_inner.specs.declared.doing.PlainDoing.TheVariants as doings
-use Rattle.txn_machine_inner.specs.declared.doing.PlainOperation.{PlainOperation}
-use Rattle.txn_machine_inner.specs.Doing as plain
-use Rattle.txn_machine_inner.specs.Machine as machine
-use Rattle.txn_machine_inner.proofs.Stands as machine_stands
-use Rattle.txn_machine_inner.proofs.Events.{acts_run}
-use Rattle.txn_machine_inner.proofs.States.{but, turn_keeps}
-use Rattle.txn_machine_inner.proofs.Turns.{stays, lacking}
+use Rattle.txn_machine_plain.specs.declared.doing.PlainDoing.TheVariants as doings
+use Rattle.txn_machine_plain.specs.declared.doing.PlainOperation.{PlainOperation}
+use Rattle.txn_machine_plain.specs.Doing as plain
+use Rattle.txn_machine_plain.specs.Machine as machine
+use Rattle.txn_machine_plain.proofs.Stands as machine_stands
+use Rattle.txn_machine_plain.proofs.Events.{acts_run}
+use Rattle.txn_machine_plain.proofs.States.{but, turn_keeps}
+use Rattle.txn_machine_plain.proofs.Turns.{stays, lacking}
 use Rattle.txn_history.specs.declared.event.Call.{Call}
 use Rattle.txn_history.specs.declared.event.Call.TheVariants as any
 use Rattle.txn_history.specs.Trace.{Told}

@@ -1,7 +1,7 @@
 -- An effect of a fine operation is one of its owner, which the layer takes.
 use Rattle.std.proofs.Common.{◌≡◌, ℕ, zero, suc, ◌+◌, List, true, false, Option, Some, None, ◌⊎◌, inl, inr, refl, sym, ◌∙◌, ap, subst, arith}
 use Rattle.txn_store.specs.declared.request.Request.{Request}
-use Rattle.txn_types.specs.Numbers.{number_of}
+use Rattle.txn_store_types.specs.Numbers.{number_of}
 use Rattle.txn_history.specs.declared.event.PlainCall.{PlainCall}
 use Rattle.txn_history.specs.declared.event.PlainCall.TheVariants as calls
 use Rattle.txn_history.specs.declared.trace.RowOf.TheVariants.{Effect, Begun}
@@ -9,7 +9,7 @@ use Rattle.txn_history.specs.Trace.{PlainRow}
 use Rattle.txn_history.specs.History.{Version, created, raised, removed, has_id, versions_of, newest, was_erased, is_stored}
 use Rattle.txn_history.specs.Calls.{IsCall}
 use Rattle.txn_history.specs.Facts.{base_on}
-use Rattle.txn_machine_inner.specs.PlainHistory.{alone, WritesOn, Appends, Recreates, IsLegal, IsOneHistory}
+use Rattle.txn_machine_plain.specs.PlainHistory.{alone, WritesOn, Appends, Recreates, IsLegal, IsOneHistory}
 use Rattle.txn_history.specs.Effects.{Raises, Erases, Append, Recreate, Raise, Erase}
 use Rattle.txn_history.proofs.Numbered.{one_call}
 use Rattle.txn_history.specs.declared.event.Call.{Call}

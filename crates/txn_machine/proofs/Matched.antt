@@ -2,25 +2,25 @@
 -- without a view) and against the operation of the machine of plain calls that stands for it.
 use Rattle.std.proofs.Common.{◌≡◌, ℕ, List, [], Bool, true, false, Option, Some, None, is_some}
 use Rattle.txn_store.specs.declared.request.Reply.{Reply}
-use Rattle.txn_caches.specs.declared.caches.Caches.{Caches}
+use Rattle.txn_steps_boundary.specs.declared.caches.Caches.{Caches}
 use Rattle.txn_steps.specs.declared.write.WriteOp.{WriteOp}
 use Rattle.txn_steps.specs.declared.read.ReadOp.{ReadOp}
 use Rattle.txn_history.specs.declared.event.PlainCall.{PlainCall}
 use Rattle.txn_history.specs.declared.event.PlainCall.TheVariants as calls
 use Rattle.txn_history.specs.declared.event.PlainAnswer.{PlainAnswer}
 use Rattle.txn_history.specs.Facts.{base_on}
-use Rattle.txn_machine_inner.specs.declared.doing.PlainDoing.{PlainDoing}
-use Rattle.txn_machine_inner.specs.declared.doing.PlainDoing.TheVariants as doings
-use Rattle.txn_machine_inner.specs.Doing as plain
-use Rattle.txn_view_steps.specs.declared.entry.EntryOp.{EntryOp}
-use Rattle.txn_view_steps.specs.declared.entry.EntryOp.TheVariants as entries
-use Rattle.txn_view_steps.specs.declared.claiming.Claiming.{Claiming}
-use Rattle.txn_view_steps.specs.declared.claiming.Claiming.TheVariants as claiming
-use Rattle.txn_view_steps.specs.declared.outcome.Outcome.TheVariants as outcomes
-use Rattle.txn_view_steps.specs.declared.op.ViewOp.{ViewOp}
-use Rattle.txn_view_steps.specs.declared.op.ViewOp.TheVariants as ops
-use Rattle.txn_view_steps.specs.declared.view_read.Purpose.{Purpose}
-use Rattle.txn_view_steps.specs.declared.view_read.Purpose.TheVariants as purposes
+use Rattle.txn_machine_plain.specs.declared.doing.PlainDoing.{PlainDoing}
+use Rattle.txn_machine_plain.specs.declared.doing.PlainDoing.TheVariants as doings
+use Rattle.txn_machine_plain.specs.Doing as plain
+use Rattle.txn_steps_views.specs.declared.entry.EntryOp.{EntryOp}
+use Rattle.txn_steps_views.specs.declared.entry.EntryOp.TheVariants as entries
+use Rattle.txn_steps_views.specs.declared.claiming.Claiming.{Claiming}
+use Rattle.txn_steps_views.specs.declared.claiming.Claiming.TheVariants as claiming
+use Rattle.txn_steps_views.specs.declared.outcome.Outcome.TheVariants as outcomes
+use Rattle.txn_steps_views.specs.declared.op.ViewOp.{ViewOp}
+use Rattle.txn_steps_views.specs.declared.op.ViewOp.TheVariants as ops
+use Rattle.txn_steps_views.specs.declared.view_read.Purpose.{Purpose}
+use Rattle.txn_steps_views.specs.declared.view_read.Purpose.TheVariants as purposes
 use Rattle.txn_history.specs.declared.event.ViewCall.TheVariants as view_calls
 use Rattle.txn_history.specs.declared.event.ViewCall.{ViewCall}
 use Rattle.txn_history.specs.declared.event.Call.{Call}

@@ -5,7 +5,7 @@ use Rattle.txn_history.specs.Lists.{numbered}
 use Rattle.txn_history.specs.declared.event.Call.{Call}
 use Rattle.txn_history.specs.Trace.{Row, PlainRow}
 use Rattle.txn_history.specs.Calls.{view_used}
-use Rattle.txn_machine_inner.specs.declared.doing.PlainDoing.{PlainDoing}
+use Rattle.txn_machine_plain.specs.declared.doing.PlainDoing.{PlainDoing}
 use Rattle.txn_machine_views.specs.Layer as layer
 use Rattle.txn_machine_views.specs.Layer.{Used, Inner, Asked, Layer, look_up, local_of}
 use Rattle.txn_machine_views.proofs.Stands as layer_stands

@@ -4,11 +4,11 @@ use Rattle.txn_store.specs.Store.{State as StoreState}
 use Rattle.txn_store.specs.Requests.{Serves}
 use Rattle.txn_store.specs.declared.request.Request.{Request}
 use Rattle.txn_store.specs.declared.request.Reply.{Reply}
-use Rattle.txn_caches.specs.declared.caches.Caches.{Caches}
+use Rattle.txn_steps_boundary.specs.declared.caches.Caches.{Caches}
 use Rattle.txn_history.specs.Lists.{numbered}
 use Rattle.txn_history.specs.History.{Contents, stored, HasContents}
 use Rattle.txn_history.specs.Seen.{Store, Look}
-use Rattle.txn_machine_inner.proofs.Replies.{stood_replies, stood_looks, stood_range}
+use Rattle.txn_machine_plain.proofs.Replies.{stood_replies, stood_looks, stood_range}
 use Rattle.txn_history.specs.Trace.{Row, Event, Told}
 use Rattle.txn_history.specs.Calls.{view_used}
 use Rattle.txn_history.specs.OneHistory.{IsOneHistory}

@@ -3,16 +3,16 @@ use Rattle.std.proofs.Common.{◌≡◌, ℕ, List, Option, None, Ok, Err, refl,
 use Rattle.txn_store.specs.Paths.{Segments}
 use Rattle.txn_store.specs.VersionName.{Names}
 use Rattle.txn_store.specs.declared.request.Reply.{Reply}
-use Rattle.txn_caches.specs.declared.caches.Cached.{Cached}
-use Rattle.txn_caches.specs.declared.caches.Caches.{Caches}
-use Rattle.txn_caches.specs.declared.turned.Turned.{Turned}
-use Rattle.txn_caches.specs.declared.turned.Turned.TheVariants.{Goes, Done}
+use Rattle.txn_steps_boundary.specs.declared.caches.Cached.{Cached}
+use Rattle.txn_steps_boundary.specs.declared.caches.Caches.{Caches}
+use Rattle.txn_steps_boundary.specs.declared.turned.Turned.{Turned}
+use Rattle.txn_steps_boundary.specs.declared.turned.Turned.TheVariants.{Goes, Done}
 use Rattle.txn_steps.specs.declared.latest.LatestOp.TheVariants.{Looks, Probes, Finds, Lists, Chooses, Gets, Keeps, Drops, Ended}
 use Rattle.txn_steps.specs.declared.read.ReadOp.{ReadOp}
 use Rattle.txn_steps.specs.declared.read.ReadOp.TheVariants as reads
 use Rattle.txn_steps.specs.Latest.{ReadAnswer, found_kept}
 use Rattle.txn_steps.specs.Reads.{read_turned, read_caches_after}
-use Rattle.txn_view_steps.proofs.ReadLemmas.{left_as_said, left_where_answered}
+use Rattle.txn_steps_views.proofs.ReadLemmas.{left_as_said, left_where_answered}
 
 module _ {T : Type 0} where
   -- what it tells changes what it leaves only where it has found a version

@@ -10,27 +10,27 @@ use Rattle.txn_store.specs.declared.store.StoreError.{StoreError}
 use Rattle.txn_store.specs.declared.store.StoreError.TheVariants as errors
 use Rattle.txn_store.specs.declared.request.Reply.{Reply}
 use Rattle.txn_store.specs.declared.request.Reply.TheVariants as replies
-use Rattle.txn_types.specs.BoundaryText.{boundary_read}
-use Rattle.txn_types.specs.Errors.{store_error_number}
-use Rattle.txn_types.specs.declared.error.TransactionalObjectError.{TransactionalObjectError}
-use Rattle.txn_types.specs.declared.error.TransactionalObjectError.TheVariants.{Fenced, IdExhausted}
-use Rattle.txn_caches.specs.declared.caches.Cached.{Cached}
-use Rattle.txn_caches.specs.declared.caches.CachedBoundary.{CachedBoundary}
-use Rattle.txn_caches.specs.declared.caches.Caches.{Caches}
-use Rattle.txn_caches.specs.declared.boundary_read.BoundaryRead.{BoundaryRead}
-use Rattle.txn_caches.specs.declared.boundary_read.BoundaryRead.TheVariants as reading
-use Rattle.txn_caches.specs.declared.check.BoundaryStep.{BoundaryStep}
-use Rattle.txn_caches.specs.declared.check.BoundaryStep.TheVariants as boundary_step
-use Rattle.txn_caches.specs.declared.check.BoundaryCheck.{BoundaryCheck}
-use Rattle.txn_caches.specs.declared.check.CheckOp.{CheckOp}
-use Rattle.txn_caches.specs.declared.check.CheckOp.TheVariants as checks
-use Rattle.txn_caches.specs.declared.turned.Turned.{Turned}
-use Rattle.txn_caches.specs.declared.turned.Turned.TheVariants.{Goes, Done}
-use Rattle.txn_caches.specs.Boundaries.{Known, decided, refused_by}
-use Rattle.txn_caches.specs.BoundaryReads.{text_read, boundary_got, boundary_turned}
-use Rattle.txn_caches.specs.BoundaryChecks as check_steps
-use Rattle.txn_caches.specs.BoundaryChecks.{turned_at, boundary_check_turned}
-use Rattle.txn_caches.specs.Checks.{checks_turned, check_turned}
+use Rattle.txn_store_types.specs.BoundaryText.{boundary_read}
+use Rattle.txn_store_types.specs.Errors.{store_error_number}
+use Rattle.txn_store_types.specs.declared.error.TransactionalObjectError.{TransactionalObjectError}
+use Rattle.txn_store_types.specs.declared.error.TransactionalObjectError.TheVariants.{Fenced, IdExhausted}
+use Rattle.txn_steps_boundary.specs.declared.caches.Cached.{Cached}
+use Rattle.txn_steps_boundary.specs.declared.caches.CachedBoundary.{CachedBoundary}
+use Rattle.txn_steps_boundary.specs.declared.caches.Caches.{Caches}
+use Rattle.txn_steps_boundary.specs.declared.boundary_read.BoundaryRead.{BoundaryRead}
+use Rattle.txn_steps_boundary.specs.declared.boundary_read.BoundaryRead.TheVariants as reading
+use Rattle.txn_steps_boundary.specs.declared.check.BoundaryStep.{BoundaryStep}
+use Rattle.txn_steps_boundary.specs.declared.check.BoundaryStep.TheVariants as boundary_step
+use Rattle.txn_steps_boundary.specs.declared.check.BoundaryCheck.{BoundaryCheck}
+use Rattle.txn_steps_boundary.specs.declared.check.CheckOp.{CheckOp}
+use Rattle.txn_steps_boundary.specs.declared.check.CheckOp.TheVariants as checks
+use Rattle.txn_steps_boundary.specs.declared.turned.Turned.{Turned}
+use Rattle.txn_steps_boundary.specs.declared.turned.Turned.TheVariants.{Goes, Done}
+use Rattle.txn_steps_boundary.specs.Boundaries.{Known, decided, refused_by}
+use Rattle.txn_steps_boundary.specs.BoundaryReads.{text_read, boundary_got, boundary_turned}
+use Rattle.txn_steps_boundary.specs.BoundaryChecks as check_steps
+use Rattle.txn_steps_boundary.specs.BoundaryChecks.{turned_at, boundary_check_turned}
+use Rattle.txn_steps_boundary.specs.Checks.{checks_turned, check_turned}
 use Rattle.txn_steps.specs.declared.write.WriteUncheckedOp.{WriteUncheckedOp}
 use Rattle.txn_steps.specs.declared.write.WriteUncheckedOp.TheVariants as unchecked
 use Rattle.txn_steps.specs.declared.write.WriteStep.{WriteStep}
@@ -46,7 +46,7 @@ use Rattle.txn_steps.specs.Requests.{next_after}
 use Rattle.txn_steps.specs.Latest.{ReadAnswer, greatest_from, read_in_hand, answered, probed, keeping, in_hand, held_or_got, chosen, begins_with, paged_turned, listed, unlisted, latest_listing, latest_got, latest_turned}
 use Rattle.txn_steps.specs.Reads as read_steps
 use Rattle.txn_steps.specs.Reads.{reads_turned, read_turned}
-use Rattle.txn_caches.specs.Windows.{held, greatest_held}
+use Rattle.txn_steps_boundary.specs.Windows.{held, greatest_held}
 use Rattle.txn_history.specs.declared.event.PlainAnswer.TheVariants as plain_answers
 use Rattle.txn_store.specs.declared.request.Request.{Request}
 use Rattle.txn_history.specs.declared.event.Answer.TheVariants as answers
@@ -57,14 +57,14 @@ use Rattle.txn_history.specs.declared.event.Failure.{Failure}
 use Rattle.txn_history.specs.declared.event.Failure.TheVariants as failures
 use Rattle.txn_history.specs.Names.{world_names, world_boundary}
 use Rattle.txn_history.specs.Facts.{greatest}
-use Rattle.txn_view_steps.specs.declared.claim.ClaimOp.{ClaimOp}
-use Rattle.txn_view_steps.specs.declared.claiming.Claiming.{Claiming}
-use Rattle.txn_view_steps.specs.declared.claiming.Claiming.TheVariants as claims
-use Rattle.txn_view_steps.specs.declared.op.ViewOp.TheVariants as ops
-use Rattle.txn_view_steps.specs.declared.outcome.Outcome.{Outcome}
-use Rattle.txn_view_steps.specs.Attempts.{entered, entered_with, attempted, attempt_turned, refreshed_turned, followed, claiming_turned}
-use Rattle.txn_view_steps.specs.Claims.{as_claim, claim_turned}
-use Rattle.txn_view_steps.specs.Lacking.{started_as}
+use Rattle.txn_steps_views.specs.declared.claim.ClaimOp.{ClaimOp}
+use Rattle.txn_steps_views.specs.declared.claiming.Claiming.{Claiming}
+use Rattle.txn_steps_views.specs.declared.claiming.Claiming.TheVariants as claims
+use Rattle.txn_steps_views.specs.declared.op.ViewOp.TheVariants as ops
+use Rattle.txn_steps_views.specs.declared.outcome.Outcome.{Outcome}
+use Rattle.txn_steps_views.specs.Attempts.{entered, entered_with, attempted, attempt_turned, refreshed_turned, followed, claiming_turned}
+use Rattle.txn_steps_views.specs.Claims.{as_claim, claim_turned}
+use Rattle.txn_steps_views.specs.Lacking.{started_as}
 use Rattle.txn_history.specs.declared.event.ViewCall.TheVariants as view_calls
 use Rattle.txn_history.specs.declared.event.Call.TheVariants as any
 use Rattle.txn_history.specs.Trace.{Told}

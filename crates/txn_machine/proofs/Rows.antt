@@ -5,7 +5,7 @@ use Rattle.std.proofs.lemmas.Bool.{both_ways, eq-eqb, eqb-true}
 use Rattle.txn_store.specs.declared.request.Request.{Request}
 use Rattle.txn_history.specs.declared.trace.RowOf.TheVariants.{Effect, Begun, Answered}
 use Rattle.txn_history.specs.History.{boundary}
-use Rattle.txn_machine_inner.specs.PlainHistory.{tells as plain_tells}
+use Rattle.txn_machine_plain.specs.PlainHistory.{tells as plain_tells}
 use Rattle.txn_history.specs.Calls.{begins, was_begun, tells}
 use Rattle.txn_history.proofs.Lists.{any_true, any_last, any_more}
 use Rattle.txn_history.proofs.More.{call_kept, entered_back}

@@ -1,20 +1,20 @@
 -- Every begin of a call on a view starts as the layer says.
 use Rattle.std.proofs.Common.{◌≡◌, ℕ, ◌==◌, List, Bool, true, false, if◌then◌else◌, Option, Some, None, is_some, Result, Ok, Err, refl, sym, ◌∙◌, subst}
-use Rattle.txn_types.specs.Epochs.{claimed_epoch}
+use Rattle.txn_store_types.specs.Epochs.{claimed_epoch}
 use Rattle.txn_steps.specs.Reads.{read_started}
 use Rattle.txn_steps.specs.Writes.{write_started}
 use Rattle.txn_history.specs.Names.{world_names, world_boundary}
-use Rattle.txn_machine_inner.specs.declared.doing.PlainDoing.TheVariants as doings
-use Rattle.txn_view_steps.specs.declared.claiming.Claiming.{Claiming}
-use Rattle.txn_view_steps.specs.declared.entry.EntryOp.{EntryOp}
-use Rattle.txn_view_steps.specs.declared.entry.EntryOp.TheVariants as entries
-use Rattle.txn_view_steps.specs.declared.op.ViewOp.TheVariants as ops
-use Rattle.txn_view_steps.specs.declared.view_read.Purpose.{Purpose}
-use Rattle.txn_view_steps.specs.declared.view_read.Purpose.TheVariants as purposes
-use Rattle.txn_view_steps.specs.Attempts.{attempted, followed}
-use Rattle.txn_view_steps.specs.Claims.{as_claim}
-use Rattle.txn_view_steps.specs.Entries.{entry_tested, own_epochs}
-use Rattle.txn_view_steps.specs.Lacking.{started_as}
+use Rattle.txn_machine_plain.specs.declared.doing.PlainDoing.TheVariants as doings
+use Rattle.txn_steps_views.specs.declared.claiming.Claiming.{Claiming}
+use Rattle.txn_steps_views.specs.declared.entry.EntryOp.{EntryOp}
+use Rattle.txn_steps_views.specs.declared.entry.EntryOp.TheVariants as entries
+use Rattle.txn_steps_views.specs.declared.op.ViewOp.TheVariants as ops
+use Rattle.txn_steps_views.specs.declared.view_read.Purpose.{Purpose}
+use Rattle.txn_steps_views.specs.declared.view_read.Purpose.TheVariants as purposes
+use Rattle.txn_steps_views.specs.Attempts.{attempted, followed}
+use Rattle.txn_steps_views.specs.Claims.{as_claim}
+use Rattle.txn_steps_views.specs.Entries.{entry_tested, own_epochs}
+use Rattle.txn_steps_views.specs.Lacking.{started_as}
 use Rattle.txn_history.specs.declared.event.ViewCall.{ViewCall}
 use Rattle.txn_history.specs.declared.event.ViewCall.TheVariants as view_calls
 use Rattle.txn_history.specs.declared.event.Call.TheVariants as any

@@ -4,22 +4,22 @@ use Rattle.std.specs.Option.{option_map}
 use Rattle.txn_store.specs.Paths.{Segments}
 use Rattle.txn_store.specs.VersionName.{Names}
 use Rattle.txn_store.specs.declared.request.Reply.{Reply}
-use Rattle.txn_caches.specs.declared.caches.Caches.{Caches}
-use Rattle.txn_caches.specs.declared.turned.Turned.{Turned}
-use Rattle.txn_caches.specs.declared.turned.Turned.TheVariants.{Goes, Done}
-use Rattle.txn_caches.specs.Steps.{lacks_memory}
+use Rattle.txn_steps_boundary.specs.declared.caches.Caches.{Caches}
+use Rattle.txn_steps_boundary.specs.declared.turned.Turned.{Turned}
+use Rattle.txn_steps_boundary.specs.declared.turned.Turned.TheVariants.{Goes, Done}
+use Rattle.txn_steps_boundary.specs.Steps.{lacks_memory}
 use Rattle.txn_history.specs.declared.event.PlainAnswer.{PlainAnswer}
 use Rattle.txn_history.specs.Names.{world_names, world_boundary}
-use Rattle.txn_machine_inner.specs.declared.doing.PlainDoing.{PlainDoing}
-use Rattle.txn_machine_inner.specs.Doing as plain
-use Rattle.txn_view_steps.specs.declared.claiming.Claiming.{Claiming}
-use Rattle.txn_view_steps.specs.declared.claiming.Claiming.TheVariants as claiming
-use Rattle.txn_view_steps.specs.declared.op.ViewOp.{ViewOp}
-use Rattle.txn_view_steps.specs.declared.op.ViewOp.TheVariants as ops
-use Rattle.txn_view_steps.specs.declared.outcome.Outcome.{Outcome}
-use Rattle.txn_view_steps.specs.Attempts.{claiming_caches_after}
-use Rattle.txn_view_steps.specs.ViewOps as views
-use Rattle.txn_view_steps.specs.ViewOps.{view_turned, view_caches_after, IsViewMade}
+use Rattle.txn_machine_plain.specs.declared.doing.PlainDoing.{PlainDoing}
+use Rattle.txn_machine_plain.specs.Doing as plain
+use Rattle.txn_steps_views.specs.declared.claiming.Claiming.{Claiming}
+use Rattle.txn_steps_views.specs.declared.claiming.Claiming.TheVariants as claiming
+use Rattle.txn_steps_views.specs.declared.op.ViewOp.{ViewOp}
+use Rattle.txn_steps_views.specs.declared.op.ViewOp.TheVariants as ops
+use Rattle.txn_steps_views.specs.declared.outcome.Outcome.{Outcome}
+use Rattle.txn_steps_views.specs.Attempts.{claiming_caches_after}
+use Rattle.txn_steps_views.specs.ViewOps as views
+use Rattle.txn_steps_views.specs.ViewOps.{view_turned, view_caches_after, IsViewMade}
 use Rattle.txn_machine.specs.declared.doing.Doing.{Doing}
 use Rattle.txn_machine.specs.declared.doing.Doing.TheVariants as does
 use Rattle.txn_machine.specs.declared.doing.Ending.{Ending}

@@ -2,11 +2,11 @@
 -- its view stood when it began, or 0.
 use Rattle.std.proofs.Common.{◌≡◌, ℕ, ◌==◌, ◌&&◌, ◌⊎◌, Bool, false, Option, Some, None, Result, Ok, Err, inl, inr, refl, sym, subst}
 use Rattle.std.proofs.lemmas.Bool.{cases_Bool}
-use Rattle.txn_types.specs.declared.error.TransactionalObjectError.{TransactionalObjectError}
-use Rattle.txn_types.specs.Epochs.{claimed_epoch, epoch_tested}
+use Rattle.txn_store_types.specs.declared.error.TransactionalObjectError.{TransactionalObjectError}
+use Rattle.txn_store_types.specs.Epochs.{claimed_epoch, epoch_tested}
 use Rattle.txn_history.specs.Calls as plain_calls
 use Rattle.txn_history.specs.Facts.{greatest}
-use Rattle.txn_view_steps.specs.Entries.{own_epochs}
+use Rattle.txn_steps_views.specs.Entries.{own_epochs}
 use Rattle.txn_history.specs.declared.event.ViewCall.{ViewCall}
 use Rattle.txn_history.specs.declared.event.ViewCall.TheVariants as view_calls
 use Rattle.txn_history.specs.declared.event.Call.{Call}

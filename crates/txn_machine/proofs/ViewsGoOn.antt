@@ -5,7 +5,7 @@ use Rattle.std.specs.Option.{option_map}
 use Rattle.std.proofs.lemmas.Bool.{cases_Bool, both_ways, eqb-true, eq-eqb, ne_eqb}
 use Rattle.std.proofs.lemmas.List.{length-set}
 use Rattle.std.proofs.lemmas.Option.{same_Some, cond_some}
-use Rattle.txn_caches.specs.declared.caches.Caches.{Caches}
+use Rattle.txn_steps_boundary.specs.declared.caches.Caches.{Caches}
 use Rattle.txn_history.specs.declared.event.PlainAnswer.TheVariants as plain_answers
 use Rattle.txn_history.specs.declared.event.EventOf.TheVariants as events
 use Rattle.txn_history.specs.declared.event.Failure.{Failure}
@@ -15,10 +15,10 @@ use Rattle.txn_history.specs.History.{is_id}
 use Rattle.txn_history.specs.Lists.{numbered}
 use Rattle.txn_history.specs.Seen.{Operation as SeenOperation, Store, Look, view_of, view_in}
 use Rattle.txn_history.specs.Added.{told_of}
-use Rattle.txn_machine_inner.specs.Machine.{effect_of, effected, loosened, failing, next_op}
+use Rattle.txn_machine_plain.specs.Machine.{effect_of, effected, loosened, failing, next_op}
 use Rattle.txn_history.proofs.Lists.{numbered_kept}
-use Rattle.txn_machine_inner.proofs.Lists.{numbered_here, numbered_other, numbered_map, within, numbered_of_map, numbered_new}
-use Rattle.txn_view_steps.specs.declared.outcome.Outcome.TheVariants as outcomes
+use Rattle.txn_machine_plain.proofs.Lists.{numbered_here, numbered_other, numbered_map, within, numbered_of_map, numbered_new}
+use Rattle.txn_steps_views.specs.declared.outcome.Outcome.TheVariants as outcomes
 use Rattle.txn_history.specs.declared.event.Call.{Call}
 use Rattle.txn_history.specs.declared.event.Answer.{Answer}
 use Rattle.txn_history.specs.declared.event.Answer.TheVariants as answers

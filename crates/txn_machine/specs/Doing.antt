@@ -2,26 +2,26 @@
 -- leaves of its client's caches, and how it ends.
 use Rattle.std.specs.Prelude.{◌≡◌, ℕ, List, Bool, Option, Some, None, Result, Ok, Err}
 use Rattle.txn_store.specs.declared.request.Reply.{Reply}
-use Rattle.txn_caches.specs.declared.caches.Caches.{Caches}
-use Rattle.txn_caches.specs.declared.turned.Turned.{Turned}
-use Rattle.txn_caches.specs.declared.turned.Turned.TheVariants as turns
+use Rattle.txn_steps_boundary.specs.declared.caches.Caches.{Caches}
+use Rattle.txn_steps_boundary.specs.declared.turned.Turned.{Turned}
+use Rattle.txn_steps_boundary.specs.declared.turned.Turned.TheVariants as turns
 use Rattle.txn_history.specs.declared.event.PlainAnswer.{PlainAnswer}
 use Rattle.txn_history.specs.declared.event.PlainAnswer.TheVariants as plain_answers
 use Rattle.txn_history.specs.Names.{world_names, world_boundary}
 use Rattle.txn_history.specs.Seen.{Ask}
-use Rattle.txn_machine_inner.specs.declared.doing.PlainDoing.TheVariants as doings
-use Rattle.txn_machine_inner.specs.Doing as plain
-use Rattle.txn_machine_inner.specs.Doing.{ask_of}
-use Rattle.txn_view_steps.specs.declared.outcome.Outcome.{Outcome}
-use Rattle.txn_view_steps.specs.declared.op.ViewOp.{ViewOp}
-use Rattle.txn_view_steps.specs.declared.op.ViewOp.TheVariants as ops
-use Rattle.txn_view_steps.specs.declared.view_read.Purpose.{Purpose}
-use Rattle.txn_view_steps.specs.declared.view_read.Purpose.TheVariants as purposes
-use Rattle.txn_view_steps.specs.ViewOps as views
-use Rattle.txn_view_steps.specs.ViewOps.{view_asked, view_turned, view_caches_after, IsViewReply, IsViewInRange, IsViewMade}
-use Rattle.txn_view_steps.specs.Entries.{entry_started, holder_entry_started}
-use Rattle.txn_view_steps.specs.ViewReads.{view_read_started}
-use Rattle.txn_view_steps.specs.Claims.{claim_started}
+use Rattle.txn_machine_plain.specs.declared.doing.PlainDoing.TheVariants as doings
+use Rattle.txn_machine_plain.specs.Doing as plain
+use Rattle.txn_machine_plain.specs.Doing.{ask_of}
+use Rattle.txn_steps_views.specs.declared.outcome.Outcome.{Outcome}
+use Rattle.txn_steps_views.specs.declared.op.ViewOp.{ViewOp}
+use Rattle.txn_steps_views.specs.declared.op.ViewOp.TheVariants as ops
+use Rattle.txn_steps_views.specs.declared.view_read.Purpose.{Purpose}
+use Rattle.txn_steps_views.specs.declared.view_read.Purpose.TheVariants as purposes
+use Rattle.txn_steps_views.specs.ViewOps as views
+use Rattle.txn_steps_views.specs.ViewOps.{view_asked, view_turned, view_caches_after, IsViewReply, IsViewInRange, IsViewMade}
+use Rattle.txn_steps_views.specs.Entries.{entry_started, holder_entry_started}
+use Rattle.txn_steps_views.specs.ViewReads.{view_read_started}
+use Rattle.txn_steps_views.specs.Claims.{claim_started}
 use Rattle.txn_history.specs.declared.event.ViewCall.TheVariants as view_calls
 use Rattle.txn_history.specs.declared.event.Call.{Call}
 use Rattle.txn_history.specs.declared.event.Call.TheVariants as any

@@ -2,8 +2,8 @@
 use Rattle.std.specs.Prelude.{◌≡◌, ◌≤◌, ◌⊎◌, ℕ, List, [], ◌∷◌, ◌++◌, ◌+◌, ◌-◌, ◌==◌, Bool, false, if◌then◌else◌, Option, Some, None, Result, Ok, Err, length, slice_set, is_some, map}
 use Rattle.std.specs.Option.{option_map}
 use Rattle.txn_store.specs.declared.request.Request.{Request}
-use Rattle.txn_types.specs.Errors.{error_number}
-use Rattle.txn_caches.specs.declared.caches.Caches.{Caches}
+use Rattle.txn_store_types.specs.Errors.{error_number}
+use Rattle.txn_steps_boundary.specs.declared.caches.Caches.{Caches}
 use Rattle.txn_history.specs.declared.event.PlainAnswer.TheVariants as plain_answers
 use Rattle.txn_history.specs.declared.event.Failure.{Failure}
 use Rattle.txn_history.specs.declared.event.ToldOf.TheVariants as told
@@ -14,9 +14,9 @@ use Rattle.txn_history.specs.Lists.{numbered}
 use Rattle.txn_history.specs.Seen.{Ask, Store, Look, Operation as SeenOperation, Seen, asks_of, AllSeen}
 use Rattle.txn_history.specs.GoesOn.{all_left_loose}
 use Rattle.txn_history.specs.Added.{told_of, answer_rows}
-use Rattle.txn_machine_inner.specs.Machine.{StateOf, no_caches, effect_of, opening_with, next_op, effected, loosened, failing, seen_by, Asking, CallReaches, LooseReaches, FailsBy, fault_met, taken_count}
+use Rattle.txn_machine_plain.specs.Machine.{StateOf, no_caches, effect_of, opening_with, next_op, effected, loosened, failing, seen_by, Asking, CallReaches, LooseReaches, FailsBy, fault_met, taken_count}
 use Rattle.txn_store.specs.MemoryServes.{lacks_memory}
-use Rattle.txn_view_steps.specs.declared.outcome.Outcome.TheVariants as outcomes
+use Rattle.txn_steps_views.specs.declared.outcome.Outcome.TheVariants as outcomes
 use Rattle.txn_history.specs.declared.event.Call.{Call}
 use Rattle.txn_history.specs.declared.event.Answer.{Answer}
 use Rattle.txn_history.specs.declared.event.Answer.TheVariants as answers

@@ -9,8 +9,8 @@ ghost use Rattle.txn_machine_views.specs.Layer.{Used};
 ghost use Rattle.txn_machine.specs.Machine.{State, opening, Takes, Runs, TakesOrLacks, RunsOrLacks};
 ghost use Rattle.txn_machine.specs.Laws.{HasOneHistory, KeepsClients, EventGoesOn};
 
-use txn_types::codec::ObjectCodec;
-use txn_types::epoch::EpochField;
+use txn_store_types::codec::ObjectCodec;
+use txn_store_types::epoch::EpochField;
 
 /// Whatever events are taken, in whatever order, the trace is one history of all calls, each view fits it, and no two claims
 /// are held with one epoch, where a page of a listing has room for a file at least.

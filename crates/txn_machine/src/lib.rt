@@ -1,5 +1,5 @@
-//! What events do in a world of clients that make all calls: each call without a view as an operation of `txn_machine_inner`,
-//! each call on a view as one of `txn_view_steps`; and the theorem on it.
+//! What events do in a world of clients that make all calls: each call without a view as an operation of `txn_machine_plain`,
+//! each call on a view as one of `txn_steps_views`; and the theorem on it.
 #![tactic(auto)]
 
 pub mod alone;

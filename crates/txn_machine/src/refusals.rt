@@ -2,18 +2,18 @@
 ghost use Rattle.std.specs.Prelude.{◌≡◌, ◌⊎◌, ℕ, Bool, false, Option, Some, None, Ok};
 ghost use Rattle.txn_store.specs.declared.request.Reply.{Reply};
 ghost use Rattle.txn_store.specs.declared.store.StoreError.TheVariants as errors;
-ghost use Rattle.txn_caches.specs.declared.caches.Caches.{Caches};
-ghost use Rattle.txn_caches.specs.declared.turned.Turned.TheVariants.{Done};
-ghost use Rattle.txn_caches.specs.Steps.{reply_error};
+ghost use Rattle.txn_steps_boundary.specs.declared.caches.Caches.{Caches};
+ghost use Rattle.txn_steps_boundary.specs.declared.turned.Turned.TheVariants.{Done};
+ghost use Rattle.txn_steps_boundary.specs.Steps.{reply_error};
 ghost use Rattle.txn_steps.specs.declared.read.ReadOp.{ReadOp};
 ghost use Rattle.txn_steps.specs.Reads.{read_turned};
 ghost use Rattle.txn_history.specs.declared.event.Failure.{Failure};
 ghost use Rattle.txn_history.specs.Names.{world_names, world_boundary};
 ghost use Rattle.txn_history.specs.Facts.{greatest};
-ghost use Rattle.txn_view_steps.specs.declared.claim.ClaimOp.{ClaimOp};
-ghost use Rattle.txn_view_steps.specs.declared.claiming.Claiming.{Claiming};
-ghost use Rattle.txn_view_steps.specs.declared.claiming.Claiming.TheVariants as claiming;
-ghost use Rattle.txn_view_steps.specs.declared.op.ViewOp.TheVariants as view_ops;
+ghost use Rattle.txn_steps_views.specs.declared.claim.ClaimOp.{ClaimOp};
+ghost use Rattle.txn_steps_views.specs.declared.claiming.Claiming.{Claiming};
+ghost use Rattle.txn_steps_views.specs.declared.claiming.Claiming.TheVariants as claiming;
+ghost use Rattle.txn_steps_views.specs.declared.op.ViewOp.TheVariants as view_ops;
 ghost use Rattle.txn_history.specs.declared.event.ViewCall.TheVariants as view_calls;
 ghost use Rattle.txn_history.specs.declared.event.Call.TheVariants as any;
 ghost use Rattle.txn_history.specs.Trace.{Told};
@@ -24,8 +24,8 @@ ghost use Rattle.txn_machine.specs.Doing.{refused, started, turned, caches_after
 ghost use Rattle.txn_machine.specs.Refusals.{FailsAsReplied, Found};
 ghost use Rattle.txn_machine.specs.Machine.{State, Fails};
 
-use txn_types::codec::ObjectCodec;
-use txn_types::epoch::EpochField;
+use txn_store_types::codec::ObjectCodec;
+use txn_store_types::epoch::EpochField;
 
 /// What a failed store call makes of an operation is what it makes of the reply `Failed`: it ends with the refusal 2, and leaves
 /// its client's caches. So each failure, before the effect or after it, is the turn that this reply would be.

@@ -1,7 +1,7 @@
 -- A write on a version stands where there is a next id, and so does a claim's attempt.
 use Rattle.std.proofs.Common.{◌≡◌, ℕ, ◌+◌, ◌<◌, ◌≤◌, List, Bool, true, false, if◌then◌else◌, ◌==◌, nat_le, Option, Some, None, Ok, Err, inl, inr, refl, subst, arith}
 use Rattle.std.proofs.lemmas.Bool.{cases_lt, eqb-true, both_ways, leb-true, le-leb}
-use Rattle.txn_types.specs.declared.error.TransactionalObjectError.TheVariants.{Fenced, IdExhausted}
+use Rattle.txn_store_types.specs.declared.error.TransactionalObjectError.TheVariants.{Fenced, IdExhausted}
 use Rattle.txn_history.specs.History.{newest, IsEntry, epoch_at}
 use Rattle.txn_history.specs.Calls.{was_begun, IsCall}
 use Rattle.txn_history.specs.Facts.{greatest}

@@ -2,8 +2,8 @@
 use Rattle.std.proofs.Common.{◌≡◌, ◌≢◌, ℕ, zero, suc, ◌+◌, ◌<◌, ◌≤◌, List, [], ◌∷◌, Bool, true, false, if◌then◌else◌, ◌==◌, nat_lt, Option, Some, None, Ok, Err, inl, inr, refl, sym, ◌∙◌, ap, subst, arith}
 use Rattle.std.proofs.lemmas.Bool.{cases_lt, both_ways, eqb-true, eqb-false, ltb-true, lt-ltb, leb-true}
 use Rattle.std.proofs.lemmas.Option.{same_Some}
-use Rattle.txn_types.specs.Numbers.{number_of}
-use Rattle.txn_types.specs.declared.error.TransactionalObjectError.TheVariants.{Fenced, InvalidObjectState}
+use Rattle.txn_store_types.specs.Numbers.{number_of}
+use Rattle.txn_store_types.specs.declared.error.TransactionalObjectError.TheVariants.{Fenced, InvalidObjectState}
 use Rattle.txn_history.specs.declared.event.PlainCall.{PlainCall}
 use Rattle.txn_history.specs.declared.event.PlainCall.TheVariants as calls
 use Rattle.txn_history.specs.declared.trace.RowOf.TheVariants.{Begun}
@@ -11,7 +11,7 @@ use Rattle.txn_history.specs.History.{newest, epoch_at}
 use Rattle.txn_history.specs.Facts.{base_on, greatest}
 use Rattle.txn_history.proofs.Rows.{newest_grows}
 use Rattle.txn_history.proofs.More.{epoch_kept}
-use Rattle.txn_view_steps.specs.Entries.{value_tested, own_epochs}
+use Rattle.txn_steps_views.specs.Entries.{value_tested, own_epochs}
 use Rattle.txn_history.specs.declared.event.ViewCall.TheVariants as view_calls
 use Rattle.txn_history.specs.declared.event.Call.{Call}
 use Rattle.txn_history.specs.declared.event.Call.TheVariants as any

@@ -8,7 +8,7 @@ use Rattle.txn_history.specs.declared.event.PlainAnswer.TheVariants as answers
 use Rattle.txn_history.specs.declared.trace.RowOf.{RowOf}
 use Rattle.txn_history.specs.History.{is_stored, boundary}
 use Rattle.txn_history.specs.Facts.{WriteRefused, FailureFits, PlainSucceeds, PlainRefuses}
-use Rattle.txn_machine_inner.specs.PlainHistory.{AnswerFits}
+use Rattle.txn_machine_plain.specs.PlainHistory.{AnswerFits}
 use Rattle.txn_machine_views.proofs.Tied.{Tied, lift_at, same_newest, same_boundary, same_stored}
 use Rattle.txn_machine_views.proofs.Inner.{PastFenced, created_by_owner, entered_by_owner, newest_of_owner, empty_of_owner, found_of_owner, lists_of_owner, overtaken_of_owner, no_tokens_both}
 

@@ -5,7 +5,7 @@ use Rattle.txn_store.specs.Paths.{Segments}
 use Rattle.txn_store.specs.declared.request.Request.{Request}
 use Rattle.txn_store.specs.declared.request.Request.TheVariants as requests
 use Rattle.txn_store.specs.declared.store.PutMode.{PutMode}
-use Rattle.txn_types.specs.BoundaryText.{boundary_read}
+use Rattle.txn_store_types.specs.BoundaryText.{boundary_read}
 use Rattle.txn_history.specs.declared.trace.RowOf.TheVariants.{Effect}
 use Rattle.txn_history.specs.History.{Version, is_boundary, created, raised, removed, newest, boundary}
 use Rattle.txn_history.specs.Calls.{begins, ends}

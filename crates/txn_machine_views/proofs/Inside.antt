@@ -10,7 +10,7 @@ use Rattle.txn_history.specs.declared.trace.RowOf.TheVariants.{Effect, Begun}
 use Rattle.txn_history.specs.History.{has_id, versions_of, newest}
 use Rattle.txn_history.specs.Calls.{IsCall}
 use Rattle.txn_history.specs.Facts.{base_on, Entered}
-use Rattle.txn_machine_inner.specs.PlainHistory.{WritesOn, Appends, Recreates, AnswerFits, IsOneHistory}
+use Rattle.txn_machine_plain.specs.PlainHistory.{WritesOn, Appends, Recreates, AnswerFits, IsOneHistory}
 use Rattle.txn_history.proofs.Legal.{put_of_legal}
 use Rattle.txn_history.proofs.Fronts.{of_front}
 use Rattle.txn_history.proofs.Numbered.{one_call}

@@ -2,8 +2,8 @@
 use Rattle.std.proofs.Common.{◌≡◌, ℕ, zero, suc, ◌+◌, ◌≤◌, List, Bool, true, false, if◌then◌else◌, ◌==◌, nat_lt, Option, Some, None, Ok, Err, ◌⊎◌, inl, inr, refl, sym, ◌∙◌, ap, subst, arith}
 use Rattle.std.proofs.lemmas.Bool.{cases_lt, both_ways, ltb-true, lt-ltb}
 use Rattle.std.proofs.lemmas.Option.{same_Some}
-use Rattle.txn_types.specs.Numbers.{number_of}
-use Rattle.txn_types.specs.declared.error.TransactionalObjectError.TheVariants.{Fenced, InvalidObjectState}
+use Rattle.txn_store_types.specs.Numbers.{number_of}
+use Rattle.txn_store_types.specs.declared.error.TransactionalObjectError.TheVariants.{Fenced, InvalidObjectState}
 use Rattle.txn_history.specs.History.{newest, IsEntry}
 use Rattle.txn_history.specs.Calls.{AtRow, view_used}
 use Rattle.txn_history.specs.Facts.{base_on, greatest, Entered, WasNewest, WasEmpty, WriteRefused, FailureFits}

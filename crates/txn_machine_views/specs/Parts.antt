@@ -1,14 +1,14 @@
 -- What a call does first, and what it makes of the answer of its write or its read.
--- The tests of epochs and the numbers of refusals are those of the steps (`txn_view_steps`).
+-- The tests of epochs and the numbers of refusals are those of the steps (`txn_steps_views`).
 use Rattle.std.specs.Prelude.{◌≡◌, ℕ, ◌+◌, ◌==◌, ◌⊎◌, ◌&&◌, if◌then◌else◌, List, Bool, true, false, Option, Some, None, Result, Ok, Err}
-use Rattle.txn_types.specs.Errors.{error_number}
-use Rattle.txn_types.specs.Numbers.{number_of}
-use Rattle.txn_types.specs.Epochs.{claimed_epoch, epoch_tested}
-use Rattle.txn_types.specs.declared.error.TransactionalObjectError.{TransactionalObjectError}
+use Rattle.txn_store_types.specs.Errors.{error_number}
+use Rattle.txn_store_types.specs.Numbers.{number_of}
+use Rattle.txn_store_types.specs.Epochs.{claimed_epoch, epoch_tested}
+use Rattle.txn_store_types.specs.declared.error.TransactionalObjectError.{TransactionalObjectError}
 use Rattle.txn_history.specs.declared.event.PlainCall.{PlainCall}
 use Rattle.txn_history.specs.declared.event.PlainCall.TheVariants as calls
 use Rattle.txn_history.specs.Facts.{base_on, greatest, Entered, WasNewest, WasEmpty, WriteRefused, FailureFits}
-use Rattle.txn_view_steps.specs.Entries.{own_epochs}
+use Rattle.txn_steps_views.specs.Entries.{own_epochs}
 use Rattle.txn_history.specs.declared.event.ViewCall.TheVariants as view_calls
 use Rattle.txn_history.specs.declared.event.Call.{Call}
 use Rattle.txn_history.specs.declared.event.Call.TheVariants as any

@@ -26,8 +26,8 @@ use Rattle.txn_store.specs.VersionName.{Names, version_path}
 use Rattle.txn_store.specs.Store.{Files, State, meta_of, is_above}
 use Rattle.txn_store.specs.declared.store.Got.{Got}
 use Rattle.txn_store.proofs.FileLemmas.{path_cmp_total, path_cmp-IsAntisymmetric}
-use Rattle.txn_drivers.specs.Calls.{SameBut, Spends, SpendsTurns, one_if}
-use Rattle.txn_drivers.specs.PageCount.{pages_below, files_below}
+use Rattle.txn_steps_driven.specs.Calls.{SameBut, Spends, SpendsTurns, one_if}
+use Rattle.txn_steps_driven.specs.PageCount.{pages_below, files_below}
 use Rattle.txn_manifest.specs.Collected.{is_spare_file, is_unpinned, spare_count, pages_listed, calls_beside_turns}
 
 pub and_false : (b : Bool) → (b && false) ≡ false

@@ -12,7 +12,7 @@ use Rattle.txn_store.specs.VersionName.{Names, version_path}
 use Rattle.txn_store.specs.Store.{Files}
 use Rattle.txn_store.proofs.VersionOfLemmas.{one_path}
 use Rattle.txn_store.proofs.FileLemmas.{get-insert_same, get-insert_other, get-remove_same, get-remove_other}
-use Rattle.txn_types.proofs.BoundaryLemmas.{read_decimal_text}
+use Rattle.txn_store_types.proofs.BoundaryLemmas.{read_decimal_text}
 use Rattle.txn_history.specs.declared.trace.RowOf.TheVariants.{Effect, Begun, Answered}
 use Rattle.txn_history.specs.declared.event.Call.{Call}
 use Rattle.txn_history.specs.declared.event.Call.TheVariants as any

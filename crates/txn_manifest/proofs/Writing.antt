@@ -6,7 +6,7 @@ use Rattle.txn_store.specs.declared.store.PutMode.TheVariants as modes
 use Rattle.txn_store.specs.declared.request.Request.TheVariants as requests
 use Rattle.txn_store.specs.VersionName.{Names, version_path}
 use Rattle.txn_store.specs.Store.{Files}
-use Rattle.txn_types.specs.Numbers.{number_of}
+use Rattle.txn_store_types.specs.Numbers.{number_of}
 use Rattle.txn_history.specs.declared.trace.RowOf.TheVariants.{Effect, Begun, Answered}
 use Rattle.txn_history.specs.declared.event.ViewCall.TheVariants as view_calls
 use Rattle.txn_history.specs.declared.event.Call.{Call}

@@ -12,7 +12,7 @@ use Rattle.txn_history.specs.Calls.{is_below_told}
 use Rattle.txn_history.specs.Trace.{Row}
 use Rattle.txn_history.specs.Views.{ViewFits}
 use Rattle.txn_history.specs.OneHistory.{IsOneHistory}
-use Rattle.txn_drivers.specs.LatestReads.{IsLatest}
+use Rattle.txn_steps_driven.specs.LatestReads.{IsLatest}
 use Rattle.slatedb_txn_obj.specs.Claims.{Claimed, NotClaimed}
 use Rattle.slatedb_txn_obj.specs.Leaves.{SameFiles, MayCreate, KeepsFiles}
 use Rattle.slatedb_txn_obj.specs.Protocol.{MayAppend, Stays}

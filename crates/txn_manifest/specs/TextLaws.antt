@@ -4,7 +4,7 @@ use Rattle.std.specs.List.{All}
 use Rattle.std.specs.Fmt.{decimal}
 use Rattle.std.specs.Str.{IsUtf8}
 use Rattle.std.proofs.lemmas.List.Elements.{All-head, All-tail}
-use Rattle.txn_lines.specs.TextLaws.{between_utf8, number_utf8, word_utf8}
+use Rattle.txn_script_lines.specs.TextLaws.{between_utf8, number_utf8, word_utf8}
 use Rattle.txn_manifest.specs.declared.manifest.Manifest.{Manifest}
 use Rattle.txn_manifest.specs.Text.{pins_text, manifest_text, IsManifest}
 

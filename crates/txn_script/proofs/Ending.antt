@@ -10,9 +10,9 @@ use Rattle.txn_history.specs.Lists.{numbered}
 use Rattle.txn_history.specs.Views.{View}
 use Rattle.txn_history.specs.Seen.{view_in, view_of}
 use Rattle.txn_machine.specs.Machine.{State, seen_of, seen_views}
-use Rattle.txn_lines.specs.declared.stop.Stop.{Stop}
-use Rattle.txn_lines.specs.declared.stop.Stop.TheVariants as stops
-use Rattle.txn_lines.specs.Printed.{entry_text, boundary_text, erased_text}
+use Rattle.txn_script_lines.specs.declared.stop.Stop.{Stop}
+use Rattle.txn_script_lines.specs.declared.stop.Stop.TheVariants as stops
+use Rattle.txn_script_lines.specs.Printed.{entry_text, boundary_text, erased_text}
 use Rattle.txn_script.specs.Printed.{with_feed, pinned_line, entries_text, view_line, views_text, end_text}
 use Rattle.txn_script.specs.Rules.{Rules}
 use Rattle.txn_script.specs.Script.{EndsWith, IsEndFront}

@@ -3,12 +3,12 @@ use Rattle.std.proofs.Common.{◌≡◌, ℕ, List, [], ◌∷◌, ◌++◌, Boo
 use Rattle.std.proofs.lemmas.List.{append_assoc, append-nil}
 use Rattle.std.specs.Io.KnownBytes.{Appends}
 use Rattle.txn_machine.specs.Machine.{State, opening}
-use Rattle.txn_lines.specs.declared.line.Line.{Line}
-use Rattle.txn_lines.specs.declared.line.Line.TheVariants as lines
-use Rattle.txn_lines.specs.declared.stop.Stop.{Stop}
-use Rattle.txn_lines.specs.declared.stop.Stop.TheVariants as stops
-use Rattle.txn_lines.specs.Lines.{lines_of, is_skipped, kept}
-use Rattle.txn_lines.specs.Reading.{OnBadLine, SkipsTo}
+use Rattle.txn_script_lines.specs.declared.line.Line.{Line}
+use Rattle.txn_script_lines.specs.declared.line.Line.TheVariants as lines
+use Rattle.txn_script_lines.specs.declared.stop.Stop.{Stop}
+use Rattle.txn_script_lines.specs.declared.stop.Stop.TheVariants as stops
+use Rattle.txn_script_lines.specs.Lines.{lines_of, is_skipped, kept}
+use Rattle.txn_script_lines.specs.Reading.{OnBadLine, SkipsTo}
 use Rattle.txn_script.specs.Rules.{Rules}
 use Rattle.txn_script.specs.Script.{Stage, SaysLine, IsPage, PageSteps, EventSteps, MayStand, LineSteps, Plays, EndsWith, IsBadNext, IsBadLine, IsFront, IsEndFront, LeadsTo, IsPrinted, IsPrintedBefore, IsFrontPrinted, StopsAfter}
 use Rattle.txn_script.specs.Reading.{NextLine, ReadsNextLine, MeetsBadLine, OpensWorld, OpensBad}

@@ -1,6 +1,6 @@
 -- The printed lines, one after another.
 use Rattle.std.specs.Prelude.{ℕ, List, [], ◌∷◌, ◌++◌, ◌+◌, Option, Some, None}
-use Rattle.txn_lines.specs.Printed.{entry_text, boundary_text, erased_text, pinned_text, stands_text}
+use Rattle.txn_script_lines.specs.Printed.{entry_text, boundary_text, erased_text, pinned_text, stands_text}
 use Rattle.txn_history.specs.Views.{View}
 
 -- a printed line, which ends with a line feed

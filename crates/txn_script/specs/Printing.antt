@@ -2,10 +2,10 @@
 use Rattle.std.specs.Prelude.{◌≡◌, ℕ, List, [], ◌++◌, ◌⊎◌, Option, Some, None}
 use Rattle.std.specs.Io.KnownBytes.{Appends, append_known}
 use Rattle.txn_machine.specs.Machine.{State}
-use Rattle.txn_lines.specs.declared.line.Line.{Line}
-use Rattle.txn_lines.specs.declared.line.Line.TheVariants as lines
-use Rattle.txn_lines.specs.declared.stop.Stop.{Stop}
-use Rattle.txn_lines.specs.declared.stop.Stop.TheVariants as stops
+use Rattle.txn_script_lines.specs.declared.line.Line.{Line}
+use Rattle.txn_script_lines.specs.declared.line.Line.TheVariants as lines
+use Rattle.txn_script_lines.specs.declared.stop.Stop.{Stop}
+use Rattle.txn_script_lines.specs.declared.stop.Stop.TheVariants as stops
 use Rattle.txn_script.specs.declared.printer.Printer.{Printer}
 use Rattle.txn_script.specs.Rules.{Rules}
 use Rattle.txn_script.specs.Script.{IsPage, IsEndFront}

@@ -1,10 +1,10 @@
 -- How the first line of a script opens its world.
 use Rattle.std.specs.Prelude.{◌≡◌, ℕ, ◌≤◌, List, Option, Some, None, IfSome}
 use Rattle.txn_machine.specs.Machine.{State, opening}
-use Rattle.txn_lines.specs.declared.line.Line.{Line}
-use Rattle.txn_lines.specs.declared.line.Line.TheVariants as lines
-use Rattle.txn_lines.specs.Grammar.{line_text, LineFits}
-use Rattle.txn_lines.specs.Reading.{SkipsTo, NextIs, ReadsNext, MeetsBad}
+use Rattle.txn_script_lines.specs.declared.line.Line.{Line}
+use Rattle.txn_script_lines.specs.declared.line.Line.TheVariants as lines
+use Rattle.txn_script_lines.specs.Grammar.{line_text, LineFits}
+use Rattle.txn_script_lines.specs.Reading.{SkipsTo, NextIs, ReadsNext, MeetsBad}
 use Rattle.txn_script.specs.Rules.{Rules}
 use Rattle.txn_script.specs.Script.{IsBadNext}
 

@@ -4,10 +4,10 @@ use Rattle.std.specs.Option.{option_map}
 use Rattle.txn_history.specs.declared.event.Call.{Call}
 use Rattle.txn_history.specs.Allowed.{fault_of}
 use Rattle.txn_machine.specs.Machine.{seen_of, next_event, Takes}
-use Rattle.txn_lines.specs.declared.record.Record.{Record}
-use Rattle.txn_lines.specs.Record.{record_text, record_read, IsNumbers}
-use Rattle.txn_lines.specs.Grammar.{call_text, CallFits}
-use Rattle.txn_lines.specs.Printed.{fault_text}
+use Rattle.txn_script_lines.specs.declared.record.Record.{Record}
+use Rattle.txn_script_lines.specs.Record.{record_text, record_read, IsNumbers}
+use Rattle.txn_script_lines.specs.Grammar.{call_text, CallFits}
+use Rattle.txn_script_lines.specs.Printed.{fault_text}
 use Rattle.txn_script.specs.Rules.{WorldRules, Rules}
 
 -- the epoch of a record

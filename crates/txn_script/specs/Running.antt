@@ -2,7 +2,7 @@
 use Rattle.std.specs.Prelude.{◌≡◌, Some}
 use Rattle.txn_history.specs.declared.event.EventOf.{EventOf}
 use Rattle.txn_machine.specs.Machine.{State}
-use Rattle.txn_lines.specs.Printed.{named_fault_text}
+use Rattle.txn_script_lines.specs.Printed.{named_fault_text}
 use Rattle.txn_script.specs.declared.kind.Came.{Came}
 use Rattle.txn_script.specs.declared.kind.Came.TheVariants.{Told, Refused}
 use Rattle.txn_script.specs.Rules.{WorldRules}

@@ -6,13 +6,13 @@ use Rattle.txn_history.specs.declared.event.ToldOf.TheVariants as told
 use Rattle.txn_history.specs.History.{history, boundary, AreErased}
 use Rattle.txn_history.specs.Trace.{Told}
 use Rattle.txn_machine.specs.Machine.{State, opening, seen_views}
-use Rattle.txn_lines.specs.declared.line.Line.{Line}
-use Rattle.txn_lines.specs.declared.line.Line.TheVariants as lines
-use Rattle.txn_lines.specs.declared.stop.Stop.{Stop}
-use Rattle.txn_lines.specs.declared.stop.Stop.TheVariants as stops
-use Rattle.txn_lines.specs.Lines.{lines_of, is_skipped, kept}
-use Rattle.txn_lines.specs.Grammar.{line_text, LineFits, Says}
-use Rattle.txn_lines.specs.Printed.{answer_text, status_of}
+use Rattle.txn_script_lines.specs.declared.line.Line.{Line}
+use Rattle.txn_script_lines.specs.declared.line.Line.TheVariants as lines
+use Rattle.txn_script_lines.specs.declared.stop.Stop.{Stop}
+use Rattle.txn_script_lines.specs.declared.stop.Stop.TheVariants as stops
+use Rattle.txn_script_lines.specs.Lines.{lines_of, is_skipped, kept}
+use Rattle.txn_script_lines.specs.Grammar.{line_text, LineFits, Says}
+use Rattle.txn_script_lines.specs.Printed.{answer_text, status_of}
 use Rattle.txn_script.specs.Printed.{with_feed, end_text}
 use Rattle.txn_script.specs.Rules.{Rules}
 

@@ -11,7 +11,7 @@ ghost use Rattle.txn_script.specs.Running.{CameOf};
 use std::alloc::{AllocError, Global};
 use txn_history::event::{EventOf, Told};
 use txn_history::view::View;
-use txn_lines::printed::FaultLine;
+use txn_script_lines::printed::FaultLine;
 
 /// What came of an event.
 #[derive(Debug, Drop)]

@@ -8,7 +8,7 @@ ghost use Rattle.txn_script.specs.Printing.{unwritten, held, Gathers, IsUnchange
 use std::alloc::Global;
 use std::fmt::Display;
 use std::io::Write;
-use txn_lines::stop::Stop;
+use txn_script_lines::stop::Stop;
 
 /// From so many printed bytes on, they are written.
 const FULL: usize = 8192;

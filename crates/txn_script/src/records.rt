@@ -8,8 +8,8 @@ use crate::kind::{Came, ScriptWorld};
 use std::alloc::{AllocError, Global};
 use txn_history::event::{Call, Event, EventFault};
 use txn_history::view::View;
-use txn_lines::printed::FaultLine;
-use txn_lines::record::{Record, RecordCodec, RecordEpoch};
+use txn_script_lines::printed::FaultLine;
+use txn_script_lines::record::{Record, RecordCodec, RecordEpoch};
 use txn_world::world::World;
 
 impl ScriptWorld<Record, Call<Record>> for World<Record, RecordCodec, RecordEpoch> {

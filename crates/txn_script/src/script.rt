@@ -3,12 +3,12 @@
 ghost use Rattle.std.specs.Prelude.{◌≡◌, ℕ, ◌≤◌, ◌++◌, ◌∷◌, [], List, Some, None, IfOk, IfErr, IfSome, IfNone, OnOk};
 ghost use Rattle.std.specs.Option.{option_map};
 ghost use Rattle.std.specs.Io.KnownBytes.{Appends};
-ghost use Rattle.txn_lines.specs.declared.line.Line.{Line};
+ghost use Rattle.txn_script_lines.specs.declared.line.Line.{Line};
 ghost use Rattle.txn_script.specs.Printed.{with_feed, pinned_line, entries_text, view_line, views_text};
 ghost use Rattle.txn_script.specs.Rules.{rules_of};
 ghost use Rattle.txn_script.specs.Records.{record_rules};
 ghost use Rattle.txn_script.specs.Script.{IsClients, Steps, RunsOperation, PageSteps, EventSteps, MayStand, EndsWith, LeadsTo, IsPrinted, StopsAfter, RunEnds, ended_status};
-ghost use Rattle.txn_lines.specs.Reading.{reader_of, number_of, OnBadLine};
+ghost use Rattle.txn_script_lines.specs.Reading.{reader_of, number_of, OnBadLine};
 ghost use Rattle.txn_script.specs.Reading.{OpensWorld, OpensBad};
 ghost use Rattle.txn_script.specs.Printing.{held, Gathers, IsUnchanged, StopsLine, StopsWithin, StopsInEnd};
 ghost use Rattle.txn_history.specs.Seen.{view_of};
@@ -20,13 +20,13 @@ use std::alloc::Global;
 use std::io::{BufRead, BufReader, Read, Write};
 use std::mem;
 use txn_history::event::{Call, EventOf, Told};
-use txn_lines::line::Line;
-use txn_lines::lines::Lines;
-use txn_lines::printed::{AnswerLine, Answered, BoundaryLine, EntryLine, IdsLine, ViewLine};
-use txn_lines::record::{Record, RecordCodec, RecordEpoch};
-use txn_lines::stop::Stop;
-use txn_lines::text_form::{LineValue, TextForm};
-use txn_types::layout::PAGE;
+use txn_script_lines::line::Line;
+use txn_script_lines::lines::Lines;
+use txn_script_lines::printed::{AnswerLine, Answered, BoundaryLine, EntryLine, IdsLine, ViewLine};
+use txn_script_lines::record::{Record, RecordCodec, RecordEpoch};
+use txn_script_lines::stop::Stop;
+use txn_script_lines::text_form::{LineValue, TextForm};
+use txn_store_types::layout::PAGE;
 use txn_world::world::World;
 
 /// The most clients that a script may have.

@@ -1,6 +1,6 @@
 //! Versions that a listing found.
 ghost use Rattle.std.specs.Prelude.{◌≡◌, ◌+◌, ◌≤◌, ◌++◌, [], IfOk, OnErr, vec_len, vec_capacity};
-ghost use Rattle.txn_types.specs.Numbers.{is_within};
+ghost use Rattle.txn_store_types.specs.Numbers.{is_within};
 ghost use Rattle.txn_steps.specs.Picked.{chosen_id, picked_one, picked};
 
 use crate::latest::parsed;
@@ -9,9 +9,9 @@ use std::marker::Model;
 use std::ops::Bound;
 use txn_store::store::ObjectMeta;
 use txn_store::version_names::VersionNames;
-use txn_types::id::MonotonicId;
-use txn_types::identified::IdentifiedObjectMetadata;
-use txn_types::room::push_within;
+use txn_store_types::id::MonotonicId;
+use txn_store_types::identified::IdentifiedObjectMetadata;
+use txn_store_types::room::push_within;
 
 /// A listed version.
 pub type Listed = IdentifiedObjectMetadata<MonotonicId>;

@@ -3,9 +3,9 @@
 
 use std::io;
 use std::process::ExitCode;
-use txn_lines::words::{tell_usage, words_of_command};
-use txn_workloads::bench::run_command;
-use txn_workloads::command::command_of;
+use txn_script_lines::words::{tell_usage, words_of_command};
+use slatedb_txn_obj_workloads::bench::run_command;
+use slatedb_txn_obj_workloads::command::command_of;
 
 fn main(rt: HostRuntime) -> ExitCode {
     let mut out = io::writer(&rt);

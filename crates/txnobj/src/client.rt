@@ -1,21 +1,21 @@
 //! A client of one object, over a store that others share.
 ghost use Rattle.std.specs.Prelude.{◌≡◌, Some, IfOk, IfErr};
-ghost use Rattle.txn_types.specs.Clones.{IsExactClone};
+ghost use Rattle.txn_store_types.specs.Clones.{IsExactClone};
 ghost use Rattle.txn_diary.specs.Keepers.{DoesAndForgets, keeper_refusal};
-ghost use Rattle.txn_client.specs.Calling.{MakesCall, Stops};
+ghost use Rattle.txn_client_calls.specs.Calling.{MakesCall, Stops};
 ghost use Rattle.std.specs.Option.{option_copied};
 ghost use Rattle.txnobj.specs.Stores.{KeepsServed, IsToldOf};
 
 use crate::protocol::TransactionalStorageProtocol;
 use crate::store::{Kept, SharedStore};
 use std::alloc::{AllocError, Global};
-use txn_client::client::Client;
-use txn_client::recorder::Recorder;
-use txn_client::stop::Stop;
+use txn_client_calls::client::Client;
+use txn_client_calls::recorder::Recorder;
+use txn_client_calls::stop::Stop;
 use txn_history::event::{Answer, Call};
-use txn_types::codec::ObjectCodec;
-use txn_types::epoch::EpochField;
-use txn_types::layout::PAGE;
+use txn_store_types::codec::ObjectCodec;
+use txn_store_types::epoch::EpochField;
+use txn_store_types::layout::PAGE;
 
 /// The most looks and store calls of one call, unless another number is set.
 pub const STEPS: u64 = 100_000;
@@ -58,7 +58,7 @@ impl<
     R: Recorder<T> + Drop,
 > ObjectClient<T, C, E, S, R> {
     ghost use Rattle.std.specs.Prelude.{◌≡◌, ◌≤◌, true, None, IfOk};
-    ghost use Rattle.txn_journals.specs.Parts.{no_part};
+    ghost use Rattle.txn_client_journals.specs.Parts.{no_part};
 
     /// A client of this number, at least 1, that has done nothing, over a store and a recorder. The only error is want of
     /// memory.
@@ -136,7 +136,7 @@ impl<
 > TransactionalStorageProtocol<T> for ObjectClient<T, C, E, S, R> {
     ghost use Rattle.std.specs.Prelude.{◌≡◌, Some};
     ghost use Rattle.txn_diary.specs.Keepers.{DoesAndForgets, keeper_refusal};
-    ghost use Rattle.txn_client.specs.Calling.{MakesCall, Stops, LetsGo};
+    ghost use Rattle.txn_client_calls.specs.Calling.{MakesCall, Stops, LetsGo};
     ghost use Rattle.txnobj.specs.Stores.{KeepsServed, IsToldOf};
 
     type Fault = S::Fault;

@@ -5,9 +5,9 @@ ghost use Rattle.txnobj.specs.Errors.{error_number, error_of_stop, error_of_call
 
 use std::alloc::AllocError;
 use std::io;
-use txn_client::stop::Stop;
+use txn_client_calls::stop::Stop;
 use txn_history::event::EventFault;
-use txn_types::callback::CallbackFault;
+use txn_store_types::callback::CallbackFault;
 
 /// Why a call gave no answer. Each kind has a number; those that `TransactionalObjectError` has too, have its number there.
 #[derive(Debug, Drop, thiserror::Error)]

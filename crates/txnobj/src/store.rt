@@ -3,7 +3,7 @@ ghost use Rattle.std.specs.Prelude.{◌≡◌};
 ghost use Rattle.txnobj.specs.Stores.{failed_reply};
 
 use std::alloc::Global;
-use txn_client::serve::Serve;
+use txn_client_calls::serve::Serve;
 use txn_store::request::{Reply, Request};
 use txn_store::store::StoreError;
 
@@ -12,7 +12,7 @@ pub trait SharedStore {
     ghost use Rattle.std.specs.Prelude.{Result, IfOk};
     ghost use Rattle.txn_store.specs.declared.request.Request.{Request};
     ghost use Rattle.txn_store.specs.declared.request.Reply.{Reply};
-    ghost use Rattle.txn_logged.specs.Logged.{IsOfKind};
+    ghost use Rattle.txn_client_logs.specs.Logged.{IsOfKind};
 
     /// Why a call failed.
     type Fault: Clone;

@@ -6,8 +6,8 @@ use Rattle.txn_history.specs.declared.event.Call.{Call}
 use Rattle.txn_history.specs.declared.event.EventFault.{EventFault}
 use Rattle.txn_history.specs.declared.event.EventFault.TheVariants as faults
 use Rattle.txn_history.specs.Allowed.{fault_number}
-use Rattle.txn_entries.specs.declared.entry.Entry.{Entry}
-use Rattle.txn_seat.specs.Seats.{SeatState, IsBegin, IsTake}
+use Rattle.txnobj_values.specs.declared.entry.Entry.{Entry}
+use Rattle.txn_client_seat.specs.Seats.{SeatState, IsBegin, IsTake}
 use Rattle.txnobj_c.specs.Clients.{OfClient, Tells, TellsNumber, lack_of}
 
 lacks_begin : (call : Call Entry) (client : Option SeatState) → OfClient (IsBegin call) client (Err faults.NoMemory) client

@@ -3,7 +3,7 @@ use Rattle.std.proofs.Common.{◌≡◌, ℕ, Bool, true, false, Option, Some, N
 use Rattle.std.specs.Prelude.{◌==◌, ◌||◌, if◌then◌else◌, Ok, Err}
 use Rattle.txn_history.specs.declared.event.EventFault.{EventFault}
 use Rattle.txn_history.specs.declared.event.EventFault.TheVariants as faults
-use Rattle.txn_seat.specs.Seats.{SeatState, new_seat}
+use Rattle.txn_client_seat.specs.Seats.{SeatState, new_seat}
 use Rattle.txnobj_c.specs.Clients.{IsOpen, Tells}
 
 abbrev refusal_if : Bool → Option EventFault

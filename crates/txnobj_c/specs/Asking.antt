@@ -1,7 +1,7 @@
 -- What C is told of an operation of the client of a handle.
 use Rattle.std.specs.Prelude.{◌≡◌, ℕ, Option, Some, None}
 use Rattle.txn_diary.specs.Keepers.{keeper_asked}
-use Rattle.txn_seat.specs.Seats.{SeatState}
+use Rattle.txn_client_seat.specs.Seats.{SeatState}
 use Rattle.txnobj_c.specs.declared.told.Asked.{Asked}
 use Rattle.txnobj_c.specs.Told.{TellsAsk}
 

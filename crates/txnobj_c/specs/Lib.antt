@@ -4,6 +4,6 @@ pub mod Clients
 pub mod Numbers
 pub mod Told
 pub mod Copied
-pub use Rattle.txn_seat.specs.Seats
-pub use Rattle.txn_seat.specs.Waiting
+pub use Rattle.txn_client_seat.specs.Seats
+pub use Rattle.txn_client_seat.specs.Waiting
 pub mod Asking

@@ -9,7 +9,7 @@ use Rattle.txn_store.specs.declared.request.Reply.{Reply}
 use Rattle.txn_store.specs.declared.request.Reply.TheVariants as replies
 use Rattle.txn_store.specs.VersionName.{version_path}
 use Rattle.txn_history.specs.Names.{world_names}
-use Rattle.txn_entries.specs.declared.entry.Entry.{Entry}
+use Rattle.txnobj_values.specs.declared.entry.Entry.{Entry}
 
 -- the base of a write: none for 0
 abbrev pub based : ℕ → Option ℕ

@@ -1,6 +1,6 @@
 //! The calls: each begins an operation.
 ghost use Rattle.std.specs.Prelude.{◌≡◌};
-ghost use Rattle.txn_seat.specs.Seats.{IsBegin};
+ghost use Rattle.txn_client_seat.specs.Seats.{IsBegin};
 ghost use Rattle.txnobj_c.specs.Clients.{OfClient, TellsNumber};
 ghost use Rattle.txnobj_c.specs.Numbers.{based, bounded, entry_of};
 

@@ -1,12 +1,12 @@
 //! What is done to the client of a handle.
 ghost use Rattle.std.specs.Prelude.{◌≡◌};
 ghost use Rattle.txn_history.specs.Allowed.{fault_number};
-ghost use Rattle.txn_seat.specs.Seats.{IsBegin, IsLook, IsTake, IsGiveUp};
+ghost use Rattle.txn_client_seat.specs.Seats.{IsBegin, IsLook, IsTake, IsGiveUp};
 ghost use Rattle.txnobj_c.specs.Clients.{OfClient, Tells, TellsNumber, code_of, number_in};
 
 use crate::client::Client;
 use std::alloc::Global;
-use txn_entries::entry::Entry;
+use txnobj_values::entry::Entry;
 use txn_history::event::{Call, EventFault};
 use txn_store::request::Reply;
 

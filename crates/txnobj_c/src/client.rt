@@ -1,8 +1,8 @@
 //! A value on the C heap, as C holds it.
 ghost use Rattle.std.specs.Prelude.{◌≡◌, Option, Some, None, option_map};
-ghost use Rattle.txn_seat.specs.Seats.{SeatState};
+ghost use Rattle.txn_client_seat.specs.Seats.{SeatState};
 ghost use Rattle.txnobj_c.specs.Owned.{owned};
-ghost use Rattle.txn_seat.specs.contracts.seat.Seat as state;
+ghost use Rattle.txn_client_seat.specs.contracts.seat.Seat as state;
 ghost use Rattle.txnobj_c.specs.Held.{held_in, boxed_in};
 
 use crate::loose::Loose;
@@ -10,7 +10,7 @@ use std::alloc::Global;
 use std::marker::Model;
 use std::mem;
 use std::ptr::null_mut;
-use txn_seat::seat::Seat;
+use txn_client_seat::seat::Seat;
 
 /// Where a state lies, if one was made. Zero bytes are none.
 #[repr(C)]

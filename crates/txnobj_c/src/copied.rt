@@ -1,11 +1,11 @@
 //! What is copied out to C.
 ghost use Rattle.std.specs.Prelude.{◌≡◌};
 ghost use Rattle.std.specs.Option.{option_copied};
-ghost use Rattle.txn_machine_inner.specs.Doing.{asks_as};
+ghost use Rattle.txn_machine_plain.specs.Doing.{asks_as};
 ghost use Rattle.txnobj_c.specs.Copied.{copied_into, bytes_asked, plain_bytes, bytes_answered, ids_answered, bytes_viewed};
 
-use txn_caches::ask::Ask;
-use txn_entries::entry::Entry;
+use txn_steps_boundary::ask::Ask;
+use txnobj_values::entry::Entry;
 use txn_history::event::{Answer, PlainAnswer};
 use txn_history::view::View;
 use txn_store::request::Request;

@@ -6,7 +6,7 @@ ghost use Rattle.txnobj_c.specs.Numbers.{based, bounded, entry_of, error_of, or_
 use bytes::Bytes;
 use std::alloc::{AllocError, Global};
 use std::ops::Bound;
-use txn_entries::entry::Entry;
+use txnobj_values::entry::Entry;
 use txn_store::page::{Listing, Page};
 use txn_store::request::Reply;
 use txn_store::store::{Got, ObjectMeta, StoreError, Token};

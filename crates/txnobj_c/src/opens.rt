@@ -5,7 +5,7 @@ ghost use Rattle.txnobj_c.specs.Clients.{IsOpen, Tells};
 use crate::calls::{DONE, NO_MEMORY, UNKNOWN};
 use crate::client::Client;
 use std::alloc::Global;
-use txn_seat::seat::Seat;
+use txn_client_seat::seat::Seat;
 
 /// Whether no client has this number, or pages of this size.
 fn is_refused(number: u64, page: u64) -> bool

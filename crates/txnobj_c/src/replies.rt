@@ -1,6 +1,6 @@
 //! What the host's store replied. Each error is a number of the store's errors, 0 for none.
 ghost use Rattle.std.specs.Prelude.{◌≡◌, IfOk, IfErr};
-ghost use Rattle.txn_seat.specs.Seats.{IsLook, IsTake, IsGiveUp};
+ghost use Rattle.txn_client_seat.specs.Seats.{IsLook, IsTake, IsGiveUp};
 ghost use Rattle.txnobj_c.specs.Clients.{OfClient, Tells, lack_of};
 ghost use Rattle.txnobj_c.specs.Numbers.{put_reply, got_reply, listed_reply, deleted_reply};
 

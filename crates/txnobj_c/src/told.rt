@@ -3,11 +3,11 @@ ghost use Rattle.std.specs.Prelude.{◌≡◌};
 ghost use Rattle.std.specs.Option.{option_copied};
 ghost use Rattle.txn_history.specs.Names.{world_names};
 ghost use Rattle.txn_history.specs.Seen.{Store};
-ghost use Rattle.txn_machine_inner.specs.Doing.{asks_as};
+ghost use Rattle.txn_machine_plain.specs.Doing.{asks_as};
 
 use bytes::Bytes;
-use txn_caches::ask::Ask;
-use txn_entries::entry::Entry;
+use txn_steps_boundary::ask::Ask;
+use txnobj_values::entry::Entry;
 use txn_history::event::{Answer, PlainAnswer};
 use txn_history::view::View;
 use txn_store::path::Path;

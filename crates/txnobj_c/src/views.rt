@@ -1,7 +1,7 @@
 //! Views as they stand, and what a client forgets.
 ghost use Rattle.std.specs.Prelude.{◌≡◌};
 ghost use Rattle.std.specs.Option.{option_copied};
-ghost use Rattle.txn_seat.specs.Seats.{EndsView, ForgetsOld};
+ghost use Rattle.txn_client_seat.specs.Seats.{EndsView, ForgetsOld};
 ghost use Rattle.txnobj_c.specs.Clients.{view_in, IsChange};
 ghost use Rattle.txnobj_c.specs.Copied.{copied_into, bytes_viewed};
 ghost use Rattle.txnobj_c.specs.Told.{viewed};
@@ -11,7 +11,7 @@ use crate::client::Client;
 use crate::copied::{bytes_viewed, copy_bytes};
 use crate::told::{Viewed, view_told};
 use std::alloc::Global;
-use txn_entries::entry::Entry;
+use txnobj_values::entry::Entry;
 use txn_history::view::View;
 
 /// Says what a view is; the code of it.

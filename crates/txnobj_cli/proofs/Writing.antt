@@ -1,15 +1,15 @@
 -- Updates that were written, by what their clauses say.
 use Rattle.std.proofs.Common.{◌≡◌, ℕ, zero, suc, Bool, false, List, Option, Some, None, Result, Ok, Err, refl, sym, ap, inl, inr}
-use Rattle.txn_types.specs.declared.callback.CallbackFault.{CallbackFault}
-use Rattle.txn_types.specs.declared.dirty.DirtyObject.{DirtyObject}
-use Rattle.txn_types.specs.declared.invariant.NoInvariant.{NoInvariant}
+use Rattle.txn_store_types.specs.declared.callback.CallbackFault.{CallbackFault}
+use Rattle.txn_store_types.specs.declared.dirty.DirtyObject.{DirtyObject}
+use Rattle.txn_store_types.specs.declared.invariant.NoInvariant.{NoInvariant}
 use Rattle.txn_history.specs.declared.event.Call.{Call}
 use Rattle.txn_history.specs.declared.event.ViewCall.TheVariants as view_calls
 use Rattle.txn_history.specs.declared.event.Answer.{Answer}
-use Rattle.txn_client.specs.declared.stop.Stop.{Stop}
+use Rattle.txn_client_calls.specs.declared.stop.Stop.{Stop}
 use Rattle.txnobj.specs.declared.answers.Viewed.{Viewed}
-use Rattle.txn_entries.specs.declared.entry.Entry.{Entry}
-use Rattle.txn_entries.specs.Holder.{may_write}
+use Rattle.txnobj_values.specs.declared.entry.Entry.{Entry}
+use Rattle.txnobj_values.specs.Holder.{may_write}
 use Rattle.txnobj.specs.declared.error.Error.{Error}
 use Rattle.txnobj.specs.declared.error.Error.TheVariants as error
 use Rattle.txnobj.specs.Calls.{ViewEnds}

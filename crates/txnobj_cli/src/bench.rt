@@ -7,14 +7,14 @@ use bytes::Bytes;
 use std::alloc::{AllocError, Global};
 use std::rt::Clock;
 use std::str;
-use txn_clients::layout::world_layout;
-use txn_entries::entry::EntryCodec;
-use txn_files::written::nanos_of;
+use txn_client_tables::layout::world_layout;
+use txnobj_values::entry::EntryCodec;
+use txn_folder_files::written::nanos_of;
 use txn_folder::store::FolderStore;
 use txn_store::request::{Reply, Request};
 use txn_store::store::{PutMode, StoreError};
-use txn_types::boundary::read_boundary;
-use txn_types::layout::{Layout, PAGE};
+use txn_store_types::boundary::read_boundary;
+use txn_store_types::layout::{Layout, PAGE};
 use txnobj_words::options::Options;
 
 /// A number whose versions are kept in a folder, as one client knows it.

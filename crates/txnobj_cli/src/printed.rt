@@ -1,6 +1,6 @@
 //! What a command prints of what its client was answered, whatever client it is, and whatever writer it is printed on.
 ghost use Rattle.std.specs.Prelude.{◌≡◌, Ok, OnOk, IfOk};
-ghost use Rattle.txn_entries.specs.Holder.{may_write};
+ghost use Rattle.txnobj_values.specs.Holder.{may_write};
 ghost use Rattle.txnobj.specs.Claims.{ClaimEnds};
 ghost use Rattle.txnobj_cli.specs.Calls.{AsksNext};
 ghost use Rattle.txnobj_cli.specs.Answers.{PrintsFirst, PrintsNewest, PrintsValue, PrintsPut, PrintsPutOnNewest, PrintsClaim, PrintsIds, PrintsStored, PrintsEach, PrintsHistory, PrintsCollected, PrintsSeen};
@@ -12,13 +12,13 @@ use std::alloc::Global;
 use std::fmt;
 use std::io::Write;
 use std::ops::Bound;
-use txn_entries::entry::Entry;
-use txn_entries::holder::{next_entry, test_holder};
-use txn_files::fault::Fault;
-use txn_types::callback::CallbackFault;
-use txn_types::dirty::DirtyObject;
-use txn_types::id::MonotonicId;
-use txn_types::invariant::NoInvariant;
+use txnobj_values::entry::Entry;
+use txnobj_values::holder::{next_entry, test_holder};
+use txn_folder_files::fault::Fault;
+use txn_store_types::callback::CallbackFault;
+use txn_store_types::dirty::DirtyObject;
+use txn_store_types::id::MonotonicId;
+use txn_store_types::invariant::NoInvariant;
 use txnobj::error::Error;
 use txnobj::fenceable::FenceableTransactionalObject;
 use txnobj::object::TransactionalObject;

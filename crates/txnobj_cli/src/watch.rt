@@ -7,8 +7,8 @@ use crate::printed::print_seen;
 use std::io::Write;
 use std::rt::Clock;
 use std::time::Duration;
-use txn_entries::entry::Entry;
-use txn_files::fault::Fault;
+use txnobj_values::entry::Entry;
+use txn_folder_files::fault::Fault;
 use txnobj::protocol::TransactionalStorageProtocol;
 use txnobj_folder::opening::EntryClient;
 

@@ -1,6 +1,6 @@
 -- A client of an object in a folder, as it is opened.
 use Rattle.std.specs.Prelude.{◌≡◌, ◌≤◌, ℕ, true, Option, IfSome}
-use Rattle.txn_journals.specs.Parts.{no_part}
+use Rattle.txn_client_journals.specs.Parts.{no_part}
 use Rattle.txnobj.specs.declared.client.ObjectClient.{ObjectClient}
 
 -- a client's number is at least 1, and the one that was asked for, where one was

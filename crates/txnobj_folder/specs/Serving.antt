@@ -1,6 +1,6 @@
 -- What a folder says of a call.
 use Rattle.std.specs.Prelude.{◌≡◌, ◌≤◌, false, Result, Ok, Err}
-use Rattle.txn_files.specs.declared.fault.Fault.{Fault}
+use Rattle.txn_folder_files.specs.declared.fault.Fault.{Fault}
 use Rattle.txn_store.specs.declared.request.Request.{Request}
 use Rattle.txn_store.specs.declared.request.Reply.{Reply}
 use Rattle.txn_folder.specs.Replies.{IsReplyTo, reply_failed}

@@ -7,7 +7,7 @@ ghost use Rattle.txnobj_said.specs.Said.{with_feed, lines_of};
 use std::alloc::Global;
 use std::io::Write;
 use std::{fmt, io};
-use txn_lines::text_form::LineValue;
+use txn_script_lines::text_form::LineValue;
 
 /// Prints a line, by one write. The error is that of the writer or want of memory, here and below: a part may be printed.
 pub fn print_line<W: Write, D: fmt::Display + Drop>(

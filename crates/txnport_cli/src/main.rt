@@ -3,8 +3,8 @@
 
 use std::io::{self, BufWriter};
 use std::process::ExitCode;
-use txn_lines::stop::Stop;
-use txn_port::script::run_script;
+use txn_script_lines::stop::Stop;
+use slatedb_txn_obj_script::script::run_script;
 
 fn main(rt: HostRuntime) -> ExitCode {
     let mut err = rt.stderr();

@@ -3,12 +3,12 @@
 
 use std::io;
 use std::process::ExitCode;
-use txn_commands::command::{Command, command_of};
-use txn_commands::threads::run_threads;
-use txn_lines::words::{tell_usage, words_of_command};
-use txn_manifest_script::script::run_manifest;
-use txn_pictures::picture::{run_manifest_picture, run_picture};
-use txn_pictures::trace::{run_manifest_trace, run_trace};
+use txnworld_commands::command::{Command, command_of};
+use txnworld_commands::threads::run_threads;
+use txn_script_lines::words::{tell_usage, words_of_command};
+use txn_script_manifests::script::run_manifest;
+use txn_drawing_worlds::picture::{run_manifest_picture, run_picture};
+use txn_drawing_worlds::trace::{run_manifest_trace, run_trace};
 use txn_script::script::run_script;
 
 /// Which words ask for something.

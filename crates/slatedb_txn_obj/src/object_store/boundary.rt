@@ -1,19 +1,19 @@
 //! The boundary object over an object store.
 ghost use Rattle.std.specs.Prelude.{◌≡◌, ◌↔◌, ◌+◌, None, true, false, IfOk, OnOk, IfErr, IsErrOf};
 ghost use Rattle.txn_store.specs.Paths.{is_plain};
-ghost use Rattle.txn_types.specs.BoundaryText.{boundary_path};
+ghost use Rattle.txn_store_types.specs.BoundaryText.{boundary_path};
 
 use crate::boundary::BoundaryObject;
 use std::alloc::Global;
-use txn_caches::caches::CachedBoundary;
-use txn_drivers::boundary::{advance_boundary, check_boundary};
-use txn_drivers::turns::Turns;
+use txn_steps_boundary::caches::CachedBoundary;
+use txn_steps_driven::boundary::{advance_boundary, check_boundary};
+use txn_steps_driven::turns::Turns;
 use txn_store::path::{Path, PathFault};
 use txn_store::store::ObjectStore;
-use txn_types::error::TransactionalObjectError;
-use txn_types::id::MonotonicId;
-use txn_types::layout::Layout;
-use txn_types::step_error::widened;
+use txn_store_types::error::TransactionalObjectError;
+use txn_store_types::id::MonotonicId;
+use txn_store_types::layout::Layout;
+use txn_store_types::step_error::widened;
 
 /// A boundary that one file of a store says, 0 where it is missing, and what this client has cached of it.
 #[derive(Drop)]
@@ -51,12 +51,12 @@ impl ObjectStoreBoundaryObject {
 impl<S: ObjectStore> BoundaryObject<S> for ObjectStoreBoundaryObject {
     ghost use Rattle.std.specs.Prelude.{ℕ, ◌≡◌, ◌⊎◌, ◌+◌, ◌<◌, ◌≤◌, true, OnOk, IfErr, IsErrOf, max};
     ghost use Rattle.std.proofs.Math.Nat.{le_refl};
-    ghost use Rattle.txn_caches.specs.Boundaries.{refused_by};
-    ghost use Rattle.txn_drivers.specs.Calls.{HasCauseOfCheck, HasCauseOfAdvance, Spends, SpendsTurns};
-    ghost use Rattle.txn_drivers.specs.Standing.{BoundaryStands};
-    ghost use Rattle.txn_drivers.proofs.Frames.{BoundaryStands-frame};
-    ghost use Rattle.txn_drivers.specs.Checking.{Unbounded, FromCache};
-    ghost use Rattle.txn_drivers.specs.Advancing.{AlreadyReached};
+    ghost use Rattle.txn_steps_boundary.specs.Boundaries.{refused_by};
+    ghost use Rattle.txn_steps_driven.specs.Calls.{HasCauseOfCheck, HasCauseOfAdvance, Spends, SpendsTurns};
+    ghost use Rattle.txn_steps_driven.specs.Standing.{BoundaryStands};
+    ghost use Rattle.txn_steps_driven.proofs.Frames.{BoundaryStands-frame};
+    ghost use Rattle.txn_steps_driven.specs.Checking.{Unbounded, FromCache};
+    ghost use Rattle.txn_steps_driven.specs.Advancing.{AlreadyReached};
     ghost use Rattle.slatedb_txn_obj.specs.Boundaries.{BoundaryChecks, BoundaryAdvances, check-frame, check-given, check-keeps};
 
     ghost bounds = { λ p s b. BoundaryStands p.path p.cached (S.state s) b };

@@ -2,7 +2,7 @@
 ghost use Rattle.std.specs.Prelude.{◌≡◌, ◌≤◌, ◌↔◌, ◌||◌, ◌++◌, ◌∷◌, [], not, true, None, IfOk, IfErr, IsErrOf};
 ghost use Rattle.txn_store.specs.Paths.{is_plain};
 ghost use Rattle.txn_store.specs.VersionName.{is_suffix};
-ghost use Rattle.txn_types.specs.BoundaryText.{boundary_path};
+ghost use Rattle.txn_store_types.specs.BoundaryText.{boundary_path};
 
 use crate::boundary::BoundaryObject;
 use crate::object_store::boundary::ObjectStoreBoundaryObject;
@@ -10,21 +10,21 @@ use crate::sequenced::SequencedStorageProtocol;
 use std::alloc::Global;
 use std::marker::{Model, PhantomData};
 use std::ops::Bound;
-use txn_caches::window::Window;
-use txn_drivers::latest::read_latest;
-use txn_drivers::listing::list_versions;
-use txn_drivers::removal::delete_version;
-use txn_drivers::turns::Turns;
-use txn_drivers::versions::{number_fits, read_seen, read_version};
-use txn_drivers::writing::write_version;
+use txn_steps_boundary::window::Window;
+use txn_steps_driven::latest::read_latest;
+use txn_steps_driven::listing::list_versions;
+use txn_steps_driven::removal::delete_version;
+use txn_steps_driven::turns::Turns;
+use txn_steps_driven::versions::{number_fits, read_seen, read_version};
+use txn_steps_driven::writing::write_version;
 use txn_store::path::{Path, PathFault};
 use txn_store::store::ObjectStore;
-use txn_types::codec::ObjectCodec;
-use txn_types::error::TransactionalObjectError;
-use txn_types::id::MonotonicId;
-use txn_types::identified::IdentifiedObjectMetadata;
-use txn_types::layout::Layout;
-use txn_types::step_error::widened;
+use txn_store_types::codec::ObjectCodec;
+use txn_store_types::error::TransactionalObjectError;
+use txn_store_types::id::MonotonicId;
+use txn_store_types::identified::IdentifiedObjectMetadata;
+use txn_store_types::layout::Layout;
+use txn_store_types::step_error::widened;
 
 /// Versions of an object as files of a folder, each created by one client, over a boundary. It holds at most eight of the
 /// versions that it read or wrote.
@@ -213,22 +213,22 @@ impl<T: Drop, S: ObjectStore, C: ObjectCodec<T>, B: BoundaryObject<S>> Sequenced
     S,
 > for ObjectStoreSequencedStorageProtocol<T, C, B> {
     ghost use Rattle.std.specs.Prelude.{ℕ, List, [], length, map, true, is_some, ◌≡◌, ◌+◌, ◌^◌, ◌<◌, ◌≤◌, None, Ok, Err, IfOk, IfErr, IfSome, IsErrOf, OnOk};
-    ghost use Rattle.txn_caches.specs.Windows.{held};
-    ghost use Rattle.txn_types.specs.declared.error.TransactionalObjectError.TheVariants.{ObjectVersionExists};
-    ghost use Rattle.txn_drivers.specs.Calls.{HasCause, HasCauseOfPut, Spends, SpendsTurns};
-    ghost use Rattle.txn_drivers.specs.LatestReads.{UpTo, Ended};
-    ghost use Rattle.txn_drivers.specs.ListRuns.{VersionsListed, AreTold};
-    ghost use Rattle.txn_drivers.specs.RemovalRuns.{Deleted};
-    ghost use Rattle.txn_drivers.specs.VersionReads.{SeenRead, VersionRead};
-    ghost use Rattle.txn_drivers.specs.WriteRuns.{Written};
-    ghost use Rattle.txn_drivers.specs.PageCount.{pages_below};
+    ghost use Rattle.txn_steps_boundary.specs.Windows.{held};
+    ghost use Rattle.txn_store_types.specs.declared.error.TransactionalObjectError.TheVariants.{ObjectVersionExists};
+    ghost use Rattle.txn_steps_driven.specs.Calls.{HasCause, HasCauseOfPut, Spends, SpendsTurns};
+    ghost use Rattle.txn_steps_driven.specs.LatestReads.{UpTo, Ended};
+    ghost use Rattle.txn_steps_driven.specs.ListRuns.{VersionsListed, AreTold};
+    ghost use Rattle.txn_steps_driven.specs.RemovalRuns.{Deleted};
+    ghost use Rattle.txn_steps_driven.specs.VersionReads.{SeenRead, VersionRead};
+    ghost use Rattle.txn_steps_driven.specs.WriteRuns.{Written};
+    ghost use Rattle.txn_steps_driven.specs.PageCount.{pages_below};
     ghost use Rattle.slatedb_txn_obj.specs.Leaves.{SameFiles, MayCreate, MayRemove};
     ghost use Rattle.slatedb_txn_obj.specs.Whole.{Whole, StandsFor, IsGreatestHeld, IsMissing, Laid, Owned, laid, probe_calls};
     ghost use Rattle.slatedb_txn_obj.specs.Protocol.{base_number, LatestOrFenced, IsEntry, AreListed, EntryStands, Overtaken, MayAppend, Stays, IsWarmRead, Unheld, HasCauseOfLatestUnchecked, ReadsVersion};
     ghost use Rattle.slatedb_txn_obj.specs.WholeLaws.{whole-checked, whole-advanced, whole-frame, refused-fresh, pages-checked, laid-same, probe_few};
     ghost use Rattle.std.proofs.Common.{refl, sym, subst, inl, inr};
     ghost use Rattle.txn_store.specs.VersionName.{version_path};
-    ghost use Rattle.txn_drivers.proofs.Standings.{some_page};
+    ghost use Rattle.txn_steps_driven.proofs.Standings.{some_page};
 
     ghost stands = { λ p s h b. Whole (B.bounds p.boundary s) (B.file p.boundary) p.layout.names (C.decoded p.layout.codec) p.latest (S.state s).files h b };
 

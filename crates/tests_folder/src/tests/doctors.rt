@@ -9,8 +9,8 @@ use std::cell::Cell;
 use std::io::ErrorKind;
 use std::test::Fail;
 use std::{fs, io};
-use txn_files::beside::examine_beside;
-use txn_files::doctor::{Report, examine};
+use txn_folder_files::beside::examine_beside;
+use txn_folder_files::doctor::{Report, examine};
 
 const SERVES: &str = "keeps a file and its time to the nanosecond: yes
 links a file to a second name: yes

@@ -6,7 +6,7 @@ use std::sync::{Mutex, Wait};
 use std::test::Fail;
 use std::thread;
 use std::thread::Threads;
-use txn_lines::record::{Record, RecordCodec, RecordEpoch};
+use txn_script_lines::record::{Record, RecordCodec, RecordEpoch};
 use txn_store::in_memory::InMemory;
 use txn_store::request::{Reply, Request};
 use txnobj::{Error, ObjectClient, SharedStore, SimpleTransactionalObject, TransactionalObject};

@@ -4,9 +4,9 @@ use std::alloc::{AllocError, Global};
 use std::cell::Cell;
 use std::io;
 use std::test::Fail;
-use txn_client::recorder::Recorder;
+use txn_client_calls::recorder::Recorder;
 use txn_history::event::{Answer, Call};
-use txn_lines::record::{Record, RecordCodec, RecordEpoch};
+use txn_script_lines::record::{Record, RecordCodec, RecordEpoch};
 use txn_store::in_memory::InMemory;
 use txn_store::request::{Reply, Request};
 use txnobj::{

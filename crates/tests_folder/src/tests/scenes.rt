@@ -9,7 +9,7 @@ use std::os::unix::fs::symlink;
 use std::test::Fail;
 use std::time::{Duration, SystemTime};
 use std::{fs, io};
-use txn_files::lock::{LockFile, Sharing};
+use txn_folder_files::lock::{LockFile, Sharing};
 
 /// What is done, and what is told. A table is played by one whose store syncs (`synced`), by one whose store does not (`fast`),
 /// by one who may not write (`reader`), while another holds the boundary's lock (`held`), where files keep no time but in whole

@@ -15,13 +15,13 @@ use std::{io, str};
 use txn_folder::folder::Folder;
 use txn_folder::repair::{Kept, Repair};
 use txn_folder::store::FolderStore;
-use txn_lines::record::{Record, RecordCodec};
+use txn_script_lines::record::{Record, RecordCodec};
 use txn_store::digits::read_digits;
 use txn_store::page::Page;
 use txn_store::path::{Path, PathFault};
 use txn_store::request::{Reply, Request};
 use txn_store::store::{PutMode, StoreError, Token};
-use txn_types::layout::Layout;
+use txn_store_types::layout::Layout;
 
 /// The name of a folder of a test's own, in its working folder.
 pub fn folder_of(rt: &HostRuntime, name: &str) -> io::Result<String> {

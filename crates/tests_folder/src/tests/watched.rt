@@ -7,7 +7,7 @@ use std::io;
 use std::io::{Read, Seek, SeekFrom, Write};
 use std::rt::Files;
 use std::time::UNIX_EPOCH;
-use txn_files::lock::{LockFile, Sharing};
+use txn_folder_files::lock::{LockFile, Sharing};
 use txn_store::digits::read_digits;
 
 /// The notes of what was asked for below a root, where they are kept. A name is written as it lies below the root, a version's

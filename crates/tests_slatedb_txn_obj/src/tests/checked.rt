@@ -3,7 +3,7 @@ use crate::scripted::TestBoundary;
 use slatedb_txn_obj::protocol::TransactionalStorageProtocol;
 use std::alloc::Global;
 use std::test::Fail;
-use txn_drivers::turns::Turns;
+use txn_steps_driven::turns::Turns;
 use txn_store::in_memory::InMemory;
 
 /// A version behind the boundary, and the one that is newest.

@@ -9,11 +9,11 @@ use slatedb_txn_obj::sequenced::SequencedStorageProtocol;
 use slatedb_txn_obj::test_utils::NumberCodec;
 use std::alloc::Global;
 use std::test::Fail;
-use txn_drivers::turns::Turns;
+use txn_steps_driven::turns::Turns;
 use txn_store::in_memory::InMemory;
 use txn_store::path::Path;
-use txn_types::error::TransactionalObjectError;
-use txn_types::id::MonotonicId;
+use txn_store_types::error::TransactionalObjectError;
+use txn_store_types::id::MonotonicId;
 
 type Protocol = ObjectStoreSequencedStorageProtocol<u64, NumberCodec, TestBoundary>;
 

@@ -13,12 +13,12 @@ use slatedb_txn_obj_uses::through::append;
 use std::alloc::Global;
 use std::ops::Bound::Unbounded;
 use std::test::Fail;
-use txn_drivers::turns::Turns;
+use txn_steps_driven::turns::Turns;
 use txn_store::in_memory::InMemory;
 use txn_store::path::Path;
 use txn_store::store::ObjectStore;
-use txn_types::error::TransactionalObjectError;
-use txn_types::id::MonotonicId;
+use txn_store_types::error::TransactionalObjectError;
+use txn_store_types::id::MonotonicId;
 
 /// A protocol over a store of files, of values that are numbers.
 pub(crate) type Protocol = ObjectStoreSequencedStorageProtocol<

@@ -4,13 +4,13 @@ use crate::tests::told::Told::{Fails, GoesOn, Is};
 use crate::tests::told::{Error, Told, said};
 use std::alloc::Global;
 use std::ops::Bound;
-use txn_caches::advance::AdvanceOp;
-use txn_caches::caches::Caches;
-use txn_caches::check::CheckOp;
-use txn_caches::turned::Turned;
-use txn_caches::window::Window;
-use txn_drivers::drive::At;
-use txn_drivers::drive_version::ReadVersion;
+use txn_steps_boundary::advance::AdvanceOp;
+use txn_steps_boundary::caches::Caches;
+use txn_steps_boundary::check::CheckOp;
+use txn_steps_boundary::turned::Turned;
+use txn_steps_boundary::window::Window;
+use txn_steps_driven::drive::At;
+use txn_steps_driven::drive_version::ReadVersion;
 use txn_steps::delete::{DeleteOp, DeleteUncheckedOp};
 use txn_steps::latest::LatestOp;
 use txn_steps::listing::{ListAnswer, ListOp};
@@ -19,8 +19,8 @@ use txn_steps::seen::ReadSeenOp;
 use txn_steps::versions::Listed;
 use txn_steps::write::{WriteOp, WriteUncheckedOp};
 use txn_store::path::Path;
-use txn_types::id::MonotonicId;
-use txn_types::test_utils::NumberCodec;
+use txn_store_types::id::MonotonicId;
+use txn_store_types::test_utils::NumberCodec;
 
 /// An operation, or something done beside it.
 #[derive(Clone, Copy)]

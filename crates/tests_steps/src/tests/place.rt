@@ -6,16 +6,16 @@ use crate::tests::told::{Error, Told};
 use bytes::Bytes;
 use std::alloc::Global;
 use std::mem;
-use txn_caches::caches::Caches;
-use txn_caches::turned::Turned;
-use txn_drivers::drive::{At, Drive};
-use txn_lines::record::Record;
+use txn_steps_boundary::caches::Caches;
+use txn_steps_boundary::turned::Turned;
+use txn_steps_driven::drive::{At, Drive};
+use txn_script_lines::record::Record;
 use txn_store::failing::{FailingStore, When};
 use txn_store::in_memory::InMemory;
 use txn_store::path::{Path, PathFault};
 use txn_store::store::{ObjectStore, PutMode};
-use txn_types::id::MonotonicId;
-use txn_types::layout::{Layout, PAGE};
+use txn_store_types::id::MonotonicId;
+use txn_store_types::layout::{Layout, PAGE};
 
 /// A layout whose pages have so many files at most.
 pub(crate) fn a_layout<C: Drop>(alloc: Global, page: u64, codec: C) -> Result<Layout<C>, PathFault>

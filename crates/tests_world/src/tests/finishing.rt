@@ -1,11 +1,11 @@
 //! Operations that are given what they ask for until they are answered.
 use std::alloc::{AllocError, Global};
 use std::test::Fail;
-use txn_finish::finish::{Finished, finish};
+use txn_world_finish::finish::{Finished, finish};
 use txn_history::event::{Call, EventFault, Told};
-use txn_lines::line::Line;
-use txn_lines::record::{Record, RecordCodec, RecordEpoch};
-use txn_lines::text_form::TextForm;
+use txn_script_lines::line::Line;
+use txn_script_lines::record::{Record, RecordCodec, RecordEpoch};
+use txn_script_lines::text_form::TextForm;
 use txn_world::world::World;
 
 type Records = World<Record, RecordCodec, RecordEpoch>;

@@ -7,8 +7,8 @@ use std::alloc::{AllocError, AllocGlobal, Global};
 use std::sync::{Mutex, Wait};
 use std::test::Fail;
 use txn_history::event::{Call, EventFault, PlainCall, Told};
-use txn_lines::record::Record;
-use txn_logged::logged::LoggedStore;
+use txn_script_lines::record::Record;
+use txn_client_logs::logged::LoggedStore;
 
 /// The call that a client makes: a write of the first version, or a read.
 fn call(writes: bool) -> Call<Record> {

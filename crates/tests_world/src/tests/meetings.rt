@@ -9,13 +9,13 @@ use std::thread;
 use std::thread::Threads;
 use txn_audit::audit::audit;
 use txn_history::event::{Call, PlainCall};
-use txn_lines::record::Record;
-use txn_logged::logged::LoggedStore;
-use txn_threads::caller::Caller;
-use txn_threads::finish::finish;
-use txn_threads::gate::{Gate, GateSpent};
-use txn_threads::jobs::{End, Job};
-use txn_threads::work::{Worked, Worker, work, work_all};
+use txn_script_lines::record::Record;
+use txn_client_logs::logged::LoggedStore;
+use txn_world_threads::caller::Caller;
+use txn_world_threads::finish::finish;
+use txn_world_threads::gate::{Gate, GateSpent};
+use txn_world_threads::jobs::{End, Job};
+use txn_world_threads::work::{Worked, Worker, work, work_all};
 
 /// How often a worker looks for the other at its gate.
 const LOOKS: u64 = 10_000_000;

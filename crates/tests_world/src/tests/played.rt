@@ -10,12 +10,12 @@ use std::test::Fail;
 use txn_history::event::{Call, Event};
 use txn_history::trace::Row;
 use txn_history::view::View;
-use txn_lines::line::Line;
-use txn_lines::printed::{BoundaryLine, EntryLine, IdsLine, ViewLine};
-use txn_lines::record::Record;
-use txn_lines::text_form::TextForm;
+use txn_script_lines::line::Line;
+use txn_script_lines::printed::{BoundaryLine, EntryLine, IdsLine, ViewLine};
+use txn_script_lines::record::Record;
+use txn_script_lines::text_form::TextForm;
 use txn_store::request::Request;
-use txn_threads::kept::Share;
+use txn_world_threads::kept::Share;
 
 /// The last word of a transcript that goes no further, since an operation was answered 9 and left what it may.
 const LACKED: &str = "lacked";

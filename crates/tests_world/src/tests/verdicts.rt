@@ -8,14 +8,14 @@ use std::test::Fail;
 use txn_audit::audit::audit;
 use txn_diary::diary::Diary;
 use txn_history::event::{Call, EventFault, PlainCall, Told};
-use txn_lines::record::{Record, RecordCodec, RecordEpoch};
-use txn_logged::logged::{LoggedStore, serve_shared};
+use txn_script_lines::record::{Record, RecordCodec, RecordEpoch};
+use txn_client_logs::logged::{LoggedStore, serve_shared};
 use txn_store::path::Path;
 use txn_store::request::Request;
-use txn_threads::gate::FreeGate;
-use txn_threads::jobs::Job;
-use txn_threads::work::work;
-use txn_types::layout::PAGE;
+use txn_world_threads::gate::FreeGate;
+use txn_world_threads::jobs::Job;
+use txn_world_threads::work::work;
+use txn_store_types::layout::PAGE;
 
 pub(crate) type Records = Diary<Record, RecordCodec, RecordEpoch>;
 

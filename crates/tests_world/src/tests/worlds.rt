@@ -2,7 +2,7 @@
 use std::alloc::{AllocError, Global};
 use std::test::Fail;
 use txn_history::event::{Call, Event, PlainCall, ViewCall};
-use txn_lines::record::{RecordCodec, RecordEpoch};
+use txn_script_lines::record::{RecordCodec, RecordEpoch};
 use txn_world::world::World;
 
 /// Transcripts of events. The end lines of a script stand below `? end`, those of views alone below `? views`.

@@ -1,7 +1,7 @@
 use Rattle.std.proofs.Common.{ℕ, List, sym, ◌∙◌, ap, subst, arith}
 use Rattle.std.proofs.lemmas.Bool.{both_ways}
-use Rattle.txn_journals.specs.declared.rows.JournalRow.{JournalRow}
-use Rattle.txn_journals.specs.Verdict.{receipts_in, rows_of}
+use Rattle.txn_client_journals.specs.declared.rows.JournalRow.{JournalRow}
+use Rattle.txn_client_journals.specs.Verdict.{receipts_in, rows_of}
 use Rattle.txn_audit.proofs.Receiving.{with_diary}
 use Rattle.txn_audit.proofs.audit.each_agrees.Goals as goal
 

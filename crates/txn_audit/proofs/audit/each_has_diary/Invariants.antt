@@ -1,5 +1,5 @@
 use Rattle.std.proofs.Common.{map, drop}
-use Rattle.txn_journals.specs.Verdict.{HasDiaries}
+use Rattle.txn_client_journals.specs.Verdict.{HasDiaries}
 use Rattle.txn_audit.proofs.audit.each_has_diary.Given as goal
 
 -- what is left decides

@@ -1,6 +1,6 @@
 use Rattle.std.proofs.Common.{map, arith, subst}
 use Rattle.std.proofs.lemmas.List.{take_all}
-use Rattle.txn_journals.specs.Shares.{AreDiaries}
+use Rattle.txn_client_journals.specs.Shares.{AreDiaries}
 use Rattle.txn_diary.specs.Diaries.{as_diary}
 use Rattle.txn_audit.proofs.Keeping.{one_more}
 use Rattle.txn_audit.proofs.diaries.are_diaries.Goals as goal

@@ -1,5 +1,5 @@
 use Rattle.std.proofs.Common.{map, take}
-use Rattle.txn_journals.specs.Shares.{AreDiaries}
+use Rattle.txn_client_journals.specs.Shares.{AreDiaries}
 use Rattle.txn_diary.specs.Diaries.{as_diary}
 use Rattle.txn_audit.proofs.diaries.are_diaries.Given as goal
 

@@ -1,7 +1,7 @@
 use Rattle.std.proofs.Common.{List, map, reverse, subst}
-use Rattle.txn_journals.specs.declared.rows.LogRow.{LogRow}
-use Rattle.txn_journals.specs.Logs.{IsLog}
-use Rattle.txn_journals.specs.Verdict.{IsDue}
+use Rattle.txn_client_journals.specs.declared.rows.LogRow.{LogRow}
+use Rattle.txn_client_journals.specs.Logs.{IsLog}
+use Rattle.txn_client_journals.specs.Verdict.{IsDue}
 use Rattle.txn_diary.specs.Diaries.{as_diary}
 use Rattle.txn_audit.proofs.diaries.audit_diaries.Goals as goal
 

@@ -1,6 +1,6 @@
 use Rattle.std.proofs.Common.{List, None, sym, ◌∙◌, ap, arith}
-use Rattle.txn_journals.specs.declared.rows.JournalRow.{JournalRow}
-use Rattle.txn_journals.specs.Verdict.{left_at}
+use Rattle.txn_client_journals.specs.declared.rows.JournalRow.{JournalRow}
+use Rattle.txn_client_journals.specs.Verdict.{left_at}
 use Rattle.txn_audit.proofs.Receiving.{journal_here}
 use Rattle.txn_audit.proofs.landings.has_left.Goals as goal
 

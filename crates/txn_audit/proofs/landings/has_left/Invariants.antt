@@ -1,5 +1,5 @@
 use Rattle.std.proofs.Common.{◌≡◌, map, drop}
-use Rattle.txn_journals.specs.Verdict.{journal_of}
+use Rattle.txn_client_journals.specs.Verdict.{journal_of}
 use Rattle.txn_audit.proofs.landings.has_left.Given as goal
 
 -- no diary so far is the client's

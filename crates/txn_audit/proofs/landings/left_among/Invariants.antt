@@ -1,6 +1,6 @@
 use Rattle.std.proofs.Common.{◌≡◌, drop}
 use Rattle.std.specs.Option.{option_copied}
-use Rattle.txn_journals.specs.Journals.{left_among}
+use Rattle.txn_client_journals.specs.Journals.{left_among}
 use Rattle.txn_audit.proofs.landings.left_among.Given as goal
 
 -- what is left of the list decides

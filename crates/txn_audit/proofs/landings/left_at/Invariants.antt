@@ -1,6 +1,6 @@
 use Rattle.std.proofs.Common.{◌≡◌, None, drop}
 use Rattle.std.specs.Option.{option_copied}
-use Rattle.txn_journals.specs.Verdict.{left_at}
+use Rattle.txn_client_journals.specs.Verdict.{left_at}
 use Rattle.txn_audit.proofs.landings.left_at.Given as goal
 
 -- what is left of the journal goes on from what was found

@@ -1,5 +1,5 @@
 use Rattle.std.proofs.Common.{map, drop}
-use Rattle.txn_journals.specs.Verdict.{WereLeft}
+use Rattle.txn_client_journals.specs.Verdict.{WereLeft}
 use Rattle.txn_audit.proofs.landings.were_left.Given as goal
 
 -- what is left of the log decides

@@ -1,5 +1,5 @@
 use Rattle.std.proofs.Common.{length, ◌-◌, ◌≡◌, ◌≤◌, drop}
-use Rattle.txn_journals.specs.Verdict.{rows_of}
+use Rattle.txn_client_journals.specs.Verdict.{rows_of}
 use Rattle.txn_audit.proofs.receipts.next_row.Given as goal
 
 -- no row so far is the client's

@@ -2,9 +2,9 @@ use Rattle.std.proofs.Common.{◌≡◌, ◌+◌, ◌<◌, List, [], ◌∷◌, 
 use Rattle.std.specs.Option.{option_copied, option_to_list}
 use Rattle.std.proofs.lemmas.Bool.{both_ways, eqb-true, eq-eqb}
 use Rattle.std.proofs.Math.ListN.{drop_of_length-le}
-use Rattle.txn_journals.specs.declared.rows.Receipt.{Receipt}
-use Rattle.txn_journals.specs.declared.rows.JournalRow.{JournalRow}
-use Rattle.txn_journals.specs.Verdict.{receipts_in, receipt_at, rows_of}
+use Rattle.txn_client_journals.specs.declared.rows.Receipt.{Receipt}
+use Rattle.txn_client_journals.specs.declared.rows.JournalRow.{JournalRow}
+use Rattle.txn_client_journals.specs.Verdict.{receipts_in, receipt_at, rows_of}
 use Rattle.txn_audit.proofs.Receiving.{same_head, same_tail, not_none, with_row, log_row, log_end, log_over}
 use Rattle.txn_audit.proofs.receipts.receipts_are_rows.Goals as goal
 use Rattle.txn_audit.proofs.receipts.receipts_are_rows.Goals.{then-at-log-via-then-at-log, then-at-log-via-else-at-log+then-not-is_row, in-Some+else-at-log+else-not-is_row, in_default}

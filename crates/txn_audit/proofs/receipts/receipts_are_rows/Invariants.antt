@@ -1,5 +1,5 @@
 use Rattle.std.proofs.Common.{length, ◌≡◌, ◌≤◌, drop}
-use Rattle.txn_journals.specs.Verdict.{receipts_in, rows_of}
+use Rattle.txn_client_journals.specs.Verdict.{receipts_in, rows_of}
 use Rattle.txn_audit.proofs.receipts.receipts_are_rows.Given as goal
 
 -- what is left of the journal and of the log decides

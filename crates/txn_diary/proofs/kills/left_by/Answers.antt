@@ -1,7 +1,7 @@
 use Rattle.std.proofs.Common.{◌∙◌, ap, arith, map, ◌++◌, ◌+◌}
 use Rattle.txn_history.specs.GoesOn.{all_left_loose, as_loose}
 use Rattle.txn_machine.specs.Machine.{seen_operations}
-use Rattle.txn_journals.specs.Journals.{as_pair}
+use Rattle.txn_client_journals.specs.Journals.{as_pair}
 use Rattle.txn_diary.proofs.Killing.{left_more, left_all}
 use Rattle.txn_diary.proofs.kills.left_by.Goals as goal
 

@@ -1,7 +1,7 @@
 use Rattle.std.proofs.Common.{◌≡◌, ◌+◌, ◌++◌, map, drop}
 use Rattle.txn_history.specs.GoesOn.{all_left_loose}
 use Rattle.txn_machine.specs.Machine.{seen_operations}
-use Rattle.txn_journals.specs.Journals.{as_pair}
+use Rattle.txn_client_journals.specs.Journals.{as_pair}
 use Rattle.txn_diary.proofs.kills.left_by.Given as goal
 
 -- with what the rest leaves it is what all leave

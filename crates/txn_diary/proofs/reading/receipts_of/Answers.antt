@@ -1,8 +1,8 @@
 use Rattle.std.proofs.Common.{◌∙◌, ap, arith, map, List, ◌++◌}
 use Rattle.std.specs.Borrow.{Bor}
 use Rattle.std.specs.Option.{option_copied}
-use Rattle.txn_journals.specs.declared.rows.Receipt.{Receipt}
-use Rattle.txn_journals.specs.Verdict.{receipts_in}
+use Rattle.txn_client_journals.specs.declared.rows.Receipt.{Receipt}
+use Rattle.txn_client_journals.specs.Verdict.{receipts_in}
 use Rattle.txn_diary.specs.Reading.{as_receipts}
 use Rattle.txn_diary.proofs.Listing.{receipts_more, receipts_all}
 use Rattle.txn_diary.proofs.reading.receipts_of.Goals as goal

@@ -1,5 +1,5 @@
 use Rattle.std.proofs.Common.{◌≡◌, ◌++◌, map, drop}
-use Rattle.txn_journals.specs.Verdict.{receipts_in}
+use Rattle.txn_client_journals.specs.Verdict.{receipts_in}
 use Rattle.txn_diary.proofs.reading.receipts_of.Given as goal
 
 -- with the receipts of the rest they are all receipts

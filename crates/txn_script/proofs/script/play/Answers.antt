@@ -2,8 +2,8 @@ use Rattle.std.proofs.Common.{ℕ, [], List, sym, subst}
 use Rattle.std.proofs.lemmas.List.{append-nil}
 use Rattle.std.proofs.lemmas.Result.{err_from_is_err_and}
 use Rattle.std.specs.Io.KnownBytes.{Appends, append_known}
-use Rattle.txn_lines.specs.declared.stop.Stop.{Stop}
-use Rattle.txn_lines.specs.declared.stop.Stop.TheVariants as stops
+use Rattle.txn_script_lines.specs.declared.stop.Stop.{Stop}
+use Rattle.txn_script_lines.specs.declared.stop.Stop.TheVariants as stops
 use Rattle.txn_script.specs.Script.{StopsAfter}
 use Rattle.txn_script.specs.Rules.{Rules, rules_of}
 use Rattle.txn_script.proofs.Ending.{appends_both, gathers}

@@ -3,7 +3,7 @@ use Rattle.std.specs.Option.{option_map}
 use Rattle.std.specs.Prelude.{Vec}
 use Rattle.std.proofs.lemmas.Result.{on_ok_weaker, MatchResult-weaker, err_from_is_err_and}
 use Rattle.std.specs.Io.KnownBytes.{append_known}
-use Rattle.txn_lines.specs.Printed.{boundary_text, erased_text}
+use Rattle.txn_script_lines.specs.Printed.{boundary_text, erased_text}
 use Rattle.txn_history.specs.History.{boundary}
 use Rattle.txn_machine.specs.Machine.{seen_views}
 use Rattle.txn_script.specs.Printed.{with_feed, pinned_line, entries_text, views_text}

@@ -1,7 +1,7 @@
 use Rattle.std.proofs.Common.{[], ◌+◌, ◌++◌, drop, drop_of_length-le, List, sym, refl, ◌∙◌, ap, subst, inr}
 use Rattle.std.proofs.lemmas.Result.{err_from_is_err_and}
 use Rattle.std.proofs.lemmas.List.{append-nil}
-use Rattle.txn_lines.specs.Printed.{entry_text}
+use Rattle.txn_script_lines.specs.Printed.{entry_text}
 use Rattle.txn_script.specs.Printed.{with_feed, entries_text}
 use Rattle.std.specs.Io.KnownBytes.{Appends, append_known}
 use Rattle.txn_script.proofs.Ending.{appends_nothing, gathered_so, entry_printed}

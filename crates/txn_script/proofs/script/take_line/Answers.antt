@@ -1,7 +1,7 @@
 -- A page line makes another world, and prints nothing.
 use Rattle.std.proofs.Common.{[], sym, subst}
 use Rattle.std.proofs.lemmas.List.{append-nil}
-use Rattle.txn_lines.specs.declared.line.Line.{Line}
+use Rattle.txn_script_lines.specs.declared.line.Line.{Line}
 use Rattle.txn_script.specs.Rules.{rules_of}
 use Rattle.txn_script.specs.Script.{PageSteps, EventSteps}
 use Rattle.txn_script.proofs.script.take_line.Goals as goal

@@ -1,8 +1,8 @@
 -- Nothing moved so far, and the object is a version of the history. At rest, the second attempt is made of the newest version. It is the first attempt, or the first was made of a candidate. The object is the same but for its version, and the files of others are left.
 use Rattle.std.proofs.Common.{◌≡◌, ◌⊎◌, ℕ, ◌+◌, ◌-◌, ◌*◌, ◌≤◌, List, Ok, Some}
 use Rattle.std.specs.Fn.{FnReturnsAt}
-use Rattle.txn_drivers.specs.Calls.{SpendsTurns}
-use Rattle.txn_drivers.specs.LatestReads.{IsLatest}
+use Rattle.txn_steps_driven.specs.Calls.{SpendsTurns}
+use Rattle.txn_steps_driven.specs.LatestReads.{IsLatest}
 use Rattle.slatedb_txn_obj.specs.Leaves.{LeavesOthers}
 use Rattle.slatedb_txn_obj.specs.Views.{IsVersion, KeepsIds}
 use Rattle.slatedb_txn_obj.proofs.object.TransactionalObject.maybe_apply_update.Given as goal

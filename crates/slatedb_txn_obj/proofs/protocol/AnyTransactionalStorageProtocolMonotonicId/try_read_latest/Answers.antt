@@ -1,6 +1,6 @@
 -- A pass that goes on read a version which the check refused: none that began fresh, or with the newest at hand, does.
 use Rattle.std.proofs.Common.{rules, arith, ◌≡◌, ℕ, ◌<◌, ◌≤◌, List, length, Err, ap, sym, subst, ◌∙◌, inl, inr}
-use Rattle.txn_drivers.specs.LatestReads.{IsLatest}
+use Rattle.txn_steps_driven.specs.LatestReads.{IsLatest}
 use Rattle.slatedb_txn_obj.proofs.Leaving.{same-trans}
 use Rattle.slatedb_txn_obj.proofs.protocol.AnyTransactionalStorageProtocolMonotonicId.try_read_latest.Goals as goal
 

@@ -1,6 +1,6 @@
 -- So far nothing moved; each pass but the first begins fresh, with what one pass at most has spent, and none comes where the newest version was at hand.
 use Rattle.std.proofs.Common.{◌≡◌, ◌⊎◌, ℕ, ◌<◌, ◌≤◌, ◌+◌, List, length}
-use Rattle.txn_drivers.specs.Calls.{SpendsTurns}
+use Rattle.txn_steps_driven.specs.Calls.{SpendsTurns}
 use Rattle.slatedb_txn_obj.specs.Leaves.{SameFiles}
 use Rattle.slatedb_txn_obj.specs.Protocol.{Stays}
 use Rattle.slatedb_txn_obj.proofs.protocol.AnyTransactionalStorageProtocolMonotonicId.try_read_latest.Given as goal

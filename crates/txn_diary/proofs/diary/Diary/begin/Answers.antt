@@ -1,9 +1,9 @@
 use Rattle.std.proofs.Common.{rules, ◌≡◌, ◌∙◌, ◌+◌, length, ap, subst}
 use Rattle.txn_history.specs.Added.{told_of}
 use Rattle.txn_history.specs.declared.event.ToldOf.TheVariants as tolds
-use Rattle.txn_machine_inner.specs.Doing.{first_of}
-use Rattle.txn_journals.specs.declared.rows.Step.TheVariants as steps
-use Rattle.txn_journals.specs.Parts.{client_begin_fault}
+use Rattle.txn_machine_plain.specs.Doing.{first_of}
+use Rattle.txn_client_journals.specs.declared.rows.Step.TheVariants as steps
+use Rattle.txn_client_journals.specs.Parts.{client_begin_fault}
 use Rattle.txn_diary.specs.Keepers.{fault_if, keeper_refusal}
 use Rattle.txn_diary.specs.Diaries.{DiaryState, refusal_of}
 use Rattle.txn_diary.proofs.Diaries.{IsNoted, noted}

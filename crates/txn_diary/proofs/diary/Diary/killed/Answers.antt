@@ -1,5 +1,5 @@
 use Rattle.std.proofs.Common.{rules, refl, None}
-use Rattle.txn_journals.specs.declared.rows.Step.TheVariants as steps
+use Rattle.txn_client_journals.specs.declared.rows.Step.TheVariants as steps
 use Rattle.txn_diary.specs.Diaries.{lives, kill_fault}
 use Rattle.txn_diary.proofs.Stepping.{met_kill, met_lack}
 use Rattle.txn_diary.proofs.Diaries.{IsNoted, noted}

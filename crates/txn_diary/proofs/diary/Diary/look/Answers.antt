@@ -1,7 +1,7 @@
 use Rattle.std.proofs.Common.{rules, false}
-use Rattle.txn_machine_inner.specs.Doing.{first_of}
-use Rattle.txn_journals.specs.declared.rows.Act.TheVariants as acts
-use Rattle.txn_journals.specs.declared.rows.Step.TheVariants as steps
+use Rattle.txn_machine_plain.specs.Doing.{first_of}
+use Rattle.txn_client_journals.specs.declared.rows.Act.TheVariants as acts
+use Rattle.txn_client_journals.specs.declared.rows.Step.TheVariants as steps
 use Rattle.txn_history.specs.Allowed.{ask_fault}
 use Rattle.txn_diary.specs.Diaries.{asked_in}
 use Rattle.txn_diary.proofs.Stepping.{met_ask, met_lack}

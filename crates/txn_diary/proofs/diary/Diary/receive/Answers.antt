@@ -1,7 +1,7 @@
 use Rattle.std.proofs.Common.{rules, ◌∙◌, ap, subst}
-use Rattle.txn_machine_inner.specs.Doing.{first_of}
-use Rattle.txn_journals.specs.declared.rows.Act.TheVariants as acts
-use Rattle.txn_journals.specs.declared.rows.Step.TheVariants as steps
+use Rattle.txn_machine_plain.specs.Doing.{first_of}
+use Rattle.txn_client_journals.specs.declared.rows.Act.TheVariants as acts
+use Rattle.txn_client_journals.specs.declared.rows.Step.TheVariants as steps
 use Rattle.txn_diary.specs.Keepers.{IsReceiptFault}
 use Rattle.txn_diary.specs.Diaries.{DiaryState, diary_of, asked_in}
 use Rattle.txn_diary.proofs.Stepping.{lacks_receipt}

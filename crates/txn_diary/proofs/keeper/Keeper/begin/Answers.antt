@@ -1,8 +1,8 @@
 use Rattle.std.proofs.Common.{◌∙◌, length, ap}
 use Rattle.txn_history.specs.Calls.{view_used}
-use Rattle.txn_machine_inner.specs.Doing.{first_of}
-use Rattle.txn_journals.specs.declared.rows.Step.TheVariants as steps
-use Rattle.txn_journals.specs.Parts.{client_begin_fault}
+use Rattle.txn_machine_plain.specs.Doing.{first_of}
+use Rattle.txn_client_journals.specs.declared.rows.Step.TheVariants as steps
+use Rattle.txn_client_journals.specs.Parts.{client_begin_fault}
 use Rattle.txn_diary.specs.Keepers.{KeeperState}
 use Rattle.txn_diary.proofs.Stepping.{alive_so, permits_so, met_begin, room_made, stepped, IsReady, IsStepped}
 use Rattle.txn_diary.proofs.keeper.Keeper.begin.Goals.{In_ok-make_room, After-refusals}

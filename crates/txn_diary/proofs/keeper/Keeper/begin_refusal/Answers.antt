@@ -1,5 +1,5 @@
 use Rattle.std.proofs.Common.{◌∙◌, sym, ap}
-use Rattle.txn_journals.specs.Parts.{client_begin_fault}
+use Rattle.txn_client_journals.specs.Parts.{client_begin_fault}
 use Rattle.txn_diary.specs.Keepers.{KeeperState, fault_if, keeper_refusal}
 use Rattle.txn_diary.specs.Shown.{shown}
 use Rattle.txn_diary.proofs.keeper.Keeper.begin_refusal.Goals as goal

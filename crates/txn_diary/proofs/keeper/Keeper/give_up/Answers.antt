@@ -1,8 +1,8 @@
 use Rattle.std.proofs.Common.{◌≡◌, ◌∙◌, ap, refl, None, Some, true, is_some}
 use Rattle.txn_history.specs.Seen.{Ask}
-use Rattle.txn_clients.specs.Operations.{asked_by}
-use Rattle.txn_journals.specs.declared.rows.Act.TheVariants as acts
-use Rattle.txn_journals.specs.declared.rows.Step.TheVariants as steps
+use Rattle.txn_client_tables.specs.Operations.{asked_by}
+use Rattle.txn_client_journals.specs.declared.rows.Act.TheVariants as acts
+use Rattle.txn_client_journals.specs.declared.rows.Step.TheVariants as steps
 use Rattle.txn_diary.specs.Keepers.{keeper_asked, end_fault}
 use Rattle.txn_diary.proofs.Stepping.{met_end, asks_so, room_made, ready_sound, ready_asks, stepped, IsReady, IsStepped}
 use Rattle.txn_diary.proofs.keeper.Keeper.give_up.Goals.{In_default, In-Ok}

@@ -1,5 +1,5 @@
 use Rattle.std.proofs.Common.{◌∙◌, sym, ap, refl, None, false}
-use Rattle.txn_journals.specs.declared.rows.Step.TheVariants as steps
+use Rattle.txn_client_journals.specs.declared.rows.Step.TheVariants as steps
 use Rattle.txn_diary.specs.Keepers.{fault_if}
 use Rattle.txn_diary.proofs.Stepping.{alive_so, met_kill, room_made, stepped, IsStepped}
 use Rattle.txn_diary.proofs.keeper.Keeper.killed.Goals.{In-Ok}

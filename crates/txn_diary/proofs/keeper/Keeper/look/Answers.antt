@@ -1,10 +1,10 @@
 use Rattle.std.proofs.Common.{◌≡◌, ◌∙◌, ap, None, Some, true, false}
 use Rattle.txn_history.specs.Seen.{Look}
 use Rattle.txn_history.specs.Allowed.{ask_fault}
-use Rattle.txn_machine_inner.specs.Doing.{first_of}
-use Rattle.txn_clients.specs.Operations.{asked_by}
-use Rattle.txn_journals.specs.declared.rows.Act.TheVariants as acts
-use Rattle.txn_journals.specs.declared.rows.Step.TheVariants as steps
+use Rattle.txn_machine_plain.specs.Doing.{first_of}
+use Rattle.txn_client_tables.specs.Operations.{asked_by}
+use Rattle.txn_client_journals.specs.declared.rows.Act.TheVariants as acts
+use Rattle.txn_client_journals.specs.declared.rows.Step.TheVariants as steps
 use Rattle.txn_diary.specs.Keepers.{keeper_asked}
 use Rattle.txn_diary.proofs.Acting.{takes_so}
 use Rattle.txn_diary.proofs.Stepping.{met_ask, looks_so, room_made, ready_sound, ready_asks, stepped, IsReady, IsStepped}

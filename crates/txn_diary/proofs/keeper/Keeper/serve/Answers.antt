@@ -2,11 +2,11 @@ use Rattle.std.proofs.Common.{◌∙◌, ◌≡◌, sym, ap, subst, None, Some, 
 use Rattle.std.proofs.lemmas.Option.{same_Some}
 use Rattle.txn_store.specs.declared.request.Reply.{Reply}
 use Rattle.txn_history.specs.Seen.{Store}
-use Rattle.txn_machine_inner.specs.Doing.{first_of}
-use Rattle.txn_clients.specs.Operations.{asked_by, request_of}
-use Rattle.txn_journals.specs.declared.rows.Act.TheVariants as acts
-use Rattle.txn_journals.specs.declared.rows.Step.TheVariants as steps
-use Rattle.txn_logged.specs.Logged.{IsOfKind}
+use Rattle.txn_machine_plain.specs.Doing.{first_of}
+use Rattle.txn_client_tables.specs.Operations.{asked_by, request_of}
+use Rattle.txn_client_journals.specs.declared.rows.Act.TheVariants as acts
+use Rattle.txn_client_journals.specs.declared.rows.Step.TheVariants as steps
+use Rattle.txn_client_logs.specs.Logged.{IsOfKind}
 use Rattle.txn_diary.specs.Keepers.{keeper_asked}
 use Rattle.txn_diary.specs.Shown.{operations_of, shown}
 use Rattle.txn_diary.proofs.Acting.{takes_so, lacks_so}

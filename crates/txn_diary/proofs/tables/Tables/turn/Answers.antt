@@ -1,8 +1,8 @@
 use Rattle.std.proofs.Common.{◌∙◌, ◌++◌, length, ap}
 use Rattle.txn_history.specs.Lists.{numbered}
-use Rattle.txn_machine_inner.specs.Doing.{first_of}
+use Rattle.txn_machine_plain.specs.Doing.{first_of}
 use Rattle.txn_machine.specs.Machine.{answered}
-use Rattle.txn_journals.specs.Parts.{note_of, written_in}
+use Rattle.txn_client_journals.specs.Parts.{note_of, written_in}
 use Rattle.txn_diary.specs.Shown.{operations_of, writes_of, views_of, shown}
 use Rattle.txn_diary.proofs.Acting.{used_from_one, takes_turn_so}
 use Rattle.txn_diary.proofs.tables.Tables.turn.Goals as goal

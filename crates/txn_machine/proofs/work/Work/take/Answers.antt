@@ -1,6 +1,6 @@
 use Rattle.std.proofs.Common.{rules, ◌≡◌}
-use Rattle.txn_machine_inner.specs.Doing.{first_of}
-use Rattle.txn_caches.specs.Steps.{turned_by_number}
+use Rattle.txn_machine_plain.specs.Doing.{first_of}
+use Rattle.txn_steps_boundary.specs.Steps.{turned_by_number}
 use Rattle.txn_machine.specs.declared.doing.Doing.TheVariants as does
 use Rattle.txn_machine.proofs.Taken.{plain_takes, view_takes}
 use Rattle.txn_machine.proofs.work.Work.take.Goals as goal

@@ -17,7 +17,7 @@ use denote.Triple.Entry.{alive}
 use denote.Triple.Walked.{Stays, walk_of}
 use Rattle.std.proofs.raw_atomic.Walks.{proved_at, leaves}
 use Rattle.txnobj_c.proofs.HeldValues.{held_val, held_own, held_made, held_typed}
-use Rattle.txn_seat.specs.Seats.{SeatState}
+use Rattle.txn_client_seat.specs.Seats.{SeatState}
 use Rattle.txnobj_c.specs.contracts.client.Client.none.{ended, clauses}
 use Rattle.txnobj_c.specs.contracts.client.Client.none.Key.{name as #self}
 use Rattle.txnobj_c.proofs.client.Client.none.Statement.{statement}

@@ -23,7 +23,7 @@ use Rattle.std.specs.contracts.impls.GlobalAllocator.TheImpl.{ghosts}
 use Rattle.std.proofs.raw_atomic.Walks.{proved_at, leaves}
 use Rattle.txnobj_c.proofs.Values.{both, Loose, loose_good, loose_out}
 use Rattle.txnobj_c.proofs.HeldValues.{held_val, held_own, held_made, held_typed}
-use Rattle.txn_seat.specs.contracts.seat.Seat as state
+use Rattle.txn_client_seat.specs.contracts.seat.Seat as state
 use Rattle.txnobj_c.specs.contracts.client.Client.of.{ended, clauses}
 use Rattle.txnobj_c.specs.contracts.client.Client.of.Key.{name as #self}
 use Rattle.txnobj_c.proofs.client.Client.of.Statement.{statement}

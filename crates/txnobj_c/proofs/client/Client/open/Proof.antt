@@ -31,7 +31,7 @@ use Rattle.std.proofs.raw_atomic.Walks.{proved_at, leaves}
 use Rattle.txnobj_c.proofs.Values.{both, Loose, loose_good, loose_in}
 use Rattle.txnobj_c.proofs.HeldValues.{held_val, held_told, held_typed, ptr_typed, either_owned}
 use Rattle.txnobj_c.specs.Held.{held_in}
-use Rattle.txn_seat.specs.contracts.seat.Seat as state
+use Rattle.txn_client_seat.specs.contracts.seat.Seat as state
 use Rattle.txnobj_c.specs.contracts.client.Client as held
 use Rattle.txnobj_c.specs.contracts.client.Client.«open».{ended, clauses}
 use Rattle.txnobj_c.specs.contracts.client.Client.«open».Key.{name as #self}

@@ -1,6 +1,6 @@
 -- A write leaves the file of the boundary.
 use Rattle.std.proofs.lemmas.Result.{IfOk-weaker}
-use Rattle.txn_drivers.proofs.PageCounts.{pages_written}
+use Rattle.txn_steps_driven.proofs.PageCounts.{pages_written}
 use Rattle.slatedb_txn_obj.proofs.AtHand.{write-at_hand}
 use Rattle.slatedb_txn_obj.proofs.Leaving.{written-creates, written-stood}
 use Rattle.slatedb_txn_obj.proofs.Wholes.{whole-answered, whole-conflict, whole-refused, whole-full, whole-exhausted}

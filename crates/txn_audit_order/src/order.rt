@@ -1,0 +1,224 @@
+//! The order of the recorded calls of a store.
+
+use crate::graph::Graph;
+use crate::precedence::Precedence;
+use crate::times::{Time, link_times, times_asked};
+use std::alloc::{AllocError, Global};
+use txn_audit_effects::boundaries::Boundaries;
+use txn_audit_effects::calls::Asked;
+use txn_audit_effects::clock::Clock;
+use txn_audit_effects::effects::{Effects, effects_of};
+use txn_audit_effects::landings::{Fate, fate_of};
+use txn_audit_effects::lives::Lives;
+use txn_audit_rows::row::RecordedRow;
+use txn_store::request::{Reply, Request};
+use txn_store::store::Token;
+
+/// A recorded call: which recording has it, and which row of that asks. Both are counted from 0.
+#[derive(Clone, Copy, Debug, PartialEq, Eq)]
+pub struct CallPlace {
+    pub recording: usize,
+    pub row: usize,
+}
+
+/// One call in the order.
+#[derive(Drop)]
+pub struct Placed {
+    pub call: CallPlace,
+    /// What the store replied where nobody saw a reply, and the call took effect all the same.
+    pub landed: Option<Reply>,
+}
+
+/// Why there is no order.
+#[derive(Debug, Drop)]
+pub enum OrderFault {
+    /// These calls wait for each other: each came before the one behind it, and the last before the first.
+    Circle(Vec<CallPlace>),
+    /// A growth was refused.
+    NoMemory,
+}
+
+impl From<AllocError> for OrderFault {
+    fn from(_e: AllocError) -> OrderFault {
+        OrderFault::NoMemory
+    }
+}
+
+/// The keys by which calls come first that could come next: when they were asked. Times come at once.
+fn keys(alloc: Global, calls: &[Asked<'_>], times: usize) -> Result<Vec<u64>, AllocError> {
+    let mut keys = Vec::new(alloc);
+    for call in calls {
+        keys.push(call.from)?;
+    }
+    for _ in 0..times {
+        keys.push(0)?;
+    }
+    Ok(keys)
+}
+
+/// The calls of a circle.
+fn circle(alloc: Global, graph: &Graph, calls: &[Asked<'_>]) -> Result<OrderFault, AllocError> {
+    let mut circle = Vec::new(alloc);
+    let nodes = graph.circle(alloc)?;
+    for node in nodes.as_slice() {
+        if let Some(call) = calls.get(*node) {
+            circle.push(CallPlace {
+                recording: call.recording,
+                row: call.row,
+            })?;
+        }
+    }
+    Ok(OrderFault::Circle(circle))
+}
+
+/// The greatest token that any reply told.
+fn greatest_token(lives: &Lives, boundaries: &Boundaries) -> u64 {
+    let mut greatest = 0u64;
+    for (_, token) in lives.of_token.keys() {
+        greatest = greatest.max(*token);
+    }
+    for token in boundaries.of_token.keys() {
+        greatest = greatest.max(*token);
+    }
+    greatest
+}
+
+/// What the store replied to a call that landed, and the greatest token then.
+fn landing(request: &Request, token: Option<u64>, greatest: u64) -> (Reply, u64) {
+    match (request, token) {
+        (Request::Put { .. }, Some(token)) => (Reply::Put(Ok(Token::new(token))), greatest),
+        (Request::Put { .. }, None) => {
+            let fresh = greatest.saturating_add(1);
+            (Reply::Put(Ok(Token::new(fresh))), fresh)
+        }
+        _ => (Reply::Delete(Ok(())), greatest),
+    }
+}
+
+/// The place of a call in the order, where it has one, and the greatest token then.
+fn place_of(effects: &Effects<'_>, node: usize, greatest: u64) -> (Option<Placed>, u64) {
+    let Some(asked) = effects.calls.get(node) else {
+        return (None, greatest);
+    };
+    let call = CallPlace {
+        recording: asked.recording,
+        row: asked.row,
+    };
+    match fate_of(effects.fates.as_slice(), node) {
+        Fate::Answered => (Some(Placed { call, landed: None }), greatest),
+        Fate::Unknown => (None, greatest),
+        Fate::Landed(token) => {
+            let (reply, now) = landing(asked.request, token, greatest);
+            let landed = Some(reply);
+            (Some(Placed { call, landed }), now)
+        }
+    }
+}
+
+/// Adds the calls that have a place, in the order of their nodes.
+fn add_in_order(
+    effects: &Effects<'_>,
+    nodes: &[usize],
+    order: &mut Vec<Placed>,
+) -> Result<(), AllocError> {
+    let mut greatest = greatest_token(&effects.lives, &effects.boundaries);
+    for node in nodes {
+        let (placed, now) = place_of(effects, *node, greatest);
+        greatest = now;
+        if let Some(placed) = placed {
+            order.push(placed)?;
+        }
+    }
+    Ok(())
+}
+
+/// The calls that have a place, in the order of their nodes.
+fn in_order(
+    alloc: Global,
+    effects: &Effects<'_>,
+    nodes: &[usize],
+) -> Result<Vec<Placed>, AllocError> {
+    let mut order = Vec::new(alloc);
+    add_in_order(effects, nodes, &mut order)?;
+    Ok(order)
+}
+
+/// Notes what came before what, by the replies.
+fn link_replies(alloc: Global, effects: &Effects<'_>, graph: &mut Graph) -> Result<(), AllocError> {
+    let precedence = Precedence {
+        calls: effects.calls.as_slice(),
+        fates: effects.fates.as_slice(),
+        lives: &effects.lives,
+        boundaries: &effects.boundaries,
+    };
+    precedence.link(alloc, graph, effects.idle.as_slice())
+}
+
+/// Notes what came before what, by the replies and by these times, which are nodes behind the calls.
+fn link(
+    alloc: Global,
+    effects: &Effects<'_>,
+    times: &[Time],
+    graph: &mut Graph,
+) -> Result<(), AllocError> {
+    link_replies(alloc, effects, graph)?;
+    link_times(
+        graph,
+        effects.calls.as_slice(),
+        effects.fates.as_slice(),
+        times,
+    )
+}
+
+/// The nodes of calls and of times in an order, where none waits for itself.
+fn sorted(
+    alloc: Global,
+    effects: &Effects<'_>,
+    times: usize,
+    graph: &mut Graph,
+) -> Result<Vec<usize>, OrderFault> {
+    let calls = effects.calls.as_slice();
+    let keys = keys(alloc, calls, times)?;
+    let nodes = graph.sort(alloc, keys.as_slice())?;
+    if nodes.len() < keys.len() {
+        return Err(circle(alloc, graph, calls)?);
+    }
+    Ok(nodes)
+}
+
+/// An order of calls of which this became, whose times are these.
+fn ordered_at(
+    alloc: Global,
+    effects: &Effects<'_>,
+    times: &[Time],
+) -> Result<Vec<Placed>, OrderFault> {
+    let nodes = effects.calls.len().saturating_add(times.len());
+    let mut graph = Graph::new(alloc, nodes)?;
+    link(alloc, effects, times, &mut graph)?;
+    let nodes = sorted(alloc, effects, times.len(), &mut graph)?;
+    Ok(in_order(alloc, effects, nodes.as_slice())?)
+}
+
+/// An order of calls of which this became.
+fn ordered(alloc: Global, effects: &Effects<'_>) -> Result<Vec<Placed>, OrderFault> {
+    let times = times_asked(alloc, effects.calls.as_slice(), effects.fates.as_slice())?;
+    ordered_at(alloc, effects, times.as_slice())
+}
+
+/// An order of the calls in these recordings, each a list of rows, by what the replies show and by the times, which are of these
+/// clocks, one for each recording; one that has none here is of the clock of all. A call whose reply nobody saw has a place where
+/// a reply shows that it took effect, and none elsewhere. It takes time by the number of calls and what they tell; a listing is
+/// held against the versions that may have stood meanwhile.
+///
+/// # Errors
+///
+/// `Circle` where calls wait for each other, so that no order explains all replies and times; `NoMemory` where a growth was
+/// refused.
+pub fn order<T>(
+    alloc: Global,
+    recordings: &[Vec<RecordedRow<T>>],
+    clocks: &[Clock],
+) -> Result<Vec<Placed>, OrderFault> {
+    let effects = effects_of(alloc, recordings, clocks)?;
+    ordered(alloc, &effects)
+}

@@ -1,0 +1,121 @@
+-- A client whose caller makes its store calls, and what each thing that it does makes of it.
+use Rattle.std.specs.Prelude.{◌≡◌, ◌+◌, ◌≤◌, ◌^◌, ℕ, List, [], ◌++◌, true, false, Option, Some, None, Result, Ok, Err, length}
+use Rattle.txn_store.specs.declared.request.Request.{Request}
+use Rattle.txn_store.specs.declared.request.Reply.{Reply}
+use Rattle.txn_history.specs.Seen.{Ask, Store}
+use Rattle.txn_history.specs.declared.event.EventFault.{EventFault}
+use Rattle.txn_history.specs.declared.event.EventFault.TheVariants as faults
+use Rattle.txn_history.specs.declared.event.Call.{Call}
+use Rattle.txn_history.specs.declared.event.Answer.{Answer}
+use Rattle.txn_history.specs.Allowed.{ask_fault}
+use Rattle.txn_machine.specs.Machine.{used_by}
+use Rattle.txn_client_journals.specs.declared.rows.Act.TheVariants as acts
+use Rattle.txn_client_journals.specs.declared.rows.Step.{Step}
+use Rattle.txn_client_journals.specs.declared.rows.Step.TheVariants as steps
+use Rattle.txn_client_journals.specs.Parts.{no_part}
+use Rattle.txn_client_logs.specs.Logged.{IsOfKind}
+use Rattle.txn_client_logs.specs.Honest.{SaysFailed}
+use Rattle.txn_diary.specs.Keepers.{KeeperState, keeper_asked, keeper_refusal, end_fault, Does, Forgets}
+use Rattle.txn_diary.specs.Forgetting.{KeepsBases, HaveEnded, AreForgotten}
+use Rattle.txnobj_values.specs.declared.entry.Entry.{Entry}
+use Rattle.txnobj_values.specs.declared.entry.EntryCodec.{EntryCodec}
+use Rattle.txnobj_values.specs.declared.entry.EntryEpoch.{EntryEpoch}
+use Rattle.txnobj_values.specs.Entry.{entry_bytes, entry_read}
+use Rattle.txn_client_seat.specs.Waiting.{without, as_waiting}
+
+-- what a client of entries keeps
+abbrev pub Keeping : Type 0
+Keeping = KeeperState Entry EntryCodec EntryEpoch
+
+-- A client of entries, and the answers of its operations that ended and were not let go, by the operations' numbers.
+pub record SeatState : Type 0 where
+  pub keeper : Keeping
+  pub answers : List (ℕ × Answer Entry)
+
+abbrev pub seat_of : Keeping → List (ℕ × Answer Entry) → SeatState
+seat_of keeper answers = record { keeper = keeper; answers = answers }
+
+-- a client of this number that has done nothing, and whose listings have pages of at most so many files
+abbrev pub new_seat : ℕ → ℕ → SeatState
+new_seat client page = seat_of (record { client = client; page = page; codec = record {}; epochs = record {}; part = no_part; alive = true }) []
+
+-- where an entry keeps its epoch
+abbrev pub epoch_of : EntryEpoch → Entry → ℕ
+epoch_of epochs value = value.epoch
+
+-- a client of entries did this, with this answer, if one
+abbrev pub DoesEntry : Keeping → Step Entry → Option (Answer Entry) → Keeping → Type 0
+DoesEntry = Does (λ codec value. entry_bytes value) (λ codec bytes. entry_read bytes) epoch_of (λ epochs value epoch. record value { epoch = epoch })
+
+-- The client did this, which is its operation's of this number, and the answer waits, where it has one.
+pub record Goes (old : SeatState) (op : ℕ) (step : Step Entry) (new : SeatState) : Type 0 where
+  pub answer : Option (Answer Entry)
+  pub does : DoesEntry old.keeper step answer new.keeper
+  pub waits : new.answers ≡ old.answers ++ as_waiting op answer
+
+-- The call begins as the operation of this number, the next.
+pub record Begins (old : SeatState) (call : Call Entry) (op : ℕ) (new : SeatState) : Type 0 where
+  pub next : op ≡ length old.keeper.part.operations + 1
+  pub goes : Goes old op (steps.Begin call) new
+
+-- An operation takes this reply to what it asked for; where the reply says that the call failed, nobody knows whether it took effect.
+pub record Takes (old : SeatState) (op : ℕ) (reply : Reply) (new : SeatState) : Type 0 where
+  pub request : Request
+  pub asks : keeper_asked old.keeper op ≡ Some (Store request)
+  pub kind : IsOfKind request reply
+  pub failed : SaysFailed reply → (left : Request) × Goes old op (steps.Act op (acts.Fails left)) new
+  pub replied : (SaysFailed reply → ⊥) → Goes old op (steps.Act op (acts.Receive (record { place = 0; request = request; reply = reply }))) new
+
+-- An operation is given up, and ends without an answer.
+pub record GivesUp (old : SeatState) (op : ℕ) (new : SeatState) : Type 0 where
+  pub left : Option Request
+  pub does : DoesEntry old.keeper (steps.Act op (acts.GiveUp left)) None new.keeper
+  pub waits : new.answers ≡ old.answers
+
+-- The client lets a view go.
+pub record EndsView (old : SeatState) (view : ℕ) (new : SeatState) : Type 0 where
+  pub forgets : Forgets old.keeper new.keeper
+  pub ended : used_by new.keeper.part.views (Some view) ≡ None
+  pub waits : new.answers ≡ old.answers
+
+-- The client forgets what it no longer needs.
+pub record ForgetsOld (old new : SeatState) : Type 0 where
+  pub forgets : Forgets old.keeper new.keeper
+  pub ended : length old.keeper.part.operations ≤ 2 ^ 62 → HaveEnded old.keeper.part.operations → AreForgotten new.keeper.part.operations
+  pub views : new.keeper.part.views ≡ old.keeper.part.views
+  pub bases : KeepsBases old.keeper.part new.keeper.part
+  pub waits : new.answers ≡ old.answers
+
+-- this fault is the refusal, or want of memory
+abbrev pub IsDue : Option EventFault → EventFault → Type 0
+IsDue refusal faults.NoMemory = Unit {0}
+IsDue refusal fault = refusal ≡ Some fault
+
+-- why an operation that asks for this, or for nothing, is refused a reply: it has ended, or asks for a look, or for a reply of another kind
+abbrev pub IsReplyDue : Option Ask → Reply → EventFault → Type 0
+IsReplyDue ask reply faults.NoMemory = Unit {0}
+IsReplyDue (Some (Store request)) reply fault = (fault ≡ faults.NotAsked) × (IsOfKind request reply → ⊥)
+IsReplyDue ask reply fault = ask_fault true ask ≡ Some fault
+
+-- it was done, or it was refused by a fault that is due, and the client is as it was
+abbrev pub IsDone : {A : Type 0} → (A → SeatState → Type 0) → (EventFault → Type 0) → SeatState → Result A EventFault → SeatState → Type 0
+IsDone does due old (Ok told) new = does told new
+IsDone does due old (Err fault) new = due fault × (new ≡ old)
+
+-- What a call of a client told, and what it left of it.
+
+abbrev pub IsBegin : Call Entry → SeatState → Result ℕ EventFault → SeatState → Type 0
+IsBegin call old = IsDone (λ op new. Begins old call op new) (IsDue (keeper_refusal (epoch_of old.keeper.epochs) old.keeper call)) old
+
+abbrev pub IsLook : ℕ → SeatState → Result (Unit {0}) EventFault → SeatState → Type 0
+IsLook op old = IsDone (λ done new. Goes old op (steps.Act op acts.Look) new) (IsDue (ask_fault false (keeper_asked old.keeper op))) old
+
+abbrev pub IsTake : ℕ → Reply → SeatState → Result (Unit {0}) EventFault → SeatState → Type 0
+IsTake op reply old = IsDone (λ done new. Takes old op reply new) (IsReplyDue (keeper_asked old.keeper op) reply) old
+
+abbrev pub IsGiveUp : ℕ → SeatState → Result (Unit {0}) EventFault → SeatState → Type 0
+IsGiveUp op old = IsDone (λ done new. GivesUp old op new) (IsDue (end_fault (keeper_asked old.keeper op))) old
+
+-- an answer is let go, where one waits
+abbrev pub lets_go : ℕ → SeatState → SeatState
+lets_go op seat = seat_of seat.keeper (without op seat.answers)

@@ -1,0 +1,402 @@
+//! What recordings say happened, in an order of their store calls.
+
+use std::alloc::{AllocError, Global};
+use txn_history::event::Call;
+use txn_script_lines::called::Called;
+use txn_script_lines::text_form::LineValue;
+use txn_drawing_moments::moment::{Kind, Moment, Said, Touch};
+use txn_audit_order::order::{CallPlace, Placed};
+use txn_audit_rows::row::RecordedRow;
+use txn_store::request::{Reply, Request};
+use txn_drawing_touches::asked::{Asked, asked_by};
+use txn_drawing_touches::files::Files;
+use txn_store_types::boundary::read_boundary;
+
+/// Recordings of which the moments are told.
+#[derive(Drop)]
+struct Telling<'a, T> {
+    alloc: Global,
+    recordings: &'a [Vec<RecordedRow<T>>],
+    /// The calls that have rings, in their order.
+    ringed: &'a [CallPlace],
+    /// Of each recording the row that comes next, and the operation that runs: 0 for none.
+    next: Vec<usize>,
+    running: Vec<u64>,
+    /// How many operations have begun.
+    begun: u64,
+    /// The calls in flight, in the order of their numbers.
+    loose: Vec<CallPlace>,
+    files: Files,
+    moments: Vec<Moment>,
+}
+
+/// The epoch of a holder, by its answer.
+fn held_in(words: &str) -> Option<u64> {
+    if !words.starts_with("holder ") {
+        return None;
+    }
+    match words.rsplit_once(' ') {
+        Some((_, epoch)) => read_boundary(epoch.as_bytes()),
+        None => None,
+    }
+}
+
+/// An answer, as it is drawn. The only error is want of memory.
+fn said_of(alloc: Global, words: &str) -> Result<Said, AllocError> {
+    Ok(Said {
+        words: String::from_str(alloc, words)?,
+        is_refusal: words.starts_with("refused"),
+        held: held_in(words),
+    })
+}
+
+/// Whether a reply says that a call changed something.
+fn has_changed(reply: &Reply) -> bool {
+    match reply {
+        Reply::Put(answer) => answer.is_ok(),
+        Reply::Delete(answer) => answer.is_ok(),
+        _ => false,
+    }
+}
+
+/// The versions that a listing told.
+fn listed(alloc: Global, reply: &Reply) -> Result<Vec<u64>, AllocError> {
+    let mut ids = Vec::new(alloc);
+    if let Reply::List(Ok(page)) = reply {
+        for meta in page.metas.as_slice() {
+            if let Some(id) = txn_audit_effects::calls::version_of(&meta.location) {
+                ids.push(id)?;
+            }
+        }
+    }
+    Ok(ids)
+}
+
+/// What a call saw by its reply, where it is a read.
+fn seen_by(alloc: Global, touch: Touch, reply: &Reply) -> Result<Touch, AllocError> {
+    Ok(match touch {
+        Touch::Gets { id, .. } => Touch::Gets {
+            id,
+            is_there: matches!(reply, Reply::Get(Ok(_))),
+        },
+        Touch::Lists(ids) => {
+            drop(ids);
+            Touch::Lists(listed(alloc, reply)?)
+        }
+        touch => touch,
+    })
+}
+
+impl<'a, T: LineValue> Telling<'a, T> {
+    /// A row of a recording.
+    fn row(&self, at: CallPlace) -> Option<&'a RecordedRow<T>> {
+        match self.recordings.get(at.recording) {
+            Some(rows) => rows.as_slice().get(at.row),
+            None => None,
+        }
+    }
+
+    /// The request of a call.
+    fn request(&self, at: CallPlace) -> Option<&'a Request> {
+        match self.row(at) {
+            Some(RecordedRow::Ask(_, _, request)) => Some(request),
+            _ => None,
+        }
+    }
+
+    /// The row so many rows behind another of the same recording.
+    fn behind(&self, at: CallPlace, rows: usize) -> Option<&'a RecordedRow<T>> {
+        self.row(CallPlace {
+            recording: at.recording,
+            row: at.row.saturating_add(rows),
+        })
+    }
+
+    /// The reply to a call, where one was seen.
+    fn reply(&self, at: CallPlace) -> Option<&'a Reply> {
+        match self.behind(at, 1) {
+            Some(RecordedRow::Reply(_, _, reply)) => Some(reply),
+            _ => None,
+        }
+    }
+
+    /// How many rows a call has: with its reply or its failure, where that was seen.
+    fn rows_of(&self, at: CallPlace) -> usize {
+        match self.behind(at, 1) {
+            Some(RecordedRow::Reply(..)) | Some(RecordedRow::Failed(..)) => 2,
+            _ => 1,
+        }
+    }
+
+    /// The operation that runs in a recording.
+    fn operation(&self, recording: usize) -> u64 {
+        match self.running.get(recording) {
+            Some(op) => *op,
+            None => 0,
+        }
+    }
+
+    /// The row that comes next in a recording.
+    fn next_row(&self, recording: usize) -> usize {
+        match self.next.get(recording) {
+            Some(row) => *row,
+            None => 0,
+        }
+    }
+
+    /// The row that comes next in a recording from here on.
+    fn go_on(&mut self, recording: usize, row: usize) {
+        if recording < self.next.len() {
+            self.next[recording] = row;
+        }
+    }
+
+    /// The operation that runs in a recording from here on.
+    fn runs(&mut self, recording: usize, op: u64) {
+        if recording < self.running.len() {
+            self.running[recording] = op;
+        }
+    }
+
+    /// The number of a call's ring, 0 where it has none.
+    fn ring(&self, at: CallPlace) -> u64 {
+        let mut number = 0u64;
+        for (place, call) in self.ringed.iter().enumerate() {
+            if *call == at {
+                number = (place as u64).saturating_add(1);
+            }
+        }
+        number
+    }
+
+    /// The answer that stands in the row that comes next in a recording, which is then taken.
+    fn answer(&mut self, recording: usize) -> Result<Option<Said>, AllocError> {
+        let row = self.next_row(recording);
+        match self.row(CallPlace { recording, row }) {
+            Some(RecordedRow::Answer(_, words)) => {
+                self.go_on(recording, row.saturating_add(1));
+                Ok(Some(said_of(self.alloc, words.as_str())?))
+            }
+            _ => Ok(None),
+        }
+    }
+
+    /// Tells a moment of a recording, with the answer that follows it there.
+    fn tell(
+        &mut self,
+        recording: usize,
+        kind: Kind,
+        words: String,
+        touch: Touch,
+        ring: u64,
+    ) -> Result<(), AllocError> {
+        let op = self.operation(recording);
+        let answer = self.answer(recording)?;
+        if answer.is_some() {
+            self.runs(recording, 0);
+        }
+        self.push(recording, op, kind, words, touch, ring, answer)
+    }
+
+    /// Adds a moment.
+    fn push(
+        &mut self,
+        recording: usize,
+        op: u64,
+        kind: Kind,
+        words: String,
+        touch: Touch,
+        ring: u64,
+        answer: Option<Said>,
+    ) -> Result<(), AllocError> {
+        let number = (self.moments.len() as u64).saturating_add(1);
+        let client = (recording as u64).saturating_add(1);
+        let left = Vec::new(self.alloc);
+        self.moments.push(Moment {
+            number,
+            kind,
+            client,
+            op,
+            words,
+            answer,
+            left,
+            touch,
+            ring,
+        })?;
+        Ok(())
+    }
+
+    /// The last moment leaves this call in flight.
+    fn leave(&mut self, at: CallPlace) -> Result<(), AllocError> {
+        self.loose.push(at)?;
+        let k = self.loose.len() as u64;
+        if let Some(moment) = self.moments.last_mut() {
+            moment.left.push(k)?;
+        }
+        Ok(())
+    }
+
+    /// Tells that a call begins.
+    fn begin(&mut self, recording: usize, row: usize, call: &Call<T>) -> Result<(), AllocError> {
+        self.go_on(recording, row.saturating_add(1));
+        self.begun = self.begun.saturating_add(1);
+        let op = self.begun;
+        self.runs(recording, op);
+        let called = Called(call);
+        let words = format!(in self.alloc; "{called}")?;
+        self.tell(recording, Kind::Begins, words, Touch::None, 0)
+    }
+
+    /// Tells that a call was asked whose reply nobody saw, and which has no place before this: it is in flight, where it may still
+    /// change something.
+    fn lose(&mut self, at: CallPlace, request: &Request) -> Result<(), AllocError> {
+        let asked = asked_by(request)?;
+        let is_loose = asked.is_loose();
+        drop(asked);
+        self.go_on(at.recording, at.row.saturating_add(self.rows_of(at)));
+        let ring = self.ring(at);
+        let words = String::new(self.alloc);
+        self.tell(at.recording, Kind::Fails, words, Touch::None, ring)?;
+        if is_loose {
+            self.leave(at)?;
+        }
+        Ok(())
+    }
+
+    /// Tells the row that comes next in a recording, which is no call that has a place here.
+    fn tell_row(&mut self, recording: usize) -> Result<(), AllocError> {
+        let row = self.next_row(recording);
+        let at = CallPlace { recording, row };
+        match self.row(at) {
+            Some(RecordedRow::Begin(_, call)) => self.begin(recording, row, call),
+            Some(RecordedRow::Ask(_, _, request)) => self.lose(at, request),
+            Some(RecordedRow::GiveUp(_)) => {
+                self.go_on(recording, row.saturating_add(1));
+                let words = String::new(self.alloc);
+                self.tell(recording, Kind::GivesUp, words, Touch::None, 0)?;
+                self.runs(recording, 0);
+                Ok(())
+            }
+            Some(RecordedRow::Answer(..)) => {
+                let words = String::new(self.alloc);
+                self.tell(recording, Kind::Looks, words, Touch::None, 0)
+            }
+            _ => {
+                self.go_on(recording, row.saturating_add(1));
+                Ok(())
+            }
+        }
+    }
+
+    /// Tells the rows of a recording before this.
+    fn tell_rows(&mut self, recording: usize, row: usize) -> Result<(), AllocError> {
+        for _ in 0..row {
+            if self.next_row(recording) < row {
+                self.tell_row(recording)?;
+            }
+        }
+        Ok(())
+    }
+
+    /// The number of a call in flight, 0 where it is none.
+    fn number_of(&self, at: CallPlace) -> u64 {
+        let mut number = 0u64;
+        for (place, call) in self.loose.iter().enumerate() {
+            if *call == at {
+                number = (place as u64).saturating_add(1);
+            }
+        }
+        number
+    }
+
+    /// Whether a call changes something that has this reply, or landed.
+    fn changes(&self, asked: &Asked, reply: Option<&Reply>) -> bool {
+        match (asked, reply) {
+            (Asked::Remove(id), _) => self.files.has(*id),
+            (_, Some(reply)) => has_changed(reply),
+            (_, None) => true,
+        }
+    }
+
+    /// Takes the store call that has its place here: what it did or saw.
+    fn touch(&mut self, at: CallPlace, request: &Request) -> Result<Touch, AllocError> {
+        let asked = asked_by(request)?;
+        let reply = self.reply(at);
+        let is_changed = self.changes(&asked, reply);
+        let touch = self.files.take(asked, is_changed)?;
+        match reply {
+            Some(reply) => seen_by(self.alloc, touch, reply),
+            None => Ok(touch),
+        }
+    }
+
+    /// Tells the store call that has its place here.
+    fn tell_call(&mut self, at: CallPlace) -> Result<(), AllocError> {
+        let Some(request) = self.request(at) else {
+            return Ok(());
+        };
+        let k = self.number_of(at);
+        let words = String::new(self.alloc);
+        if k != 0 {
+            let touch = self.touch(at, request)?;
+            return self.push(at.recording, 0, Kind::Lands(k), words, touch, 0, None);
+        }
+        self.tell_rows(at.recording, at.row)?;
+        let touch = self.touch(at, request)?;
+        let kind = if self.reply(at).is_some() {
+            Kind::Serves
+        } else {
+            Kind::Fails
+        };
+        self.go_on(at.recording, at.row.saturating_add(self.rows_of(at)));
+        let ring = self.ring(at);
+        self.tell(at.recording, kind, words, touch, ring)
+    }
+
+    /// Tells what is left of a recording, and that its client was killed, where it ends in the midst of a call.
+    fn finish(&mut self, recording: usize) -> Result<(), AllocError> {
+        let rows = match self.recordings.get(recording) {
+            Some(rows) => rows.len(),
+            None => 0,
+        };
+        self.tell_rows(recording, rows)?;
+        if self.operation(recording) != 0 {
+            let words = String::new(self.alloc);
+            self.push(recording, 0, Kind::Crashes, words, Touch::None, 0, None)?;
+        }
+        Ok(())
+    }
+}
+
+/// What recordings say happened, in this order of their store calls; calls that are not in it took no effect. These calls have
+/// rings. The only error is want of memory.
+pub fn moments_of<T: LineValue>(
+    alloc: Global,
+    recordings: &[Vec<RecordedRow<T>>],
+    order: &[Placed],
+    ringed: &[CallPlace],
+) -> Result<Vec<Moment>, AllocError> {
+    let mut next = Vec::new(alloc);
+    next.resize(recordings.len(), 0)?;
+    let mut running = Vec::new(alloc);
+    running.resize(recordings.len(), 0)?;
+    let mut telling = Telling {
+        alloc,
+        recordings,
+        ringed,
+        next,
+        running,
+        begun: 0,
+        loose: Vec::new(alloc),
+        files: Files::new(alloc),
+        moments: Vec::new(alloc),
+    };
+    for placed in order {
+        telling.tell_call(placed.call)?;
+    }
+    for recording in 0..recordings.len() {
+        telling.finish(recording)?;
+    }
+    let Telling { moments, .. } = telling;
+    Ok(moments)
+}

@@ -1,6 +1,0 @@
-use Rattle.txn_threads.specs.Kept.{AreFirst}
-use Rattle.txn_threads.proofs.kept.first_shares.Given as goal
-
--- a share for each number so far
-abbrev pub invariant-loop-before : goal.invariant-loop-before
-invariant-loop-before l = AreFirst l.before l.shares.items
