@@ -2,10 +2,10 @@
 use percent_encoding::{AsciiSet, CONTROLS, ascii_set, percent_encode};
 use slatedb_txn_obj::TransactionalObjectError;
 use std::fmt;
-use txn_steps_boundary::caches::CachedBoundary;
 use txn_history::event::{Answer, PlainAnswer};
 use txn_script_lines::printed::Answered;
 use txn_script_lines::record::Record;
+use txn_steps_boundary::caches::CachedBoundary;
 use txn_store::failing::Counts;
 use txn_store::store::Got;
 

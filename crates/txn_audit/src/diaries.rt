@@ -5,10 +5,10 @@ ghost use Rattle.txn_diary.specs.Diaries.{as_diary, IsMadeWith};
 ghost use Rattle.txn_audit.specs.Audits.{AuditsDiaries};
 
 use crate::audit::audit;
-use txn_diary::diary::Diary;
 use txn_client_journals::audited::Logged;
 use txn_client_journals::fault::AuditFault;
 use txn_client_journals::laws::clients_share_only_the_store;
+use txn_diary::diary::Diary;
 use txn_store_types::codec::ObjectCodec;
 use txn_store_types::epoch::EpochField;
 

@@ -7,13 +7,13 @@ ghost use Rattle.txn_audit.specs.HistoryEnds.{HistoriesEndAt, IsEntered, created
 
 use std::alloc::{AllocError, Global};
 use std::collections::HashSet;
-use txn_client_tables::layout::world_layout;
 use txn_client_journals::audited::Logged;
 use txn_client_journals::rows::LogRow;
-use txn_world_rows::requests::{boundary_after, created_id};
+use txn_client_tables::layout::world_layout;
 use txn_store::path::Path;
 use txn_store::request::{Reply, Request};
 use txn_store::version_names::VersionNames;
+use txn_world_rows::requests::{boundary_after, created_id};
 
 /// How a history ends.
 #[derive(Clone, Copy, Debug, PartialEq, Eq)]

@@ -10,10 +10,10 @@ ghost use Rattle.txn_audit_recordings.specs.Recordings.{is_first, IsOfObject, Is
 use crate::texts::lines_in;
 use std::alloc::{AllocError, Global};
 use std::fmt;
-use txn_script_lines::text_form::LineValue;
 use txn_audit_rows::read::{TextFault, read_row};
 use txn_audit_rows::row::RecordedRow;
 use txn_audit_rows::source::{Source, read_source};
+use txn_script_lines::text_form::LineValue;
 
 /// What is wrong with a line that is not taken.
 #[derive(Clone, Copy, Debug, PartialEq, Eq)]

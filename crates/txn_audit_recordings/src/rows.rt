@@ -7,12 +7,12 @@ ghost use Rattle.txn_audit_recordings.specs.RowLines.{row_line};
 use std::alloc::{AllocError, Global};
 use std::io;
 use std::io::Write;
-use txn_history::event::{Answer, Call};
-use txn_script_lines::text_form::LineValue;
 use txn_audit_rows::source::Source;
 use txn_audit_rows::written::{
     answer_row, ask_row, begin_row, client_row, failed_row, give_up_row, reply_row, source_row,
 };
+use txn_history::event::{Answer, Call};
+use txn_script_lines::text_form::LineValue;
 use txn_store::request::{Reply, Request};
 
 /// Adds a row and its line feed, by one write. The error is that of the writer or want of memory, here and below: a part of the

@@ -11,13 +11,13 @@ use crate::replay::{places_of, replay};
 use std::alloc::{AllocError, Global};
 use std::collections::HashSet;
 use txn_audit::diaries::audit_diaries;
-use txn_diary::diary::Diary;
 use txn_audit_effects::clock::Clock;
-use txn_client_journals::fault::AuditFault;
-use txn_script_lines::text_form::LineValue;
-use txn_client_logs::honest::HonestLog;
 use txn_audit_order::order::{CallPlace, order};
 use txn_audit_rows::row::RecordedRow;
+use txn_client_journals::fault::AuditFault;
+use txn_client_logs::honest::HonestLog;
+use txn_diary::diary::Diary;
+use txn_script_lines::text_form::LineValue;
 use txn_store_types::codec::ObjectCodec;
 use txn_store_types::epoch::EpochField;
 

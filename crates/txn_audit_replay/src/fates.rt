@@ -8,14 +8,14 @@ ghost use Rattle.txn_audit_replay.specs.Undecided.{version_in, boundary_in, file
 
 use bytes::Bytes;
 use std::alloc::{AllocError, Global};
-use txn_client_tables::layout::world_layout;
 use txn_audit_rows::row::RecordedRow;
-use txn_world_rows::requests::version_of;
+use txn_client_tables::layout::world_layout;
 use txn_store::path::Path;
 use txn_store::request::{Reply, Request};
 use txn_store::version_names::VersionNames;
 use txn_store_types::boundary::read_boundary;
 use txn_store_types::layout::Layout;
+use txn_world_rows::requests::version_of;
 
 /// A file as it is put.
 #[derive(Clone, Copy)]

@@ -12,9 +12,9 @@ use crate::times::AskedSoFar;
 use std::alloc::{AllocError, Global};
 use std::collections::HashSet;
 use txn_audit_effects::clock::{Clock, clock_of};
-use txn_client_journals::rows::LogRow;
 use txn_audit_order::order::{CallPlace, Placed};
 use txn_audit_rows::row::RecordedRow;
+use txn_client_journals::rows::LogRow;
 
 /// What is kept of the calls of an order while they are replayed.
 #[derive(Drop)]

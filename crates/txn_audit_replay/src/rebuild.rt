@@ -9,9 +9,9 @@ ghost use Rattle.txn_audit_replay.specs.Stages.{Goes, IsSameClient, IsOpened};
 use crate::fault::RowFault;
 use crate::stage::{Rebuilding, Stage};
 use std::alloc::Global;
+use txn_audit_rows::row::RecordedRow;
 use txn_diary::diary::Diary;
 use txn_script_lines::text_form::LineValue;
-use txn_audit_rows::row::RecordedRow;
 use txn_store_types::codec::ObjectCodec;
 use txn_store_types::epoch::EpochField;
 

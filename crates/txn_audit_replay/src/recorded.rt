@@ -8,9 +8,9 @@ ghost use Rattle.txn_audit_replay.specs.Calls.{EndsWith, HasCall, IsCall};
 ghost use Rattle.txn_audit_replay.specs.Places.{seen_reply, as_call, IsReplied};
 
 use crate::refusal::Refusal;
-use txn_client_journals::rows::LogRow;
 use txn_audit_order::order::CallPlace;
 use txn_audit_rows::row::RecordedRow;
+use txn_client_journals::rows::LogRow;
 use txn_store::request::{Reply, Request};
 
 /// A recorded call: where it is, its client, its operation, when and what it asked, and its reply where one was seen, with the

@@ -7,11 +7,11 @@ use crate::placing::Placing;
 use crate::refusal::Refusal;
 use std::alloc::{AllocError, Global};
 use txn_audit_effects::clock::Clock;
+use txn_audit_order::order::Placed;
+use txn_audit_rows::row::RecordedRow;
 use txn_client_journals::audited::Logged;
 use txn_client_logs::fault::LogFault;
 use txn_client_logs::honest::HonestLog;
-use txn_audit_order::order::Placed;
-use txn_audit_rows::row::RecordedRow;
 
 /// For each recording the places of its replies in an order.
 pub(crate) fn places_of(

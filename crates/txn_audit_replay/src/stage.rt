@@ -14,14 +14,14 @@ ghost use Rattle.txn_audit_replay.specs.declared.stage.Stage.TheVariants as stag
 use crate::fault::RowFault;
 use std::alloc::Global;
 use std::mem;
-use txn_steps_boundary::ask::Ask;
-use txn_diary::diary::Diary;
-use txn_history::event::{Call, Told};
+use txn_audit_rows::row::RecordedRow;
 use txn_client_journals::rows::Receipt;
 use txn_client_journals::same::same_request;
+use txn_diary::diary::Diary;
+use txn_history::event::{Call, Told};
 use txn_script_lines::printed;
 use txn_script_lines::text_form::LineValue;
-use txn_audit_rows::row::RecordedRow;
+use txn_steps_boundary::ask::Ask;
 use txn_store::request::{Reply, Request};
 use txn_store_types::codec::ObjectCodec;
 use txn_store_types::epoch::EpochField;

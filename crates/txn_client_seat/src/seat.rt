@@ -6,15 +6,15 @@ use crate::turns::{self, Kept, Waiting};
 use crate::waiting::{drop_at, find};
 use std::alloc::{AllocError, Global};
 use std::marker::Model;
-use txn_steps_boundary::ask::Ask;
 use txn_client_tables::layout::world_layout;
 use txn_diary::keeper::Keeper;
-use txnobj_values::entry::{Entry, EntryCodec, EntryEpoch};
 use txn_history::event::{Answer, Call, EventFault};
 use txn_history::view::View;
+use txn_steps_boundary::ask::Ask;
 use txn_store::request::Reply;
 use txn_store::version_names::VersionNames;
 use txn_store_types::layout::Layout;
+use txnobj_values::entry::{Entry, EntryCodec, EntryEpoch};
 
 /// One client of entries, whose caller begins calls, makes the store calls that they ask for, and hands in the replies. An
 /// operation that ended has its answer waiting here until its caller lets it go.

@@ -8,14 +8,14 @@ ghost use Rattle.txn_client_seat.specs.Seats.{seat_of, IsBegin, IsLook, IsTake, 
 
 use crate::kinds::{has_failed, is_of_kind};
 use crate::waiting::wait;
-use txn_steps_boundary::ask::Ask;
+use txn_client_journals::rows::Receipt;
 use txn_client_tables::operations::request_of;
 use txn_client_tables::refusals::ask_refusal;
 use txn_diary::keeper::Keeper;
-use txnobj_values::entry::{Entry, EntryCodec, EntryEpoch};
 use txn_history::event::{Answer, Call, EventFault};
-use txn_client_journals::rows::Receipt;
+use txn_steps_boundary::ask::Ask;
 use txn_store::request::{Reply, Request};
+use txnobj_values::entry::{Entry, EntryCodec, EntryEpoch};
 
 /// A client of entries.
 pub(crate) type Kept = Keeper<Entry, EntryCodec, EntryEpoch>;

@@ -9,9 +9,9 @@ ghost use Rattle.txn_machine.specs.Doing as any;
 ghost use Rattle.txn_client_tables.specs.Operations.{asked_by, request_of, loose_of, usage_of, TakesReply, Ends, TakesTurn};
 
 use std::alloc::{AllocError, Global};
+use txn_machine::doing::{Doing, Ending, Operation};
 use txn_steps_boundary::ask::Ask;
 use txn_steps_boundary::caches::Caches;
-use txn_machine::doing::{Doing, Ending, Operation};
 use txn_store::request::{Reply, Request};
 use txn_store_types::codec::ObjectCodec;
 use txn_store_types::epoch::EpochField;

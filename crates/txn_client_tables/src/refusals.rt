@@ -8,9 +8,9 @@ ghost use Rattle.txn_machine_plain.specs.Doing.{asks_as};
 ghost use Rattle.txn_client_tables.specs.Views.{seen_with};
 
 use crate::views::{ViewTable, get};
-use txn_steps_boundary::ask::Ask;
 use txn_history::event::{Call, EventFault, PlainCall, ViewCall};
 use txn_history::view::View;
+use txn_steps_boundary::ask::Ask;
 
 /// Why an operation that asks for this is refused a look, or a store call: it has ended, or asks for the other.
 #[inline(always)]

@@ -5,8 +5,8 @@ ghost use Rattle.txn_client_journals.specs.Verdict.{receipts_in};
 ghost use Rattle.txn_diary.specs.Reading.{op_of, begun_by, with_answer, answers_from, receipt_of, as_receipts};
 
 use std::alloc::{AllocError, Global};
-use txn_history::event::Answer;
 use txn_client_journals::rows::{Act, JournalRow, Receipt, Step};
+use txn_history::event::Answer;
 use txn_store_types::room::push_within;
 
 /// The operation that a step is of, where so many began before it: 0 for a kill.

@@ -9,11 +9,11 @@ ghost use Rattle.txn_machine_plain.specs.Doing.{asks_as, first_of};
 ghost use Rattle.txn_diary.specs.Keepers.{IsReceiptFault, IsReplyFault};
 ghost use Rattle.txn_client_logs.specs.Logged.{IsOfKind};
 
-use txn_steps_boundary::ask::Ask;
-use txn_client_tables::views::Answers;
-use txn_history::event::{EventFault, Told};
 use txn_client_journals::rows::{Act, JournalRow, Receipt, Step};
 use txn_client_journals::same::same_request;
+use txn_client_tables::views::Answers;
+use txn_history::event::{EventFault, Told};
+use txn_steps_boundary::ask::Ask;
 use txn_store::request::{Reply, Request};
 use txn_store_types::room::push_within;
 

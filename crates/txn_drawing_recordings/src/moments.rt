@@ -1,15 +1,15 @@
 //! What recordings say happened, in an order of their store calls.
 
 use std::alloc::{AllocError, Global};
+use txn_audit_order::order::{CallPlace, Placed};
+use txn_audit_rows::row::RecordedRow;
+use txn_drawing_moments::moment::{Kind, Moment, Said, Touch};
+use txn_drawing_touches::asked::{Asked, asked_by};
+use txn_drawing_touches::files::Files;
 use txn_history::event::Call;
 use txn_script_lines::called::Called;
 use txn_script_lines::text_form::LineValue;
-use txn_drawing_moments::moment::{Kind, Moment, Said, Touch};
-use txn_audit_order::order::{CallPlace, Placed};
-use txn_audit_rows::row::RecordedRow;
 use txn_store::request::{Reply, Request};
-use txn_drawing_touches::asked::{Asked, asked_by};
-use txn_drawing_touches::files::Files;
 use txn_store_types::boundary::read_boundary;
 
 /// Recordings of which the moments are told.

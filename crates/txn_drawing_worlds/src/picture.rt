@@ -15,17 +15,17 @@ use crate::traced::Traced;
 use crate::worded::Worded;
 use std::alloc::Global;
 use std::io::{Read, Write};
+use txn_drawing_svg::head::Title;
+use txn_drawing_svg::picture::drawn;
 use txn_history::event::Call;
+use txn_manifest::manifest::Manifest;
+use txn_script::printer::Printer;
+use txn_script::script::{exit_status, play_world, print_end};
 use txn_script_lines::record::{Record, RecordCodec, RecordEpoch};
 use txn_script_lines::stop::Stop;
 use txn_script_lines::text_form::{LineValue, TextForm};
-use txn_manifest::manifest::Manifest;
 use txn_script_manifests::call::ManifestCall;
 use txn_script_manifests::scripted::Scripted;
-use txn_script::printer::Printer;
-use txn_script::script::{exit_status, play_world, print_end};
-use txn_drawing_svg::head::Title;
-use txn_drawing_svg::picture::drawn;
 use txn_world::world::World;
 
 /// The most events of a picture.

@@ -3,15 +3,15 @@
 use crate::seen::SeenWorld;
 use crate::worded::{EventWords, Worded};
 use std::alloc::{AllocError, Global};
-use txn_steps_boundary::ask::Ask;
-use txn_history::event::{Answer, EventOf, Failure, PlainAnswer, Told};
-use txn_history::trace::{Row, RowOf};
-use txn_script_lines::printed::Answered;
-use txn_script_lines::text_form::LineValue;
 use txn_drawing_moments::moment::{Kind, Moment, Said, Touch};
-use txn_script::kind::Came;
 use txn_drawing_touches::asked::{Asked, asked_by};
 use txn_drawing_touches::files::Files;
+use txn_history::event::{Answer, EventOf, Failure, PlainAnswer, Told};
+use txn_history::trace::{Row, RowOf};
+use txn_script::kind::Came;
+use txn_script_lines::printed::Answered;
+use txn_script_lines::text_form::LineValue;
+use txn_steps_boundary::ask::Ask;
 
 /// A request in flight.
 #[derive(Drop)]

@@ -1,13 +1,13 @@
 //! What a drawing sees of a world beside what a script prints.
 
-use txn_steps_boundary::ask::Ask;
 use txn_history::event::Call;
 use txn_history::trace::Row;
-use txn_script_lines::record::{Record, RecordCodec, RecordEpoch};
 use txn_manifest::manifest::Manifest;
+use txn_script::kind::ScriptWorld;
+use txn_script_lines::record::{Record, RecordCodec, RecordEpoch};
 use txn_script_manifests::call::ManifestCall;
 use txn_script_manifests::scripted::Scripted;
-use txn_script::kind::ScriptWorld;
+use txn_steps_boundary::ask::Ask;
 use txn_world::world::World;
 
 /// A world that scripts run, and that shows what its operations ask for and what happened.

@@ -11,16 +11,16 @@ use crate::traced::Traced;
 use crate::worded::Worded;
 use std::alloc::Global;
 use std::io::{Read, Write};
+use txn_drawing_moments::lanes::drawn;
 use txn_history::event::Call;
+use txn_manifest::manifest::Manifest;
+use txn_script::printer::Printer;
+use txn_script::script::{exit_status, play_world, print_end};
 use txn_script_lines::record::{Record, RecordCodec, RecordEpoch};
 use txn_script_lines::stop::Stop;
 use txn_script_lines::text_form::{LineValue, TextForm};
-use txn_manifest::manifest::Manifest;
 use txn_script_manifests::call::ManifestCall;
 use txn_script_manifests::scripted::Scripted;
-use txn_drawing_moments::lanes::drawn;
-use txn_script::printer::Printer;
-use txn_script::script::{exit_status, play_world, print_end};
 use txn_world::world::World;
 
 /// Reads a script of worlds of the kind `K` and draws what happens in it as text, with the end lines of the script at its foot.

@@ -9,8 +9,8 @@ use crate::worded::Worded;
 use std::alloc::{AllocError, Global};
 use txn_history::event::EventOf;
 use txn_history::view::View;
-use txn_script_lines::text_form::LineValue;
 use txn_script::kind::{Came, ScriptWorld};
+use txn_script_lines::text_form::LineValue;
 
 /// A world, and what happened in it. For a script it is that world: contracts see its state.
 #[derive(Drop)]

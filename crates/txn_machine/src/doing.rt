@@ -14,21 +14,21 @@ use crate::work::Work;
 use std::alloc::{AllocError, Global};
 use std::marker::Model;
 use std::mem;
-use txn_steps_boundary::ask::Ask;
-use txn_steps_boundary::turned::Turned;
 use txn_history::event::{Call, PlainAnswer, ViewCall};
 use txn_history::view::View;
 use txn_machine_plain::doing::{PlainDoing, start as start_plain};
-use txn_store_types::codec::ObjectCodec;
-use txn_store_types::epoch::EpochField;
-use txn_store_types::id::MonotonicId;
-use txn_store_types::layout::Layout;
-use txn_store_types::step_error::StepError;
+use txn_steps_boundary::ask::Ask;
+use txn_steps_boundary::turned::Turned;
 use txn_steps_views::claim::ClaimOp;
 use txn_steps_views::entry::EntryOp;
 use txn_steps_views::op::ViewOp;
 use txn_steps_views::outcome::{Outcome, ViewAnswer};
 use txn_steps_views::view_read::{Purpose, ViewReadOp};
+use txn_store_types::codec::ObjectCodec;
+use txn_store_types::epoch::EpochField;
+use txn_store_types::id::MonotonicId;
+use txn_store_types::layout::Layout;
+use txn_store_types::step_error::StepError;
 
 /// What an operation does next. One that was answered, or given up, is a plain one that has ended.
 pub enum Doing<T> {

@@ -7,11 +7,6 @@ ghost use Rattle.txn_machine_plain.specs.Doing.{is_write, started, write_answer,
 
 use std::alloc::{AllocError, Global};
 use std::mem;
-use txn_steps_boundary::advance::AdvanceOp;
-use txn_steps_boundary::ask::Ask;
-use txn_steps_boundary::caches::Caches;
-use txn_steps_boundary::check::CheckOp;
-use txn_steps_boundary::turned::Turned;
 use txn_history::event::{PlainAnswer, PlainCall};
 use txn_history::ids::Ids;
 use txn_steps::delete::DeleteOp;
@@ -20,6 +15,11 @@ use txn_steps::read::ReadOp;
 use txn_steps::seen::{ReadSeenOp, ReadUncheckedOp};
 use txn_steps::versions::Versions;
 use txn_steps::write::{WriteOp, WriteUncheckedOp};
+use txn_steps_boundary::advance::AdvanceOp;
+use txn_steps_boundary::ask::Ask;
+use txn_steps_boundary::caches::Caches;
+use txn_steps_boundary::check::CheckOp;
+use txn_steps_boundary::turned::Turned;
 use txn_store::request::Reply;
 use txn_store_types::codec::ObjectCodec;
 use txn_store_types::id::MonotonicId;

@@ -8,10 +8,10 @@ ghost use Rattle.txn_script_manifests.specs.declared.call.OwnCall.{OwnCall};
 
 use std::alloc::{AllocError, Global};
 use txn_history::event::{Call, Event, EventOf};
-use txn_script_lines::numerals::{read_decimal, read_pair};
-use txn_script_lines::text_form::TextForm;
 use txn_manifest::event::ManifestEvent;
 use txn_manifest::manifest::Manifest;
+use txn_script_lines::numerals::{read_decimal, read_pair};
+use txn_script_lines::text_form::TextForm;
 
 /// What a client asks for that only manifests have. The first number is that of its view.
 #[derive(Clone, Copy, Debug, PartialEq, Eq)]

@@ -9,11 +9,11 @@ use crate::call::{ManifestCall, as_manifests, event_of};
 use std::alloc::{AllocError, Global};
 use txn_history::event::{EventFault, EventOf};
 use txn_history::view::View;
-use txn_script_lines::printed::{FaultLine, fault_name as world_fault_name};
 use txn_manifest::event::ManifestFault;
 use txn_manifest::manifest::{Manifest, ManifestCodec, ManifestEpoch};
 use txn_manifest::world::ManifestWorld;
 use txn_script::kind::{Came, ScriptWorld};
+use txn_script_lines::printed::{FaultLine, fault_name as world_fault_name};
 use txn_world::world::World;
 
 /// The name of a fault.

@@ -20,11 +20,11 @@ ghost use Rattle.txn_steps_driven.specs.WriteRuns.{CanWrite};
 
 use crate::replies::reply_to;
 use std::alloc::Global;
-use txn_steps_boundary::caches::Caches;
-use txn_steps_boundary::turned::Turned;
 use txn_steps::delete::{DeleteAnswer, DeleteUncheckedOp};
 use txn_steps::listing::{ListAnswer, ListOp};
 use txn_steps::write::{WriteAnswer, WriteUncheckedOp};
+use txn_steps_boundary::caches::Caches;
+use txn_steps_boundary::turned::Turned;
 use txn_store::store::ObjectStore;
 use txn_store_types::codec::ObjectCodec;
 use txn_store_types::layout::Layout;

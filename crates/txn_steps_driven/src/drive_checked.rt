@@ -16,12 +16,12 @@ ghost use Rattle.txn_steps_driven.specs.DriveSteps.{CanCheck, CheckSteps, CanAdv
 
 use crate::drive::{At, Drive};
 use crate::replies::reply_to;
+use txn_steps::delete::{DeleteAnswer, DeleteOp};
+use txn_steps::write::{WriteAnswer, WriteOp};
 use txn_steps_boundary::advance::AdvanceOp;
 use txn_steps_boundary::caches::Caches;
 use txn_steps_boundary::check::CheckOp;
 use txn_steps_boundary::turned::Turned;
-use txn_steps::delete::{DeleteAnswer, DeleteOp};
-use txn_steps::write::{WriteAnswer, WriteOp};
 use txn_store::store::ObjectStore;
 use txn_store_types::step_error::StepError;
 

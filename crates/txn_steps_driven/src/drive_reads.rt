@@ -10,11 +10,11 @@ ghost use Rattle.txn_steps_driven.specs.DriveSteps.{CanReadSeen, SeenSteps, CanR
 
 use crate::drive::{At, Drive};
 use crate::replies::reply_to;
-use txn_steps_boundary::caches::Caches;
-use txn_steps_boundary::turned::Turned;
 use txn_steps::latest::{LatestOp, ReadAnswer};
 use txn_steps::read::ReadOp;
 use txn_steps::seen::{ReadSeenOp, ValueAnswer};
+use txn_steps_boundary::caches::Caches;
+use txn_steps_boundary::turned::Turned;
 use txn_store::store::ObjectStore;
 use txn_store_types::codec::ObjectCodec;
 use txn_store_types::layout::Layout;

@@ -3,9 +3,9 @@ ghost use Rattle.txn_steps_driven.specs.WriteRuns.{Written};
 
 use crate::replies::reply_to;
 use std::alloc::Global;
+use txn_steps::write::{WriteAnswer, WriteUncheckedOp};
 use txn_steps_boundary::turned::Turned;
 use txn_steps_boundary::window::Window;
-use txn_steps::write::{WriteAnswer, WriteUncheckedOp};
 use txn_store::store::ObjectStore;
 use txn_store_types::codec::ObjectCodec;
 use txn_store_types::id::MonotonicId;

@@ -5,11 +5,11 @@ use txn_steps_boundary::caches::Caches;
 use txn_steps_boundary::turned::Turned;
 use txn_steps_driven::drive::{At, Drive};
 use txn_steps_driven::replies::reply_to;
+use txn_steps_views::claim::ClaimOp;
+use txn_steps_views::outcome::ViewAnswer;
 use txn_store::store::ObjectStore;
 use txn_store_types::codec::ObjectCodec;
 use txn_store_types::epoch::EpochField;
-use txn_steps_views::claim::ClaimOp;
-use txn_steps_views::outcome::ViewAnswer;
 
 /// A claim writes its view's value with the next epoch, or with the one that is asked for, and where that is overtaken reads
 /// the newest version and tries again. It asks that a clone is the same value.

@@ -5,9 +5,9 @@ use txn_steps_boundary::caches::Caches;
 use txn_steps_boundary::turned::Turned;
 use txn_steps_driven::drive::{At, Drive};
 use txn_steps_driven::replies::reply_to;
-use txn_store::store::ObjectStore;
 use txn_steps_views::entry::EntryOp;
 use txn_steps_views::outcome::ViewAnswer;
+use txn_store::store::ObjectStore;
 
 /// It writes the first version, and makes a view of it; or it writes on a view's version, also on a holder's, and moves the
 /// view to it.

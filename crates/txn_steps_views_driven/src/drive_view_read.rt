@@ -5,11 +5,11 @@ use txn_steps_boundary::caches::Caches;
 use txn_steps_boundary::turned::Turned;
 use txn_steps_driven::drive::{At, Drive};
 use txn_steps_driven::replies::reply_to;
+use txn_steps_views::outcome::ViewAnswer;
+use txn_steps_views::view_read::ViewReadOp;
 use txn_store::store::ObjectStore;
 use txn_store_types::codec::ObjectCodec;
 use txn_store_types::epoch::EpochField;
-use txn_steps_views::outcome::ViewAnswer;
-use txn_steps_views::view_read::ViewReadOp;
 
 /// It reads the newest version, and makes a view of it or moves its view to it; for a holder it tests the epoch. It asks that a
 /// clone is the same value.

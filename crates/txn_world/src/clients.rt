@@ -12,16 +12,16 @@ ghost use Rattle.txn_world.specs.Running.{runs_for, requests_left, ended_where};
 use crate::numbers::{clear, new_sets};
 use std::alloc::{AllocError, Global};
 use std::collections::HashSet;
-use txn_steps_boundary::caches::Caches;
 use txn_client_tables::operations::{self, Usage, asked, loose_copy, runs};
 use txn_machine::doing::{Doing, Ending, Operation};
 use txn_machine::work::Work;
-use txn_world_rows::sets::ascending;
+use txn_steps_boundary::caches::Caches;
 use txn_store::request::{Reply, Request};
 use txn_store_types::codec::ObjectCodec;
 use txn_store_types::epoch::EpochField;
 use txn_store_types::layout::Layout;
 use txn_store_types::room::push_within;
+use txn_world_rows::sets::ascending;
 
 /// Adds a request as a loose one, where there is one, where there is room.
 pub(crate) fn push_loose(loose: &mut Vec<(u64, Request)>, op: u64, copy: Option<Request>)

@@ -15,9 +15,9 @@ use crate::views::Views;
 use txn_client_tables::operations::Usage;
 use txn_history::event::{Answer, PlainAnswer, Told};
 use txn_machine::doing::Ending;
-use txn_world_rows::trace::Trace;
 use txn_store_types::codec::ObjectCodec;
 use txn_store_types::epoch::EpochField;
+use txn_world_rows::trace::Trace;
 
 /// What the end of an operation, where it ends, leaves of its view and adds to the rows, and what is told: the answer, or
 /// that the operation went on.

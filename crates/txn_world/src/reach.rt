@@ -12,11 +12,11 @@ ghost use Rattle.txn_world.specs.Reaching.{IsServed};
 use std::alloc::{AllocError, Global};
 use txn_client_tables::operations::{asked, request_of};
 use txn_machine::doing::Operation;
-use txn_world_rows::trace::Trace;
 use txn_store::in_memory::InMemory;
 use txn_store::request::{Reply, Request};
 use txn_store_types::codec::ObjectCodec;
 use txn_store_types::epoch::EpochField;
+use txn_world_rows::trace::Trace;
 
 /// A copy of a request that changes the store where it is done, for the trace: of a put, or of the
 /// removal of a file that is there.

@@ -6,20 +6,20 @@ use crate::ends::{refuse, tell, tell_begin};
 use crate::reach::{Taker, reach, reach_asked};
 use crate::views::Views;
 use std::alloc::{AllocError, Global};
-use txn_steps_boundary::ask::Ask;
 use txn_client_tables::calls::view_used;
 use txn_client_tables::layout::world_layout;
 use txn_client_tables::operations::{Usage, asked, loose_copy};
 use txn_history::event::{Call, Event, EventFault, Failure, Told};
 use txn_history::trace::Row;
 use txn_machine::doing::{is_claim, start};
-use txn_world_rows::sets::ascending;
-use txn_world_rows::trace::Trace;
+use txn_steps_boundary::ask::Ask;
 use txn_store::in_memory::InMemory;
 use txn_store::request::Request;
 use txn_store_types::codec::ObjectCodec;
 use txn_store_types::epoch::EpochField;
 use txn_store_types::room::push_within;
+use txn_world_rows::sets::ascending;
+use txn_world_rows::trace::Trace;
 
 /// All that a world keeps.
 #[derive(Drop)]

@@ -18,13 +18,13 @@ ghost use Rattle.txn_world.specs.Runs.{EndsRun};
 use crate::tables::Tables;
 use std::alloc::{AllocError, Global};
 use std::marker::Model;
-use txn_steps_boundary::ask::Ask;
 use txn_history::event::{Event, EventFault, Told};
 use txn_history::trace::Row;
 use txn_history::view::View;
-use txn_world_rows::entries::entries_of;
+use txn_steps_boundary::ask::Ask;
 use txn_store_types::codec::ObjectCodec;
 use txn_store_types::epoch::EpochField;
+use txn_world_rows::entries::entries_of;
 
 /// Clients over one store. Contracts see its codec, where its values keep their epochs, and the state that
 /// its events lead to.

@@ -4,8 +4,8 @@ ghost use Rattle.txn_store_types.specs.Clones.{IsExactClone};
 ghost use Rattle.txn_world_finish.specs.Finishing.{Finishes, Stops};
 ghost use Rattle.txn_world_finish.specs.Telling.{answer_told};
 
-use txn_steps_boundary::ask::Ask;
 use txn_history::event::{Answer, EventFault, Told};
+use txn_steps_boundary::ask::Ask;
 use txn_store_types::codec::ObjectCodec;
 use txn_store_types::epoch::EpochField;
 use txn_world::world::World;

@@ -4,9 +4,9 @@ ghost use Rattle.txn_store_types.specs.Clones.{IsExactClone};
 
 use crate::caller::{Caller, Heard, Next, Numbered, hear};
 use std::sync::{Mutex, Wait};
+use txn_client_logs::logged::LoggedStore;
 use txn_diary::diary::Diary;
 use txn_history::event::EventFault;
-use txn_client_logs::logged::LoggedStore;
 use txn_store_types::codec::ObjectCodec;
 use txn_store_types::epoch::EpochField;
 

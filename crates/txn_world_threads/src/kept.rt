@@ -9,8 +9,8 @@ ghost use Rattle.txn_world_threads.specs.Kept.{one_more, AreCounts, AreFirst, Ar
 
 use std::alloc::{AllocError, Global};
 use std::marker::Model;
-use txn_steps_boundary::ask::Ask;
 use txn_history::event::{Event, EventFault, Told};
+use txn_steps_boundary::ask::Ask;
 use txn_store_types::codec::ObjectCodec;
 use txn_store_types::epoch::EpochField;
 use txn_store_types::room::push_within;

@@ -11,9 +11,9 @@ use crate::client::Client;
 use crate::copied::{bytes_answered, copy_bytes, copy_ids, ids_answered};
 use crate::told::{Answered, answer_told, runs};
 use std::alloc::Global;
+use txn_history::event::Answer;
 use txn_steps_boundary::ask::Ask;
 use txnobj_values::entry::Entry;
-use txn_history::event::Answer;
 
 /// Whether an operation that asks for this, or for nothing, runs.
 fn is_running(ask: Option<Ask<'_>>) -> bool

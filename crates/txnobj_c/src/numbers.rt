@@ -6,11 +6,11 @@ ghost use Rattle.txnobj_c.specs.Numbers.{based, bounded, entry_of, error_of, or_
 use bytes::Bytes;
 use std::alloc::{AllocError, Global};
 use std::ops::Bound;
-use txnobj_values::entry::Entry;
 use txn_store::page::{Listing, Page};
 use txn_store::request::Reply;
 use txn_store::store::{Got, ObjectMeta, StoreError, Token};
 use txn_store::version_names::VersionNames;
+use txnobj_values::entry::Entry;
 
 /// The base of a write: none for 0.
 pub(crate) fn based(id: u64) -> Option<u64>

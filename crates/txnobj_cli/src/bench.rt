@@ -8,13 +8,13 @@ use std::alloc::{AllocError, Global};
 use std::rt::Clock;
 use std::str;
 use txn_client_tables::layout::world_layout;
-use txnobj_values::entry::EntryCodec;
-use txn_folder_files::written::nanos_of;
 use txn_folder::store::FolderStore;
+use txn_folder_files::written::nanos_of;
 use txn_store::request::{Reply, Request};
 use txn_store::store::{PutMode, StoreError};
 use txn_store_types::boundary::read_boundary;
 use txn_store_types::layout::{Layout, PAGE};
+use txnobj_values::entry::EntryCodec;
 use txnobj_words::options::Options;
 
 /// A number whose versions are kept in a folder, as one client knows it.

@@ -5,17 +5,17 @@ use crate::ending::{Halt, NOT_ONE_HISTORY};
 use std::alloc::{AllocError, Global};
 use std::io::Write;
 use txn_audit_effects::clock::Clock;
-use txnobj_values::entry::{Entry, EntryCodec, EntryEpoch};
-use txn_drawing_moments::lanes;
-use txn_drawing_moments::moment::Moment;
 use txn_audit_order::order::{CallPlace, OrderFault, Placed, order};
-use txn_drawing_recordings::moments::moments_of;
-use txn_drawing_recordings::times::by_time;
 use txn_audit_recordings::recordings::Recordings;
 use txn_audit_replay::audit::OneHistory;
 use txn_audit_replay::refusal::Refusal;
+use txn_drawing_moments::lanes;
+use txn_drawing_moments::moment::Moment;
+use txn_drawing_recordings::moments::moments_of;
+use txn_drawing_recordings::times::by_time;
 use txn_drawing_svg::head::Title;
 use txn_drawing_svg::picture;
+use txnobj_values::entry::{Entry, EntryCodec, EntryEpoch};
 
 /// The most store calls and answers of a drawing.
 const MOST: usize = 4000;

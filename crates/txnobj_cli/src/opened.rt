@@ -1,9 +1,9 @@
 //! The object that the options name, as a client of it or as its store.
 
 use crate::ending::Halt;
-use txnobj_values::entry::{EntryCodec, EntryEpoch};
 use txn_folder::store::FolderStore;
 use txnobj_folder::opening::{self, EntryClient, Opening, test_root};
+use txnobj_values::entry::{EntryCodec, EntryEpoch};
 use txnobj_words::options::Options;
 
 /// The folder that the options name.

@@ -12,8 +12,6 @@ use std::alloc::Global;
 use std::fmt;
 use std::io::Write;
 use std::ops::Bound;
-use txnobj_values::entry::Entry;
-use txnobj_values::holder::{next_entry, test_holder};
 use txn_folder_files::fault::Fault;
 use txn_store_types::callback::CallbackFault;
 use txn_store_types::dirty::DirtyObject;
@@ -25,6 +23,8 @@ use txnobj::object::TransactionalObject;
 use txnobj::protocol::TransactionalStorageProtocol;
 use txnobj::simple::SimpleTransactionalObject;
 use txnobj_said::lines::{Stored, print_line, print_number, print_numbers};
+use txnobj_values::entry::Entry;
+use txnobj_values::holder::{next_entry, test_holder};
 
 /// A version in a view of a client.
 pub type Object = SimpleTransactionalObject<Entry, NoInvariant>;

@@ -12,10 +12,9 @@ use crate::printed::{
 use crate::values::bytes_of;
 use crate::watch::watch;
 use std::time::{Duration, SystemTime};
-use txnobj_values::entry::{Entry, EntryCodec};
+use txn_folder::repair::Repair;
 use txn_folder_files::beside::examine_beside;
 use txn_folder_files::doctor::{Report, examine};
-use txn_folder::repair::Repair;
 use txn_history::event::{Answer, Call, PlainAnswer};
 use txn_script_lines::printed::Answered;
 use txn_script_lines::text_form::TextForm;
@@ -25,6 +24,7 @@ use txnobj_folder::clock::MachineClock;
 use txnobj_folder::opening::EntryClient;
 use txnobj_said::lines::print_number;
 use txnobj_said::repaired::print_repaired;
+use txnobj_values::entry::{Entry, EntryCodec};
 use txnobj_words::options::{Command, Options, Source};
 
 /// The number of a refusal for want of memory.

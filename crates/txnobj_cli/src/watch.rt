@@ -7,10 +7,10 @@ use crate::printed::print_seen;
 use std::io::Write;
 use std::rt::Clock;
 use std::time::Duration;
-use txnobj_values::entry::Entry;
 use txn_folder_files::fault::Fault;
 use txnobj::protocol::TransactionalStorageProtocol;
 use txnobj_folder::opening::EntryClient;
+use txnobj_values::entry::Entry;
 
 /// How long a watch sleeps between two looks, in milliseconds.
 const PAUSE: u64 = 100;

@@ -11,5 +11,5 @@ pub mod store;
 pub use clock::MachineClock;
 pub use error::OpenError;
 pub use opening::{EntryClient, FolderClient, Opening, open};
-pub use txnobj_values::entry::{Entry, EntryCodec, EntryEpoch};
 pub use txn_folder_files::fault::{Doing, Fault};
+pub use txnobj_values::entry::{Entry, EntryCodec, EntryEpoch};

@@ -1,8 +1,8 @@
 //! The files of one object in a folder, as the store that a client calls.
 
 use std::alloc::Global;
-use txn_folder_files::fault::Fault;
 use txn_folder::store::FolderStore;
+use txn_folder_files::fault::Fault;
 use txn_store::request::{Reply, Request};
 use txnobj::store::SharedStore;
 

@@ -1,10 +1,10 @@
 //! Plays a script of calls on the port, and prints what each says.
 #![tactic(auto)]
 
+use slatedb_txn_obj_script::script::run_script;
 use std::io::{self, BufWriter};
 use std::process::ExitCode;
 use txn_script_lines::stop::Stop;
-use slatedb_txn_obj_script::script::run_script;
 
 fn main(rt: HostRuntime) -> ExitCode {
     let mut err = rt.stderr();

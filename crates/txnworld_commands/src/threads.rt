@@ -15,15 +15,15 @@ use std::io::Write;
 use std::sync::{Mutex, Wait};
 use std::thread::Threads;
 use std::{fmt, io};
-use txn_history::trace::Row;
 use txn_client_journals::fault::AuditFault;
+use txn_history::trace::Row;
+use txn_script::printer::Printer;
 use txn_script_lines::record::{Record, RecordCodec, RecordEpoch};
 use txn_script_lines::stop::Stop;
-use txn_script::printer::Printer;
-use txn_world_threads::finish::finish;
-use txn_world_threads::kept::{Kept, Share};
 use txn_store_types::layout::PAGE;
 use txn_world::world::World;
+use txn_world_threads::finish::finish;
+use txn_world_threads::kept::{Kept, Share};
 
 /// What a run of workers left.
 #[derive(Clone, Copy, Debug, PartialEq, Eq)]

@@ -6,10 +6,10 @@ use std::str;
 use std::sync::Wait;
 use std::test::Fail;
 use std::thread::Threads;
-use txnworld_commands::halt::Halt;
-use txnworld_commands::threads::{Report, Tally, run_threads};
 use txn_client_journals::fault::AuditFault;
 use txn_script_lines::stop::Stop;
+use txnworld_commands::halt::Halt;
+use txnworld_commands::threads::{Report, Tally, run_threads};
 
 /// The number of a line of this name.
 fn number_of(line: Option<&str>, name: &str) -> Option<u64> {

@@ -1,8 +1,8 @@
 //! Lines of which a call may be broken off, by a store that fails or by a growth that is refused, and what that leaves.
+use slatedb_txn_obj_script::player::Player;
 use std::alloc::{AllocError, Global};
 use txn_script_lines::numerals::read_decimal;
 use txn_script_lines::record::{Record, read_record};
-use slatedb_txn_obj_script::player::Player;
 
 // Tables: a row is a line, the look at its object, what the line says, and what a read says after it, divided by ` | `.
 

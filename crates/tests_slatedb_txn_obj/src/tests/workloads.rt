@@ -1,14 +1,14 @@
 //! The workloads of `txnbench`: wrong answers, and that each is measured.
-use std::alloc::{AllocError, Global};
-use std::str;
-use std::test::Fail;
-use txn_store::path::Path;
 use slatedb_txn_obj_workloads::bench::run_command;
 use slatedb_txn_obj_workloads::calls::{list_all, read_newest, update_versions};
 use slatedb_txn_obj_workloads::command::Command;
 use slatedb_txn_obj_workloads::fault::{Fault, Halt};
 use slatedb_txn_obj_workloads::setting::{Setting, load_claim, load_newest};
 use slatedb_txn_obj_workloads::workload::Workload;
+use std::alloc::{AllocError, Global};
+use std::str;
+use std::test::Fail;
+use txn_store::path::Path;
 
 /// A workload, what is said of its calls where two versions stand, and what where another one is taken as the newest. The
 /// claim is the last, since it writes a version.

@@ -7,10 +7,10 @@ ghost use Rattle.txn_steps_boundary.specs.Checks.{IsCheckReply};
 ghost use Rattle.txn_steps.specs.Latest.{IsLatestReply, InRange};
 ghost use Rattle.txn_steps.specs.Reads.{IsReadReply, IsInRange};
 
-use txn_steps_boundary::boundary_read::BoundaryRead;
-use txn_steps_boundary::check::{BoundaryCheck, BoundaryStep, CheckOp};
 use txn_steps::latest::LatestOp;
 use txn_steps::read::ReadOp;
+use txn_steps_boundary::boundary_read::BoundaryRead;
+use txn_steps_boundary::check::{BoundaryCheck, BoundaryStep, CheckOp};
 use txn_store::request::Reply;
 
 fn is_look(reply: &Option<Reply>) -> bool

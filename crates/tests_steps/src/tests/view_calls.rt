@@ -6,14 +6,14 @@ ghost use Rattle.txn_steps_views_driven.specs.ClaimSteps.{CanClaim};
 use crate::tests::place::{Place, Play, View, driven};
 use crate::tests::told::Told::{Fails, GoesOn, Held, Is, Shut, Viewed};
 use crate::tests::told::{Error, Told, said};
-use txn_steps_driven::drive::At;
 use txn_script_lines::record::{Record, RecordCodec, RecordEpoch};
-use txn_store_types::id::MonotonicId;
-use txn_steps_views_driven::call::ViewCall;
-use txn_steps_views_driven::with_epochs::WithEpochs;
+use txn_steps_driven::drive::At;
 use txn_steps_views::claim::ClaimOp;
 use txn_steps_views::entry::EntryOp;
 use txn_steps_views::view_read::{Purpose, ViewReadOp};
+use txn_steps_views_driven::call::ViewCall;
+use txn_steps_views_driven::with_epochs::WithEpochs;
+use txn_store_types::id::MonotonicId;
 
 /// An update that another client makes on the version of this id, by its record's epoch and payload.
 pub(crate) type Beside = Option<(u64, u64, u64)>;

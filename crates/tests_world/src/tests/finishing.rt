@@ -1,12 +1,12 @@
 //! Operations that are given what they ask for until they are answered.
 use std::alloc::{AllocError, Global};
 use std::test::Fail;
-use txn_world_finish::finish::{Finished, finish};
 use txn_history::event::{Call, EventFault, Told};
 use txn_script_lines::line::Line;
 use txn_script_lines::record::{Record, RecordCodec, RecordEpoch};
 use txn_script_lines::text_form::TextForm;
 use txn_world::world::World;
+use txn_world_finish::finish::{Finished, finish};
 
 type Records = World<Record, RecordCodec, RecordEpoch>;
 

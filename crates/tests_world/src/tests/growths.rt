@@ -6,9 +6,9 @@ use crate::tests::workers::ONE;
 use std::alloc::{AllocError, AllocGlobal, Global};
 use std::sync::{Mutex, Wait};
 use std::test::Fail;
+use txn_client_logs::logged::LoggedStore;
 use txn_history::event::{Call, EventFault, PlainCall, Told};
 use txn_script_lines::record::Record;
-use txn_client_logs::logged::LoggedStore;
 
 /// The call that a client makes: a write of the first version, or a read.
 fn call(writes: bool) -> Call<Record> {

@@ -6,16 +6,16 @@ use std::alloc::{AllocError, AllocGlobal, Global};
 use std::sync::{Mutex, Wait};
 use std::test::Fail;
 use txn_audit::audit::audit;
+use txn_client_logs::logged::{LoggedStore, serve_shared};
 use txn_diary::diary::Diary;
 use txn_history::event::{Call, EventFault, PlainCall, Told};
 use txn_script_lines::record::{Record, RecordCodec, RecordEpoch};
-use txn_client_logs::logged::{LoggedStore, serve_shared};
 use txn_store::path::Path;
 use txn_store::request::Request;
+use txn_store_types::layout::PAGE;
 use txn_world_threads::gate::FreeGate;
 use txn_world_threads::jobs::Job;
 use txn_world_threads::work::work;
-use txn_store_types::layout::PAGE;
 
 pub(crate) type Records = Diary<Record, RecordCodec, RecordEpoch>;
 

@@ -8,13 +8,13 @@ use std::sync::{Mutex, Wait};
 use std::test::Fail;
 use txn_history::event::{Call, PlainCall};
 use txn_script_lines::record::{Record, RecordCodec, RecordEpoch};
+use txn_store_types::layout::PAGE;
+use txn_world::world::World;
 use txn_world_threads::finish::finish;
 use txn_world_threads::gate::{FreeGate, Gate, GateSpent};
 use txn_world_threads::jobs::{End, Job};
 use txn_world_threads::kept::{Kept, Share};
 use txn_world_threads::work::{Worked, work};
-use txn_store_types::layout::PAGE;
-use txn_world::world::World;
 
 pub(crate) type Records = Kept<Record, RecordCodec, RecordEpoch>;
 
