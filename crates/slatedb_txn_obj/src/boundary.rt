@@ -29,10 +29,16 @@ pub trait BoundaryObject<S: ObjectStore> {
     /// How many calls of the store a check makes that accepts an id.
     ghost check_calls: { ℕ };
 
-    /// Checks that an id is above the boundary. An id at or below it is `ObjectVersionExists`. Any other error names a cause
-    /// that occurred: the store's own error in `ObjectStoreError`, a growth that was refused in `NoMemory`, and
-    /// `InvalidObjectState` only where the object and the store stood for no boundary. It makes one call of the store at most,
-    /// takes no token, and leaves the boundary as it was, also after an error.
+    /// Checks that an id is above the boundary. It makes one call of the store at most, and takes no token.
+    ///
+    /// # Errors
+    ///
+    /// - `ObjectVersionExists` where the id is at or below the boundary.
+    /// - `ObjectStoreError` with the store's own error, and `NoMemory` where a growth was refused.
+    /// - `InvalidObjectState` where the boundary file says no number, and only where the object and the store stood for no
+    ///   boundary.
+    ///
+    /// Each leaves the boundary as it was, and so does an answer.
     fn check(&mut self, store: &mut S, id: MonotonicId) -> Result<(), TransactionalObjectError>
         ensures above { OnOk result ((b : ℕ) → bounds self.old store.old b → b < id) }
         ensures fenced { IsErrOf result TransactionalObjectError.ObjectVersionExists → (b : ℕ) → bounds self.old store.old b → id ≤ b }
@@ -44,11 +50,16 @@ pub trait BoundaryObject<S: ObjectStore> {
     /// What an advance to a target that answers so may leave of the object and the store.
     ghost advances_to: { Self → S → ℕ → Result (Unit {0}) TransactionalObjectError → Self → S → Type 0 };
 
-    /// Raises the boundary to the target, and leaves it where it is at or above that. Each attempt spends a turn. After an
-    /// error the boundary is as it was or raised to the target. `TurnsExhausted` comes where a turn was due and none was left;
-    /// any other error names a cause that occurred, as a check's does. It makes one call of the store at most and two for each
-    /// turn that it spends, and takes one token at most. Where the object and the store stood for a boundary it spends two
-    /// turns at most, so two are enough.
+    /// Raises the boundary to the target, and leaves it where it is at or above that. Each attempt spends a turn. It makes one
+    /// call of the store at most and two for each turn that it spends, and takes one token at most. Where the object and the
+    /// store stood for a boundary it spends two turns at most, so two are enough.
+    ///
+    /// # Errors
+    ///
+    /// - `TurnsExhausted` where a turn was due and none was left.
+    /// - `ObjectStoreError`, `NoMemory` and `InvalidObjectState`, each as of a check.
+    ///
+    /// After each the boundary is as it was or raised to the target.
     fn advance(
         &mut self,
         store: &mut S,

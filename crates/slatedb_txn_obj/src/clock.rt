@@ -92,8 +92,12 @@ impl Deadline {
         Deadline { start, timeout }
     }
 
-    /// Reads the clock. At the start plus the timeout or later it is `ObjectUpdateTimeout`; a reading below the start counts
-    /// as the start.
+    /// Reads the clock. A reading below the start counts as the start.
+    ///
+    /// # Errors
+    ///
+    /// `ObjectUpdateTimeout`, with the timeout in milliseconds, where it reads the start plus the timeout or later. One reading
+    /// more has been made, as after an answer.
     pub fn check<K: SystemClock>(&self, clock: &mut K) -> Result<(), TransactionalObjectError>
         ensures in_time { OnOk result (ReadsOne (λ r. r - self.now.start < self.now.timeout) (K.readings clock.old) (K.readings clock.new)) }
         ensures late { IfErr result (λ e. (e ≡ TransactionalObjectError.ObjectUpdateTimeout self.now.timeout) × ReadsOne (λ r. self.now.timeout ≤ r - self.now.start) (K.readings clock.old) (K.readings clock.new)) }

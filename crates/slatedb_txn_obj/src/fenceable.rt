@@ -39,14 +39,22 @@ impl<T, I, X> FenceableTransactionalObject<T, I, X> {
 }
 
 impl<T: Clone, I: Invariant<T> + Drop, X: EpochField<T>> FenceableTransactionalObject<T, I, X> {
-    /// Claims the object: its newest version with the next epoch in it is written straight on it, and the holder is at that.
-    /// An attempt that is overtaken refreshes, and makes another. Each attempt spends a turn, and so does each pass of a refresh
-    /// and each page after a pass's first; where one is due and none is left, it is `TurnsExhausted`. The clock is read at the
-    /// start and before each update and each refresh: at the start plus the timeout (in milliseconds) or later it is
-    /// `ObjectUpdateTimeout`. Where the epoch or the version's id is the greatest it is `IdExhausted`. An invariant that fails
-    /// is `CallbackError`, and writes nothing; the other errors are those of a write and a read: `InvalidObjectState`,
-    /// `ObjectStoreError`, `NoMemory`, and `CallbackError` of the codec where nothing stood. A failed claim drops the delegate;
-    /// after an error of a write its value may have been written. It asks that a clone is the same value.
+    /// Claims the object: its newest version with the next epoch in it is written straight on it, and the holder is at that. An
+    /// attempt that is overtaken refreshes, and makes another. Each attempt spends a turn, and so does each pass of a refresh
+    /// and each page after a pass's first. The clock is read at the start and before each update and each refresh; the timeout
+    /// is in milliseconds. It asks that a clone is the same value.
+    ///
+    /// # Errors
+    ///
+    /// - `ObjectUpdateTimeout` where the clock reads the start plus the timeout or later; `TurnsExhausted` where a turn is due
+    ///   and none is left.
+    /// - `IdExhausted` where the epoch or the version's id is the greatest.
+    /// - `CallbackError` where an invariant fails, which writes nothing, and where the codec refuses what is stored, where
+    ///   nothing stood.
+    /// - `InvalidObjectState` where the boundary file says no number, `ObjectStoreError` with the store's own error, `NoMemory`
+    ///   where a growth was refused.
+    ///
+    /// Each drops the delegate. After an error of a write its value may have been written.
     pub fn init<S: ObjectStore, P: TransactionalStorageProtocol<T, MonotonicId, S>, K: SystemClock>(
         delegate: SimpleTransactionalObject<T, MonotonicId, I>,
         protocol: &mut P,
@@ -71,8 +79,12 @@ impl<T: Clone, I: Invariant<T> + Drop, X: EpochField<T>> FenceableTransactionalO
         )
     }
 
-    /// The same with this epoch in place of the next one. Where the epoch of the version that an attempt is made on isn't
-    /// below it, it is `Fenced`.
+    /// The same with this epoch in place of the next one.
+    ///
+    /// # Errors
+    ///
+    /// `Fenced` where the epoch of the version that an attempt is made on isn't below this one: that attempt writes nothing.
+    /// The others are those of `init`, and leave the same.
     pub fn init_with_epoch<
         S: ObjectStore,
         P: TransactionalStorageProtocol<T, MonotonicId, S>,

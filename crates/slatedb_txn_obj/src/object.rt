@@ -56,18 +56,29 @@ pub trait TransactionalObject<T: Clone, Id: Copy + Eq> {
         ensures { result.now ≡ value self.now };
 
     /// A copy of the value, with its id, to be changed and given to `update`. It asks that a clone is the same value.
-    /// Where the object is shut it is that error; `NoMemory` comes of an open one, where a growth was refused.
+    ///
+    /// # Errors
+    ///
+    /// They leave the object as it was: the error that shuts it, where it is shut, as `Fenced`; `NoMemory`, of an open one,
+    /// where a growth was refused.
     fn prepare_dirty(&self) -> Result<DirtyObject<T, Id>, TransactionalObjectError>
         requires { IsExactClone T.is_clone }
         ensures dirty { IfOk result (λ dirty. (dirty.id ≡ at self.now) × (dirty.value ≡ value self.now) × is_open self.now) }
         ensures err { IfErr result (λ e. (e ≡ TransactionalObjectError.NoMemory) ⊎ is_shut self.now e) }
         ensures shut { (is_open self.now → ⊥) → IfErr result (is_shut self.now) × IsErr result };
 
-    /// Reads the newest version, and is at it then. Each pass of the read spends a turn, and so does each page after the
-    /// first that it lists; where one is due and none is left, it is `TurnsExhausted`. Where nothing is stored, or the boundary
-    /// file says no number, it is `InvalidObjectState`. Where the version that it read shuts it, it is that error, as `Fenced`,
-    /// and the object is at that version. Its other errors are those of the read, `CallbackError`, `ObjectStoreError` and
-    /// `NoMemory`, and after them the object is as it was. It changes no file.
+    /// Reads the newest version, and is at it then. Each pass of the read spends a turn, and so does each page after the first
+    /// that it lists. It changes no file.
+    ///
+    /// # Errors
+    ///
+    /// - The error that shuts it, as `Fenced`, where the version that it read does. The object is at that version.
+    /// - `TurnsExhausted` where a turn is due and none is left.
+    /// - `InvalidObjectState` where nothing is stored, or the boundary file says no number.
+    /// - `CallbackError` where the codec refuses what is stored, `ObjectStoreError` with the store's own error, `NoMemory`
+    ///   where a growth was refused.
+    ///
+    /// After all but the first the object is as it was.
     fn refresh<S: ObjectStore, P: TransactionalStorageProtocol<T, Id, S>>(
         &mut self,
         protocol: &mut P,
@@ -87,14 +98,21 @@ pub trait TransactionalObject<T: Clone, Id: Copy + Eq> {
         ensures placed { P.place protocol.new ≡ P.place protocol.old }
         ensures files { SameFiles (S.state store.old) (S.state store.new) };
 
-    /// Writes the candidate's value on the version that the object is at, and is at the new version then. A version that
-    /// isn't the newest is `ObjectVersionExists`, and so is a candidate of another id, unless the object refuses it for an
-    /// epoch first. A candidate that the object refuses, as one that an invariant fails for, is that error, and nothing is
-    /// written. Its other errors are those of the write: `IdExhausted` where the version has the greatest id,
-    /// `InvalidObjectState` where the boundary file says no number, `ObjectStoreError` and `NoMemory`. After an error the
-    /// object is as it was; the value may have been written, unless the error is a refusal before the write. It makes at most
-    /// two calls of the store, takes at most one token, and creates at most the file of the version above that which the
-    /// object is at.
+    /// Writes the candidate's value on the version that the object is at, and is at the new version then. It makes at most two
+    /// calls of the store, takes at most one token, and creates at most the file of the version above that which the object is
+    /// at.
+    ///
+    /// # Errors
+    ///
+    /// - The error by which the object refuses the candidate, as `CallbackError` of an invariant that fails. Nothing is
+    ///   written.
+    /// - `ObjectVersionExists` for a candidate of another id, unless the object refuses it for an epoch first, which writes
+    ///   nothing; and where the version that the object is at isn't the newest.
+    /// - `IdExhausted` where that version has the greatest id. Nothing is written.
+    /// - `InvalidObjectState` where the boundary file says no number, `ObjectStoreError` with the store's own error, `NoMemory`
+    ///   where a growth was refused. The value may have been written.
+    ///
+    /// After each the object is as it was.
     fn update<S: ObjectStore, P: TransactionalStorageProtocol<T, Id, S>>(
         &mut self,
         protocol: &mut P,
@@ -121,12 +139,17 @@ pub trait TransactionalObject<T: Clone, Id: Copy + Eq> {
         ensures exhausted { IsErrOf result TransactionalObjectError.IdExhausted → (S.state store.new ≡ S.state store.old) × Stays (P.stands protocol.old store.old) (P.stands protocol.new store.new) };
 
     /// Asks the mutator for a candidate made of the object, and updates by it. After a conflict it refreshes, and asks once
-    /// more. Nothing asked for is Ok, and the mutator's refusal is `CallbackError`, or `NoMemory`, and writes nothing. Each
-    /// attempt spends a turn, and so does each pass of a refresh and each page after a pass's first; where one is due and none
-    /// is left, it is `TurnsExhausted`. Its other errors are those of an update and of a refresh, but for a conflict. After
-    /// `ObjectStoreError` and `NoMemory` the last candidate may have been written, and after a boundary file that says no
-    /// number, which is `InvalidObjectState`. An error was met at the version that the object is at then, the one that it was
-    /// at or the newest, which a refresh read.
+    /// more. Nothing asked for is Ok. Each attempt spends a turn, and so does each pass of a refresh and each page after a
+    /// pass's first.
+    ///
+    /// # Errors
+    ///
+    /// - The mutator's refusal, as `CallbackError` or `NoMemory`. Its candidate is not written.
+    /// - `TurnsExhausted` where a turn is due and none is left.
+    /// - Those of `update` but for a conflict, and those of `refresh`. After `ObjectStoreError` and `NoMemory` the last
+    ///   candidate may have been written, and after a boundary file that says no number, which is `InvalidObjectState`.
+    ///
+    /// Each was met at the version that the object is at then: the one that it was at, or the newest, which a refresh read.
     final fn maybe_apply_update<
         S: ObjectStore,
         P: TransactionalStorageProtocol<T, Id, S>,

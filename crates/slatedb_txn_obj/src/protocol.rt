@@ -50,14 +50,16 @@ pub trait TransactionalStorageProtocol<T, Id, S: ObjectStore> {
     ghost pages: { Self → S → ℕ };
 
     /// Writes the value as the version above the base, or as version 1 where there is none, and answers its id. It makes at
-    /// most two calls of the store, takes at most one token, and creates at most the file of that version.
+    /// most two calls of the store, takes at most one token, and creates at most the file of that version. The base is to be an
+    /// id that a call answered: one above the newest version is written on too, and no clause says what stands then.
     ///
-    /// Where a newer version than the base stands it is `ObjectVersionExists`, and what stood stands. A sequenced protocol may
-    /// then have created a version, whose id the boundary had reached; no checked read answers it. The greatest id as base, and
-    /// no other, is `IdExhausted`, without a call of the store, and nothing moved. After any other error the value may have
-    /// been written: `InvalidObjectState`, where the boundary file says no number, `ObjectStoreError` and `NoMemory`. The base
-    /// is to be an id that a call answered: one above the newest version is written on too, and no clause says what stands
-    /// then.
+    /// # Errors
+    ///
+    /// - `ObjectVersionExists` where a newer version than the base stands. What stood stands. A sequenced protocol may then
+    ///   have created a version, whose id the boundary had reached; no checked read answers it.
+    /// - `IdExhausted` where the base is the greatest id, and only there, without a call of the store. Nothing has moved.
+    /// - `InvalidObjectState` where the boundary file says no number, `ObjectStoreError` with the store's own error, `NoMemory`
+    ///   where a growth was refused. The value may have been written.
     fn write(
         &mut self,
         store: &mut S,
@@ -81,9 +83,14 @@ pub trait TransactionalStorageProtocol<T, Id, S: ObjectStore> {
     /// first that a pass lists, spends a turn. It makes at most seven calls of the store for each turn that it spends; where
     /// the newest version is at hand, it is `warm_calls` where it answers, and one turn.
     ///
-    /// `TurnsExhausted` comes where a turn is due and none is left. Where nothing stood, a value that the codec refuses is
-    /// `CallbackError`, and a boundary file that says no number `InvalidObjectState`. The other errors are
-    /// `ObjectStoreError` and `NoMemory`. What it stood for stands, and no file is changed, also after an error.
+    /// # Errors
+    ///
+    /// - `TurnsExhausted` where a turn is due and none is left.
+    /// - `CallbackError` for a value that the codec refuses, and `InvalidObjectState` for a boundary file that says no number:
+    ///   both where it stood for nothing.
+    /// - `ObjectStoreError` with the store's own error, `NoMemory` where a growth was refused.
+    ///
+    /// What it stood for stands, and no file is changed, also after an error.
     fn try_read_latest(
         &mut self,
         store: &mut S,

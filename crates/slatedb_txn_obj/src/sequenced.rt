@@ -76,9 +76,12 @@ pub trait SequencedStorageProtocol<T, S: ObjectStore>: BoundaryObject<S> {
     /// Creates the version above the base, or version 1 where there is none, and answers its id. It makes at most one call of
     /// the store, takes at most one token, and creates at most the file of that version.
     ///
-    /// `ObjectVersionExists` comes where a version of that id stands already, and `IdExhausted` where the base is the greatest
-    /// id, and only there, without a call of the store; after both nothing moved. After any other error, as `ObjectStoreError`
-    /// or `NoMemory`, the version may have been created, and nothing else moved.
+    /// # Errors
+    ///
+    /// - `ObjectVersionExists` where a version of that id stands already, and `IdExhausted` where the base is the greatest id,
+    ///   and only there, without a call of the store. After both nothing has moved.
+    /// - `ObjectStoreError` with the store's own error, `NoMemory` where a growth was refused. The version may have been
+    ///   created, and nothing else has moved.
     fn write_unchecked(
         &mut self,
         store: &mut S,
@@ -104,8 +107,11 @@ pub trait SequencedStorageProtocol<T, S: ObjectStore>: BoundaryObject<S> {
     /// most six calls of the store, and two for each turn that it spends; where the newest version is at hand, it is
     /// `warm_calls` where it answers.
     ///
-    /// `TurnsExhausted` comes where a turn is due and none is left; the other errors are `CallbackError`,
-    /// `ObjectStoreError` and `NoMemory`. What it stood for stands, and no file is changed, also after an error.
+    /// # Errors
+    ///
+    /// `TurnsExhausted` where a turn is due and none is left; `CallbackError` for a value that the codec refuses, where it
+    /// stood for nothing; `ObjectStoreError` with the store's own error; `NoMemory` where a growth was refused. What it stood
+    /// for stands, and no file is changed, also after an error.
     fn try_read_latest_unchecked(
         &mut self,
         store: &mut S,
@@ -123,9 +129,12 @@ pub trait SequencedStorageProtocol<T, S: ObjectStore>: BoundaryObject<S> {
         ensures placed { place self.new ≡ place self.old }
         ensures files { SameFiles (S.state store.old) (S.state store.new) };
 
-    /// The value of a version, or nothing where it isn't stored, as after a delete. It makes at most one call of the store. Its
-    /// errors are `CallbackError`, `ObjectStoreError` and `NoMemory`; what it stood for stands, and no file is changed, also
-    /// after an error.
+    /// The value of a version, or nothing where it isn't stored, as after a delete. It makes at most one call of the store.
+    ///
+    /// # Errors
+    ///
+    /// `CallbackError` for a value that the codec refuses, where it stood for nothing; `ObjectStoreError` with the store's own
+    /// error; `NoMemory` where a growth was refused. What it stood for stands, and no file is changed, also after an error.
     fn try_read_unchecked(
         &mut self,
         store: &mut S,
@@ -135,7 +144,11 @@ pub trait SequencedStorageProtocol<T, S: ObjectStore>: BoundaryObject<S> {
         ensures absent { lacks self.old store.old id → IfOk result (λ r. r ≡ None) }
         ensures read { ReadsVersion (stands self.old store.old) (stands self.new store.new) (place self.old) (place self.new) (pages self.old store.old) (pages self.new store.new) (S.state store.old) (S.state store.new) result };
 
-    /// The same, with the same errors, and without a call of the store where the version is held, also after an error.
+    /// The same, and without a call of the store where the version is held, also after an error.
+    ///
+    /// # Errors
+    ///
+    /// Those of `try_read_unchecked`, which leave the same.
     fn try_read_seen(
         &mut self,
         store: &mut S,
@@ -145,9 +158,13 @@ pub trait SequencedStorageProtocol<T, S: ObjectStore>: BoundaryObject<S> {
         ensures unasked { has_version self.old id → S.state store.new ≡ S.state store.old }
         ensures read { ReadsVersion (stands self.old store.old) (stands self.new store.new) (place self.old) (place self.new) (pages self.old store.old) (pages self.new store.new) (S.state store.old) (S.state store.new) result };
 
-    /// The versions whose ids are within the bounds, in ascending ids, each with the path, the size and the token of its file. It makes at
-    /// most one call of the store a page, and is lent no turns. Its errors are `ObjectStoreError` and `NoMemory`; what it
-    /// stood for stands, and no file is changed, also after an error.
+    /// The versions whose ids are within the bounds, in ascending ids, each with the path, the size and the token of its file.
+    /// It makes at most one call of the store a page, and is lent no turns.
+    ///
+    /// # Errors
+    ///
+    /// `ObjectStoreError` with the store's own error; `NoMemory` where a growth was refused. What it stood for stands, and no
+    /// file is changed, also after an error.
     fn list(
         &mut self,
         store: &mut S,
@@ -164,9 +181,13 @@ pub trait SequencedStorageProtocol<T, S: ObjectStore>: BoundaryObject<S> {
         ensures files { SameFiles (S.state store.old) (S.state store.new) };
 
     /// Removes a version, whatever the boundary is: where it is done no version of the id is stored, also where none was. It
-    /// makes at most one call of the store, and removes at most the file of that version. Its errors are `ObjectStoreError`,
-    /// after which the version may be removed, and `NoMemory`. What stands stands on where the id is at or below the boundary,
-    /// also after an error.
+    /// makes at most one call of the store, and removes at most the file of that version. What stands stands on where the id is
+    /// at or below the boundary, also after an error.
+    ///
+    /// # Errors
+    ///
+    /// `ObjectStoreError` with the store's own error, after which the version may be removed; `NoMemory` where a growth was
+    /// refused.
     fn delete_unchecked(
         &mut self,
         store: &mut S,
@@ -181,11 +202,12 @@ pub trait SequencedStorageProtocol<T, S: ObjectStore>: BoundaryObject<S> {
         ensures moved { deletes_to self.old store.old id result self.new store.new };
 
     /// Removes a version at or below the boundary: where it is done no version of the id is stored. It makes at most two calls
-    /// of the store, and removes at most the file of that version.
+    /// of the store, and removes at most the file of that version. What it stood for stands, also after an error.
     ///
-    /// An id above the boundary is `InvalidObjectState`, and so is a boundary file that says no number; then nothing is
-    /// removed. After any other error, as `ObjectStoreError` or `NoMemory`, the version may be removed. What it stood for
-    /// stands, also after an error.
+    /// # Errors
+    ///
+    /// - `InvalidObjectState` for an id above the boundary, and where the boundary file says no number. Nothing is removed.
+    /// - `ObjectStoreError` with the store's own error, `NoMemory` where a growth was refused. The version may be removed.
     fn delete(&mut self, store: &mut S, id: MonotonicId) -> Result<(), TransactionalObjectError>
         ensures removed { OnOk result (lacks self.new store.new id) }
         ensures fenced { OnOk result ((h : List T) (b : ℕ) → stands self.old store.old h b → id ≤ b) }

@@ -26,8 +26,13 @@ pub struct SimpleTransactionalObject<T, Id, I> {
 }
 
 impl<T: Drop, Id: Drop, I> SimpleTransactionalObject<T, Id, I> {
-    /// Writes the first version, and is at it, without invariants. Where one is stored, it is `ObjectVersionExists`. After
-    /// any other error, `InvalidObjectState`, `ObjectStoreError` or `NoMemory` as of a write, the version may have been written.
+    /// Writes the first version, and is at it, without invariants.
+    ///
+    /// # Errors
+    ///
+    /// - `ObjectVersionExists` where one is stored. What stood stands.
+    /// - `InvalidObjectState` where the boundary file says no number, `ObjectStoreError` with the store's own error, `NoMemory`
+    ///   where a growth was refused. The version may have been written.
     pub fn init<S: ObjectStore, P: TransactionalStorageProtocol<T, Id, S>>(
         alloc: Global,
         protocol: &mut P,
@@ -54,8 +59,13 @@ impl<T: Drop, Id: Drop, I> SimpleTransactionalObject<T, Id, I> {
         })
     }
 
-    /// Reads the newest version and is at it, without invariants, or nothing where none is stored. It spends turns as
-    /// the read does; where one is due and none is left, it is `TurnsExhausted`. Its other errors are those of the read.
+    /// Reads the newest version and is at it, without invariants, or nothing where none is stored. It spends turns as the read
+    /// does.
+    ///
+    /// # Errors
+    ///
+    /// `TurnsExhausted` where a turn is due and none is left; `CallbackError`, `InvalidObjectState`, `ObjectStoreError` and
+    /// `NoMemory` as of `try_read_latest`. No file is changed, also after an error.
     pub fn try_load<S: ObjectStore, P: TransactionalStorageProtocol<T, Id, S>>(
         alloc: Global,
         protocol: &mut P,
@@ -80,7 +90,11 @@ impl<T: Drop, Id: Drop, I> SimpleTransactionalObject<T, Id, I> {
         }
     }
 
-    /// The same, where nothing stored is `LatestRecordMissing`.
+    /// The same, where a version is stored.
+    ///
+    /// # Errors
+    ///
+    /// `LatestRecordMissing` where nothing is stored, and those of `try_load`. No file is changed, also after an error.
     pub fn load<S: ObjectStore, P: TransactionalStorageProtocol<T, Id, S>>(
         alloc: Global,
         protocol: &mut P,
@@ -114,7 +128,11 @@ impl<T, Id, I: Drop> SimpleTransactionalObject<T, Id, I> {
 }
 
 impl<T: Clone, Id: Copy, I: Clone> SimpleTransactionalObject<T, Id, I> {
-    /// A copy. It asks that a clone of a value, of an id and of an invariant is the same. The only error is want of memory.
+    /// A copy. It asks that a clone of a value, of an id and of an invariant is the same.
+    ///
+    /// # Errors
+    ///
+    /// `AllocError` where a growth was refused. The object is as it was, also after an answer.
     pub fn try_clone(&self) -> Result<SimpleTransactionalObject<T, Id, I>, AllocError>
         requires values { IsExactClone T.is_clone }
         requires invariants { IsExactClone I.is_clone }
@@ -129,6 +147,10 @@ impl<T: Clone, Id: Copy, I: Clone> SimpleTransactionalObject<T, Id, I> {
 }
 
 /// Tests the invariants in their order, up to the first that fails.
+///
+/// # Errors
+///
+/// The fault of the first that fails, which is a refusal, or want of memory.
 pub fn test_all<T, I: Invariant<T>>(
     invariants: &[I],
     dirty: &T,

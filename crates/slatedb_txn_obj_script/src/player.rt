@@ -103,6 +103,10 @@ fn handle(
 
 impl Player {
     /// Four clients over an empty store, with pages of 1,000 files and 20 turns a call.
+    ///
+    /// # Errors
+    ///
+    /// Want of memory alone.
     pub fn new(alloc: Global) -> Result<Player, AllocError> {
         Ok(Player {
             desk: new_desk(alloc, 1),
@@ -226,7 +230,11 @@ impl Player {
         self.shows_costs.then_some(cost)
     }
 
-    /// Plays a line to its end. `None` where no such line can be played. The only error is want of memory.
+    /// Plays a line to its end. `None` where no such line can be played.
+    ///
+    /// # Errors
+    ///
+    /// Want of memory alone. The line may have been played in part, so that the player is of no more use.
     pub fn play(&mut self, words: &str) -> Result<Option<Played>, AllocError> {
         let before = self.desk.store.counts();
         self.desk.turns = Turns::new(self.turns);

@@ -8,8 +8,13 @@ use txn_steps_driven::turns::Turns;
 use txn_store::store::ObjectStore;
 use txn_store_types::error::TransactionalObjectError;
 
-/// Writes a value of one object on a base, and then reads the newest version of another. Where the two have no file in
-/// common, the write leaves the other what it stood for, so that the read answers its newest entry.
+/// Writes a value of one object on a base, and then reads the newest version of another. Where the two have no file in common,
+/// the write leaves the other what it stood for, so that the read answers its newest entry.
+///
+/// # Errors
+///
+/// Those of the write and of the read. Where the two have no file in common, each leaves the other object what it stood for;
+/// the value may have been written.
 pub fn write_beside<
     T,
     Id: Drop,

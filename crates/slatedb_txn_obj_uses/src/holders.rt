@@ -13,9 +13,12 @@ use txn_store::store::ObjectStore;
 /// How long each claim may take, in milliseconds.
 const TIMEOUT: u64 = 1_000;
 
-/// Claims an object, writes a version as its holder, and claims it once more as another would. Answers whether the older
-/// holder is then fenced: it is, wherever the protocol and the store stood for a history. It asks that a clone is the same
-/// value.
+/// Claims an object, writes a version as its holder, and claims it once more as another would. Answers whether the older holder
+/// is then fenced: it is, wherever the protocol and the store stood for a history. It asks that a clone is the same value.
+///
+/// # Errors
+///
+/// Those of a load, a claim and an update. What was written before stands.
 pub fn fences_older_holder<
     T: Clone,
     X: EpochField<T>,

@@ -56,8 +56,12 @@ pub fn perform<T: Drop, S: ObjectStore, P: SequencedStorageProtocol<T, S>>(
 }
 
 /// Makes calls one after another. Where the protocol and the store stand for a history and a boundary, and each call is one
-/// that a client may make where the calls before it led, they stand for what the last one leads to, and each reply is the
-/// one that its call's move says. Room for the replies is made first: where it is refused, no call was made.
+/// that a client may make where the calls before it led, they stand for what the last one leads to, and each reply is the one
+/// that its call's move says.
+///
+/// # Errors
+///
+/// Want of memory for the replies alone, for which room is made first: no call was made.
 pub fn perform_all<T: Drop, S: ObjectStore, P: SequencedStorageProtocol<T, S>>(
     alloc: Global,
     protocol: &mut P,

@@ -6,7 +6,12 @@ use txn_steps_driven::turns::Turns;
 use txn_store::store::ObjectStore;
 use txn_store_types::error::TransactionalObjectError;
 
-/// Writes a value on the newest version. One client is never overtaken, so it is never a conflict.
+/// Writes a value on the newest version.
+///
+/// # Errors
+///
+/// Those of a read and of a write but for a conflict, since one client is never overtaken. After one of a write the value may
+/// have been written.
 pub fn append<T: Drop, Id, S: ObjectStore, P: TransactionalStorageProtocol<T, Id, S>>(
     protocol: &mut P,
     store: &mut S,

@@ -31,8 +31,11 @@ const TIMEOUT: u64 = 1000;
 /// An object of numbers, without invariants.
 type View = SimpleTransactionalObject<u64, MonotonicId, NoInvariant>;
 
-/// Writes so many versions, each on the one before it, from the first on. One client is never overtaken, so it is never a
-/// conflict.
+/// Writes so many versions, each on the one before it, from the first on.
+///
+/// # Errors
+///
+/// Those of a write but for a conflict, since one client is never overtaken. The versions before stand.
 pub fn write_versions<S: ObjectStore, P: SequencedStorageProtocol<u64, S>>(
     protocol: &mut P,
     store: &mut S,
@@ -48,8 +51,11 @@ pub fn write_versions<S: ObjectStore, P: SequencedStorageProtocol<u64, S>>(
     Ok(())
 }
 
-/// Writes the first version as an object, and updates that up to the version of id `last`. One client is never overtaken, so
-/// it is never a conflict.
+/// Writes the first version as an object, and updates that up to the version of id `last`.
+///
+/// # Errors
+///
+/// Those of a write but for a conflict, since one client is never overtaken. The versions before stand.
 pub fn update_versions<S: ObjectStore, P: SequencedStorageProtocol<u64, S>>(
     alloc: Global,
     protocol: &mut P,
@@ -78,7 +84,11 @@ fn is_version(read: Option<(MonotonicId, u64)>, id: u64) -> bool
     }
 }
 
-/// Reads the newest version. Any other than the one of this id is `WrongAnswer`.
+/// Reads the newest version.
+///
+/// # Errors
+///
+/// `WrongAnswer` where it is any other than the one of this id; the read's own error. What stood stands.
 pub fn read_newest<S: ObjectStore, P: SequencedStorageProtocol<u64, S>>(
     protocol: &mut P,
     store: &mut S,
@@ -94,7 +104,11 @@ pub fn read_newest<S: ObjectStore, P: SequencedStorageProtocol<u64, S>>(
     Ok(())
 }
 
-/// Lists all versions. Any other count of them than that of the newest id is `WrongAnswer`.
+/// Lists all versions.
+///
+/// # Errors
+///
+/// `WrongAnswer` where they are not so many as the newest id; the listing's own error. What stood stands.
 pub fn list_all<S: ObjectStore, P: SequencedStorageProtocol<u64, S>>(
     protocol: &mut P,
     store: &mut S,
@@ -110,8 +124,12 @@ pub fn list_all<S: ObjectStore, P: SequencedStorageProtocol<u64, S>>(
     Ok(())
 }
 
-/// Loads the newest version, and claims it. Any other epoch than the one above this id, which is the newest version's, is
-/// `WrongAnswer`.
+/// Loads the newest version, and claims it.
+///
+/// # Errors
+///
+/// `WrongAnswer` where the epoch is any other than the one above this id, which is the newest version's; the load's own error,
+/// and the claim's, after which the claim may have been written.
 pub fn claim_newest<S: ObjectStore, P: SequencedStorageProtocol<u64, S>>(
     alloc: Global,
     protocol: &mut P,

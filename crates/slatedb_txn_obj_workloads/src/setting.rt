@@ -24,13 +24,21 @@ pub type Protocol = ObjectStoreSequencedStorageProtocol<
 >;
 
 /// A protocol of the object `object` below a root. Nothing is held or cached.
+///
+/// # Errors
+///
+/// Want of memory alone, since the names are plain segments. No call of a store is made.
 pub fn new_protocol(alloc: Global, root: &Path) -> Result<Protocol, PathFault>
     ensures { IfOk result (IsNew root.now) }
 {
     ObjectStoreSequencedStorageProtocol::new(alloc, root, "object", "number", NumberCodec)
 }
 
-/// Reads the newest version by a new protocol. Any other than the one of this id is `WrongAnswer`.
+/// Reads the newest version by a new protocol.
+///
+/// # Errors
+///
+/// `WrongAnswer` where it is any other than the one of this id; want of memory for the protocol; the read's own error.
 pub fn load_newest<S: ObjectStore>(
     alloc: Global,
     root: &Path,
@@ -43,8 +51,12 @@ pub fn load_newest<S: ObjectStore>(
     read_newest(&mut protocol, store, newest)
 }
 
-/// Loads the newest version by a new protocol, and claims it by that. Any other epoch than the one above this id is
-/// `WrongAnswer`.
+/// Loads the newest version by a new protocol, and claims it by that.
+///
+/// # Errors
+///
+/// `WrongAnswer` where the epoch is any other than the one above this id; want of memory for the protocol; the load's own
+/// error, and the claim's, after which the claim may have been written.
 pub fn load_claim<S: ObjectStore>(
     alloc: Global,
     root: &Path,
@@ -82,6 +94,10 @@ impl Setting {
     }
 
     /// So many versions, written one after another by one protocol.
+    ///
+    /// # Errors
+    ///
+    /// Want of memory, and the errors of a write. There is no setting then.
     pub fn new(alloc: Global, versions: u64) -> Result<Setting, Fault>
         ensures { IfOk result (λ setting. Stands setting.protocol setting.store (numbers_to versions) 0) }
     {
@@ -90,8 +106,12 @@ impl Setting {
         Ok(setting)
     }
 
-    /// Makes so many calls of a workload, where its versions stand, and at least one update. Then `WrongAnswer` can come of a
-    /// load by a new protocol alone, since no trait says that the protocol of an earlier call left the files.
+    /// Makes so many calls of a workload, where its versions stand, and at least one update.
+    ///
+    /// # Errors
+    ///
+    /// `WrongAnswer` of a load by a new protocol alone, where the versions of the workload stood, since no trait says that the
+    /// protocol of an earlier call left the files; the call's own error. What was written before stands.
     pub fn perform(&mut self, workload: Workload, calls: u64) -> Result<(), Fault>
         ensures wrote { OnOk result (workload ≡ workloads.Update → 1 ≤ calls → Stands self.old.protocol self.old.store [] 0 → Stands self.new.protocol self.new.store (numbers_to calls) 0) }
         ensures right { IsErrOf result faults.WrongAnswer → Stands self.old.protocol self.old.store (numbers_to (versions_before workload)) 0 → IsByNew workload }

@@ -39,8 +39,11 @@ impl<'a> Drop for Effects<'a> {
 }
 
 /// What became of the calls in these recordings, each a list of rows, whose times are of these clocks, one for each recording;
-/// one that has none here is of the clock of all. A call whose reply nobody saw took effect where a reply shows it. The only
-/// error is want of memory.
+/// one that has none here is of the clock of all. A call whose reply nobody saw took effect where a reply shows it.
+///
+/// # Errors
+///
+/// Want of memory alone, which changes nothing.
 pub fn effects_of<'a, T>(
     alloc: Global,
     recordings: &'a [Vec<RecordedRow<T>>],

@@ -275,7 +275,11 @@ fn guess<T: LineValue>(alloc: Global, text: &str) -> Result<RecordedRow<T>, Text
     }
 }
 
-/// The text of a row, without its line feed. The only error is want of memory.
+/// The text of a row, without its line feed.
+///
+/// # Errors
+///
+/// Want of memory alone, which changes nothing.
 pub fn text_of<T: LineValue>(alloc: Global, row: &RecordedRow<T>) -> Result<String, AllocError>
     ensures { IfOk result (λ words. string_bytes words ≡ row_text T.text row.now) }
 {

@@ -63,8 +63,12 @@ impl<
     ghost use Rattle.txn_diary.specs.Keepers.{keeper_refusal, DoesAndForgets};
     ghost use Rattle.txn_client_calls.specs.Calling.{MakesCall, Stops, LetsGo};
 
-    /// A client of this number, at least 1, that has done nothing, over a store and a recorder. A listing
-    /// has pages of at most `page` files, at least 1. The only error is want of memory.
+    /// A client of this number, at least 1, that has done nothing, over a store and a recorder. A listing has pages of at most
+    /// `page` files, at least 1.
+    ///
+    /// # Errors
+    ///
+    /// Want of memory alone, which changes nothing.
     pub fn new(
         alloc: Global,
         client: u64,

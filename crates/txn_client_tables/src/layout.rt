@@ -6,8 +6,12 @@ use std::alloc::{AllocError, Global};
 use txn_store::path::{Path, PathFault};
 use txn_store_types::layout::Layout;
 
-/// Versions are the files root/test/<n>.val, and the boundary is the file root/gc/test.boundary. A page of a listing
-/// has at most so many files. The only error is want of memory.
+/// Versions are the files root/test/<n>.val, and the boundary is the file root/gc/test.boundary. A page of a listing has at
+/// most so many files.
+///
+/// # Errors
+///
+/// Want of memory alone, which changes nothing.
 pub fn world_layout<C: Drop>(alloc: Global, codec: C, page: u64) -> Result<Layout<C>, AllocError>
     ensures names { IfOk result (λ layout. layout.names ≡ world_names) }
     ensures boundary { IfOk result (λ layout. layout.boundary ≡ world_boundary) }

@@ -52,7 +52,11 @@ pub fn request_of(ask: Option<Ask<'_>>) -> Option<&Request>
 }
 
 /// A copy of the put or the delete that is asked for, where one is: what an operation leaves that ends before the store
-/// replied. The only error is want of memory.
+/// replied.
+///
+/// # Errors
+///
+/// Want of memory alone, which changes nothing.
 pub fn loose_copy(ask: Option<Ask<'_>>) -> Result<Option<Request>, AllocError>
     ensures { IfOk result (λ copy. copy ≡ loose_of (asks_as ask.entry)) }
 {

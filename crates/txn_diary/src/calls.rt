@@ -158,8 +158,11 @@ impl<T: Drop> Calls<T> {
         self.forgotten += more;
     }
 
-    /// The puts and deletes that the client's operations ask for, in the order of their numbers. The only error is want of
-    /// memory.
+    /// The puts and deletes that the client's operations ask for, in the order of their numbers.
+    ///
+    /// # Errors
+    ///
+    /// Want of memory alone, which changes nothing.
     pub fn left_by(&self, alloc: Global, client: u64) -> Result<Vec<Left>, AllocError>
         ensures { IfOk result (λ lefts. map as_pair lefts.items ≡ all_left_loose client 1 (seen_operations (operations_of self.now))) }
     {

@@ -79,7 +79,10 @@ impl<T: Clone, C: ObjectCodec<T> + Drop, E: EpochField<T>> Diary<T, C, E> {
     ghost use Rattle.txn_diary.specs.Diaries.{asked_in, refusal_of, kill_fault, IsKilledNow, Tells, Begun, Acts};
 
     /// A client of this number, at least 1, that has done nothing. A listing has pages of at most `page` files, at least 1.
-    /// The only error is want of memory.
+    ///
+    /// # Errors
+    ///
+    /// Want of memory alone, which changes nothing.
     pub fn new(
         alloc: Global,
         client: u64,
@@ -130,15 +133,22 @@ impl<T: Clone, C: ObjectCodec<T> + Drop, E: EpochField<T>> Diary<T, C, E> {
         self.rows.as_slice()
     }
 
-    /// The answers that were told, each with the number of its operation, in their order. It goes over the journal once. The only
-    /// error is want of memory.
+    /// The answers that were told, each with the number of its operation, in their order. It goes over the journal once.
+    ///
+    /// # Errors
+    ///
+    /// Want of memory alone, which changes nothing.
     pub fn answers(&self, alloc: Global) -> Result<Vec<(u64, &Answer<T>)>, AllocError>
         ensures { IfOk result (λ answers. map (λ pair. (pair.0, pair.1.now)) answers.items ≡ answers_from 0 self.now.rows) }
     {
         answers_of(alloc, self.rows.as_slice())
     }
 
-    /// The receipts that operations took, in their order. It goes over the journal once. The only error is want of memory.
+    /// The receipts that operations took, in their order. It goes over the journal once.
+    ///
+    /// # Errors
+    ///
+    /// Want of memory alone, which changes nothing.
     pub fn receipts(&self, alloc: Global) -> Result<Vec<&Receipt>, AllocError>
         ensures { IfOk result (λ receipts. map (λ r. r.now) receipts.items ≡ receipts_in self.now.rows) }
     {

@@ -77,7 +77,10 @@ impl<T: Clone, C: ObjectCodec<T> + Drop, E: EpochField<T>> Keeper<T, C, E> {
     ghost use Rattle.txn_diary.specs.Forgetting.{KeepsBases, HaveEnded, AreForgotten};
 
     /// A client of this number, at least 1, that has done nothing. A listing has pages of at most `page` files, at least 1.
-    /// The only error is want of memory.
+    ///
+    /// # Errors
+    ///
+    /// Want of memory alone, which changes nothing.
     pub fn new(
         alloc: Global,
         client: u64,

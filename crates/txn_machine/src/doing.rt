@@ -244,8 +244,11 @@ fn start_holder<T: Clone, C: ObjectCodec<T>, E: EpochField<T>>(
 
 /// How a call starts, by the view that it uses as it stands, and the number of its refusal, where it is refused at once. The
 /// bytes of a write are made here, before anything is asked of the store. A call on a view is refused with 7 where none is
-/// given, but for a refresh, and a holder's update where the view is no holder's: a world tests both before. The only error is
-/// want of memory.
+/// given, but for a refresh, and a holder's update where the view is no holder's: a world tests both before.
+///
+/// # Errors
+///
+/// Want of memory alone, which changes nothing.
 pub fn start<T: Clone, C: ObjectCodec<T>, E: EpochField<T>>(
     alloc: Global,
     layout: &Layout<C>,

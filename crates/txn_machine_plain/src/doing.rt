@@ -50,9 +50,12 @@ pub struct PlainOperation<T> {
     pub doing: PlainDoing<T>,
 }
 
-/// How a call starts: what its operation does, and the number of its refusal where it has one at
-/// once. The bytes of a write are made here, before anything is asked of the store. The only error
-/// is want of memory.
+/// How a call starts: what its operation does, and the number of its refusal where it has one at once. The bytes of a write are
+/// made here, before anything is asked of the store.
+///
+/// # Errors
+///
+/// Want of memory alone, which changes nothing.
 pub fn start<T: Drop, C: ObjectCodec<T>>(
     alloc: Global,
     layout: &Layout<C>,

@@ -191,10 +191,14 @@ impl<R: BufRead> Lines<R> {
         Err(Stop::ReadFailed)
     }
 
-    /// The next line that is not skipped. After the last, the line of the number is the one past the
-    /// end. `BadLine` comes where it says nothing. Where the texts of lines have a bound, nothing of a line is read past
-    /// that bound, or 256 bytes, but what the reader's buffer holds. Where they have none, a line without an end is kept until
-    /// memory is wanting.
+    /// The next line that is not skipped. After the last, the line of the number is the one past the end. Where the texts of
+    /// lines have a bound, nothing of a line is read past that bound, or 256 bytes, but what the reader's buffer holds. Where
+    /// they have none, a line without an end is kept until memory is wanting.
+    ///
+    /// # Errors
+    ///
+    /// `BadLine` where a line says nothing, which was read; `ReadFailed` where the reader failed, or has more lines than can be
+    /// counted, and `NoMemory` where a growth was refused, after which a part of a line may have been read.
     pub fn next_line<L: TextForm>(&mut self) -> Result<Option<L>, Stop>
         ensures ok { IfOk result (ReadsNext L.text L.fits (R.remaining (reader_of self.old)) (number_of self.old)
             (R.remaining (reader_of self.new)) (number_of self.new)) }

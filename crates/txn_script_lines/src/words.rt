@@ -14,8 +14,11 @@ fn collect_words(rt: &HostRuntime) -> io::Result<Vec<String>> {
     Ok(env::args(rt)?.collect(rt.alloc())?)
 }
 
-/// The words of the command line. Where one is no text there are none, which asks for nothing. The only error is want of
-/// memory.
+/// The words of the command line. Where one is no text there are none, which asks for nothing.
+///
+/// # Errors
+///
+/// Want of memory alone, which changes nothing.
 pub fn words_of_command(rt: &HostRuntime) -> Result<Vec<String>, Stop>
     ensures { IfErr result (λ stop. stop ≡ Stop.NoMemory) }
 {

@@ -370,8 +370,11 @@ impl<T: Drop> LatestOp<T> {
     }
 
     /// The read as its first look leaves it: it asks for the successor of the greatest held version, or for the first page
-    /// where none is held. Where that version can have no successor it looks, since the look would answer it. The only error is
-    /// want of memory.
+    /// where none is held. Where that version can have no successor it looks, since the look would answer it.
+    ///
+    /// # Errors
+    ///
+    /// Want of memory alone, which changes nothing.
     pub fn begun<C>(
         alloc: Global,
         layout: &Layout<C>,

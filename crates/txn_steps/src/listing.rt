@@ -38,8 +38,11 @@ pub struct ListOp {
 impl ListOp {
     ghost use Rattle.txn_steps.specs.Listings.{listing_started, listing_got, listing_turned};
 
-    /// A listing of the versions whose ids are within these bounds, which begins with the first page. The only error is
-    /// want of memory.
+    /// A listing of the versions whose ids are within these bounds, which begins with the first page.
+    ///
+    /// # Errors
+    ///
+    /// Want of memory alone, which changes nothing.
     pub fn start<C>(
         alloc: Global,
         layout: &Layout<C>,

@@ -31,7 +31,11 @@ pub enum ReadOp<T> {
 }
 
 impl<T: Drop> ReadOp<T> {
-    /// A read, which begins with a look. The only error is want of memory.
+    /// A read, which begins with a look.
+    ///
+    /// # Errors
+    ///
+    /// Want of memory alone, which changes nothing.
     pub fn start<C>(layout: &Layout<C>) -> Result<ReadOp<T>, AllocError>
         ensures { IfOk result (λ op. op ≡ read_started layout.now.boundary) }
     {

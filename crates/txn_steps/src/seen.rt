@@ -31,7 +31,11 @@ pub struct ReadUncheckedOp {
 }
 
 impl ReadUncheckedOp {
-    /// A read of the version of this id. The only error is want of memory.
+    /// A read of the version of this id.
+    ///
+    /// # Errors
+    ///
+    /// Want of memory alone, which changes nothing.
     pub fn start<C>(alloc: Global, layout: &Layout<C>, id: MonotonicId) -> Result<Self, AllocError>
         ensures { IfOk result (λ op. op ≡ record { request = version_got layout.now.names id }) }
     {

@@ -31,11 +31,14 @@ fn is_reached(id: MonotonicId, cached: &Option<CachedBoundary>) -> bool
 }
 
 /// Checks that an id is above the boundary that the file of this path says, 0 where it is missing. A cached boundary at or
-/// above the id refuses it with no call of the store; an id is accepted by one get alone, which asks for the file only
-/// where it is not as it is cached. What was read is cached, unless a greater boundary is. An id at or below the boundary is
-/// `ObjectVersionExists`, and a file that says no number is `InvalidObjectState`; a growth that is refused is `NoMemory`, and
-/// any other error of the store is `ObjectStoreError`. Each answer leaves the files as they were, and what stood for a
-/// boundary stands for it.
+/// above the id refuses it with no call of the store; an id is accepted by one get alone, which asks for the file only where it
+/// is not as it is cached. What was read is cached, unless a greater boundary is. Each answer leaves the files as they were,
+/// and what stood for a boundary stands for it.
+///
+/// # Errors
+///
+/// `ObjectVersionExists` for an id at or below the boundary; `InvalidObjectState` for a file that says no number; `NoMemory`
+/// where a growth was refused; `ObjectStoreError` with any other error of the store. Each leaves the files as they were.
 pub fn check_boundary<S: ObjectStore>(
     alloc: Global,
     path: &Path,
@@ -96,13 +99,17 @@ fn run_advance<S: ObjectStore>(
     }
 }
 
-/// Raises the boundary that the file of this path says, 0 where it is missing, to the target. A cached boundary at or above
-/// the target is the answer, with no call of the store and no turn. Each put spends a turn, replaces the file only where
-/// that is as it is cached, and creates it only where it is missing; a put that came too late leads to a read of the file and
-/// another put. What was read or put is cached, unless a greater boundary is. `TurnsExhausted` comes where a put is due and no
-/// turn is left, and a file that says no number is `InvalidObjectState`; a growth that is refused is `NoMemory`, and any other
-/// error of the store is `ObjectStoreError`. Each error leaves what stood for a boundary standing for that one or for the
-/// greater of it and the target: a put that was taken stands, also where its answer was a failure.
+/// Raises the boundary that the file of this path says, 0 where it is missing, to the target. A cached boundary at or above the
+/// target is the answer, with no call of the store and no turn. Each put spends a turn, replaces the file only where that is as
+/// it is cached, and creates it only where it is missing; a put that came too late leads to a read of the file and another put.
+/// What was read or put is cached, unless a greater boundary is.
+///
+/// # Errors
+///
+/// `TurnsExhausted` where a put is due and no turn is left; `InvalidObjectState` for a file that says no number; `NoMemory`
+/// where a growth was refused; `ObjectStoreError` with any other error of the store. Each leaves what stood for a boundary
+/// standing for that one or for the greater of it and the target: a put that was taken stands, also where its answer was a
+/// failure.
 pub fn advance_boundary<S: ObjectStore>(
     alloc: Global,
     path: &Path,

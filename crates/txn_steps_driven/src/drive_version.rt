@@ -26,7 +26,11 @@ pub struct ReadVersion<T> {
 }
 
 impl<T> ReadVersion<T> {
-    /// A read of the version of this id. The only error is want of memory.
+    /// A read of the version of this id.
+    ///
+    /// # Errors
+    ///
+    /// Want of memory alone, which changes nothing.
     pub fn start<C>(
         alloc: Global,
         layout: &Layout<C>,

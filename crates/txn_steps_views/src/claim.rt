@@ -26,10 +26,14 @@ pub struct ClaimOp<T> {
 }
 
 impl<T: Clone> ClaimOp<T> {
-    /// A claim of this epoch, or of the next one, whose first attempt is on the view's version, of this id and this value. An
-    /// epoch that is asked for and is not above that of the value is `Fenced`. A value that has no next epoch, its own being
-    /// the greatest u64, or an id that is the greatest u64, is `IdExhausted`; the other error is `NoMemory`. It asks that a
-    /// clone is the same value.
+    /// A claim of this epoch, or of the next one, whose first attempt is on the view's version, of this id and this value. It
+    /// asks that a clone is the same value.
+    ///
+    /// # Errors
+    ///
+    /// `Fenced` for an epoch that is asked for and is not above that of the value; `IdExhausted` for a value that has no next
+    /// epoch, its own being the greatest u64, and for an id that is the greatest u64; `NoMemory` where a growth was refused.
+    /// They change nothing.
     pub fn start<C: ObjectCodec<T>, X: EpochField<T>>(
         alloc: Global,
         layout: &Layout<C>,

@@ -25,7 +25,11 @@ impl<T> Model for Copies<T> {
 }
 
 impl<T: Clone> Copies<T> {
-    /// Copies of the value. They ask that a clone is the same value. The only error is want of memory.
+    /// Copies of the value. They ask that a clone is the same value.
+    ///
+    /// # Errors
+    ///
+    /// Want of memory alone, which changes nothing.
     pub fn of(value: T) -> Result<Copies<T>, AllocError>
         requires { IsExactClone T.is_clone }
         ensures { IfOk result (λ copies. copies ≡ value) }

@@ -57,8 +57,12 @@ fn test_epochs<T, X: EpochField<T>>(
 }
 
 impl<T: Clone> EntryOp<T> {
-    /// A write of the value directly on the version of this id, or as the first version where there is none. A base of the
-    /// greatest u64 is `IdExhausted`; the other error is `NoMemory`. It asks that a clone is the same value.
+    /// A write of the value directly on the version of this id, or as the first version where there is none. It asks that a
+    /// clone is the same value.
+    ///
+    /// # Errors
+    ///
+    /// `IdExhausted` for a base that is the greatest u64; `NoMemory` where a growth was refused. Both change nothing.
     pub fn start<C: ObjectCodec<T>>(
         alloc: Global,
         layout: &Layout<C>,
@@ -81,10 +85,14 @@ impl<T: Clone> EntryOp<T> {
         }
     }
 
-    /// A write of the value directly on the version of this id and this object, those of the holder's view. Where the
-    /// object's epoch is greater than the holder's it is `Fenced`; where it is smaller, or the value's is another one,
-    /// `InvalidObjectState`. An id of the greatest u64 is `IdExhausted`; the other error is `NoMemory`. It asks that a clone
-    /// is the same value.
+    /// A write of the value directly on the version of this id and this object, those of the holder's view. It asks that a
+    /// clone is the same value.
+    ///
+    /// # Errors
+    ///
+    /// `Fenced` where the object's epoch is greater than the holder's; `InvalidObjectState` where it is smaller, or the value's
+    /// is another one; `IdExhausted` for an id that is the greatest u64; `NoMemory` where a growth was refused. They change
+    /// nothing.
     pub fn start_for_holder<C: ObjectCodec<T>, X: EpochField<T>>(
         alloc: Global,
         layout: &Layout<C>,

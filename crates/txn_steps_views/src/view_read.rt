@@ -80,7 +80,11 @@ fn shown<T: Clone, X: EpochField<T>>(
 }
 
 impl<T: Drop> ViewReadOp<T> {
-    /// A read of the newest version for this purpose, which begins with a look. The only error is want of memory.
+    /// A read of the newest version for this purpose, which begins with a look.
+    ///
+    /// # Errors
+    ///
+    /// Want of memory alone, which changes nothing.
     pub fn start<C>(layout: &Layout<C>, purpose: Purpose) -> Result<ViewReadOp<T>, AllocError>
         ensures { IfOk result (λ op. op ≡ view_read_started layout.now.boundary purpose) }
     {

@@ -20,7 +20,11 @@ pub fn insert_id(ids: &mut HashSet<u64>, id: u64)
     }
 }
 
-/// The numbers of a set, ascending. The only error is want of memory.
+/// The numbers of a set, ascending.
+///
+/// # Errors
+///
+/// Want of memory alone, which changes nothing.
 pub fn numbers_of(alloc: Global, set: &BTreeSet<u64>) -> Result<Vec<u64>, AllocError>
     ensures { IfOk result (λ list. AreAscending (set_contains nat_cmp set.now) list.items) }
 {
@@ -31,7 +35,11 @@ pub fn numbers_of(alloc: Global, set: &BTreeSet<u64>) -> Result<Vec<u64>, AllocE
     Ok(list)
 }
 
-/// The numbers of a set, ascending. The only error is want of memory.
+/// The numbers of a set, ascending.
+///
+/// # Errors
+///
+/// Want of memory alone, which changes nothing.
 pub fn ascending(alloc: Global, ids: &HashSet<u64>) -> Result<Vec<u64>, AllocError>
     ensures { IfOk result (λ list. AreAscending (contains nat_eq ids.now) list.items) }
 {

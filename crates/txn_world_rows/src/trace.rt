@@ -110,7 +110,10 @@ impl<T: Drop, C: ObjectCodec<T> + Drop, E: EpochField<T>> Trace<T, C, E> {
     }
 
     /// The epoch of the version that a request creates: 0 where it creates none, or the codec does not read its bytes.
-    /// The only error is want of memory.
+    ///
+    /// # Errors
+    ///
+    /// Want of memory alone, which changes nothing.
     pub fn epoch_made(&self, alloc: Global, request: &Request) -> Result<u64, AllocError>
         ensures { IfOk result (λ epoch. epoch ≡ epoch_made (C.decoded self.now.layout.codec) (E.epoch_of self.now.field) (created request.now)) }
     {

@@ -60,8 +60,11 @@ impl<
     ghost use Rattle.std.specs.Prelude.{◌≡◌, ◌≤◌, true, None, IfOk};
     ghost use Rattle.txn_client_journals.specs.Parts.{no_part};
 
-    /// A client of this number, at least 1, that has done nothing, over a store and a recorder. The only error is want of
-    /// memory.
+    /// A client of this number, at least 1, that has done nothing, over a store and a recorder.
+    ///
+    /// # Errors
+    ///
+    /// Want of memory alone, which changes nothing.
     pub fn new(
         alloc: Global,
         number: u64,

@@ -98,7 +98,11 @@ impl<T: Clone, I: Drop> FenceableTransactionalObject<T, I> {
         self.delegate.object()
     }
 
-    /// A candidate for the next version: a copy of the value, with the id. The only error is want of memory.
+    /// A candidate for the next version: a copy of the value, with the id.
+    ///
+    /// # Errors
+    ///
+    /// Want of memory alone, which changes nothing.
     pub fn prepare_dirty(&self) -> Result<DirtyObject<T, MonotonicId>, AllocError>
         requires { IsExactClone T.is_clone }
         ensures { IfOk result (λ dirty. (dirty.id ≡ self.now.delegate.id) × (dirty.value ≡ self.now.delegate.object)) }

@@ -113,7 +113,11 @@ impl<T: Clone, I> SimpleTransactionalObject<T, I> {
         &self.object
     }
 
-    /// A candidate for the next version: a copy of the value, with the id. The only error is want of memory.
+    /// A candidate for the next version: a copy of the value, with the id.
+    ///
+    /// # Errors
+    ///
+    /// Want of memory alone, which changes nothing.
     pub fn prepare_dirty(&self) -> Result<DirtyObject<T, MonotonicId>, AllocError>
         requires { IsExactClone T.is_clone }
         ensures { IfOk result (λ dirty. (dirty.id ≡ self.now.id) × (dirty.value ≡ self.now.object)) }

@@ -13,7 +13,11 @@ pub struct MachineClock {
 }
 
 impl MachineClock {
-    /// A clock that was not read yet. The only error is want of memory.
+    /// A clock that was not read yet.
+    ///
+    /// # Errors
+    ///
+    /// Want of memory alone, which changes nothing.
     pub fn new(rt: &HostRuntime) -> Result<MachineClock, AllocError> {
         Ok(MachineClock {
             rt: rt.clone()?,

@@ -23,8 +23,12 @@ pub fn test_holder(holder: Option<u64>, stored: u64) -> Result<(), StepError>
     }
 }
 
-/// The entry with this payload that goes on a version of the stored epoch, which it keeps; none where the holder may not
-/// write on that version ([`test_holder`]). The only error is want of memory.
+/// The entry with this payload that goes on a version of the stored epoch, which it keeps; none where the holder may not write
+/// on that version ([`test_holder`]).
+///
+/// # Errors
+///
+/// Want of memory alone, which changes nothing.
 pub fn next_entry(
     holder: Option<u64>,
     stored: u64,

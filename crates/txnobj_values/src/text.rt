@@ -30,7 +30,11 @@ impl fmt::Display for Entry {
     }
 }
 
-/// The text of an entry. The only error is want of memory.
+/// The text of an entry.
+///
+/// # Errors
+///
+/// Want of memory alone, which changes nothing.
 pub fn encode(alloc: Global, entry: &Entry) -> Result<String, AllocError>
     ensures { IfOk result (λ text. string_bytes text ≡ entry_text entry.now) }
 {
@@ -40,7 +44,11 @@ pub fn encode(alloc: Global, entry: &Entry) -> Result<String, AllocError>
     Ok(text)
 }
 
-/// The entry of a text, where it is the one text of that entry, and of no other text. The only error is want of memory.
+/// The entry of a text, where it is the one text of that entry, and of no other text.
+///
+/// # Errors
+///
+/// Want of memory alone, which changes nothing.
 pub fn decode(alloc: Global, text: &str) -> Result<Option<Entry>, AllocError>
     ensures entry { IfOk result (λ read. IfSome read IsEntry) }
     ensures exact { IfOk result (λ read. (v : Entry) → IsEntry v → (read ≡ Some v) ↔ (text.now ≡ entry_text v)) }

@@ -28,7 +28,10 @@ pub struct ObjectStoreBoundaryObject {
 
 impl ObjectStoreBoundaryObject {
     /// The boundary of this name, in the file `<root>/gc/<name>.boundary`. Nothing is cached, and no call of a store is made.
-    /// `BadSegment` comes exactly where the name is no plain segment, and `NoMemory` where a growth is refused.
+    ///
+    /// # Errors
+    ///
+    /// `BadSegment` exactly where the name is no plain segment; `NoMemory` where a growth was refused.
     pub fn new(
         alloc: Global,
         root: &Path,

@@ -66,6 +66,10 @@ impl<T, C: Drop> ObjectStoreSequencedStorageProtocol<T, C, ObjectStoreBoundaryOb
 
     /// The same as `new_with_boundary`, over the boundary in the file `<root>/gc/<subdir>.boundary`, of which nothing is
     /// cached. That file is never a version's.
+    ///
+    /// # Errors
+    ///
+    /// Those of `new_with_boundary`.
     pub fn new(
         alloc: Global,
         root: &Path,
@@ -113,9 +117,12 @@ impl<T, C: Drop> ObjectStoreSequencedStorageProtocol<T, C, ObjectStoreBoundaryOb
 
 impl<T, C: Drop, B: Drop> ObjectStoreSequencedStorageProtocol<T, C, B> {
     /// The versions are the files of the folder `subdir` below the root, under this suffix, and this is their boundary. No
-    /// version is held, and a page of a listing has 1,000 files. `BadSegment` comes exactly where the folder's name or the
-    /// suffix is not as it has to be: a plain segment, and for the suffix one without a dot. The other error is want of
-    /// memory.
+    /// version is held, and a page of a listing has 1,000 files. No call of a store is made.
+    ///
+    /// # Errors
+    ///
+    /// `BadSegment` exactly where the folder's name or the suffix is not as it has to be: a plain segment, and for the suffix
+    /// one without a dot. `NoMemory` where a growth was refused.
     pub fn new_with_boundary(
         alloc: Global,
         root: &Path,
